@@ -1,0 +1,23 @@
+use Rattle.std.proofs.Common.{refl, ap, ◌≡◌, true}
+use Rattle.std.specs.List.{list_all}
+use Rattle.xr_model.specs.Request.{request_of}
+use Rattle.xr_core.proofs.Answering.{made_answers, made_over_answers, buffer_fits}
+use Rattle.xr_core.proofs.state.Core.apply.Goals as goal
+
+pub returns-in-CreateInstance : goal.returns-in-CreateInstance
+returns-in-CreateInstance c =
+    made_answers c.args.self.now c.args.who _ _ _ c.create_instance.new.self c.create_instance.result c.args.text.now (ap request_of c.in-CreateInstance.is) refl c.requires.may c.create_instance.ensures
+
+pub returns-in-StringToPath : goal.returns-in-StringToPath
+returns-in-StringToPath c =
+    made_answers c.args.self.now c.args.who _ _ _ c.string_to_path.new.self c.string_to_path.result c.args.text.now (ap request_of c.in-StringToPath.is) refl c.requires.may c.string_to_path.ensures
+
+pub returns-in-PathToString : goal.returns-in-PathToString
+returns-in-PathToString c =
+    let asked = buffer_fits c.args.self.now c.args.who _ _ c.in-PathToString.instance c.in-PathToString.path c.in-PathToString.capacity (ap request_of c.in-PathToString.is) c.requires.may in
+    made_over_answers c.args.self.now c.args.who _ _ _ c.path_to_string.new.self c.path_to_string.result c.args.text.now c.path_to_string.new.out asked refl c.requires.may c.path_to_string.ensures
+
+pub returns-else-not-all_left : goal.returns-else-not-all_left
+returns-else-not-all_left c =
+    let gone : true ≡ list_all (λ b. b) c.args.self.now.left = c.if-not-all_left.ensures in
+    made_answers c.args.self.now c.args.who _ _ _ c.next_frame.new.self c.next_frame.result c.args.text.now (ap request_of c.in-NextFrame.is) (rw (← gone) refl) c.requires.may c.next_frame.ensures

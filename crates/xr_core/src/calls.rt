@@ -1,0 +1,4 @@
+// What each call does, a method a call.
+mod instance;
+mod own;
+mod paths;

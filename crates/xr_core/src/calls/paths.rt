@@ -1,0 +1,40 @@
+// The calls on paths (OpenXR 1.0 section 6.2).
+ghost use Rattle.std.specs.Prelude.{◌≡◌, ◌<◌, ◌^◌, [], length};
+ghost use Rattle.xr_model.specs.Request.{string_to_path, path_to_string};
+ghost use Rattle.xr_core.specs.Calls.{Makes, MakesOver};
+
+use crate::Core;
+use xr_types::{Answer, Code, Gives, Reply};
+
+impl Core {
+    pub(crate) fn string_to_path(&mut self, instance: u64, text: &[u8]) -> Reply
+        requires { self.old.locked < 2 ^ 44 }
+        ensures { Makes self.old (string_to_path instance text.now) self.new result [] }
+    {
+        if !self.is_instance(instance) {
+            return self.refused(Code::HandleInvalid);
+        }
+        let answer = self.paths.intern(text);
+        if answer.code != Code::Success {
+            return self.refused(answer.code);
+        }
+        self.answered(Code::Success, Gives::Number(answer.number))
+    }
+
+    pub(crate) fn path_to_string(&mut self, instance: u64, path: u64, out: &mut [u8]) -> Reply
+        requires { self.old.locked < 2 ^ 44 }
+        ensures { MakesOver self.old (path_to_string instance path (length out.old)) self.new result out.old out.new }
+    {
+        if !self.is_instance(instance) {
+            return self.refused(Code::HandleInvalid);
+        }
+        let answer = self.paths.text_of(path, out);
+        match answer.code {
+            Code::Success | Code::SizeInsufficient => self.answered(
+                answer.code,
+                Gives::Size(answer.number),
+            ),
+            _ => self.refused(answer.code),
+        }
+    }
+}

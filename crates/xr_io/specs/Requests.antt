@@ -1,0 +1,73 @@
+-- What an opener was asked for.
+use Rattle.std.specs.Prelude.{ℕ, nat_lt, Bool, List, Option, None, Some}
+use Rattle.xr_io.specs.declared.Which.{Which}
+use Rattle.xr_io.specs.declared.Which.TheVariants.{Scenario, Device}
+use Rattle.xr_io.specs.Outside.{raised_if}
+
+-- the name that was asked for, if one was; how often opening it failed; and how many closed
+-- sources of it had a fault
+pub record Request : Type 0 where
+  pub name : Option (List ℕ)
+  pub open_faults : ℕ
+  pub read_faults : ℕ
+
+-- the request for the scenario, and that for the device
+pub record BothRequests : Type 0 where
+  pub scenario : Request
+  pub device : Request
+
+-- nothing was asked for as one of the two
+abbrev pub no_request : Request
+no_request = record { name = None; open_faults = 0; read_faults = 0 }
+
+-- nothing was asked for
+abbrev pub no_requests : BothRequests
+no_requests = record { scenario = no_request; device = no_request }
+
+-- the request for one of the two
+abbrev pub request_of : BothRequests → Which → Request
+request_of both Scenario = both.scenario
+request_of both Device = both.device
+
+-- the name that was asked for as one of the two
+abbrev pub name_of : BothRequests → Which → Option (List ℕ)
+name_of both which = (request_of both which).name
+
+-- how often opening one of the two failed
+abbrev pub open_faults_of : BothRequests → Which → ℕ
+open_faults_of both which = (request_of both which).open_faults
+
+-- how many closed sources of one of the two had a fault
+abbrev pub read_faults_of : BothRequests → Which → ℕ
+read_faults_of both which = (request_of both which).read_faults
+
+-- both, with another request for one of the two
+abbrev pub with_request : BothRequests → Which → Request → BothRequests
+with_request both Scenario request = record { scenario = request; device = both.device }
+with_request both Device request = record { scenario = both.scenario; device = request }
+
+-- a request after an opening of this name
+abbrev pub opened_request : Request → List ℕ → Bool → Request
+opened_request request name failed = record {
+  name = Some name;
+  open_faults = raised_if failed request.open_faults;
+  read_faults = request.read_faults;
+}
+
+-- a request after the closing of a source with so many faults
+abbrev pub closed_request : Request → ℕ → Request
+closed_request request faults = record {
+  name = request.name;
+  open_faults = request.open_faults;
+  read_faults = raised_if (nat_lt 0 faults) request.read_faults;
+}
+
+-- both, after an opening as one of the two
+abbrev pub after_opening : BothRequests → Which → List ℕ → Bool → BothRequests
+after_opening both which name failed =
+    with_request both which (opened_request (request_of both which) name failed)
+
+-- both, after the closing of a source of one of the two
+abbrev pub after_closing : BothRequests → Which → ℕ → BothRequests
+after_closing both which faults =
+    with_request both which (closed_request (request_of both which) faults)

@@ -1,0 +1,228 @@
+// Files and standard output behind the traits. These few lines are trusted to pass on what the
+// system does: they tell no bytes, and count each error. A count stops at the largest u64.
+ghost use Rattle.std.specs.Prelude.{◌≡◌, ◌≢◌, ◌≤◌, ◌<◌, length, Some, None, IfOk, is_err};
+ghost use Rattle.std.specs.Io.{ReadsAtMost, WritesAtMost};
+ghost use Rattle.std.specs.Io.KnownBytes.{ReadConsumes, WriteAppends};
+ghost use Rattle.xr_io.specs.declared.Which.{Which};
+ghost use Rattle.xr_io.specs.Outside.{Rose, HasCause, raised_if};
+ghost use Rattle.xr_io.specs.Requests.{name_of, open_faults_of, read_faults_of, no_requests, after_opening, after_closing};
+ghost use Rattle.xr_io.specs.Files.{no_bytes, is_write_fault};
+
+use crate::requests::Requests;
+use crate::{MOST_NAME, Opener, Sink, Source, Which};
+use std::fs;
+use std::io::{Print, Read};
+use std::marker::Model;
+use std::rt::Files;
+use xr_types::Failed;
+
+/// An opened file. It tells no bytes.
+#[derive(Drop)]
+pub struct FileSource<F> {
+    file: F,
+    opened_as: Which,
+    faults: u64,
+}
+
+impl<F> Model for FileSource<F> {
+    ghost use Rattle.xr_io.specs.Files.{OpenFile};
+
+    ghost Value = { OpenFile };
+
+    ghost view = { λ source. record { opened_as = source.opened_as; faults = source.faults } };
+}
+
+impl<F> FileSource<F> {
+    /// How often a read has failed.
+    pub fn faults(&self) -> u64
+        ensures { result ≡ self.now.faults }
+    {
+        self.faults
+    }
+}
+
+impl<F: Read> Source for FileSource<F> {
+    ghost left = { λ source. no_bytes };
+
+    ghost which = { λ source. source.opened_as };
+
+    ghost faults = { λ source. source.faults };
+
+    /// `Failed` comes where the system's read fails, and there alone the count rises.
+    fn read(&mut self, buf: &mut [u8]) -> Result<usize, Failed>
+        ensures bound { ReadsAtMost result buf.new }
+        ensures bytes { ReadConsumes no_bytes no_bytes result buf.new }
+        ensures which { self.new.opened_as ≡ self.old.opened_as }
+        ensures cause { HasCause self.old.faults self.new.faults result }
+        ensures rises { self.new.faults ≡ raised_if (is_err result) self.old.faults }
+    {
+        if let Ok(count) = self.file.read(buf) {
+            return Ok(count);
+        }
+        self.faults = self.faults.saturating_add(1);
+        Err(Failed)
+    }
+}
+
+/// Opens files by their names, and keeps what it was asked for. It tells no bytes.
+#[derive(Drop)]
+pub struct FileOpener<'r, R: Files> {
+    files: &'r R,
+    requests: Requests,
+}
+
+impl<'r, R: Files> Model for FileOpener<'r, R> {
+    ghost use Rattle.xr_io.specs.Requests.{BothRequests};
+
+    ghost Value = { BothRequests };
+
+    ghost view = { λ opener. opener.requests };
+}
+
+impl<'r, R: Files> FileOpener<'r, R> {
+    /// An opener that was asked for nothing.
+    pub fn new(files: &'r R) -> FileOpener<'r, R>
+        ensures new { result ≡ no_requests }
+        ensures asked { (w : Which) → name_of result w ≡ None }
+    {
+        FileOpener {
+            files,
+            requests: Requests::new(),
+        }
+    }
+
+    /// How often opening this one has failed.
+    pub fn open_faults(&self, which: Which) -> u64
+        ensures { result ≡ open_faults_of self.now which }
+    {
+        self.requests.open_faults(which)
+    }
+
+    /// How many closed sources of this one had a fault.
+    pub fn read_faults(&self, which: Which) -> u64
+        ensures { result ≡ read_faults_of self.now which }
+    {
+        self.requests.read_faults(which)
+    }
+}
+
+impl<'r, R: Files> Opener for FileOpener<'r, R> {
+    type S = FileSource<R::File>;
+
+    ghost bytes = { λ opener name. no_bytes };
+
+    ghost open_faults = { open_faults_of };
+
+    ghost read_faults = { read_faults_of };
+
+    ghost asked = { name_of };
+
+    /// `Failed` comes where the system opens no file of this name, and there alone the count rises.
+    fn open_file(&mut self, which: Which, name: &str) -> Result<FileSource<R::File>, Failed>
+        requires first { name_of self.old which ≡ None }
+        requires short { length name.now ≤ MOST_NAME }
+
+        ensures asked { name_of self.new which ≡ Some name.now }
+        ensures others { (w : Which) → w ≢ which → name_of self.new w ≡ name_of self.old w }
+
+        // Neither the opener nor the source tells bytes.
+        ensures left { IfOk result (λ source. no_bytes ≡ no_bytes) }
+        ensures source { IfOk result (λ source. (source.opened_as ≡ which) × (source.faults ≡ 0)) }
+
+        ensures cause { HasCause (open_faults_of self.old which)
+            (open_faults_of self.new which) result }
+        ensures opens { (w : Which) → w ≢ which →
+            open_faults_of self.new w ≡ open_faults_of self.old w }
+        ensures reads { (w : Which) → read_faults_of self.new w ≡ read_faults_of self.old w }
+
+        // All of that at once, exactly.
+        ensures new { self.new ≡ after_opening self.old which name.now (is_err result) }
+    {
+        let Ok(file) = fs::open(self.files, name) else {
+            self.requests.open(which, name, true);
+            return Err(Failed);
+        };
+        self.requests.open(which, name, false);
+        Ok(FileSource {
+            file,
+            opened_as: which,
+            faults: 0,
+        })
+    }
+
+    fn close(&mut self, source: FileSource<R::File>)
+        ensures asked { (w : Which) → name_of self.new w ≡ name_of self.old w }
+        ensures opens { (w : Which) → open_faults_of self.new w ≡ open_faults_of self.old w }
+
+        ensures kept { source.faults ≡ 0 →
+            (w : Which) → read_faults_of self.new w ≡ read_faults_of self.old w }
+        ensures other { (w : Which) → w ≢ source.opened_as →
+            read_faults_of self.new w ≡ read_faults_of self.old w }
+        ensures raised { 0 < source.faults →
+            Rose (read_faults_of self.old source.opened_as)
+            (read_faults_of self.new source.opened_as) }
+        ensures later { (w : Which) → read_faults_of self.old w ≤ read_faults_of self.new w }
+
+        // All of that at once, exactly.
+        ensures new { self.new ≡ after_closing self.old source.opened_as source.faults }
+    {
+        self.requests.close(source.opened_as, source.faults);
+    }
+}
+
+/// Standard output. It tells no bytes.
+#[derive(Drop)]
+pub struct StdSink<'r, P> {
+    out: &'r P,
+    faults: u64,
+}
+
+// Contracts see how often a write has failed or has taken nothing of a piece.
+impl<'r, P> Model for StdSink<'r, P> {
+    ghost use Rattle.std.specs.Prelude.{ℕ};
+
+    ghost Value = { ℕ };
+
+    ghost view = { λ sink. sink.faults };
+}
+
+impl<'r, P> StdSink<'r, P> {
+    /// Standard output, of which no write has failed.
+    pub fn new(out: &'r P) -> StdSink<'r, P>
+        ensures { result ≡ 0 }
+    {
+        StdSink { out, faults: 0 }
+    }
+
+    /// How often a write has failed or has taken nothing of a piece.
+    pub fn faults(&self) -> u64
+        ensures { result ≡ self.now }
+    {
+        self.faults
+    }
+}
+
+impl<'r, P: Print> Sink for StdSink<'r, P> {
+    ghost written = { λ sink. no_bytes };
+
+    ghost faults = { λ sink. sink };
+
+    /// Makes one call of the system. `Failed` comes where that fails. The count rises there, and
+    /// where nothing was taken of a piece that has bytes, and nowhere else.
+    fn write(&mut self, piece: &[u8]) -> Result<usize, Failed>
+        ensures bound { WritesAtMost result piece.now }
+        ensures bytes { WriteAppends no_bytes no_bytes result piece.now }
+        ensures none { IfOk result (λ n. n ≡ 0 → 0 < length piece.now → Rose self.old self.new) }
+        ensures cause { HasCause self.old self.new result }
+        ensures rises { self.new ≡ raised_if (is_write_fault result (length piece.now)) self.old }
+    {
+        let Ok(count) = self.out.write_some(piece) else {
+            self.faults = self.faults.saturating_add(1);
+            return Err(Failed);
+        };
+        if count == 0 && !piece.is_empty() {
+            self.faults = self.faults.saturating_add(1);
+        }
+        Ok(count)
+    }
+}

@@ -1,0 +1,400 @@
+// Files and output in memory, whose calls fail where a list says so. Nothing here touches the
+// outside. Calls are numbered from 0, and a count stops at the largest u64.
+ghost use Rattle.std.specs.Prelude.{◌≡◌, ◌≢◌, ◌≤◌, ◌<◌, ◌↔◌, ℕ, List, [], length, Some, None, IsTrue, IsErr, IfOk, option_map};
+ghost use Rattle.std.specs.Io.{ReadsAtMost, WritesAtMost};
+ghost use Rattle.std.specs.Io.KnownBytes.{ReadConsumes, WriteAppends};
+ghost use Rattle.xr_io.specs.declared.Which.{Which};
+ghost use Rattle.xr_io.specs.Outside.{Rose, HasCause};
+ghost use Rattle.xr_io.specs.Requests.{name_of, open_faults_of, read_faults_of, no_requests, after_opening, after_closing};
+ghost use Rattle.xr_io.specs.Memory.{is_listed, given_count, fails_to_read, buffer_after_read, after_read, taken_count, fails_to_write, after_write, bytes_under, failing_of, fails_to_open, with_requests};
+ghost use Rattle.xr_io.specs.Held.{held_files, failing_calls};
+
+use crate::requests::Requests;
+use crate::{MOST_NAME, Opener, Sink, Source, Which};
+use std::alloc::{AllocError, Global};
+use std::marker::Model;
+use xr_types::Failed;
+
+/// Whether the call of this number is in the list.
+fn is_listed(calls: &[u64], next: u64) -> bool
+    ensures { result ≡ is_listed calls.now next }
+{
+    calls.contains(&next)
+}
+
+/// The bytes of one opened file. The reads of a list fail.
+#[derive(Drop)]
+pub struct MemorySource<'a> {
+    left: &'a [u8],
+    failing: &'a [u64],
+    calls: u64,
+    faults: u64,
+    opened_as: Which,
+}
+
+impl<'a> Model for MemorySource<'a> {
+    ghost use Rattle.xr_io.specs.Memory.{Reading};
+
+    ghost Value = { Reading };
+
+    ghost view = { λ source. record {
+      left = source.left.now;
+      failing = source.failing.now;
+      calls = source.calls;
+      faults = source.faults;
+      opened_as = source.opened_as;
+    } };
+}
+
+impl<'a> MemorySource<'a> {
+    /// A file of these bytes, of which nothing was read. The reads of these numbers are to fail.
+    pub fn new(opened_as: Which, bytes: &'a [u8], failing: &'a [u64]) -> MemorySource<'a>
+        ensures { result ≡ record {
+          left = bytes.now;
+          failing = failing.now;
+          calls = 0;
+          faults = 0;
+          opened_as = opened_as;
+        } }
+    {
+        MemorySource {
+            left: bytes,
+            failing,
+            calls: 0,
+            faults: 0,
+            opened_as,
+        }
+    }
+
+    /// How often a read has failed.
+    pub fn faults(&self) -> u64
+        ensures { result ≡ self.now.faults }
+    {
+        self.faults
+    }
+}
+
+impl<'a> Source for MemorySource<'a> {
+    ghost left = { λ source. Some source.left };
+
+    ghost which = { λ source. source.opened_as };
+
+    ghost faults = { λ source. source.faults };
+
+    /// `Failed` comes exactly at the reads of the list, and there alone the count rises.
+    fn read(&mut self, buf: &mut [u8]) -> Result<usize, Failed>
+        ensures bound { ReadsAtMost result buf.new }
+        ensures bytes { ReadConsumes (Some self.old.left) (Some self.new.left) result buf.new }
+        ensures which { self.new.opened_as ≡ self.old.opened_as }
+        ensures cause { HasCause self.old.faults self.new.faults result }
+
+        // All of that, exactly.
+        ensures fails { IsErr result ↔ IsTrue (fails_to_read self.old) }
+        ensures count { IfOk result (λ n. n ≡ given_count self.old (length buf.old)) }
+        ensures buffer { buf.new ≡ buffer_after_read self.old buf.old }
+        ensures new { self.new ≡ after_read self.old (length buf.old) }
+    {
+        let fails = is_listed(self.failing, self.calls);
+        self.calls = self.calls.saturating_add(1);
+        if fails {
+            self.faults = self.faults.saturating_add(1);
+            return Err(Failed);
+        }
+        let count = buf.len().min(self.left.len());
+        let (piece, left) = self.left.split_at(count);
+        buf[..count].copy_from_slice(piece);
+        self.left = left;
+        Ok(count)
+    }
+}
+
+/// An output in memory. The writes of one list fail, and those of another take nothing.
+#[derive(Drop)]
+pub struct MemorySink<'a> {
+    out: Vec<u8>,
+    room: usize,
+    failing: &'a [u64],
+    idle: &'a [u64],
+    calls: u64,
+    faults: u64,
+}
+
+impl<'a> Model for MemorySink<'a> {
+    ghost use Rattle.std.specs.Prelude.{◌+◌, ◌≤◌, vec_len, vec_capacity};
+    ghost use Rattle.xr_io.specs.Memory.{Writing};
+
+    ghost Value = { Writing };
+
+    ghost view = { λ sink. record {
+      written = sink.out.items;
+      room = sink.room;
+      failing = sink.failing.now;
+      idle = sink.idle.now;
+      calls = sink.calls;
+      faults = sink.faults;
+    } };
+
+    ghost invariant = { λ sink. vec_len sink.out + sink.room ≤ vec_capacity sink.out };
+}
+
+impl<'a> MemorySink<'a> {
+    /// An output with room for so many bytes, which is had here and never grows. The writes of the
+    /// numbers in `failing` are to fail, and those of the numbers in `idle` to take nothing.
+    /// `AllocError` comes where that room can't be had.
+    pub fn new(
+        alloc: Global,
+        room: usize,
+        failing: &'a [u64],
+        idle: &'a [u64],
+    ) -> Result<MemorySink<'a>, AllocError>
+        ensures { IfOk result (λ sink. sink ≡ record {
+          written = [];
+          room = room;
+          failing = failing.now;
+          idle = idle.now;
+          calls = 0;
+          faults = 0;
+        }) }
+    {
+        let out = Vec::with_capacity(alloc, room)?;
+        Ok(MemorySink {
+            out,
+            room,
+            failing,
+            idle,
+            calls: 0,
+            faults: 0,
+        })
+    }
+
+    /// The bytes written.
+    pub fn bytes(&self) -> &[u8]
+        ensures { result.now ≡ self.now.written }
+    {
+        self.out.as_slice()
+    }
+
+    /// How often a write has failed or has taken nothing of a piece.
+    pub fn faults(&self) -> u64
+        ensures { result ≡ self.now.faults }
+    {
+        self.faults
+    }
+}
+
+impl<'a> Sink for MemorySink<'a> {
+    ghost written = { λ sink. Some sink.written };
+
+    ghost faults = { λ sink. sink.faults };
+
+    /// `Failed` comes exactly at the writes of the one list. The count rises there and, for a piece
+    /// that has bytes, at the writes of the other list. Beside these it rises in one place: where
+    /// no room is left, a piece that has bytes is counted too, and nothing of it is taken.
+    fn write(&mut self, piece: &[u8]) -> Result<usize, Failed>
+        ensures bound { WritesAtMost result piece.now }
+        ensures bytes { WriteAppends (Some self.old.written)
+            (Some self.new.written) result piece.now }
+        ensures none { IfOk result (λ n.
+            n ≡ 0 → 0 < length piece.now → Rose self.old.faults self.new.faults) }
+        ensures cause { HasCause self.old.faults self.new.faults result }
+
+        // All of that, exactly.
+        ensures fails { IsErr result ↔ IsTrue (fails_to_write self.old) }
+        ensures count { IfOk result (λ n. n ≡ taken_count self.old (length piece.now)) }
+        ensures new { self.new ≡ after_write self.old piece.now }
+    {
+        let call = self.calls;
+        self.calls = self.calls.saturating_add(1);
+        if is_listed(self.failing, call) {
+            self.faults = self.faults.saturating_add(1);
+            return Err(Failed);
+        }
+        if piece.is_empty() {
+            return Ok(0);
+        }
+        if self.room == 0 || is_listed(self.idle, call) {
+            self.faults = self.faults.saturating_add(1);
+            return Ok(0);
+        }
+        let count = piece.len().min(self.room);
+        let Ok(()) = self.out.extend_from_slice(&piece[..count]) else {
+            unreachable!();
+        };
+        self.room -= count;
+        Ok(count)
+    }
+}
+
+/// A file in memory.
+#[derive(Clone, Copy, Debug)]
+pub struct MemoryFile<'a> {
+    pub name: &'a str,
+    pub bytes: &'a [u8],
+}
+
+/// How the calls on one of the two files fail.
+#[derive(Clone, Copy, Debug)]
+pub struct Failing<'a> {
+    /// Whether opening it fails.
+    pub open: bool,
+    /// The numbers of its reads that fail, from 0.
+    pub reads: &'a [u64],
+}
+
+/// The bytes of the first file of this name.
+fn bytes_under<'a>(files: &'a [MemoryFile<'a>], name: &str) -> Option<&'a [u8]>
+    ensures { option_map (λ bytes. bytes.now) result ≡ bytes_under (held_files files.now) name.now }
+{
+    for file in files {
+        if file.name == name {
+            return Some(file.bytes);
+        }
+    }
+    None
+}
+
+/// Opens files in memory. One file may be opened both as the scenario and as the device.
+#[derive(Drop)]
+pub struct MemoryOpener<'a> {
+    files: &'a [MemoryFile<'a>],
+    scenario_fails: Failing<'a>,
+    device_fails: Failing<'a>,
+    requests: Requests,
+}
+
+impl<'a> Model for MemoryOpener<'a> {
+    ghost use Rattle.xr_io.specs.Memory.{Holding};
+
+    ghost Value = { Holding };
+
+    ghost use Rattle.xr_io.specs.Held.{held_files, failing_calls};
+
+    ghost view = { λ opener. record {
+      files = held_files opener.files.now;
+      scenario_fails = failing_calls opener.scenario_fails;
+      device_fails = failing_calls opener.device_fails;
+      requests = opener.requests;
+    } };
+}
+
+impl<'a> MemoryOpener<'a> {
+    /// An opener of these files that was asked for nothing. Where two files have one name, the
+    /// first is opened.
+    pub fn new(
+        files: &'a [MemoryFile<'a>],
+        scenario_fails: Failing<'a>,
+        device_fails: Failing<'a>,
+    ) -> MemoryOpener<'a>
+        ensures new { result ≡ record {
+          files = held_files files.now;
+          scenario_fails = failing_calls scenario_fails.entry;
+          device_fails = failing_calls device_fails.entry;
+          requests = no_requests;
+        } }
+        ensures asked { (w : Which) → name_of result.requests w ≡ None }
+    {
+        MemoryOpener {
+            files,
+            scenario_fails,
+            device_fails,
+            requests: Requests::new(),
+        }
+    }
+
+    /// How often opening this one has failed.
+    pub fn open_faults(&self, which: Which) -> u64
+        ensures { result ≡ open_faults_of self.now.requests which }
+    {
+        self.requests.open_faults(which)
+    }
+
+    /// How many closed sources of this one had a fault.
+    pub fn read_faults(&self, which: Which) -> u64
+        ensures { result ≡ read_faults_of self.now.requests which }
+    {
+        self.requests.read_faults(which)
+    }
+}
+
+impl<'a> Opener for MemoryOpener<'a> {
+    type S = MemorySource<'a>;
+
+    ghost bytes = { λ opener name. bytes_under opener.files name };
+
+    ghost open_faults = { λ opener which. open_faults_of opener.requests which };
+
+    ghost read_faults = { λ opener which. read_faults_of opener.requests which };
+
+    ghost asked = { λ opener which. name_of opener.requests which };
+
+    /// `Failed` comes exactly where this one's opening is to fail or no file has the name, and
+    /// there alone the count rises.
+    fn open_file(&mut self, which: Which, name: &str) -> Result<MemorySource<'a>, Failed>
+        requires first { name_of self.old.requests which ≡ None }
+        requires short { length name.now ≤ MOST_NAME }
+
+        ensures asked { name_of self.new.requests which ≡ Some name.now }
+        ensures others { (w : Which) → w ≢ which →
+            name_of self.new.requests w ≡ name_of self.old.requests w }
+        ensures bytes { (n : List ℕ) → bytes_under self.new.files n ≡ bytes_under self.old.files n }
+
+        ensures left { IfOk result (λ source.
+            Some source.left ≡ bytes_under self.old.files name.now) }
+        ensures source { IfOk result (λ source. (source.opened_as ≡ which) × (source.faults ≡ 0)) }
+
+        ensures cause { HasCause
+            (open_faults_of self.old.requests which)
+            (open_faults_of self.new.requests which)
+            result }
+        ensures opens { (w : Which) → w ≢ which →
+            open_faults_of self.new.requests w ≡ open_faults_of self.old.requests w }
+        ensures reads { (w : Which) →
+            read_faults_of self.new.requests w ≡ read_faults_of self.old.requests w }
+
+        // All of that, exactly.
+        ensures fails { IsErr result ↔ IsTrue (fails_to_open self.old which name.now) }
+        ensures failing { IfOk result (λ source.
+            source.failing ≡ (failing_of self.old which).reads) }
+        ensures calls { IfOk result (λ source. source.calls ≡ 0) }
+        ensures new { self.new ≡ with_requests self.old
+            (after_opening self.old.requests which name.now
+            (fails_to_open self.old which name.now)) }
+    {
+        let fails = match which {
+            Which::Scenario => self.scenario_fails,
+            Which::Device => self.device_fails,
+        };
+        if !fails.open {
+            if let Some(bytes) = bytes_under(self.files, name) {
+                self.requests.open(which, name, false);
+                return Ok(MemorySource::new(which, bytes, fails.reads));
+            }
+        }
+        self.requests.open(which, name, true);
+        Err(Failed)
+    }
+
+    fn close(&mut self, source: MemorySource<'a>)
+        ensures asked { (w : Which) → name_of self.new.requests w ≡ name_of self.old.requests w }
+        ensures bytes { (n : List ℕ) → bytes_under self.new.files n ≡ bytes_under self.old.files n }
+        ensures opens { (w : Which) →
+            open_faults_of self.new.requests w ≡ open_faults_of self.old.requests w }
+
+        ensures kept { source.entry.faults ≡ 0 → (w : Which) →
+            read_faults_of self.new.requests w ≡ read_faults_of self.old.requests w }
+        ensures other { (w : Which) → w ≢ source.entry.opened_as →
+            read_faults_of self.new.requests w ≡ read_faults_of self.old.requests w }
+        ensures raised { 0 < source.entry.faults →
+            Rose
+            (read_faults_of self.old.requests source.entry.opened_as)
+            (read_faults_of self.new.requests source.entry.opened_as) }
+        ensures later { (w : Which) →
+            read_faults_of self.old.requests w ≤ read_faults_of self.new.requests w }
+
+        // All of that at once, exactly.
+        ensures new { self.new ≡ with_requests self.old
+            (after_closing self.old.requests source.entry.opened_as source.entry.faults) }
+    {
+        self.requests.close(source.opened_as, source.faults);
+    }
+}

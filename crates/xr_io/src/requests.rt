@@ -1,0 +1,156 @@
+// What an opener was asked for, and how often that failed. It touches nothing outside.
+ghost use Rattle.std.specs.Prelude.{◌≡◌, ◌≤◌, length};
+ghost use Rattle.xr_io.specs.declared.Which.{Which};
+ghost use Rattle.xr_io.specs.Requests.{open_faults_of, read_faults_of, no_requests, after_opening, after_closing};
+
+use crate::{MOST_NAME, Which};
+use arrayvec::ArrayVec;
+use std::marker::Model;
+
+/// What was asked for as one of the two.
+#[derive(Drop)]
+struct Kept {
+    name: Option<ArrayVec<u8, MOST_NAME>>,
+    open_faults: u64,
+    read_faults: u64,
+}
+
+impl Model for Kept {
+    ghost use Rattle.std.specs.Prelude.{option_map};
+    ghost use Rattle.xr_io.specs.Requests.{Request};
+
+    ghost Value = { Request };
+
+    ghost view = { λ kept. record {
+      name = option_map (λ name. name.items) kept.name;
+      open_faults = kept.open_faults;
+      read_faults = kept.read_faults;
+    } };
+}
+
+impl Kept {
+    ghost use Rattle.xr_io.specs.Requests.{no_request, opened_request, closed_request};
+
+    fn new() -> Kept
+        ensures { result ≡ no_request }
+    {
+        Kept {
+            name: None,
+            open_faults: 0,
+            read_faults: 0,
+        }
+    }
+
+    fn open(&mut self, name: ArrayVec<u8, MOST_NAME>, failed: bool)
+        ensures request { self.new ≡ opened_request self.old name.items failed }
+        ensures later { self.old.open_faults ≤ self.new.open_faults }
+    {
+        self.name = Some(name);
+        if failed {
+            self.open_faults = self.open_faults.saturating_add(1);
+        }
+    }
+
+    fn close(&mut self, faults: u64)
+        ensures request { self.new ≡ closed_request self.old faults }
+        ensures later { self.old.read_faults ≤ self.new.read_faults }
+    {
+        if faults > 0 {
+            self.read_faults = self.read_faults.saturating_add(1);
+        }
+    }
+
+    fn open_faults(&self) -> u64
+        ensures { result ≡ self.now.open_faults }
+    {
+        self.open_faults
+    }
+
+    fn read_faults(&self) -> u64
+        ensures { result ≡ self.now.read_faults }
+    {
+        self.read_faults
+    }
+}
+
+/// A copy of a name.
+fn copied(name: &str) -> ArrayVec<u8, MOST_NAME>
+    requires { length name.now ≤ MOST_NAME }
+    ensures { result.items ≡ name.now }
+{
+    let Ok(copy) = ArrayVec::<u8, MOST_NAME>::try_from(name.as_bytes()) else {
+        unreachable!();
+    };
+    copy
+}
+
+/// What was asked for as each of the two.
+#[derive(Drop)]
+pub(crate) struct Requests {
+    scenario: Kept,
+    device: Kept,
+}
+
+impl Model for Requests {
+    ghost use Rattle.xr_io.specs.Requests.{BothRequests};
+
+    ghost Value = { BothRequests };
+
+    ghost view = { λ requests. record { scenario = requests.scenario; device = requests.device } };
+}
+
+impl Requests {
+    /// Nothing was asked for.
+    pub(crate) fn new() -> Requests
+        ensures { result ≡ no_requests }
+    {
+        Requests {
+            scenario: Kept::new(),
+            device: Kept::new(),
+        }
+    }
+
+    /// Keeps the name that is asked for, and counts where opening it failed.
+    pub(crate) fn open(&mut self, which: Which, name: &str, failed: bool)
+        requires { length name.now ≤ MOST_NAME }
+        ensures requests { self.new ≡ after_opening self.old which name.now failed }
+        ensures later { open_faults_of self.old which ≤ open_faults_of self.new which }
+    {
+        let copy = copied(name);
+        match which {
+            Which::Scenario => self.scenario.open(copy, failed),
+            Which::Device => self.device.open(copy, failed),
+        }
+    }
+
+    /// Counts a closed source that had a fault.
+    pub(crate) fn close(&mut self, which: Which, faults: u64)
+        ensures requests { self.new ≡ after_closing self.old which faults }
+        ensures later { (w : Which) → read_faults_of self.old w ≤ read_faults_of self.new w }
+    {
+        match which {
+            Which::Scenario => self.scenario.close(faults),
+            Which::Device => self.device.close(faults),
+        }
+    }
+
+    /// How often opening this one failed.
+    pub(crate) fn open_faults(&self, which: Which) -> u64
+        ensures { result ≡ open_faults_of self.now which }
+    {
+        match which {
+            Which::Scenario => self.scenario.open_faults(),
+            Which::Device => self.device.open_faults(),
+        }
+    }
+
+    /// How many closed sources of this one had a fault.
+    pub(crate) fn read_faults(&self, which: Which) -> u64
+        ensures { result ≡ read_faults_of self.now which }
+    {
+        match which {
+            Which::Scenario => self.scenario.read_faults(),
+            Which::Device => self.device.read_faults(),
+        }
+    }
+}

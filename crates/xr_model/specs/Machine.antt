@@ -1,0 +1,147 @@
+-- The machine of one thread: what an entry does, when a call is ready, and which entries are allowed.
+use Rattle.std.specs.Prelude.{◌≡◌, ◌≢◌, ◌≤◌, ◌-◌, ℕ, ◌&&◌, ◌||◌, Bool, true, false, not, List, is_some, slice_get, Some}
+use Rattle.std.specs.List.{list_all}
+use Rattle.xr_types.specs.declared.code.Code.TheVariants.{Success}
+use Rattle.xr_types.specs.declared.calls.Actor.{Actor}
+use Rattle.xr_types.specs.declared.calls.Actor.TheVariants.{App, Compositor, Device}
+use Rattle.xr_types.specs.declared.calls.Reply.{Reply}
+use Rattle.xr_types.specs.declared.calls.Call.{Call}
+use Rattle.xr_types.specs.declared.calls.Step.{Step}
+use Rattle.xr_types.specs.declared.calls.Step.TheVariants.{Done, NotReady}
+use Rattle.xr_types.specs.Code.{is_success}
+use Rattle.xr_model.specs.Request.{Request, create_instance, string_to_path, path_to_string, leave, next_frame, Entry, entry_of, request_of, Outcome}
+use Rattle.xr_model.specs.Handles.{Handles, was_given}
+use Rattle.xr_model.specs.Paths.{is_new}
+use Rattle.xr_model.specs.Refusals.{first_of}
+use Rattle.xr_model.specs.State.{State}
+use Rattle.xr_model.specs.Rules.{Rule, Effect, refusals, carried_out, placed, written_over}
+use Rattle.xr_model.specs.Steps.Instance.{create_instance_rule}
+use Rattle.xr_model.specs.Steps.Paths.{string_to_path_rule, path_to_string_rule}
+use Rattle.xr_model.specs.Steps.Own.{leave_rule, next_frame_rule}
+
+-- the rule of a call
+abbrev pub rule_of : State → Actor → ℕ → Bool → Request → Rule
+rule_of s who given short (create_instance major minor) = create_instance_rule s given major minor
+rule_of s who given short (string_to_path instance text) = string_to_path_rule s short instance text
+rule_of s who given short (path_to_string instance path capacity) = path_to_string_rule s instance path capacity
+rule_of s who given short leave = leave_rule s who
+rule_of s who given short next_frame = next_frame_rule s
+
+abbrev pub rule : State → Entry → Rule
+rule s e = rule_of s e.actor e.given e.short e.request
+
+-- what an entry does
+abbrev pub effect : State → Entry → Effect
+effect s e = carried_out s (rule s e)
+
+-- the state after an entry, and its outcome
+abbrev pub step : State → Entry → State × Outcome
+step s e = placed s (effect s e)
+
+-- ---- readiness
+
+-- a call that would succeed has to wait: the compositor waits until every application has left
+abbrev pub is_held_back : State → Request → Bool
+is_held_back s (create_instance major minor) = false
+is_held_back s (string_to_path instance text) = false
+is_held_back s (path_to_string instance path capacity) = false
+is_held_back s leave = false
+is_held_back s next_frame = not (list_all (λ gone. gone) s.left)
+
+-- a call is ready where it isn't held back, or would be refused
+abbrev pub ready : State → Entry → Bool
+ready s e = not (is_held_back s e.request) || is_some (first_of (refusals (rule s e)))
+
+-- ---- allowed entries
+
+-- the calls whose success gives a new handle
+abbrev pub is_creation : Request → Bool
+is_creation (create_instance major minor) = true
+is_creation (string_to_path instance text) = false
+is_creation (path_to_string instance path capacity) = false
+is_creation leave = false
+is_creation next_frame = false
+
+-- the calls that take memory in this state
+abbrev pub takes_memory : State → Request → Bool
+takes_memory s (create_instance major minor) = false
+takes_memory s (string_to_path instance text) = is_new s.atoms text
+takes_memory s (path_to_string instance path capacity) = false
+takes_memory s leave = false
+takes_memory s next_frame = false
+
+-- a handle that is nonzero and was never given before, or none
+abbrev pub IsGiven : Bool → Handles → ℕ → Type 0
+IsGiven true handles given = (given ≢ 0) × (was_given handles given ≡ false)
+IsGiven false handles given = given ≡ 0
+
+-- an application that there is and that hasn't left; the compositor and the device are always there
+abbrev pub IsPresent : State → Actor → Type 0
+IsPresent s (App k) = (1 ≤ k) × (k ≤ s.apps) × (slice_get s.left (k - 1) ≡ Some false)
+IsPresent s Compositor = Unit {0}
+IsPresent s Device = Unit {0}
+
+-- the entry, had memory been found
+abbrev pub with_memory : Entry → Entry
+with_memory e = record e { short = false }
+
+-- An entry is allowed where a new handle is given exactly by a successful creation, memory is short
+-- only where the call takes some and would else succeed, and its application hasn't left.
+pub record IsAllowed (s : State) (e : Entry) : Type 0 where
+  pub handle : IsGiven (is_creation e.request && is_success (step s e).1.reply.code) s.handles e.given
+  pub memory : e.short ≡ true → (takes_memory s e.request ≡ true) × ((step s (with_memory e)).1.reply.code ≡ Success)
+  pub present : IsPresent s e.actor
+
+-- ---- what the core is asked and answers
+
+abbrev pub IsApp : Actor → Type 0
+IsApp (App k) = Unit {0}
+IsApp Compositor = ⊥
+IsApp Device = ⊥
+
+abbrev pub IsCompositor : Actor → Type 0
+IsCompositor (App k) = ⊥
+IsCompositor Compositor = Unit {0}
+IsCompositor Device = ⊥
+
+-- who makes which call
+abbrev pub IsCaller : Actor → Request → Type 0
+IsCaller who (create_instance major minor) = IsApp who
+IsCaller who (string_to_path instance text) = IsApp who
+IsCaller who (path_to_string instance path capacity) = IsApp who
+IsCaller who leave = IsApp who
+IsCaller who next_frame = IsCompositor who
+
+-- how many bytes a call wants to be lent
+abbrev pub FitsBuffer : Request → ℕ → Type 0
+FitsBuffer (create_instance major minor) size = Unit {0}
+FitsBuffer (string_to_path instance text) size = Unit {0}
+FitsBuffer (path_to_string instance path capacity) size = size ≡ capacity
+FitsBuffer leave size = Unit {0}
+FitsBuffer next_frame size = Unit {0}
+
+-- What an actor may ask of the core: it is there, the call is its own, and the buffer has the size asked for.
+pub record MayMake (s : State) (who : Actor) (what : Request) (size : ℕ) : Type 0 where
+  pub present : IsPresent s who
+  pub caller : IsCaller who what
+  pub buffer : FitsBuffer what size
+
+-- A reply and the bytes over a buffer are the outcome of an allowed and ready entry, and new is the
+-- state that it leads to.
+pub record Answers (old : State) (e : Entry) (new : State) (answer : Reply) (before after : List ℕ) : Type 0 where
+  pub allowed : IsAllowed old e
+  pub is_ready : ready old e ≡ true
+  pub leads : new ≡ (step old e).0
+  pub replies : answer ≡ (step old e).1.reply
+  pub writes : after ≡ written_over (step old e).1.text before
+
+-- a call that isn't made leaves all as it was
+pub record Waits (old : State) (e : Entry) (new : State) (before after : List ℕ) : Type 0 where
+  pub not_ready : ready old e ≡ false
+  pub same : new ≡ old
+  pub unwritten : after ≡ before
+
+-- what the core answers to a call, from old to new
+abbrev pub Applies : State → State → Actor → Call → List ℕ → List ℕ → Step → Type 0
+Applies old new who call before after (Done answer) = Answers old (entry_of who (request_of call) answer) new answer before after
+Applies old new who call before after NotReady = (given : ℕ) (short : Bool) → Waits old (record { actor = who; request = request_of call; given = given; short = short }) new before after

@@ -1,0 +1,4 @@
+-- One rule a call, a file a group.
+pub mod Instance
+pub mod Paths
+pub mod Own

@@ -1,0 +1,35 @@
+//! What must be believed: the machine of one thread, its histories, scenarios and reports, as
+//! definitions in `specs/`. The code here is one empty function for each law that holds of them.
+#![tactic(auto)]
+
+ghost use Rattle.xr_model.specs.Laws.{RefusalsChangeNothing, AfterIsInTurn, EntriesAreCounted, PlacesCount, FrontsAreLegal};
+
+/// A call that is no success changes nothing but the count of locked calls.
+#[tactic(auto, using(crate::proofs::Histories::refusals_change_nothing))]
+pub fn refusals_change_nothing()
+    ensures { RefusalsChangeNothing }
+{}
+
+/// The state after two histories, one after the other, is that of the second from the state after the first.
+#[tactic(auto, using(crate::proofs::Histories::after_is_in_turn))]
+pub fn after_is_in_turn()
+    ensures { AfterIsInTurn }
+{}
+
+/// Each entry of a history raises the count of locked calls by one.
+#[tactic(auto, using(crate::proofs::Histories::entries_are_counted))]
+pub fn entries_are_counted()
+    ensures { EntriesAreCounted }
+{}
+
+/// The place of a reply is the number of locked calls up to it.
+#[tactic(auto, using(crate::proofs::Histories::places_count))]
+pub fn places_count()
+    ensures { PlacesCount }
+{}
+
+/// The front of a legal history is legal.
+#[tactic(auto, using(crate::proofs::Histories::fronts_are_legal))]
+pub fn fronts_are_legal()
+    ensures { FrontsAreLegal }
+{}

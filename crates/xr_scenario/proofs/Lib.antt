@@ -1,0 +1,5 @@
+pub mod Sizes
+pub mod Json
+pub mod Lines
+pub mod Few
+pub mod Givers

@@ -1,0 +1,4 @@
+pub mod Size
+pub mod Few
+pub mod Reads
+pub mod Given

@@ -1,0 +1,59 @@
+-- The results of OpenXR 1.0, by the names that reports print.
+use Rattle.std.specs.Prelude.{ℕ, Bool, true, false, List, codes}
+use Rattle.xr_types.specs.declared.code.Code.{Code}
+use Rattle.xr_types.specs.declared.code.Code.TheVariants.{Success, TimeoutExpired, SessionLossPending, EventUnavailable, SessionNotFocused, FrameDiscarded, ValidationFailure, OutOfMemory, ApiVersionUnsupported, LimitReached, SizeInsufficient, HandleInvalid, SessionRunning, SessionNotRunning, SessionLost, SystemInvalid, PathInvalid, PathCountExceeded, PathFormatInvalid, PathUnsupported, LayerInvalid, LayerLimitExceeded, SwapchainRectInvalid, SwapchainFormatUnsupported, ActionTypeMismatch, SessionNotReady, SessionNotStopping, TimeInvalid, ReferenceSpaceUnsupported, FormFactorUnsupported, CallOrderInvalid, PoseInvalid, ViewConfigurationTypeUnsupported, EnvironmentBlendModeUnsupported, NameDuplicated, NameInvalid, ActionsetNotAttached, ActionsetsAlreadyAttached, LocalizedNameDuplicated, LocalizedNameInvalid}
+
+-- the name of a result
+abbrev pub name_of : Code → List ℕ
+name_of Success = codes "XR_SUCCESS"
+name_of TimeoutExpired = codes "XR_TIMEOUT_EXPIRED"
+name_of SessionLossPending = codes "XR_SESSION_LOSS_PENDING"
+name_of EventUnavailable = codes "XR_EVENT_UNAVAILABLE"
+name_of SessionNotFocused = codes "XR_SESSION_NOT_FOCUSED"
+name_of FrameDiscarded = codes "XR_FRAME_DISCARDED"
+name_of ValidationFailure = codes "XR_ERROR_VALIDATION_FAILURE"
+name_of OutOfMemory = codes "XR_ERROR_OUT_OF_MEMORY"
+name_of ApiVersionUnsupported = codes "XR_ERROR_API_VERSION_UNSUPPORTED"
+name_of LimitReached = codes "XR_ERROR_LIMIT_REACHED"
+name_of SizeInsufficient = codes "XR_ERROR_SIZE_INSUFFICIENT"
+name_of HandleInvalid = codes "XR_ERROR_HANDLE_INVALID"
+name_of SessionRunning = codes "XR_ERROR_SESSION_RUNNING"
+name_of SessionNotRunning = codes "XR_ERROR_SESSION_NOT_RUNNING"
+name_of SessionLost = codes "XR_ERROR_SESSION_LOST"
+name_of SystemInvalid = codes "XR_ERROR_SYSTEM_INVALID"
+name_of PathInvalid = codes "XR_ERROR_PATH_INVALID"
+name_of PathCountExceeded = codes "XR_ERROR_PATH_COUNT_EXCEEDED"
+name_of PathFormatInvalid = codes "XR_ERROR_PATH_FORMAT_INVALID"
+name_of PathUnsupported = codes "XR_ERROR_PATH_UNSUPPORTED"
+name_of LayerInvalid = codes "XR_ERROR_LAYER_INVALID"
+name_of LayerLimitExceeded = codes "XR_ERROR_LAYER_LIMIT_EXCEEDED"
+name_of SwapchainRectInvalid = codes "XR_ERROR_SWAPCHAIN_RECT_INVALID"
+name_of SwapchainFormatUnsupported = codes "XR_ERROR_SWAPCHAIN_FORMAT_UNSUPPORTED"
+name_of ActionTypeMismatch = codes "XR_ERROR_ACTION_TYPE_MISMATCH"
+name_of SessionNotReady = codes "XR_ERROR_SESSION_NOT_READY"
+name_of SessionNotStopping = codes "XR_ERROR_SESSION_NOT_STOPPING"
+name_of TimeInvalid = codes "XR_ERROR_TIME_INVALID"
+name_of ReferenceSpaceUnsupported = codes "XR_ERROR_REFERENCE_SPACE_UNSUPPORTED"
+name_of FormFactorUnsupported = codes "XR_ERROR_FORM_FACTOR_UNSUPPORTED"
+name_of CallOrderInvalid = codes "XR_ERROR_CALL_ORDER_INVALID"
+name_of PoseInvalid = codes "XR_ERROR_POSE_INVALID"
+name_of ViewConfigurationTypeUnsupported = codes "XR_ERROR_VIEW_CONFIGURATION_TYPE_UNSUPPORTED"
+name_of EnvironmentBlendModeUnsupported = codes "XR_ERROR_ENVIRONMENT_BLEND_MODE_UNSUPPORTED"
+name_of NameDuplicated = codes "XR_ERROR_NAME_DUPLICATED"
+name_of NameInvalid = codes "XR_ERROR_NAME_INVALID"
+name_of ActionsetNotAttached = codes "XR_ERROR_ACTIONSET_NOT_ATTACHED"
+name_of ActionsetsAlreadyAttached = codes "XR_ERROR_ACTIONSETS_ALREADY_ATTACHED"
+name_of LocalizedNameDuplicated = codes "XR_ERROR_LOCALIZED_NAME_DUPLICATED"
+name_of LocalizedNameInvalid = codes "XR_ERROR_LOCALIZED_NAME_INVALID"
+
+-- the call had its effect
+abbrev pub is_success : Code → Bool
+is_success Success = true
+is_success SessionLossPending = true
+is_success FrameDiscarded = true
+is_success _ = false
+
+-- memory was short
+abbrev pub is_out_of_memory : Code → Bool
+is_out_of_memory OutOfMemory = true
+is_out_of_memory _ = false

@@ -1,0 +1,6 @@
+pub mod Pieces
+pub mod Causes
+pub mod Lending
+pub mod Turns
+pub mod Played
+pub mod Runs

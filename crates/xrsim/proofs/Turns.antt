@@ -1,0 +1,41 @@
+-- The turns of one script and the compositor.
+use Rattle.std.proofs.Common.{◌≡◌, ◌⊎◌, inl, inr, ℕ, Bool, true, false, List, [], ◌∷◌, ◌++◌, Some, refl, subst, sym}
+use Rattle.xr_types.specs.declared.calls.Actor.TheVariants.{App, Compositor}
+use Rattle.xr_types.specs.declared.calls.Gives.TheVariants.{Ended}
+use Rattle.xr_types.specs.declared.scenario.Op.{Op}
+use Rattle.xr_types.specs.declared.scenario.Op.TheVariants as op
+use Rattle.xr_model.specs.Request.{Entry, Outcome, next_frame}
+use Rattle.xr_model.specs.State.{State}
+use Rattle.xr_model.specs.Machine.{step}
+use Rattle.xr_model.specs.Robin.{Seat, script, compositor, Turn, next_call, is_next_ready, turn_from, seat_after, IsRobinFrom}
+use Rattle.xrsim.specs.Play.{IsOpen, IsTurnOf}
+
+script_ready : (s : State) (rest : List Op) (values : List ℕ) → is_next_ready s (script 1 rest values) ≡ true
+script_ready s [] values = refl
+script_ready s (op.CreateInstance major minor ∷ rest) values = refl
+script_ready s (op.StringToPath instance text ∷ rest) values = refl
+script_ready s (op.PathToString instance path capacity ∷ rest) values = refl
+
+compositor_waits : (s : State) → IsOpen s → is_next_ready s compositor ≡ false
+compositor_waits s there = rw there.left refl
+
+-- the script makes its next call, wherever the compositor stands
+pub script_turn : (s new : State) (rest : List Op) (values : List ℕ) (seats : List Seat) (e : Entry) (outcome : Outcome) (es : List Entry) → IsOpen s → IsTurnOf (script 1 rest values) seats
+    → e.actor ≡ App 1 → e.request ≡ next_call (script 1 rest values) → new ≡ (step s e).0 → (step s e).1 ≡ outcome
+    → IsRobinFrom new (compositor ∷ seat_after (script 1 rest values) outcome) es → IsRobinFrom s seats (e ∷ es)
+script_turn s new rest values seats e outcome es there turn who what leads came more = by turn
+  where
+    at_step : IsRobinFrom (step s e).0 (compositor ∷ seat_after (script 1 rest values) (step s e).1) es
+    at_step = subst (λ (o : Outcome). IsRobinFrom (step s e).0 (compositor ∷ seat_after (script 1 rest values) o) es) (sym came)
+        (subst (λ (n : State). IsRobinFrom n (compositor ∷ seat_after (script 1 rest values) outcome) es) leads more)
+
+    by : IsTurnOf (script 1 rest values) seats → IsRobinFrom s seats (e ∷ es)
+    by (inl now) = rw (now, script_ready s rest values) ((who, what), at_step)
+    by (inr next) = rw (next, compositor_waits s there, script_ready s rest values) ((who, what), at_step)
+
+-- the compositor alone is left, and is told the end
+pub compositor_turn : (s : State) (e : Entry) → s.left ≡ true ∷ [] → e.actor ≡ Compositor → e.request ≡ next_frame → (step s e).1.reply.gives ≡ Ended → IsRobinFrom s (compositor ∷ []) (e ∷ [])
+compositor_turn s e gone who what told = rw (ready_now, told) ((who, what), refl)
+  where
+    ready_now : is_next_ready s compositor ≡ true
+    ready_now = rw gone refl

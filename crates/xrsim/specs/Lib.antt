@@ -1,0 +1,5 @@
+pub mod Lent
+pub mod Play
+pub mod Input
+pub mod Top
+pub mod Exit

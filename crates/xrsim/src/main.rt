@@ -1,0 +1,94 @@
+//! `xrsim` runs a scenario of OpenXR calls on the written machine and prints its report. The words, the
+//! reading, the run and the writing are private modules; `serial` has the top call.
+#![tactic(auto)]
+
+mod calls;
+mod input;
+mod output;
+mod play;
+pub mod serial;
+mod words;
+
+ghost use Rattle.std.specs.Prelude.{◌≡◌};
+ghost use Rattle.xrsim.specs.Exit.{exit_of};
+
+use serial::run_serial;
+use std::env;
+use std::io::{Eprint, ErrorKind};
+use std::process::ExitCode;
+use xr_io::{FileOpener, StdSink};
+use xr_types::{Refusal, Status};
+
+/// The number that the process ends with.
+fn exit_of(status: Status) -> u8
+    ensures { result ≡ exit_of status }
+{
+    match status {
+        Status::Done => 0,
+        Status::Usage => 1,
+        Status::OpenFault => 2,
+        Status::ReadFault => 3,
+        Status::ScenarioRefused(_) => 4,
+        Status::DeviceFailed => 5,
+        Status::DeviceGarbled(_) => 6,
+        Status::Stuck => 7,
+        Status::WriteFault => 8,
+        Status::NoMemory => 9,
+    }
+}
+
+/// Says on standard error why a scenario is refused.
+fn explain_refusal<R: Eprint>(rt: &R, why: Refusal) {
+    let _ = match why {
+        Refusal::TooLong => eprintln!(rt; "xrsim: scenario refused: too long"),
+        Refusal::Json => eprintln!(rt; "xrsim: scenario refused: json"),
+        Refusal::BadShape { script, op, .. } => eprintln!(rt;
+            "xrsim: scenario refused: script {script} op {op}"
+        ),
+        Refusal::Unbuilt => eprintln!(rt; "xrsim: scenario refused: unbuilt"),
+    };
+}
+
+/// Says on standard error, in one line, why there is no whole report. What can't be said is dropped.
+fn explain<R: Eprint>(rt: &R, status: Status) {
+    let _ = match status {
+        Status::Done => Ok(()),
+        Status::Usage => eprintln!(rt;
+            "xrsim: usage: xrsim serial FILE, xrsim threads FILE, with --device FILE and --places; xrsim load N"
+        ),
+        Status::OpenFault => eprintln!(rt; "xrsim: cannot open"),
+        Status::ReadFault => eprintln!(rt; "xrsim: cannot read the scenario"),
+        Status::ScenarioRefused(why) => {
+            explain_refusal(rt, why);
+            Ok(())
+        }
+        Status::DeviceFailed => eprintln!(rt; "xrsim: device failed"),
+        Status::DeviceGarbled(line) => eprintln!(rt; "xrsim: device line {line} garbled"),
+        Status::Stuck => eprintln!(rt; "xrsim: stuck"),
+        Status::WriteFault => eprintln!(rt; "xrsim: cannot write"),
+        Status::NoMemory => eprintln!(rt; "xrsim: no memory"),
+    };
+}
+
+fn main(rt: HostRuntime) -> ExitCode {
+    let alloc = rt.alloc();
+    let status = match env::args(&rt) {
+        Ok(given) => match given.skip(1).collect::<Vec<String>>(alloc) {
+            Ok(words) => {
+                let mut opener = FileOpener::new(&rt);
+                let mut sink = StdSink::new(&rt);
+                run_serial(alloc, words.as_slice(), &mut opener, &mut sink)
+            }
+            Err(_) => Status::NoMemory,
+        },
+        Err(e) => {
+            if e.kind() == ErrorKind::OutOfMemory {
+                Status::NoMemory
+            } else {
+                Status::Usage
+            }
+        }
+    };
+    explain(&rt, status);
+    ExitCode::from(exit_of(status))
+}
