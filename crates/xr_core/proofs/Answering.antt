@@ -1,5 +1,5 @@
 -- From what the method of a call says to what the core answers.
-use Rattle.std.proofs.Common.{◌≡◌, ℕ, List, [], true, refl, subst, sym}
+use Rattle.std.proofs.Common.{◌≡◌, ℕ, List, [], true, refl, subst}
 use Rattle.xr_types.specs.declared.calls.Actor.{Actor}
 use Rattle.xr_types.specs.declared.calls.Reply.{Reply}
 use Rattle.xr_model.specs.Request.{Request, path_to_string, entry_of}

@@ -1,6 +1,6 @@
 -- What a refusal by the atoms makes of the core's call.
-use Rattle.std.proofs.Common.{◌≡◌, ◌+◌, ◌&&◌, ◌==◌, ℕ, Bool, true, false, not, nat_le, nat_lt, List, [], ◌∷◌, length, Option, Some, None, refl, sym, ap, ◌∙◌, true≢false}
-use Rattle.std.specs.Prelude.{if◌then◌else◌, is_none}
+use Rattle.std.proofs.Common.{◌≡◌, ◌+◌, ◌&&◌, ℕ, Bool, true, false, not, nat_le, nat_lt, List, [], ◌∷◌, length, Option, Some, None, refl, sym, ap, ◌∙◌, true≢false}
+use Rattle.std.specs.Prelude.{is_none}
 use Rattle.xr_types.specs.declared.code.Code.{Code}
 use Rattle.xr_types.specs.declared.code.Code.TheVariants.{Success, SizeInsufficient, PathInvalid, PathFormatInvalid, PathCountExceeded, OutOfMemory}
 use Rattle.xr_types.specs.declared.calls.Answer.{Answer}

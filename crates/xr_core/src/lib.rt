@@ -5,5 +5,7 @@
 mod apply;
 mod calls;
 mod state;
+#[cfg(test)]
+mod tests;
 
 pub use state::{Core, MOST_APPS};

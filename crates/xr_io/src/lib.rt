@@ -24,9 +24,9 @@ pub const MOST_NAME: usize = 4095;
 /// The two files that a run reads.
 #[derive(Clone, Copy, Debug, PartialEq, Eq)]
 pub enum Which {
-    /// The text of what is to be done.
+    /// The text of the scenario.
     Scenario,
-    /// The text of what the device answers.
+    /// The text of the device's events.
     Device,
 }
 

@@ -4,6 +4,8 @@
 
 mod atoms;
 mod copy;
+#[cfg(test)]
+mod tests;
 mod text;
 
 pub use atoms::{ATOMS, Paths};

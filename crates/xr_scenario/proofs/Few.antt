@@ -1,5 +1,5 @@
 -- A text holds fewer ops than bytes.
-use Rattle.std.proofs.Common.{◌≡◌, ℕ, ◌+◌, ◌<◌, ◌≤◌, Bool, true, false, List, [], ◌∷◌, length, Option, Some, None, option_map, option_and_then, Ordering, Less, Equal, Greater, refl, sym, ap, subst, arith}
+use Rattle.std.proofs.Common.{◌≡◌, ℕ, ◌+◌, ◌<◌, ◌≤◌, Bool, true, false, List, [], ◌∷◌, length, Option, Some, None, option_map, option_and_then, Ordering, Less, Equal, Greater, refl, subst, arith}
 use Rattle.std.proofs.lemmas.Bool.{ltb-false}
 use Rattle.std.specs.Prelude.{⊤, codes, nat_lt, if◌then◌else◌}
 use Rattle.std.specs.Str.{is_utf8}
@@ -11,7 +11,7 @@ use Rattle.serde_json.specs.Read.{read}
 use Rattle.xr_types.specs.declared.scenario.Op.{Op}
 use Rattle.xr_types.specs.declared.scenario.Scenario.{Scenario}
 use Rattle.xr_model.specs.Names.{Known}
-use Rattle.xr_model.specs.Fields.{after, field, only_keys, only}
+use Rattle.xr_model.specs.Fields.{after, field, only_keys}
 use Rattle.xr_model.specs.Ops.{Line, line_of, with_name}
 use Rattle.xr_model.specs.Scenario.{ops_from, script_in, one_script, scripts_in, version_in, scenario, scenario_in, scenario_of}
 use Rattle.xr_scenario.specs.Size.{size, items_size, members_size}

@@ -1,5 +1,5 @@
 -- A text has a byte for each lexeme, a lexeme for each token and a token for each part of its value.
-use Rattle.std.proofs.Common.{◌≡◌, ℕ, zero, suc, ◌+◌, ◌<◌, ◌≤◌, Bool, true, false, List, [], ◌∷◌, length, Option, Some, None, option_map, option_and_then, Ordering, Less, Equal, Greater, refl, subst, arith}
+use Rattle.std.proofs.Common.{◌≡◌, ℕ, zero, suc, ◌+◌, ◌≤◌, Bool, true, false, List, [], ◌∷◌, length, Option, Some, None, option_map, option_and_then, Ordering, Less, Equal, Greater, refl, subst, arith}
 use Rattle.std.specs.Prelude.{⊤}
 use Rattle.std.specs.Ordering.{match_ordering}
 use Rattle.json.specs.Token.{Token, begin_object, end_object, begin_array, end_array, key, string, number, boolean, null, bad}
@@ -9,7 +9,7 @@ use Rattle.json.specs.Json.{Parse, parse_map, after_end_array, read_key, items_s
 use Rattle.json.proofs.Grammar.{after_end_array-shorter, read_key-shorter}
 use Rattle.serde_json.specs.Data.{Data, Members, no_members, member, put}
 use Rattle.serde_json.specs.Data as datum
-use Rattle.serde_json.specs.Read.{number_of, of_json, of_items, of_members, max_depth, read}
+use Rattle.serde_json.specs.Read.{number_of, of_json, of_items, of_members, max_depth}
 use Rattle.xr_scenario.specs.Size.{size, items_size, members_size, HoldsLessThanItsBytes}
 
 -- ---- lexemes

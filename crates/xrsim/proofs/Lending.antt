@@ -1,18 +1,17 @@
 -- How much of a lent buffer a call has written, by what its reply gives.
-use Rattle.std.proofs.Common.{◌≡◌, ◌+◌, ◌&&◌, ◌<◌, ◌≤◌, ℕ, Bool, true, false, not, nat_lt, nat_le, List, [], ◌∷◌, ◌++◌, length, take, drop, replicate, Option, Some, None, refl, sym, subst, ◌∙◌, ap, arith, length-append, true≢false}
-use Rattle.std.specs.Prelude.{if◌then◌else◌, is_none}
+use Rattle.std.proofs.Common.{◌≡◌, ◌&&◌, ℕ, Bool, true, false, nat_lt, nat_le, List, [], ◌∷◌, ◌++◌, length, take, drop, Option, Some, None, refl, sym, subst, ◌∙◌, ap, arith, length-append}
+use Rattle.std.specs.Prelude.{if◌then◌else◌}
 use Rattle.std.proofs.lemmas.Bool.Decides.{nat_tests}
 use Rattle.std.proofs.lemmas.Grind.{common_steps}
 use Rattle.xr_types.specs.declared.calls.Actor.{Actor}
 use Rattle.xr_types.specs.declared.calls.Actor.TheVariants.{App}
-use Rattle.xr_types.specs.declared.calls.Gives.{Gives}
 use Rattle.xr_types.specs.declared.calls.Gives.TheVariants.{Size}
 use Rattle.xr_types.specs.declared.calls.Reply.{Reply}
 use Rattle.xr_model.specs.Request.{Request, create_instance, string_to_path, path_to_string, leave, next_frame, Entry, Outcome, entry_of}
-use Rattle.xr_model.specs.Paths.{text_at, copied, copy_refusals, size_at, size_of}
+use Rattle.xr_model.specs.Paths.{text_at, copied, size_at, size_of}
 use Rattle.xr_model.specs.Refusals.{Refusal, first_of}
 use Rattle.xr_model.specs.State.{State}
-use Rattle.xr_model.specs.Rules.{Effect, Rule, refusals, unless_refused, written_over}
+use Rattle.xr_model.specs.Rules.{Effect, refusals, unless_refused, written_over}
 use Rattle.xr_model.specs.Machine.{step, rule, ready, IsCaller, FitsBuffer, Answers}
 use Rattle.xrsim.specs.Lent.{lent_size, written_size}
 use Rattle.xrsim.specs.Play.{IsMade}

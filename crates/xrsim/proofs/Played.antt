@@ -1,7 +1,6 @@
 -- A run of a script, call by call.
-use Rattle.std.proofs.Common.{◌≡◌, ◌+◌, ◌<◌, ◌≤◌, ◌-◌, ℕ, zero, suc, Bool, true, false, List, [], ◌∷◌, ◌++◌, length, drop, get_or, Option, Some, None, refl, sym, subst, ap, ◌∙◌, inl, inr, append_assoc, append-nil, add-one, drop-cons, length-append, arith}
+use Rattle.std.proofs.Common.{◌≡◌, ◌+◌, ◌<◌, ℕ, suc, true, false, List, [], ◌∷◌, ◌++◌, length, drop, get_or, Option, Some, None, refl, sym, subst, ap, ◌∙◌, inl, inr, append_assoc, add-one, drop-cons, length-append, arith}
 use Rattle.std.proofs.lemmas.Grind.{common_steps}
-use Rattle.std.specs.Prelude.{slice_set, slice_get}
 use Rattle.xr_types.specs.declared.calls.Actor.{Actor}
 use Rattle.xr_types.specs.declared.calls.Actor.TheVariants.{App, Compositor, Device}
 use Rattle.xr_types.specs.declared.calls.Gives.TheVariants.{Ended}
@@ -16,14 +15,15 @@ use Rattle.xr_types.specs.Op.{call_name}
 use Rattle.xr_model.specs.Request.{Request, leave, next_frame, Entry, Told, Outcome, entry_of, is_actor}
 use Rattle.xr_model.specs.Refusals.{Refusal, first_of}
 use Rattle.xr_model.specs.State.{State, opening}
-use Rattle.xr_model.specs.Rules.{Effect, Rule, refusals, unless_refused}
-use Rattle.xr_model.specs.Machine.{IsPresent, rule, step, ready}
-use Rattle.xr_model.specs.History.{IsLegalFrom, calls_from, calls_of}
+use Rattle.xr_model.specs.Rules.{Effect, refusals, unless_refused}
+use Rattle.xr_model.specs.Machine.{IsPresent, rule, step}
+use Rattle.xr_model.specs.History.{IsLegalFrom, calls_from}
 use Rattle.xr_model.specs.Values.{named_by}
-use Rattle.xr_model.specs.Scripts.{request_for, FollowsFrom, Follows}
+use Rattle.xr_model.specs.Scripts.{request_for, Follows}
 use Rattle.xr_model.specs.Robin.{Seat, script, compositor, first_seats, IsRobinFrom}
-use Rattle.xr_model.specs.Lists.{made_at, made_from, name_of, lists_of}
-use Rattle.xrsim.specs.Play.{IsMade, IsOpen, IsTurnOf, Playing, ToldSo, IsEnd, Plays}
+use Rattle.xr_model.specs.Lists.{made_at, made_from, name_of}
+use Rattle.xrsim.specs.Play.{IsMade, IsOpen, Playing, ToldSo}
+use Rattle.xrsim.specs.Run.{IsEnd, Plays}
 use Rattle.xrsim.proofs.Turns.{script_turn, compositor_turn}
 
 -- ---- the one application stays while ops are made

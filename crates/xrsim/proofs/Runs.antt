@@ -1,9 +1,8 @@
 -- What a run over the bytes that were read says of the bytes that there were.
-use Rattle.std.proofs.Common.{◌≡◌, ◌<◌, ◌≤◌, ◌+◌, ◌⊎◌, inl, inr, ℕ, Bool, true, false, List, length, take, nat_lt, Option, Some, None, IfSome, Err, refl, sym, subst, ap, ◌∙◌, arith}
+use Rattle.std.proofs.Common.{◌≡◌, ◌<◌, ◌≤◌, ◌+◌, inl, inr, ℕ, Bool, true, false, List, length, take, nat_lt, Option, Some, None, IfSome, Err, refl, sym, subst, ap, ◌∙◌, arith}
 use Rattle.std.proofs.lemmas.Grind.{common_steps}
 use Rattle.std.proofs.lemmas.Bool.{ltb-true, ltb-false, lt-ltb}
 use Rattle.std.proofs.KnownBytes.{Keeps-refl}
-use Rattle.std.specs.Io.KnownBytes.{Keeps, Appends}
 use Rattle.xr_types.specs.declared.made.Lists.{Lists}
 use Rattle.xr_types.specs.declared.scenario.Scenario.{Scenario}
 use Rattle.xr_types.specs.declared.status.Status.{Status}
@@ -11,7 +10,8 @@ use Rattle.xr_types.specs.declared.status.Status.TheVariants.{Done, Usage, OpenF
 use Rattle.xr_model.specs.Words.{file_of}
 use Rattle.xr_model.specs.Scenario.{scenario_of}
 use Rattle.xr_model.specs.Report.{report_of}
-use Rattle.xrsim.specs.Top.{Run, Reports, Means, MeansAnswer, Faults, HasItsCause, NoneRose, IsComplete}
+use Rattle.xrsim.specs.Top.{Reports, Means, MeansAnswer, Faults, HasItsCause, IsComplete}
+use Rattle.xrsim.specs.Run.{Run}
 
 long_take : (n : ℕ) (bytes : List ℕ) → n < length bytes → n < length (take (n + 1) bytes)
 long_take n bytes h = grind (arith, common_steps)

@@ -1,5 +1,5 @@
 -- The turns of one script and the compositor.
-use Rattle.std.proofs.Common.{◌≡◌, ◌⊎◌, inl, inr, ℕ, Bool, true, false, List, [], ◌∷◌, ◌++◌, Some, refl, subst, sym}
+use Rattle.std.proofs.Common.{◌≡◌, inl, inr, ℕ, true, false, List, [], ◌∷◌, refl, subst, sym}
 use Rattle.xr_types.specs.declared.calls.Actor.TheVariants.{App, Compositor}
 use Rattle.xr_types.specs.declared.calls.Gives.TheVariants.{Ended}
 use Rattle.xr_types.specs.declared.scenario.Op.{Op}
@@ -7,7 +7,7 @@ use Rattle.xr_types.specs.declared.scenario.Op.TheVariants as op
 use Rattle.xr_model.specs.Request.{Entry, Outcome, next_frame}
 use Rattle.xr_model.specs.State.{State}
 use Rattle.xr_model.specs.Machine.{step}
-use Rattle.xr_model.specs.Robin.{Seat, script, compositor, Turn, next_call, is_next_ready, turn_from, seat_after, IsRobinFrom}
+use Rattle.xr_model.specs.Robin.{Seat, script, compositor, next_call, is_next_ready, seat_after, IsRobinFrom}
 use Rattle.xrsim.specs.Play.{IsOpen, IsTurnOf}
 
 script_ready : (s : State) (rest : List Op) (values : List ℕ) → is_next_ready s (script 1 rest values) ≡ true

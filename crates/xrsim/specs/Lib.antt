@@ -1,5 +1,6 @@
 pub mod Lent
 pub mod Play
+pub mod Run
 pub mod Input
 pub mod Top
 pub mod Exit

@@ -1,20 +1,17 @@
--- A run of one script, call by call, and the history that it makes.
-use Rattle.std.specs.Prelude.{◌≡◌, ◌⊎◌, ℕ, Bool, true, false, List, [], ◌∷◌, ◌++◌, length, drop}
+-- A run of one script, call by call: what its private functions keep from one call to the next.
+use Rattle.std.specs.Prelude.{◌≡◌, ◌⊎◌, ℕ, true, false, List, [], ◌∷◌, ◌++◌, length, drop}
 use Rattle.xr_types.specs.declared.calls.Actor.{Actor}
-use Rattle.xr_types.specs.declared.calls.Actor.TheVariants.{App, Compositor, Device}
-use Rattle.xr_types.specs.declared.calls.Gives.TheVariants.{Ended}
+use Rattle.xr_types.specs.declared.calls.Actor.TheVariants.{App}
 use Rattle.xr_types.specs.declared.calls.Reply.{Reply}
-use Rattle.xr_types.specs.declared.made.Lists.{Lists}
 use Rattle.xr_types.specs.declared.made.Made.{Made}
 use Rattle.xr_types.specs.declared.scenario.Op.{Op}
-use Rattle.xr_types.specs.declared.scenario.Scenario.{Scenario}
-use Rattle.xr_model.specs.Request.{Request, next_frame, Entry, Told, entry_of, is_actor}
+use Rattle.xr_model.specs.Request.{Request, Entry, Told, entry_of, is_actor}
 use Rattle.xr_model.specs.State.{State, opening}
 use Rattle.xr_model.specs.Machine.{IsAllowed, ready, step}
-use Rattle.xr_model.specs.History.{IsLegalFrom, IsLegal, calls_from, calls_of}
+use Rattle.xr_model.specs.History.{IsLegalFrom, calls_from}
 use Rattle.xr_model.specs.Scripts.{FollowsFrom, Follows}
-use Rattle.xr_model.specs.Robin.{Seat, script, compositor, IsRobinFrom, IsRobin}
-use Rattle.xr_model.specs.Lists.{made_from, lists_of}
+use Rattle.xr_model.specs.Robin.{Seat, script, compositor, IsRobinFrom}
+use Rattle.xr_model.specs.Lists.{made_from}
 
 -- An answered call: its entry is allowed and ready, and the reply, the text and the new state are the
 -- machine's.
@@ -52,22 +49,3 @@ pub record ToldSo (ops : List Op) (i : ℕ) (values : List ℕ) (s : State) (mad
   pub count : length told ≡ i
   pub kept : made ≡ made_from 1 told
   pub playing : Playing ops (drop i ops) values s told
-
--- the compositor asked once and was told the end
-abbrev pub IsEnd : List Told → Type 0
-IsEnd [] = ⊥
-IsEnd (t ∷ []) = (t.request ≡ next_frame) × (t.outcome.reply.gives ≡ Ended)
-IsEnd (t ∷ u ∷ ts) = ⊥
-
--- A run of a scenario of one script: a legal history of the machine of one thread, the round robin's,
--- in which the application's calls follow the script, the compositor's end, and nobody else calls.
--- The lists are those of this history, so each reply is the machine's at its call's place.
-pub record Plays (scenario : Scenario) (ops : List Op) (lists : Lists) : Type 0 where
-  pub history : List Entry
-  pub one : scenario.scripts ≡ ops ∷ []
-  pub legal : IsLegal 1 history
-  pub robin : IsRobin 1 scenario history
-  pub follows : Follows ops (calls_of 1 (App 1) history)
-  pub ends : IsEnd (calls_of 1 Compositor history)
-  pub alone : calls_of 1 Device history ≡ []
-  pub made : lists ≡ lists_of 1 history

@@ -1,28 +1,19 @@
 -- What a top call means, and why each of its answers comes.
-use Rattle.std.specs.Prelude.{◌≡◌, ◌⊎◌, ℕ, List, [], ◌∷◌, length, take, Option, Some, None, Result, Ok, Err, IfSome, ⊤, Vec}
+use Rattle.std.specs.Prelude.{◌≡◌, ◌⊎◌, ℕ, List, take, Option, Some, None, Result, Ok, Err, IfSome, ⊤, Vec}
 use Rattle.std.specs.declared.alloc.Global.{Global}
 use Rattle.std.specs.Io.KnownBytes.{Keeps, Appends}
 use Rattle.xr_io.specs.Outside.{Rose}
 use Rattle.xr_io.specs.declared.Which.{Which}
 use Rattle.xr_io.specs.declared.Which.TheVariants.{Device}
 use Rattle.xr_types.specs.declared.made.Lists.{Lists}
-use Rattle.xr_types.specs.declared.scenario.Op.{Op}
 use Rattle.xr_types.specs.declared.scenario.Scenario.{Scenario}
-use Rattle.xr_types.specs.declared.status.Refusal.{Refusal}
 use Rattle.xr_types.specs.declared.status.Refusal.TheVariants.{Unbuilt}
 use Rattle.xr_types.specs.declared.status.Status.{Status}
 use Rattle.xr_types.specs.declared.status.Status.TheVariants.{Done, Usage, OpenFault, ReadFault, ScenarioRefused, DeviceFailed, DeviceGarbled, Stuck, WriteFault, NoMemory}
 use Rattle.xr_model.specs.Words.{file_of}
 use Rattle.xr_model.specs.Scenario.{scenario_of}
 use Rattle.xr_model.specs.Report.{report_of}
-use Rattle.xrsim.specs.Play.{Plays}
-
--- A run of a text: it is a scenario, and the lists are those of its history.
-pub record Run (text : List ℕ) (lists : Lists) : Type 0 where
-  pub scenario : Scenario
-  pub ops : List Op
-  pub reads : scenario_of text ≡ Some scenario
-  pub plays : Plays scenario ops lists
+use Rattle.xrsim.specs.Run.{Run}
 
 -- The words have a form, and this is so of its file.
 abbrev pub OfForm : List (List ℕ) → (List ℕ → Type 0) → Type 0

@@ -1,8 +1,10 @@
-//! `xrsim` runs a scenario of OpenXR calls on the written machine and prints its report. The words, the
-//! reading, the run and the writing are private modules; `serial` has the top call.
+//! `xrsim` runs a scenario of OpenXR calls on the written machine and prints its report. Words, reading,
+//! the run and writing are private modules; `serial` has the top call, over any files and output. This
+//! file makes the real ones, says in one line why there is no whole report, and ends with the status.
 #![tactic(auto)]
 
 mod calls;
+mod help;
 mod input;
 mod output;
 mod play;
@@ -12,10 +14,14 @@ mod words;
 ghost use Rattle.std.specs.Prelude.{◌≡◌};
 ghost use Rattle.xrsim.specs.Exit.{exit_of};
 
+use help::text_for;
+use output::write_all;
 use serial::run_serial;
+use std::alloc::Global;
 use std::env;
-use std::io::{Eprint, ErrorKind};
+use std::io::{Eprint, ErrorKind, Print};
 use std::process::ExitCode;
+use std::rt::Files;
 use xr_io::{FileOpener, StdSink};
 use xr_types::{Refusal, Status};
 
@@ -70,15 +76,24 @@ fn explain<R: Eprint>(rt: &R, status: Status) {
     };
 }
 
+/// Does what the words ask for, with real files and standard output.
+fn answer<R: Files + Print>(rt: &R, alloc: Global, words: &[String]) -> Status {
+    let mut sink = StdSink::new(rt);
+    if let Some(text) = text_for(words) {
+        return match write_all(&mut sink, text.as_bytes()) {
+            Ok(()) => Status::Done,
+            Err(_) => Status::WriteFault,
+        };
+    }
+    let mut opener = FileOpener::new(rt);
+    run_serial(alloc, words, &mut opener, &mut sink)
+}
+
 fn main(rt: HostRuntime) -> ExitCode {
     let alloc = rt.alloc();
     let status = match env::args(&rt) {
         Ok(given) => match given.skip(1).collect::<Vec<String>>(alloc) {
-            Ok(words) => {
-                let mut opener = FileOpener::new(&rt);
-                let mut sink = StdSink::new(&rt);
-                run_serial(alloc, words.as_slice(), &mut opener, &mut sink)
-            }
+            Ok(words) => answer(&rt, alloc, words.as_slice()),
             Err(_) => Status::NoMemory,
         },
         Err(e) => {
@@ -92,3 +107,6 @@ fn main(rt: HostRuntime) -> ExitCode {
     explain(&rt, status);
     ExitCode::from(exit_of(status))
 }
+
+#[cfg(test)]
+mod tests;

@@ -4,7 +4,8 @@ ghost use Rattle.xr_types.specs.declared.calls.Actor.TheVariants.{App, Composito
 ghost use Rattle.xr_types.specs.declared.scenario.Scenario.{Scenario};
 ghost use Rattle.xr_model.specs.Request.{next_frame};
 ghost use Rattle.xr_model.specs.State.{opening};
-ghost use Rattle.xrsim.specs.Play.{IsMade, IsOpen, ToldSo, Plays};
+ghost use Rattle.xrsim.specs.Play.{IsMade, IsOpen, ToldSo};
+ghost use Rattle.xrsim.specs.Run.{Plays};
 
 use crate::calls::{Answered, call_of, make, named_by};
 use std::alloc::Global;

@@ -1,5 +1,4 @@
-use Rattle.std.proofs.Common.{rules, ◌≡◌, ◌+◌, ◌∷◌, [], ◌++◌, length, Some, refl, ◌∙◌}
-use Rattle.xr_types.specs.declared.made.Lists.{Lists}
+use Rattle.std.proofs.Common.{◌≡◌, ◌+◌, ◌∷◌, [], ◌++◌, length, Some, refl, ◌∙◌}
 use Rattle.xr_types.specs.declared.scenario.CallName.TheVariants.{Leave}
 use Rattle.xrsim.proofs.Played.{played}
 use Rattle.xrsim.proofs.play.run.Goals as goal

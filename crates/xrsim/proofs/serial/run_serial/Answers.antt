@@ -3,7 +3,7 @@ use Rattle.std.specs.Io.KnownBytes.{Appends}
 use Rattle.xr_types.specs.declared.made.Lists.{Lists}
 use Rattle.xr_model.specs.Words.{file_of}
 use Rattle.xr_model.specs.Report.{report_of}
-use Rattle.xrsim.specs.Top.{Run, Means}
+use Rattle.xrsim.specs.Run.{Run}
 use Rattle.xrsim.proofs.Runs.{means_answer_err, answer_cause, reports, complete}
 use Rattle.xrsim.proofs.serial.run_serial.Goals as goal
 

@@ -1,4 +1,4 @@
-use Rattle.std.proofs.Common.{rules, ◌≡◌, true}
+use Rattle.std.proofs.Common.{rules}
 use Rattle.xr_core.proofs.Refusing.{copy_refused}
 use Rattle.xr_core.proofs.state.Core.path_to_string.Goals as goal
 

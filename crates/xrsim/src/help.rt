@@ -1,0 +1,43 @@
+// What the program says of itself.
+
+/// How the program is called, printed by `--help`.
+pub(crate) const HELP: &str = "\
+xrsim runs a scenario of OpenXR calls on a runtime core without graphics and prints a report.
+
+usage:
+  xrsim serial FILE     run the scenario under FILE on one thread and print its report
+  xrsim --help          print this
+  xrsim --version       print the version
+
+FILE has 1 to 4095 bytes and doesn't begin with '-'. It holds a JSON object of at most 1,048,576
+bytes: a version, 1, and one script of the ops create_instance, string_to_path and path_to_string.
+
+example:
+  {\"version\":1,\"scripts\":[[{\"op\":\"create_instance\",\"major\":1,\"minor\":0,\"as\":\"i\"},
+    {\"op\":\"string_to_path\",\"instance\":\"i\",\"text\":\"/user/hand/left\",\"as\":\"p\"},
+    {\"op\":\"path_to_string\",\"instance\":\"i\",\"path\":\"p\",\"capacity\":16}]]}
+
+exit status, with one line on standard error for each but 0:
+  0  all was read and the whole report was written
+  1  the words aren't of a form above
+  2  the file couldn't be opened
+  3  the file couldn't be read
+  4  the text is no scenario that is run
+  8  the report couldn't be written whole
+  9  memory was short; nothing was written
+";
+
+/// Printed by `--version`.
+pub(crate) const VERSION: &str = "xrsim 0.1.0\n";
+
+/// The text that these words ask for, if they ask for one.
+pub(crate) fn text_for(words: &[String]) -> Option<&'static str> {
+    if words.len() != 1 {
+        return None;
+    }
+    match words[0].as_str() {
+        "--help" | "-h" => Some(HELP),
+        "--version" | "-V" => Some(VERSION),
+        _ => None,
+    }
+}

@@ -1,0 +1,305 @@
+// The top call over files and output in memory, on values from outside.
+use super::serial::run_serial;
+use std::alloc::Global;
+use std::test::Fail;
+use xr_io::{Failing, MemoryFile, MemoryOpener, MemorySink};
+use xr_types::{Refusal, Status};
+
+const NEVER: Failing<'static> = Failing {
+    open: false,
+    reads: &[],
+};
+
+const FIRST: &str =
+    r#"{"version":1,"scripts":[[{"op":"create_instance","major":1,"minor":0,"as":"i"},{"op":"string_to_path","instance":"i","text":"/user/hand/left","as":"p"},{"op":"string_to_path","instance":"i","text":"/user/hand/left"},{"op":"path_to_string","instance":"i","path":"p","capacity":16}]]}"#;
+
+const FIRST_REPORT: &str = "\
+xrsim report 1
+thread 1
+1 create_instance XR_SUCCESS
+2 string_to_path XR_SUCCESS 1
+3 string_to_path XR_SUCCESS 1
+4 path_to_string XR_SUCCESS 16 /user/hand/left
+5 leave XR_SUCCESS
+compositor
+ended
+device
+status 0
+";
+
+const SIZES: &str =
+    r#"{"version":1,"scripts":[[{"op":"create_instance","major":1,"minor":0,"as":"i"},{"op":"string_to_path","instance":"i","text":"/user/head","as":"h"},{"op":"path_to_string","instance":"i","path":"h","capacity":0},{"op":"path_to_string","instance":"i","path":"h","capacity":10},{"op":"path_to_string","instance":"i","path":"h","capacity":11},{"op":"path_to_string","instance":"i","path":7,"capacity":11}]]}"#;
+
+const SIZES_REPORT: &str = "\
+xrsim report 1
+thread 1
+1 create_instance XR_SUCCESS
+2 string_to_path XR_SUCCESS 1
+3 path_to_string XR_SUCCESS 11
+4 path_to_string XR_ERROR_SIZE_INSUFFICIENT 11
+5 path_to_string XR_SUCCESS 11 /user/head
+6 path_to_string XR_ERROR_PATH_INVALID
+7 leave XR_SUCCESS
+compositor
+ended
+device
+status 0
+";
+
+const REFUSALS: &str =
+    r#"{"version":1,"scripts":[[{"op":"create_instance","major":2,"minor":0},{"op":"string_to_path","instance":0,"text":"/a"},{"op":"create_instance","major":1,"minor":0,"as":"i"},{"op":"create_instance","major":1,"minor":0,"as":"i"},{"op":"string_to_path","instance":"i","text":"/a"}]]}"#;
+
+const REFUSALS_REPORT: &str = "\
+xrsim report 1
+thread 1
+1 create_instance XR_ERROR_API_VERSION_UNSUPPORTED
+2 string_to_path XR_ERROR_HANDLE_INVALID
+3 create_instance XR_SUCCESS
+4 create_instance XR_ERROR_LIMIT_REACHED
+5 string_to_path XR_ERROR_HANDLE_INVALID
+6 leave XR_SUCCESS
+compositor
+ended
+device
+status 0
+";
+
+/// The status of `serial FILE`, where FILE holds this text, and its opening or these reads fail.
+fn run_failing<'x>(
+    alloc: Global,
+    text: &'x str,
+    open: bool,
+    reads: &'x [u64],
+    sink: &mut MemorySink<'_>,
+) -> Result<Status, Fail> {
+    let fails = Failing { open, reads };
+    let files = [MemoryFile {
+        name: "row.json",
+        bytes: text.as_bytes(),
+    }];
+    let words = vec![in alloc; "serial".to_string(alloc)?, "row.json".to_string(alloc)?]?;
+    let mut opener = MemoryOpener::new(&files, fails, fails);
+    Ok(run_serial(alloc, words.as_slice(), &mut opener, sink))
+}
+
+/// The status of `serial FILE`, where FILE holds this text and is read without a fault.
+fn run(alloc: Global, text: &str, sink: &mut MemorySink<'_>) -> Result<Status, Fail> {
+    run_failing(alloc, text, false, &[], sink)
+}
+
+#[test]
+fn scenarios_give_their_reports(rt: HostRuntime) -> Result<(), Fail> {
+    for (text, report) in [
+        (FIRST, FIRST_REPORT),
+        (SIZES, SIZES_REPORT),
+        (REFUSALS, REFUSALS_REPORT),
+    ] {
+        let mut sink = MemorySink::new(rt.alloc(), 1000, &[], &[])?;
+        assert_eq!(rt; run(rt.alloc(), text, &mut sink)?, Status::Done);
+        assert_eq!(rt; sink.bytes(), report.as_bytes());
+    }
+    Ok(())
+}
+
+/// A script that interns texts, and the lines that it prints.
+#[derive(Drop)]
+struct Interning {
+    text: String,
+    report: String,
+    ops: u64,
+}
+
+impl Interning {
+    fn new(alloc: Global) -> Result<Interning, Fail> {
+        Ok(Interning {
+            text: String::from_str(
+                alloc,
+                r#"{"version":1,"scripts":[[{"op":"create_instance","major":1,"minor":0,"as":"i"}"#,
+            )?,
+            report: String::from_str(
+                alloc,
+                "xrsim report 1\nthread 1\n1 create_instance XR_SUCCESS\n",
+            )?,
+            ops: 1,
+        })
+    }
+
+    /// One more text, with what stands behind the op's name.
+    fn intern(&mut self, alloc: Global, path: &str, answer: &str) -> Result<(), Fail> {
+        self.ops = self.ops.saturating_add(1);
+        let ops = self.ops;
+        let op = format!(in alloc; r#",{{"op":"string_to_path","instance":"i","text":"{path}"}}"#)?;
+        self.text.push_str(op.as_str())?;
+        let line = format!(in alloc; "{ops} string_to_path {answer}\n")?;
+        self.report.push_str(line.as_str())?;
+        Ok(())
+    }
+
+    fn end(&mut self, alloc: Global) -> Result<(), Fail> {
+        let ops = self.ops.saturating_add(1);
+        self.text.push_str("]]}")?;
+        let line = format!(in alloc;
+            "{ops} leave XR_SUCCESS\ncompositor\nended\ndevice\nstatus 0\n"
+        )?;
+        self.report.push_str(line.as_str())?;
+        Ok(())
+    }
+}
+
+#[test]
+fn path_texts_are_judged(rt: HostRuntime) -> Result<(), Fail> {
+    let alloc = rt.alloc();
+    let bad = "XR_ERROR_PATH_FORMAT_INVALID";
+    let mut script = Interning::new(alloc)?;
+    for path in ["/a/../b", "/a/", "//a", "/A", "", "/", "/.."] {
+        script.intern(alloc, path, bad)?;
+    }
+    let mut long = String::from_str(alloc, "/")?;
+    for _ in 0..254 {
+        long.push('a')?;
+    }
+    script.intern(alloc, long.as_str(), "XR_SUCCESS 1")?;
+    long.push('a')?;
+    script.intern(alloc, long.as_str(), bad)?;
+    script.intern(alloc, "/a.b", "XR_SUCCESS 2")?;
+    script.end(alloc)?;
+    let mut sink = MemorySink::new(alloc, 2000, &[], &[])?;
+    assert_eq!(rt; run(alloc, script.text.as_str(), &mut sink)?, Status::Done);
+    assert_eq!(rt; sink.bytes(), script.report.as_bytes());
+    Ok(())
+}
+
+#[test]
+fn an_instance_has_1024_atoms(rt: HostRuntime) -> Result<(), Fail> {
+    let alloc = rt.alloc();
+    let mut script = Interning::new(alloc)?;
+    for k in 0..1024u64 {
+        let path = format!(in alloc; "/p/{k}")?;
+        let atom = k.saturating_add(1);
+        let answer = format!(in alloc; "XR_SUCCESS {atom}")?;
+        script.intern(alloc, path.as_str(), answer.as_str())?;
+    }
+    script.intern(alloc, "/p/0", "XR_SUCCESS 1")?;
+    script.intern(alloc, "/q", "XR_ERROR_PATH_COUNT_EXCEEDED")?;
+    script.end(alloc)?;
+    let mut sink = MemorySink::new(alloc, 60_000, &[], &[])?;
+    assert_eq!(rt; run(alloc, script.text.as_str(), &mut sink)?, Status::Done);
+    assert_eq!(rt; sink.bytes(), script.report.as_bytes());
+    Ok(())
+}
+
+#[test]
+fn texts_that_are_no_scenario_are_refused(rt: HostRuntime) -> Result<(), Fail> {
+    let refused = Status::ScenarioRefused(Refusal::Unbuilt);
+    for text in [
+        "",
+        "[1,",
+        "[]",
+        r#"{"version":1}"#,
+        r#"{"version":2,"scripts":[[]]}"#,
+        r#"{"version":1.0,"scripts":[[]]}"#,
+        r#"{"version":1,"scripts":[]}"#,
+        r#"{"version":1,"scripts":[[],[]]}"#,
+        r#"{"version":1,"scripts":[[]],"more":0}"#,
+        r#"{"version":1,"scripts":[[{"op":"poll_event","instance":0}]]}"#,
+        r#"{"version":1,"scripts":[[{"op":"create_instance","major":1}]]}"#,
+        r#"{"version":1,"scripts":[[{"op":"create_instance","major":-1,"minor":0}]]}"#,
+        r#"{"version":1,"scripts":[[{"op":"create_instance","major":4294967296,"minor":0}]]}"#,
+        r#"{"version":1,"scripts":[[{"op":"create_instance","major":1,"minor":0,"as":"I"}]]}"#,
+        r#"{"version":1,"scripts":[[{"op":"create_instance","major":1,"minor":0,"x":0}]]}"#,
+        r#"{"version":1,"scripts":[[{"op":"string_to_path","instance":1,"text":"/a"}]]}"#,
+        r#"{"version":1,"scripts":[[{"op":"string_to_path","instance":"i","text":"/a"}]]}"#,
+        r#"{"version":1,"scripts":[[{"op":"path_to_string","instance":0,"path":1,"capacity":1025}]]}"#,
+        r#"{"version":1,"scripts":[[{"op":"create_instance","major":1,"minor":0,"as":"i"},{"op":"path_to_string","instance":0,"path":"i","capacity":0}]]}"#,
+    ] {
+        let mut sink = MemorySink::new(rt.alloc(), 1000, &[], &[])?;
+        assert_eq!(rt; run(rt.alloc(), text, &mut sink)?, refused, "{text}");
+        assert_eq!(rt; sink.bytes().len(), 0);
+    }
+    Ok(())
+}
+
+#[test]
+fn a_text_has_at_most_1048576_bytes(rt: HostRuntime) -> Result<(), Fail> {
+    let alloc = rt.alloc();
+    let mut text = String::from_str(alloc, r#"{"version":1,"scripts":[[]]}"#)?;
+    for _ in 28..1_048_576 {
+        text.push(' ')?;
+    }
+    let mut sink = MemorySink::new(alloc, 1000, &[], &[])?;
+    assert_eq!(rt; run(alloc, text.as_str(), &mut sink)?, Status::Done);
+    text.push(' ')?;
+    let mut other = MemorySink::new(alloc, 1000, &[], &[])?;
+    let refused = Status::ScenarioRefused(Refusal::Unbuilt);
+    assert_eq!(rt; run(alloc, text.as_str(), &mut other)?, refused);
+    assert_eq!(rt; other.bytes().len(), 0);
+    Ok(())
+}
+
+#[test]
+fn faults_of_files_are_told(rt: HostRuntime) -> Result<(), Fail> {
+    let none: &[u64] = &[];
+    for (open, reads, status) in [
+        (true, none, Status::OpenFault),
+        (false, &[0], Status::ReadFault),
+        (false, &[1], Status::ReadFault),
+    ] {
+        let mut sink = MemorySink::new(rt.alloc(), 1000, &[], &[])?;
+        assert_eq!(rt;
+            run_failing(rt.alloc(), FIRST, open, reads, &mut sink)?,
+            status
+        );
+        assert_eq!(rt; sink.bytes().len(), 0);
+    }
+    Ok(())
+}
+
+#[test]
+fn faults_of_the_output_are_told(rt: HostRuntime) -> Result<(), Fail> {
+    let mut failing = MemorySink::new(rt.alloc(), 1000, &[0], &[])?;
+    assert_eq!(rt; run(rt.alloc(), FIRST, &mut failing)?, Status::WriteFault);
+    assert_eq!(rt; failing.bytes().len(), 0);
+    let mut idle = MemorySink::new(rt.alloc(), 1000, &[], &[0])?;
+    assert_eq!(rt; run(rt.alloc(), FIRST, &mut idle)?, Status::WriteFault);
+    assert_eq!(rt; idle.bytes().len(), 0);
+    let mut small = MemorySink::new(rt.alloc(), 15, &[], &[])?;
+    assert_eq!(rt; run(rt.alloc(), FIRST, &mut small)?, Status::WriteFault);
+    assert_eq!(rt; small.bytes(), b"xrsim report 1\n".as_slice());
+    Ok(())
+}
+
+/// The status of these words, where no file is held.
+fn status_of(alloc: Global, words: &[&str]) -> Result<Status, Fail> {
+    let mut given = Vec::new(alloc);
+    for word in words {
+        given.push(word.to_string(alloc)?)?;
+    }
+    let mut opener = MemoryOpener::new(&[], NEVER, NEVER);
+    let mut sink = MemorySink::new(alloc, 10, &[], &[])?;
+    Ok(run_serial(alloc, given.as_slice(), &mut opener, &mut sink))
+}
+
+#[test]
+fn other_words_are_no_form(rt: HostRuntime) -> Result<(), Fail> {
+    let alloc = rt.alloc();
+    let mut long = String::new(alloc);
+    for _ in 0..4095 {
+        long.push('a')?;
+    }
+    assert_eq!(rt;
+        status_of(alloc, &["serial", long.as_str()])?,
+        Status::OpenFault
+    );
+    long.push('a')?;
+    assert_eq!(rt;
+        status_of(alloc, &["serial", long.as_str()])?,
+        Status::Usage
+    );
+    assert_eq!(rt; status_of(alloc, &[])?, Status::Usage);
+    assert_eq!(rt; status_of(alloc, &["serial"])?, Status::Usage);
+    assert_eq!(rt; status_of(alloc, &["serial", ""])?, Status::Usage);
+    assert_eq!(rt; status_of(alloc, &["serial", "--places"])?, Status::Usage);
+    assert_eq!(rt; status_of(alloc, &["threads", "a"])?, Status::Usage);
+    assert_eq!(rt; status_of(alloc, &["serial", "a", "b"])?, Status::Usage);
+    Ok(())
+}
