@@ -1,5 +1,5 @@
 // What a call answers, and the names of OpenXR.
-ghost use Rattle.std.specs.Prelude.{◌≡◌};
+ghost use Rattle.std.specs.Prelude.{◌≡◌, Some};
 ghost use Rattle.xr_types.specs.Code.{name_of, is_success};
 
 use std::fmt;
@@ -112,6 +112,8 @@ impl Code {
 }
 
 impl fmt::Display for Code {
+    ghost output = { λ code. Some (name_of code) };
+
     fn fmt<W: fmt::Write>(&self, f: &mut fmt::Formatter<W>) -> fmt::Result {
         f.write_str(self.name())
     }

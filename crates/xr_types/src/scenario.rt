@@ -1,5 +1,5 @@
 // A scenario: scripts of ops, as a text gives them.
-ghost use Rattle.std.specs.Prelude.{◌≡◌};
+ghost use Rattle.std.specs.Prelude.{◌≡◌, Some};
 ghost use Rattle.xr_types.specs.Op.{name_of, call_name};
 
 use crate::{Bytes, Several};
@@ -78,6 +78,8 @@ impl CallName {
 }
 
 impl fmt::Display for CallName {
+    ghost output = { λ call. Some (name_of call) };
+
     fn fmt<W: fmt::Write>(&self, f: &mut fmt::Formatter<W>) -> fmt::Result {
         f.write_str(self.name())
     }
