@@ -1,4 +1,4 @@
--- Handles (OpenXR 1.0 section 2.8): those that were given in the run, and the live ones.
+-- Handles (OpenXR 1.0 chapter 2, "Handles"): those that were given in the run, and the live ones.
 use Rattle.std.specs.Prelude.{ℕ, ◌&&◌, ◌==◌, Bool, not, List, [], ◌∷◌}
 use Rattle.std.specs.List.{list_any}
 

@@ -1,5 +1,5 @@
 // The blocks of a report, and their lines.
-ghost use Rattle.std.specs.Prelude.{◌≡◌, ◌++◌, ◌+◌, codes, decimal, OnOk, IfOk};
+ghost use Rattle.std.specs.Prelude.{◌≡◌, ◌++◌, decimal, OnOk, IfOk};
 ghost use Rattle.xr_model.specs.Report.{text_behind, values_of, line_of, lines_of, threads_from, compositor_block, report_of};
 
 use itoa::Buffer;

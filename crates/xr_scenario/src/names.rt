@@ -1,5 +1,5 @@
 // The names that the ops of a script have given, each with the latest op that gave it.
-ghost use Rattle.std.specs.Prelude.{◌≡◌, [], OnOk, IfOk};
+ghost use Rattle.std.specs.Prelude.{◌≡◌, [], OnOk};
 ghost use Rattle.xr_model.specs.Names.{given, place_of};
 ghost use Rattle.xr_scenario.specs.Given.{place_by};
 

@@ -1,5 +1,5 @@
 // The ops, each by its row of the format.
-ghost use Rattle.std.specs.Prelude.{◌≡◌, map, option_map};
+ghost use Rattle.std.specs.Prelude.{map, option_map};
 ghost use Rattle.serde_json.specs.View.{view};
 ghost use Rattle.xr_scenario.specs.Reads.{ReadsLine};
 ghost use Rattle.xr_model.specs.Fields.{only};

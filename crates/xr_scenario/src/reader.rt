@@ -1,10 +1,9 @@
 // The reader: a text, its JSON value, the scenario's object, its script, and the script's ops.
-ghost use Rattle.std.specs.Prelude.{◌≡◌, ◌≤◌, ◌<◌, ◌^◌, ◌+◌, [], ◌∷◌, ◌++◌, length, codes, IfOk, IfErr, OnOk, Some, option_map, option_and_then};
+ghost use Rattle.std.specs.Prelude.{◌≡◌, ◌≤◌, ◌<◌, ◌^◌, ◌+◌, [], ◌∷◌, ◌++◌, length, codes, IfOk, IfErr, OnOk, Some, option_map};
 ghost use Rattle.serde_json.specs.View.{view, items_view};
-ghost use Rattle.serde_json.specs.Find.{as_array};
 ghost use Rattle.xr_model.specs.Fields.{field};
 ghost use Rattle.xr_model.specs.Ops.{sort_of, with_name};
-ghost use Rattle.xr_model.specs.Scenario.{ops_from, script_in, one_script, scripts_in, version_in, scenario_in, json_of, scenario_of};
+ghost use Rattle.xr_model.specs.Scenario.{ops_from, script_in, scripts_in, version_in, scenario_in, json_of, scenario_of};
 ghost use Rattle.xr_scenario.specs.declared.fault.Fault.TheVariants.{NoMemory};
 ghost use Rattle.xr_scenario.specs.Few.{total};
 ghost use Rattle.xr_scenario.specs.Size.{size, items_size};

@@ -1,9 +1,9 @@
 // The call of an op, and what it came to.
-ghost use Rattle.std.specs.Prelude.{◌≡◌, ◌≤◌, ◌<◌, ◌^◌, ◌-◌, IfOk, length, take};
+ghost use Rattle.std.specs.Prelude.{◌≡◌, ◌≤◌, ◌<◌, ◌^◌, IfOk, length};
 ghost use Rattle.xr_types.specs.declared.calls.Actor.TheVariants.{App};
 ghost use Rattle.xr_model.specs.Request.{request_of};
 ghost use Rattle.xr_model.specs.Machine.{IsCaller, IsPresent};
-ghost use Rattle.xr_model.specs.Values.{nonnegative, value_of, named_by};
+ghost use Rattle.xr_model.specs.Values.{value_of, named_by};
 ghost use Rattle.xr_model.specs.Scripts.{request_for};
 ghost use Rattle.xrsim.specs.Play.{IsMade};
 ghost use Rattle.xrsim.specs.Lent.{lent_size, written_size};

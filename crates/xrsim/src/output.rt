@@ -1,7 +1,7 @@
 // Writing all of a report.
-ghost use Rattle.std.specs.Prelude.{◌≡◌, ◌≤◌, ℕ, take, OnOk, OnErr, length};
+ghost use Rattle.std.specs.Prelude.{ℕ, take, OnOk, OnErr};
 ghost use Rattle.std.specs.Io.KnownBytes.{Appends};
-ghost use Rattle.xr_io.specs.Outside.{Rose, HasCause};
+ghost use Rattle.xr_io.specs.Outside.{HasCause};
 
 use xr_io::Sink;
 use xr_types::Failed;

@@ -1,6 +1,6 @@
 // A script's calls, one after another, and the compositor's end.
 ghost use Rattle.std.specs.Prelude.{◌≡◌, ◌<◌, ◌^◌, ◌+◌, ◌++◌, ◌∷◌, [], true, ℕ, List, IfOk, OnOk, length, Some};
-ghost use Rattle.xr_types.specs.declared.calls.Actor.TheVariants.{App, Compositor};
+ghost use Rattle.xr_types.specs.declared.calls.Actor.TheVariants.{Compositor};
 ghost use Rattle.xr_types.specs.declared.scenario.Scenario.{Scenario};
 ghost use Rattle.xr_model.specs.Request.{next_frame};
 ghost use Rattle.xr_model.specs.State.{opening};
@@ -10,7 +10,7 @@ ghost use Rattle.xrsim.specs.Run.{Plays};
 use crate::calls::{Answered, call_of, make, named_by};
 use std::alloc::Global;
 use xr_core::Core;
-use xr_types::{Actor, Bytes, Call, CallName, Lists, Made, NoMemory, Op, Reply, Several, Step};
+use xr_types::{Actor, Call, CallName, Lists, Made, NoMemory, Op, Reply, Several, Step};
 
 /// Keeps a call that was made, at the next place of the script.
 fn add(made: &mut Vec<Made>, name: CallName, answered: Answered) -> Result<(), NoMemory>

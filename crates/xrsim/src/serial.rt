@@ -1,5 +1,5 @@
 // The top call of one thread.
-ghost use Rattle.std.specs.Prelude.{◌≡◌, ◌≤◌, ◌+◌, ℕ, List, map, take, IfOk, IfErr, IfSome, Some, None, length, string_bytes};
+ghost use Rattle.std.specs.Prelude.{◌≡◌, ◌≤◌, ℕ, List, map, take, IfOk, IfErr, IfSome, Some, None, length, string_bytes};
 ghost use Rattle.xr_io.specs.declared.Which.{Which};
 ghost use Rattle.xr_model.specs.Words.{file_of};
 ghost use Rattle.xrsim.specs.Input.{status_of};

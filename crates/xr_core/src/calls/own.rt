@@ -1,5 +1,5 @@
 // The calls that are this project's own.
-ghost use Rattle.std.specs.Prelude.{◌≡◌, ◌<◌, ◌≤◌, ◌^◌, []};
+ghost use Rattle.std.specs.Prelude.{◌≡◌, ◌<◌, ◌^◌, []};
 ghost use Rattle.std.specs.List.{list_all};
 ghost use Rattle.xr_model.specs.Request.{leave, next_frame};
 ghost use Rattle.xr_model.specs.Machine.{Answers, IsPresent};

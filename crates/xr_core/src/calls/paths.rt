@@ -1,10 +1,10 @@
 // The calls on paths (OpenXR 1.0 section 6.2).
-ghost use Rattle.std.specs.Prelude.{◌≡◌, ◌<◌, ◌^◌, [], length};
+ghost use Rattle.std.specs.Prelude.{◌<◌, ◌^◌, [], length};
 ghost use Rattle.xr_model.specs.Request.{string_to_path, path_to_string};
 ghost use Rattle.xr_core.specs.Calls.{Makes, MakesOver};
 
 use crate::Core;
-use xr_types::{Answer, Code, Gives, Reply};
+use xr_types::{Code, Gives, Reply};
 
 impl Core {
     pub(crate) fn string_to_path(&mut self, instance: u64, text: &[u8]) -> Reply
