@@ -17,18 +17,11 @@ use Rattle.xr_model.specs.Scenario.{ops_from, script_in, one_script, scripts_in,
 use Rattle.xr_scenario.specs.Size.{size, items_size, members_size}
 use Rattle.xr_scenario.specs.Few.{total, FewOps}
 use Rattle.xr_scenario.proofs.Sizes.{holds_less}
+use Rattle.xr_scenario.proofs.Lines.{size-positive}
 
 abbrev AtMost : {T : Type 0} → (T → ℕ) → ℕ → Option T → Type 0
 AtMost f n None = ⊤
 AtMost f n (Some x) = f x ≤ n
-
-size-positive : (d : Data) → 1 ≤ size d
-size-positive null = omega arith
-size-positive (boolean b) = omega arith
-size-positive (number n) = omega arith
-size-positive (string s) = omega arith
-size-positive (array ds) = omega arith
-size-positive (object ms) = omega arith
 
 one_more : (op : Op) (n m : ℕ) (o : Option (List Op)) → 1 + n ≤ m → AtMost length n o → AtMost length m (option_map (λ ops. op ∷ ops) o)
 one_more op n m None le x = tt

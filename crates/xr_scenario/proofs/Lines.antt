@@ -44,7 +44,8 @@ ops_wrong place names vs i d ops h e = rw (ops_step place names vs i d h, e) ref
 
 -- ---- sizes
 
-size-positive : (d : Data) → 1 ≤ size d
+-- a value has a size
+pub size-positive : (d : Data) → 1 ≤ size d
 size-positive null = omega arith
 size-positive (boolean b) = omega arith
 size-positive (number n) = omega arith

@@ -47,7 +47,7 @@ status 0
 ";
 
 const REFUSALS: &str =
-    r#"{"version":1,"scripts":[[{"op":"create_instance","major":2,"minor":0},{"op":"string_to_path","instance":0,"text":"/a"},{"op":"create_instance","major":1,"minor":0,"as":"i"},{"op":"create_instance","major":1,"minor":0,"as":"i"},{"op":"string_to_path","instance":"i","text":"/a"}]]}"#;
+    r#"{"version":1,"scripts":[[{"op":"create_instance","major":2,"minor":0,"as":"z"},{"op":"string_to_path","instance":"z","text":"/a"},{"op":"create_instance","major":1,"minor":0,"as":"i"},{"op":"create_instance","major":1,"minor":0,"as":"i"},{"op":"string_to_path","instance":"i","text":"/a"}]]}"#;
 
 const REFUSALS_REPORT: &str = "\
 xrsim report 1
@@ -122,6 +122,7 @@ fn texts_that_are_no_scenario_are_refused(rt: HostRuntime) -> Result<(), Fail> {
         r#"{"version":1,"scripts":[[{"op":"create_instance","major":1,"minor":0,"x":0}]]}"#,
         r#"{"version":1,"scripts":[[{"op":"string_to_path","instance":1,"text":"/a"}]]}"#,
         r#"{"version":1,"scripts":[[{"op":"string_to_path","instance":"i","text":"/a"}]]}"#,
+        r#"{"version":1,"scripts":[[{"op":"create_instance","major":1,"minor":0,"as":"i"},{"op":"string_to_path","instance":"i","text":"/a","as":"i"},{"op":"string_to_path","instance":"i","text":"/a"}]]}"#,
         r#"{"version":1,"scripts":[[{"op":"path_to_string","instance":0,"path":1,"capacity":1025}]]}"#,
         r#"{"version":1,"scripts":[[{"op":"create_instance","major":1,"minor":0,"as":"i"},{"op":"path_to_string","instance":0,"path":"i","capacity":0}]]}"#,
     ] {
