@@ -60,6 +60,7 @@ intern_refused s instance text a atoms live failed kept answer memory = by (firs
         let gives : r.gives ≡ Nothing = gives_nothing s.atoms text (is_out_of_memory a.code) r e in
         record {
           allowed = λ who there. record {
+            built = refl;
             handle = refl;
             memory = λ short. let may = wanted s.atoms text (memory short) in (may.0, rw (live, may.1) refl);
             present = there;
@@ -86,7 +87,7 @@ copy_refused s instance path a before after live failed small answer written = b
         let code : a.code ≡ PathInvalid = ap (λ (x : Answer). x.code) (rw e at answer) in
         let kept : after ≡ before = rw e at written in
         record {
-          allowed = λ who there. record { handle = refl; memory = λ short. absurd (true≢false (sym short ∙ rw code refl)); present = there };
+          allowed = λ who there. record { built = refl; handle = refl; memory = λ short. absurd (true≢false (sym short ∙ rw code refl)); present = there };
           leads = λ who. rw (live, e) refl;
           replies = λ who. rw (live, e, code) refl;
           writes = λ who. rw (live, e, kept) refl;

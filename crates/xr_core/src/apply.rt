@@ -7,7 +7,7 @@ use crate::Core;
 use xr_types::{Actor, Call, Step};
 
 impl Core {
-    /// Makes a call, or says that it has to wait and leaves all as it was. `text` is the buffer that
+    /// Makes a call that is built, or says that it has to wait and leaves all as it was. `text` is the buffer that
     /// `path_to_string` is lent, of the call's `capacity`; for other calls it may have any size and stays.
     /// The reply is the machine's to an allowed entry: it gives a handle exactly where a creation
     /// succeeds, and `OutOfMemory` comes only to a new path text that would else be interned.
@@ -38,6 +38,7 @@ impl Core {
                 }
                 Step::Done(self.next_frame())
             }
+            _ => unreachable!(),
         }
     }
 }

@@ -23,6 +23,7 @@ effects_succeed s e = by e.request
     by (path_to_string instance path capacity) = refl
     by leave = refl
     by next_frame = refl
+    by _ = refl
 
 pub refusals_change_nothing : RefusalsChangeNothing
 refusals_change_nothing s e bad = ap (λ (t : State). record t { apps = s.apps; locked = s.locked + 1 }) (refused_or_done s (first_of (refusals (rule s e))) (rule s e).effect (effects_succeed s e) bad)

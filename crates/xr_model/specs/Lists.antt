@@ -1,25 +1,71 @@
 -- What a history made: each application's calls with their replies, and how the compositor ended.
-use Rattle.std.specs.Prelude.{zero, suc, ℕ, ◌+◌, List, [], ◌∷◌, ◌++◌, Option, Some, None, if◌then◌else◌}
-use Rattle.xr_types.specs.declared.calls.Actor.TheVariants.{App, Compositor}
+use Rattle.std.specs.Prelude.{zero, suc, ℕ, ℤ, pos, ◌+◌, List, [], ◌∷◌, ◌++◌, Option, Some, None, if◌then◌else◌}
+use Rattle.xr_types.specs.declared.calls.Actor.TheVariants.{App, Compositor, Device}
 use Rattle.xr_types.specs.declared.calls.Reply.{Reply}
 use Rattle.xr_types.specs.declared.made.Lists.{Lists}
 use Rattle.xr_types.specs.declared.made.Made.{Made}
-use Rattle.xr_types.specs.declared.scenario.CallName.{CallName}
-use Rattle.xr_types.specs.declared.scenario.CallName.TheVariants.{CreateInstance, StringToPath, PathToString, Leave, NextFrame}
-use Rattle.xr_model.specs.Request.{Request, create_instance, string_to_path, path_to_string, leave, next_frame, Entry, Told}
+use Rattle.xr_types.specs.declared.names.CallName.{CallName}
+use Rattle.xr_types.specs.declared.names.CallName.TheVariants as call
+use Rattle.xr_model.specs.Request.{Request, create_instance, destroy_instance, get_system, string_to_path, path_to_string, poll_event, create_session, destroy_session, begin_session, end_session, request_exit_session, create_reference_space, create_action_space, destroy_space, locate_space, create_action_set, destroy_action_set, create_action, destroy_action, suggest_bindings, attach_sets, sync_actions, get_boolean, get_float, get_vector, get_pose_active, create_swapchain, destroy_swapchain, acquire_image, wait_image, paint, release_image, wait_frame, begin_frame, end_frame, mark, await_mark, leave, device, next_frame, image_done, Entry, Told}
 use Rattle.xr_model.specs.History.{calls_of}
 use Rattle.xr_model.specs.Robin.{is_ended}
 
 abbrev pub name_of : Request → CallName
-name_of (create_instance major minor) = CreateInstance
-name_of (string_to_path instance text) = StringToPath
-name_of (path_to_string instance path capacity) = PathToString
-name_of leave = Leave
-name_of next_frame = NextFrame
+name_of (create_instance major minor) = call.CreateInstance
+name_of (destroy_instance instance) = call.DestroyInstance
+name_of (get_system instance form) = call.GetSystem
+name_of (string_to_path instance text) = call.StringToPath
+name_of (path_to_string instance path capacity) = call.PathToString
+name_of (poll_event instance) = call.PollEvent
+name_of (create_session instance system) = call.CreateSession
+name_of (destroy_session session) = call.DestroySession
+name_of (begin_session session view) = call.BeginSession
+name_of (end_session session) = call.EndSession
+name_of (request_exit_session session) = call.RequestExitSession
+name_of (create_reference_space session kind offset) = call.CreateReferenceSpace
+name_of (create_action_space session action sub offset) = call.CreateActionSpace
+name_of (destroy_space space) = call.DestroySpace
+name_of (locate_space space base time) = call.LocateSpace
+name_of (create_action_set instance name localized priority) = call.CreateActionSet
+name_of (destroy_action_set set) = call.DestroyActionSet
+name_of (create_action set name kind subs localized) = call.CreateAction
+name_of (destroy_action action) = call.DestroyAction
+name_of (suggest_bindings instance profile list) = call.SuggestBindings
+name_of (attach_sets session sets) = call.AttachSets
+name_of (sync_actions session active) = call.SyncActions
+name_of (get_boolean session action sub) = call.GetBoolean
+name_of (get_float session action sub) = call.GetFloat
+name_of (get_vector session action sub) = call.GetVector
+name_of (get_pose_active session action sub) = call.GetPoseActive
+name_of (create_swapchain session format width height fixed) = call.CreateSwapchain
+name_of (destroy_swapchain chain) = call.DestroySwapchain
+name_of (acquire_image chain) = call.AcquireImage
+name_of (wait_image chain timeout start) = call.WaitImage
+name_of (paint chain stamp) = call.Paint
+name_of (release_image chain) = call.ReleaseImage
+name_of (wait_frame session) = call.WaitFrame
+name_of (begin_frame session) = call.BeginFrame
+name_of (end_frame session time blend layers) = call.EndFrame
+name_of (mark number value) = call.Mark
+name_of (await_mark number) = call.Await
+name_of leave = call.Leave
+name_of (device what) = call.Device
+name_of next_frame = call.NextFrame
+name_of image_done = call.ImageDone
+
+-- the mark that a call awaits, else 0
+abbrev pub mark_of : Request → ℕ
+mark_of (await_mark number) = number
+mark_of _ = 0
+
+-- when a wait for an image began, else 0
+abbrev pub start_of : Request → ℤ
+start_of (wait_image chain timeout start) = start
+start_of _ = pos 0
 
 -- a call at its place in the script
 abbrev pub made_at : ℕ → Told → Made
-made_at place t = record { op = place; name = name_of t.request; reply = t.outcome.reply; text = t.outcome.text }
+made_at place t = record { op = place; name = name_of t.request; mark = mark_of t.request; start = start_of t.request; reply = t.outcome.reply; text = t.outcome.text }
 
 -- calls, from a place on
 abbrev pub made_from : ℕ → List Told → List Made
@@ -36,5 +82,15 @@ abbrev pub end_of : List Told → Option Reply
 end_of [] = None
 end_of (t ∷ ts) = if is_ended t.outcome.reply.gives then Some t.outcome.reply else end_of ts
 
+-- The lists of a history in which no frame is taken, the device does nothing and nobody is stuck.
 abbrev pub lists_of : ℕ → List Entry → Lists
-lists_of n history = record { apps = lists_to n n history; ended = end_of (calls_of n Compositor history) }
+lists_of n history = record {
+  apps = lists_to n n history;
+  device = made_from 1 (calls_of n Device history);
+  compositor = [];
+  ended = end_of (calls_of n Compositor history);
+  shown = [];
+  done = [];
+  events = [];
+  next = [];
+}

@@ -17,7 +17,7 @@ use Rattle.xr_model.specs.State.{State}
 use Rattle.xr_model.specs.Rules.{Rule, Effect, refusals, carried_out, placed, written_over}
 use Rattle.xr_model.specs.Steps.Instance.{create_instance_rule}
 use Rattle.xr_model.specs.Steps.Paths.{string_to_path_rule, path_to_string_rule}
-use Rattle.xr_model.specs.Steps.Own.{leave_rule, next_frame_rule}
+use Rattle.xr_model.specs.Steps.Own.{leave_rule, next_frame_rule, unbuilt_rule}
 
 -- the rule of a call
 abbrev pub rule_of : State → Actor → ℕ → Bool → Request → Rule
@@ -26,6 +26,7 @@ rule_of s who given short (string_to_path instance text) = string_to_path_rule s
 rule_of s who given short (path_to_string instance path capacity) = path_to_string_rule s instance path capacity
 rule_of s who given short leave = leave_rule s who
 rule_of s who given short next_frame = next_frame_rule s
+rule_of s who given short _ = unbuilt_rule s
 
 abbrev pub rule : State → Entry → Rule
 rule s e = rule_of s e.actor e.given e.short e.request
@@ -42,11 +43,8 @@ step s e = placed s (effect s e)
 
 -- a call that would succeed has to wait: the compositor waits until every application has left
 abbrev pub is_held_back : State → Request → Bool
-is_held_back s (create_instance major minor) = false
-is_held_back s (string_to_path instance text) = false
-is_held_back s (path_to_string instance path capacity) = false
-is_held_back s leave = false
 is_held_back s next_frame = not (list_all (λ gone. gone) s.left)
+is_held_back s _ = false
 
 -- a call is ready where it isn't held back, or would be refused
 abbrev pub ready : State → Entry → Bool
@@ -54,21 +52,24 @@ ready s e = not (is_held_back s e.request) || is_some (first_of (refusals (rule 
 
 -- ---- allowed entries
 
+-- the calls that have a rule
+abbrev pub is_built : Request → Bool
+is_built (create_instance major minor) = true
+is_built (string_to_path instance text) = true
+is_built (path_to_string instance path capacity) = true
+is_built leave = true
+is_built next_frame = true
+is_built _ = false
+
 -- the calls whose success gives a new handle
 abbrev pub is_creation : Request → Bool
 is_creation (create_instance major minor) = true
-is_creation (string_to_path instance text) = false
-is_creation (path_to_string instance path capacity) = false
-is_creation leave = false
-is_creation next_frame = false
+is_creation _ = false
 
 -- the calls that take memory in this state
 abbrev pub takes_memory : State → Request → Bool
-takes_memory s (create_instance major minor) = false
 takes_memory s (string_to_path instance text) = is_new s.atoms text
-takes_memory s (path_to_string instance path capacity) = false
-takes_memory s leave = false
-takes_memory s next_frame = false
+takes_memory s _ = false
 
 -- a handle that is nonzero and was never given before, or none
 abbrev pub IsGiven : Bool → Handles → ℕ → Type 0
@@ -85,9 +86,10 @@ IsPresent s Device = Unit {0}
 abbrev pub with_memory : Entry → Entry
 with_memory e = record e { short = false }
 
--- An entry is allowed where a new handle is given exactly by a successful creation, memory is short
--- only where the call takes some and would else succeed, and its application hasn't left.
+-- An entry is allowed where its call is built, a new handle is given exactly by a successful creation,
+-- memory is short only where the call takes some and would else succeed, and its application hasn't left.
 pub record IsAllowed (s : State) (e : Entry) : Type 0 where
+  pub built : is_built e.request ≡ true
   pub handle : IsGiven (is_creation e.request && is_success (step s e).1.reply.code) s.handles e.given
   pub memory : e.short ≡ true → (takes_memory s e.request ≡ true) × ((step s (with_memory e)).1.reply.code ≡ Success)
   pub present : IsPresent s e.actor
@@ -104,21 +106,19 @@ IsCompositor (App k) = ⊥
 IsCompositor Compositor = Unit {0}
 IsCompositor Device = ⊥
 
--- who makes which call
+-- who makes which call; nobody makes one that isn't built
 abbrev pub IsCaller : Actor → Request → Type 0
 IsCaller who (create_instance major minor) = IsApp who
 IsCaller who (string_to_path instance text) = IsApp who
 IsCaller who (path_to_string instance path capacity) = IsApp who
 IsCaller who leave = IsApp who
 IsCaller who next_frame = IsCompositor who
+IsCaller who _ = ⊥
 
 -- how many bytes a call wants to be lent
 abbrev pub FitsBuffer : Request → ℕ → Type 0
-FitsBuffer (create_instance major minor) size = Unit {0}
-FitsBuffer (string_to_path instance text) size = Unit {0}
 FitsBuffer (path_to_string instance path capacity) size = size ≡ capacity
-FitsBuffer leave size = Unit {0}
-FitsBuffer next_frame size = Unit {0}
+FitsBuffer _ size = Unit {0}
 
 -- What an actor may ask of the core: it is there, the call is its own, and the buffer has the size asked for.
 pub record MayMake (s : State) (who : Actor) (what : Request) (size : ℕ) : Type 0 where

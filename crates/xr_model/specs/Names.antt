@@ -1,13 +1,14 @@
 -- The names that the ops of a script have given.
-use Rattle.std.specs.Prelude.{ℕ, Bool, true, false, List, [], ◌∷◌, Option, Some, None, option_and_then, if◌then◌else◌}
-use Rattle.std.specs.List.{find}
+use Rattle.std.specs.Prelude.{ℕ, ◌==◌, ◌&&◌, Bool, true, false, List, [], ◌∷◌, Option, Some, None, option_and_then, if◌then◌else◌}
+use Rattle.std.specs.List.{find, list_any}
 use Rattle.std.specs.Str.{bytes_eq}
 use Rattle.xr_types.specs.declared.scenario.Sort.{Sort}
-use Rattle.xr_types.specs.declared.scenario.Sort.TheVariants.{Handle, Atom}
+use Rattle.xr_types.specs.declared.scenario.Sort.TheVariants.{Handle, Atom, Number}
 
 abbrev pub is_sort : Sort → Sort → Bool
 is_sort Handle Handle = true
 is_sort Atom Atom = true
+is_sort Number Number = true
 is_sort _ _ = false
 
 -- a name with the place and the sort of the latest op that gave it
@@ -30,3 +31,7 @@ if_sort sort k = if is_sort k.sort sort then Some k.place else None
 -- the place of the latest op that gave a name, where that op is of this sort
 abbrev pub place_of : Sort → List ℕ → List Known → Option ℕ
 place_of sort name names = option_and_then (if_sort sort) (find (λ k. bytes_eq name k.name) names)
+
+-- some name stands for the op at this place, and the name is of this sort
+abbrev pub is_known : List Known → Sort → ℕ → Bool
+is_known names sort place = list_any (λ k. k.place == place && is_sort k.sort sort) names

@@ -3,7 +3,7 @@ use Rattle.std.specs.Prelude.{ℕ, Bool, List, [], ◌∷◌, Option, Some, None
 use Rattle.xr_types.specs.declared.code.Code.{Code}
 use Rattle.xr_types.specs.declared.code.Code.TheVariants.{Success}
 use Rattle.xr_types.specs.declared.calls.Gives.{Gives}
-use Rattle.xr_types.specs.declared.calls.Gives.TheVariants.{Nothing, Handle, Number, Size, Ended}
+use Rattle.xr_types.specs.declared.calls.Gives.TheVariants.{Nothing, Handle, Number, Size}
 use Rattle.xr_types.specs.declared.calls.Answer.{Answer}
 
 -- a condition, the code that is answered where it holds, and what is given all the same
@@ -30,11 +30,10 @@ unless (Some r) old new = old
 
 -- the number that is given, 0 where none is
 abbrev pub number_of : Gives → ℕ
-number_of Nothing = 0
 number_of (Handle n) = n
 number_of (Number n) = n
 number_of (Size n) = n
-number_of Ended = 0
+number_of _ = 0
 
 -- what a part answers: the number of its success, or the refusal
 abbrev pub answer_by : Option Refusal → ℕ → Answer

@@ -1,6 +1,6 @@
 -- The round robin: a turn to each unfinished actor, the scripts in order and then the compositor,
 -- round after round. A turn makes the actor's next call where it is ready, else none.
-use Rattle.std.specs.Prelude.{◌≡◌, ◌+◌, ℕ, Bool, true, false, List, [], ◌∷◌, ◌++◌, Option, Some, None, if◌then◌else◌}
+use Rattle.std.specs.Prelude.{◌≡◌, ◌+◌, ℕ, Bool, true, false, List, [], ◌∷◌, ◌++◌, length, Option, Some, None, if◌then◌else◌}
 use Rattle.xr_types.specs.declared.calls.Actor.{Actor}
 use Rattle.xr_types.specs.declared.calls.Actor.TheVariants.{App, Compositor}
 use Rattle.xr_types.specs.declared.calls.Gives.{Gives}
@@ -10,22 +10,24 @@ use Rattle.xr_types.specs.declared.scenario.Scenario.{Scenario}
 use Rattle.xr_model.specs.Request.{Request, leave, next_frame, Entry, Outcome}
 use Rattle.xr_model.specs.State.{State, opening}
 use Rattle.xr_model.specs.Machine.{step, ready}
-use Rattle.xr_model.specs.Scripts.{request_for, with_value}
+use Rattle.xr_model.specs.Values.{no_values, learned}
+use Rattle.xr_model.specs.Scripts.{request_for}
 
--- An unfinished actor and what it has still to do: an application its ops and then `leave`, knowing
--- the values that its calls gave; the compositor its turns until it is told the end.
+-- An unfinished actor and what it has still to do: an application its ops from a place of its script on
+-- and then `leave`, knowing the values that its calls gave; the compositor its turns until it is told the
+-- end.
 pub data Seat : Type 0 where
-  script : ℕ → List Op → List ℕ → Seat
+  script : ℕ → ℕ → List Op → List ℕ → Seat
   compositor : Seat
 
 abbrev pub actor_of : Seat → Actor
-actor_of (script app ops values) = App app
+actor_of (script app place ops values) = App app
 actor_of compositor = Compositor
 
 -- the call that an actor makes next
 abbrev pub next_call : Seat → Request
-next_call (script app [] values) = leave
-next_call (script app (o ∷ os) values) = request_for values o
+next_call (script app place [] values) = leave
+next_call (script app place (o ∷ os) values) = request_for values o
 next_call compositor = next_frame
 
 abbrev pub is_ended : Gives → Bool
@@ -34,8 +36,8 @@ is_ended _ = false
 
 -- the actor after its call, and nobody where it is finished
 abbrev pub seat_after : Seat → Outcome → List Seat
-seat_after (script app [] values) outcome = []
-seat_after (script app (o ∷ os) values) outcome = script app os (with_value values outcome) ∷ []
+seat_after (script app place [] values) outcome = []
+seat_after (script app place (o ∷ os) values) outcome = script app (place + 1) os (learned values place o outcome.reply) ∷ []
 seat_after compositor outcome = if is_ended outcome.reply.gives then [] else compositor ∷ []
 
 -- whether an actor's next call is ready; neither a handle nor want of memory decides that
@@ -75,7 +77,7 @@ IsRobinFrom s seats (e ∷ es) = IsCallOf (turn_from s [] seats) e × IsRobinFro
 -- the applications of a scenario, each with its script
 abbrev pub script_seats : ℕ → List (List Op) → List Seat
 script_seats app [] = []
-script_seats app (ops ∷ scripts) = script app ops [] ∷ script_seats (app + 1) scripts
+script_seats app (ops ∷ scripts) = script app 1 ops (no_values (length ops)) ∷ script_seats (app + 1) scripts
 
 -- the actors in the order of their turns, at the start
 abbrev pub first_seats : Scenario → List Seat

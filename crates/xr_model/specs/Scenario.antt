@@ -1,49 +1,95 @@
--- Which texts are scenarios that are run: one script of ops that are built.
-use Rattle.std.specs.Prelude.{ℕ, ◌+◌, ◌==◌, nat_lt, List, [], ◌∷◌, length, codes, Option, Some, None, option_and_then, option_map, if◌then◌else◌}
+-- Which texts are scenarios, and the first wrong place of the others.
+use Rattle.std.specs.Prelude.{ℕ, ◌+◌, ◌==◌, ◌&&◌, nat_lt, nat_le, Bool, false, List, [], ◌∷◌, length, codes, Option, Some, None, option_and_then, Result, Ok, Err, if◌then◌else◌}
 use Rattle.std.specs.Str.{is_utf8}
 use Rattle.serde_json.specs.Data.{Data, Items, no_items, item}
 use Rattle.serde_json.specs.Read.{read}
-use Rattle.serde_json.specs.Find.{as_array}
+use Rattle.serde_json.specs.Find.{get, as_number, as_u64, as_array}
+use Rattle.xr_types.specs.declared.names.CallName.{CallName}
 use Rattle.xr_types.specs.declared.scenario.Op.{Op}
 use Rattle.xr_types.specs.declared.scenario.Scenario.{Scenario}
+use Rattle.xr_types.specs.declared.status.Refusal.{Refusal}
+use Rattle.xr_types.specs.declared.status.Refusal.TheVariants.{TooLong, Json, BadShape}
+use Rattle.xr_types.specs.declared.status.What.{What}
+use Rattle.xr_types.specs.declared.status.What.TheVariants as what
 use Rattle.xr_model.specs.Names.{Known}
-use Rattle.xr_model.specs.Fields.{after, field, number_in, only}
-use Rattle.xr_model.specs.Ops.{line_of, with_name}
+use Rattle.xr_model.specs.Fields.{only_keys}
+use Rattle.xr_model.specs.Parts.{count_items}
+use Rattle.xr_model.specs.Line.{Line}
+use Rattle.xr_model.specs.Lines.{op_of, line_of, with_name}
+
+-- ---- the ops of a script
+
+-- one more at the front, where the rest is right
+abbrev pub and_first : {T : Type 0} → T → Result (List T) Refusal → Result (List T) Refusal
+and_first x (Ok xs) = Ok (x ∷ xs)
+and_first x (Err e) = Err e
+
+abbrev pub after_line : ℕ → ℕ → Option CallName → Result Line What → (Line → Result (List Op) Refusal) → Result (List Op) Refusal
+after_line script place name (Err wrong) more = Err (BadShape script place name wrong)
+after_line script place name (Ok l) more = and_first l.op (more l)
+
+-- the ops from a place of a script on, after ops that gave these names
+abbrev pub ops_from : ℕ → ℕ → List Known → Items → Result (List Op) Refusal
+ops_from script place names no_items = Ok []
+ops_from script place names (item d ds) = after_line script place (op_of d) (line_of names d) (λ l. ops_from script (place + 1) (with_name place l names) ds)
+
+-- ---- the scripts
+
+abbrev pub script_by : ℕ → Option Items → Result (List Op) Refusal
+script_by script None = Err (BadShape script 0 None what.Script)
+script_by script (Some ds) = ops_from script 1 [] ds
+
+-- a script is an array of ops
+abbrev pub script_of : ℕ → Data → Result (List Op) Refusal
+script_of script d = script_by script (as_array d)
+
+-- a script with all its ops comes before the next one's own shape
+abbrev pub after_script : Result (List Op) Refusal → Result (List (List Op)) Refusal → Result (List (List Op)) Refusal
+after_script (Err e) more = Err e
+after_script (Ok ops) more = and_first ops more
+
+-- the scripts from a number on
+abbrev pub scripts_from : ℕ → Items → Result (List (List Op)) Refusal
+scripts_from script no_items = Ok []
+scripts_from script (item d ds) = after_script (script_of script d) (scripts_from (script + 1) ds)
+
+abbrev pub scripts_by : Option Items → Result (List (List Op)) Refusal
+scripts_by None = Err (BadShape 0 0 None what.Scripts)
+scripts_by (Some ds) = if nat_le 1 (count_items ds) && nat_le (count_items ds) 8 then scripts_from 1 ds else Err (BadShape 0 0 None what.Scripts)
+
+-- the scripts are an array of 1 to 8
+abbrev pub scripts_in : Data → Result (List (List Op)) Refusal
+scripts_in d = scripts_by (option_and_then as_array (get (codes "scripts") d))
+
+-- ---- the whole
+
+abbrev pub is_one : Option ℕ → Bool
+is_one None = false
+is_one (Some n) = n == 1
+
+-- the version is 1
+abbrev pub has_version : Data → Bool
+has_version d = is_one (option_and_then as_u64 (option_and_then as_number (get (codes "version") d)))
+
+abbrev pub scenario_by : Result (List (List Op)) Refusal → Result Scenario Refusal
+scenario_by (Err e) = Err e
+scenario_by (Ok scripts) = Ok (record { version = 1; scripts = scripts })
+
+-- an object with no other keys, then its version, and then its scripts
+abbrev pub scenario_in : Data → Result Scenario Refusal
+scenario_in d =
+    if only_keys (codes "version" ∷ codes "scripts" ∷ []) d
+    then (if has_version d then scenario_by (scripts_in d) else Err (BadShape 0 0 None what.Version))
+    else Err (BadShape 0 0 None what.Top)
 
 -- the value of the bytes, where the JSON reader by its own statement reads them
 abbrev pub json_of : List ℕ → Option Data
 json_of bytes = if is_utf8 bytes then read bytes else None
 
--- the ops from a place of a script on, after ops that gave these names
-abbrev pub ops_from : ℕ → List Known → Items → Option (List Op)
-ops_from place names no_items = Some []
-ops_from place names (item d ds) = after (line_of names d) (λ l. option_map (λ ops. l.op ∷ ops) (ops_from (place + 1) (with_name place l.op l.name names) ds))
+abbrev pub scenario_if : Option Data → Result Scenario Refusal
+scenario_if None = Err Json
+scenario_if (Some d) = scenario_in d
 
--- a script is an array of ops
-abbrev pub script_in : Data → Option (List Op)
-script_in d = option_and_then (ops_from 1 []) (as_array d)
-
-abbrev pub one_script : Items → Option (List Op)
-one_script no_items = None
-one_script (item d no_items) = script_in d
-one_script (item d (item e ds)) = None
-
--- the scripts are an array of exactly one
-abbrev pub scripts_in : Data → Option (List Op)
-scripts_in d = option_and_then one_script (as_array d)
-
-abbrev pub version_in : Data → Option ℕ
-version_in d = option_and_then (λ n. if n == 1 then Some n else None) (number_in 1 d)
-
-abbrev pub scenario : ℕ → List Op → Scenario
-scenario number ops = record { version = number; scripts = ops ∷ [] }
-
--- an object with a version and its scripts alone
-abbrev pub scenario_in : Data → Option Scenario
-scenario_in d =
-    after (field version_in (codes "version") d) (λ number. after (field scripts_in (codes "scripts") d) (λ ops.
-    only (codes "version" ∷ codes "scripts" ∷ []) d (scenario number ops)))
-
--- The scenario of a text of at most 1,048,576 bytes, if it is one.
-abbrev pub scenario_of : List ℕ → Option Scenario
-scenario_of text = if nat_lt 1048576 (length text) then None else option_and_then scenario_in (json_of text)
+-- The scenario of a text of at most 1,048,576 bytes, or its first wrong place.
+abbrev pub scenario_of : List ℕ → Result Scenario Refusal
+scenario_of text = if nat_lt 1048576 (length text) then Err TooLong else scenario_if (json_of text)

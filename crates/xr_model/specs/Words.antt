@@ -1,16 +1,60 @@
--- The words that the program takes.
-use Rattle.std.specs.Prelude.{ℕ, ◌&&◌, ◌==◌, not, Bool, false, List, [], ◌∷◌, length, nat_lt, nat_le, codes, Option, Some, None, if◌then◌else◌}
+-- The words that the program takes: their forms, over the statement of `clap`, which reads the words
+-- after the first.
+use Rattle.std.specs.Prelude.{ℕ, ◌&&◌, Bool, true, false, List, [], ◌∷◌, length, nat_lt, nat_le, codes, Option, Some, None, option_map, option_and_then, unwrap_or, if◌then◌else◌}
 use Rattle.std.specs.Str.{bytes_eq}
+use Rattle.clap.specs.Words.{App, Rule, Row, new_app, new_rule, with_rule, fault_of, matches_of, first_of}
+use Rattle.clap.specs.Walk.{is_empty}
+use Rattle.clap.specs.declared.builder.action.ArgAction.TheVariants.{SetTrue}
 
-abbrev pub begins_with_dash : List ℕ → Bool
-begins_with_dash [] = false
-begins_with_dash (b ∷ bs) = b == 45
+-- ---- the command that reads the words of a run
 
--- a file's name: 1 to 4095 bytes, and no option
+-- the file, which is wanted
+abbrev pub file_rule : Rule
+file_rule = record (new_rule (codes "file")) { required = true }
+
+-- the flag `--places`
+abbrev pub places_rule : Rule
+places_rule = record (new_rule (codes "places")) { long = Some (codes "places"); action = Some SetTrue }
+
+abbrev pub run_app : App
+run_app = with_rule (with_rule (new_app (codes "xrsim")) file_rule) places_rule
+
+-- The command takes the words: by its statement it has no fault to find in them. The first word
+-- stands where a program's own name does, and isn't read. To ask for help is a fault too.
+unfoldable pub is_taken : List (List ℕ) → Bool
+is_taken words = is_empty (fault_of run_app words)
+
+-- what the command makes of words that it takes
+unfoldable pub rows_in : List (List ℕ) → List Row
+rows_in words = matches_of run_app words
+
+-- ---- the form of the words
+
+-- the file to read, and whether each line of the report ends in its reply's place
+pub record Form : Type 0 where
+  pub file : List ℕ
+  pub places : Bool
+
+-- a file's name has 1 to 4095 bytes
 abbrev pub is_file : List ℕ → Bool
-is_file word = nat_lt 0 (length word) && nat_le (length word) 4095 && not (begins_with_dash word)
+is_file name = nat_lt 0 (length name) && nat_le (length name) 4095
 
--- the file of the form `serial FILE`
-abbrev pub file_of : List (List ℕ) → Option (List ℕ)
-file_of (first ∷ file ∷ []) = if bytes_eq first (codes "serial") && is_file file then Some file else None
-file_of _ = None
+-- a flag is set where it has the value `true`, and not where it has its other value or none
+abbrev pub is_set : Option (List ℕ) → Bool
+is_set value = unwrap_or (option_map (λ text. bytes_eq text (codes "true")) value) false
+
+abbrev pub form_with : List Row → List ℕ → Option Form
+form_with rows name =
+    if is_file name then Some (record { file = name; places = is_set (first_of (codes "places") rows) })
+    else None
+
+abbrev pub form_in : List Row → Option Form
+form_in rows = option_and_then (form_with rows) (first_of (codes "file") rows)
+
+abbrev pub is_serial : List (List ℕ) → Bool
+is_serial [] = false
+is_serial (first ∷ rest) = bytes_eq first (codes "serial")
+
+-- The form of the words, if they have one: `serial FILE`, with `--places` where that is wanted.
+abbrev pub form_of : List (List ℕ) → Option Form
+form_of words = if is_serial words && is_taken words then form_in (rows_in words) else None

@@ -1,79 +1,26 @@
-// The blocks of a report, and their lines.
-ghost use Rattle.std.specs.Prelude.{◌≡◌, ◌++◌, decimal, OnOk, IfOk};
-ghost use Rattle.xr_model.specs.Report.{text_behind, values_of, line_of, lines_of, threads_from, compositor_block, report_of};
+// The blocks of a report.
+ghost use Rattle.std.specs.Prelude.{◌≡◌, ◌++◌, OnOk, IfOk};
+ghost use Rattle.std.specs.List.{list_any};
+ghost use Rattle.xr_model.specs.Report.{lines_of, threads_from, frames_from, compositor_block, events_from, device_block, waiting_lines, stuck_block, is_fault, is_garbled, status_of, status_line, report_of};
 
-use itoa::Buffer;
+use crate::lines::{push_call, push_ended, push_event_line, push_frame_line, push_waiting};
+use crate::push::{push_number, push_text};
 use std::alloc::{AllocError, Global};
-use xr_types::{Gives, Lists, Made, MadeList, NoMemory, Reply};
-
-fn push_text(out: &mut Vec<u8>, text: &str) -> Result<(), AllocError>
-    ensures { OnOk result (out.new.items ≡ out.old.items ++ text.now) }
-{
-    out.extend_from_slice(text.as_bytes())
-}
-
-fn push_number(out: &mut Vec<u8>, number: u64) -> Result<(), AllocError>
-    ensures { OnOk result (out.new.items ≡ out.old.items ++ decimal number) }
-{
-    let mut digits = Buffer::new();
-    out.extend_from_slice(digits.format(number).as_bytes())
-}
-
-/// A text that was written, without its terminating zero.
-fn push_written(out: &mut Vec<u8>, text: &[u8]) -> Result<(), AllocError>
-    ensures { OnOk result (out.new.items ≡ out.old.items ++ text_behind text.now) }
-{
-    if text.is_empty() {
-        return Ok(());
-    }
-    push_text(out, " ")?;
-    out.extend_from_slice(&text[..text.len() - 1])
-}
-
-/// The values behind a call's code.
-fn push_values(out: &mut Vec<u8>, made: &Made) -> Result<(), AllocError>
-    ensures { OnOk result (out.new.items ≡ out.old.items ++ values_of made.now) }
-{
-    match made.reply.gives {
-        Gives::Number(atom) => {
-            push_text(out, " ")?;
-            push_number(out, atom)
-        }
-        Gives::Size(size) => {
-            push_text(out, " ")?;
-            push_number(out, size)?;
-            push_written(out, made.text.as_slice())
-        }
-        _ => Ok(()),
-    }
-}
-
-/// The line of a call.
-fn push_line(out: &mut Vec<u8>, made: &Made) -> Result<(), AllocError>
-    ensures { OnOk result (out.new.items ≡ out.old.items ++ line_of made.now) }
-{
-    push_number(out, u64::from(made.op))?;
-    push_text(out, " ")?;
-    push_text(out, made.name.name())?;
-    push_text(out, " ")?;
-    push_text(out, made.reply.code.name())?;
-    push_values(out, made)?;
-    push_text(out, "\n")
-}
+use xr_types::{DeviceEvent, Lists, Made, MadeList, NoMemory, Reply, Shown, Waiting};
 
 /// The lines of one script's calls.
-fn push_lines(out: &mut Vec<u8>, calls: &[Made]) -> Result<(), AllocError>
-    ensures { OnOk result (out.new.items ≡ out.old.items ++ lines_of calls.now) }
+fn push_calls(out: &mut Vec<u8>, places: bool, calls: &[Made]) -> Result<(), AllocError>
+    ensures { OnOk result (out.new.items ≡ out.old.items ++ lines_of places calls.now) }
 {
     for made in calls {
-        push_line(out, made)?;
+        push_call(out, places, made)?;
     }
     Ok(())
 }
 
 /// The blocks of all scripts, numbered from 1.
-fn push_threads(out: &mut Vec<u8>, apps: &[MadeList]) -> Result<(), AllocError>
-    ensures { OnOk result (out.new.items ≡ out.old.items ++ threads_from 1 apps.now) }
+fn push_threads(out: &mut Vec<u8>, places: bool, apps: &[MadeList]) -> Result<(), AllocError>
+    ensures { OnOk result (out.new.items ≡ out.old.items ++ threads_from places 1 apps.now) }
 {
     let mut number = 0;
     for calls in apps {
@@ -81,41 +28,168 @@ fn push_threads(out: &mut Vec<u8>, apps: &[MadeList]) -> Result<(), AllocError>
         push_text(out, "thread ")?;
         push_number(out, number)?;
         push_text(out, "\n")?;
-        push_lines(out, calls.as_slice())?;
+        push_calls(out, places, calls.as_slice())?;
+    }
+    Ok(())
+}
+
+/// The frames that the compositor has taken, with their replies.
+fn push_frames(
+    out: &mut Vec<u8>,
+    places: bool,
+    frames: &[Shown],
+    replies: &[Reply],
+) -> Result<(), AllocError>
+    ensures { OnOk result (out.new.items ≡ out.old.items ++ frames_from places replies.now 0 frames.now) }
+{
+    for (index, frame) in frames.iter().enumerate() {
+        push_frame_line(out, places, frame, replies, index)?;
     }
     Ok(())
 }
 
 /// The compositor's block.
-fn push_compositor(out: &mut Vec<u8>, ended: &Option<Reply>) -> Result<(), AllocError>
-    ensures { OnOk result (out.new.items ≡ out.old.items ++ compositor_block ended.now) }
+fn push_compositor(
+    out: &mut Vec<u8>,
+    places: bool,
+    frames: &[Shown],
+    replies: &[Reply],
+    ended: &Option<Reply>,
+) -> Result<(), AllocError>
+    ensures { OnOk result (out.new.items
+        ≡ out.old.items ++ compositor_block places frames.now replies.now ended.now) }
 {
     push_text(out, "compositor\n")?;
-    match ended {
-        Some(_) => push_text(out, "ended\n"),
-        None => Ok(()),
-    }
+    push_frames(out, places, frames, replies)?;
+    push_ended(out, places, ended)
 }
 
-/// All that a report has, in its order.
-fn push_report(out: &mut Vec<u8>, lists: &Lists) -> Result<(), AllocError>
-    ensures { OnOk result (out.new.items ≡ out.old.items ++ report_of lists.now) }
+/// The device's events with their calls, numbered from 1.
+fn push_events(
+    out: &mut Vec<u8>,
+    places: bool,
+    events: &[DeviceEvent],
+    calls: &[Made],
+) -> Result<(), AllocError>
+    ensures { OnOk result (out.new.items ≡ out.old.items ++ events_from places 1 events.now calls.now) }
 {
-    push_text(out, "xrsim report 1\n")?;
-    push_threads(out, lists.apps.as_slice())?;
-    push_compositor(out, &lists.ended)?;
-    push_text(out, "device\n")?;
-    push_text(out, "status 0\n")?;
+    let mut number = 0;
+    for (event, made) in events.iter().zip(calls) {
+        number += 1;
+        push_event_line(out, places, number, *event, made)?;
+    }
     Ok(())
 }
 
-/// The report of a run that ended well: the calls of each script with their replies, how the compositor
-/// ended, and the device's block, which is empty. Refused only by want of memory.
-pub fn report(alloc: Global, lists: &Lists) -> Result<Vec<u8>, NoMemory>
-    ensures { IfOk result (λ text. text.items ≡ report_of lists.now) }
+/// The device's block.
+fn push_device(
+    out: &mut Vec<u8>,
+    places: bool,
+    events: &[DeviceEvent],
+    calls: &[Made],
+) -> Result<(), AllocError>
+    ensures { OnOk result (out.new.items ≡ out.old.items ++ device_block places events.now calls.now) }
+{
+    push_text(out, "device\n")?;
+    push_events(out, places, events, calls)
+}
+
+/// The next calls of a run that can't go on.
+fn push_stuck(out: &mut Vec<u8>, next: &[Waiting]) -> Result<(), AllocError>
+    ensures { OnOk result (out.new.items ≡ out.old.items ++ stuck_block next.now) }
+{
+    if next.is_empty() {
+        return Ok(());
+    }
+    push_text(out, "stuck\n")?;
+    push_all_waiting(out, next)
+}
+
+fn push_all_waiting(out: &mut Vec<u8>, next: &[Waiting]) -> Result<(), AllocError>
+    ensures { OnOk result (out.new.items ≡ out.old.items ++ waiting_lines next.now) }
+{
+    for waiting in next {
+        push_waiting(out, waiting)?;
+    }
+    Ok(())
+}
+
+/// Whether the device couldn't be read on.
+fn has_fault(events: &[DeviceEvent]) -> bool
+    ensures { result ≡ list_any is_fault events.now }
+{
+    events
+        .iter()
+        .any(|event| matches!(event, DeviceEvent::Fault))
+}
+
+/// Whether a line of the device is none.
+fn has_garbled(events: &[DeviceEvent]) -> bool
+    ensures { result ≡ list_any is_garbled events.now }
+{
+    events
+        .iter()
+        .any(|event| matches!(event, DeviceEvent::Garbled(_)))
+}
+
+fn status_of(events: &[DeviceEvent], next: &[Waiting]) -> u64
+    ensures { result ≡ status_of events.now next.now }
+{
+    if has_fault(events) {
+        5
+    } else if has_garbled(events) {
+        6
+    } else if next.is_empty() {
+        0
+    } else {
+        7
+    }
+}
+
+fn push_status(
+    out: &mut Vec<u8>,
+    events: &[DeviceEvent],
+    next: &[Waiting],
+) -> Result<(), AllocError>
+    ensures { OnOk result (out.new.items ≡ out.old.items ++ status_line events.now next.now) }
+{
+    push_text(out, "status ")?;
+    push_number(out, status_of(events, next))?;
+    push_text(out, "\n")
+}
+
+/// All that a report has, in its order.
+fn push_report(out: &mut Vec<u8>, places: bool, lists: &Lists) -> Result<(), AllocError>
+    ensures { OnOk result (out.new.items ≡ out.old.items ++ report_of lists.now places) }
+{
+    push_text(out, "xrsim report 1\n")?;
+    push_threads(out, places, lists.apps.as_slice())?;
+    push_compositor(
+        out,
+        places,
+        lists.compositor.as_slice(),
+        lists.shown.as_slice(),
+        &lists.ended,
+    )?;
+    push_device(
+        out,
+        places,
+        lists.events.as_slice(),
+        lists.device.as_slice(),
+    )?;
+    push_stuck(out, lists.next.as_slice())?;
+    push_status(out, lists.events.as_slice(), lists.next.as_slice())?;
+    Ok(())
+}
+
+/// The report of what a run has made: the calls of each script with their replies, the frames that the
+/// compositor has taken, the device's events, and where the run is stuck the calls that wait. With
+/// `places` the line of each call ends in its reply's place. Refused only by want of memory.
+pub fn report(alloc: Global, lists: &Lists, places: bool) -> Result<Vec<u8>, NoMemory>
+    ensures { IfOk result (λ text. text.items ≡ report_of lists.now places) }
 {
     let mut out = Vec::new(alloc);
-    match push_report(&mut out, lists) {
+    match push_report(&mut out, places, lists) {
         Ok(()) => Ok(out),
         Err(_) => Err(NoMemory),
     }

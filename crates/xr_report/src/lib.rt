@@ -2,5 +2,9 @@
 #![tactic(auto)]
 
 mod blocks;
+mod device;
+mod lines;
+mod push;
+mod values;
 
 pub use blocks::report;

@@ -1,5 +1,5 @@
 -- A text holds fewer ops than bytes.
-use Rattle.std.proofs.Common.{◌≡◌, ℕ, ◌+◌, ◌<◌, ◌≤◌, Bool, true, false, List, [], ◌∷◌, length, Option, Some, None, option_map, option_and_then, Ordering, Less, Equal, Greater, refl, subst, arith}
+use Rattle.std.proofs.Common.{◌≡◌, ℕ, ◌+◌, ◌<◌, ◌≤◌, Bool, true, false, List, [], length, Option, Some, None, option_and_then, Result, Ok, Err, Ordering, Less, Equal, Greater, refl, subst, arith}
 use Rattle.std.proofs.lemmas.Bool.{ltb-false}
 use Rattle.std.specs.Prelude.{⊤, codes, nat_lt, if◌then◌else◌}
 use Rattle.std.specs.Str.{is_utf8}
@@ -10,60 +10,58 @@ use Rattle.serde_json.specs.Find.{get, get_member, as_array}
 use Rattle.serde_json.specs.Read.{read}
 use Rattle.xr_types.specs.declared.scenario.Op.{Op}
 use Rattle.xr_types.specs.declared.scenario.Scenario.{Scenario}
+use Rattle.xr_types.specs.declared.status.Refusal.{Refusal}
+use Rattle.xr_types.specs.declared.status.What.{What}
 use Rattle.xr_model.specs.Names.{Known}
-use Rattle.xr_model.specs.Fields.{after, field, only_keys}
-use Rattle.xr_model.specs.Ops.{Line, line_of, with_name}
-use Rattle.xr_model.specs.Scenario.{ops_from, script_in, one_script, scripts_in, version_in, scenario, scenario_in, scenario_of}
+use Rattle.xr_model.specs.Line.{Line}
+use Rattle.xr_model.specs.Lines.{op_of, line_of, with_name}
+use Rattle.xr_model.specs.Scenario.{and_first, after_line, ops_from, script_of, after_script, scripts_from, scripts_by, scripts_in, has_version, scenario_by, scenario_in, scenario_if, scenario_of}
 use Rattle.xr_scenario.specs.Size.{size, items_size, members_size}
 use Rattle.xr_scenario.specs.Few.{total, FewOps}
 use Rattle.xr_scenario.proofs.Sizes.{holds_less}
 use Rattle.xr_scenario.proofs.Lines.{size-positive}
 
-abbrev AtMost : {T : Type 0} → (T → ℕ) → ℕ → Option T → Type 0
-AtMost f n None = ⊤
-AtMost f n (Some x) = f x ≤ n
+abbrev AtMost : {T : Type 0} → (T → ℕ) → ℕ → Result T Refusal → Type 0
+AtMost f n (Ok x) = f x ≤ n
+AtMost f n (Err e) = ⊤
 
-one_more : (op : Op) (n m : ℕ) (o : Option (List Op)) → 1 + n ≤ m → AtMost length n o → AtMost length m (option_map (λ ops. op ∷ ops) o)
-one_more op n m None le x = tt
-one_more op n m (Some ops) le x = omega (arith, le, x)
+-- ---- ops and scripts
 
-ops_few : (place : ℕ) (names : List Known) (ds : Items) → AtMost length (items_size ds) (ops_from place names ds)
-ops_few place names no_items = omega arith
-ops_few place names (item d ds) = by (line_of names d) (λ l. ops_few (place + 1) (with_name place l.op l.name names) ds)
+more_ops : (op : Op) (n m : ℕ) (r : Result (List Op) Refusal) → 1 + n ≤ m → AtMost length n r → AtMost length m (and_first op r)
+more_ops op n m (Ok ops) le x = omega (arith, le, x)
+more_ops op n m (Err e) le x = tt
+
+ops_few : (script place : ℕ) (names : List Known) (ds : Items) → AtMost length (items_size ds) (ops_from script place names ds)
+ops_few script place names no_items = omega arith
+ops_few script place names (item d ds) = by (line_of names d) (λ l. ops_few script (place + 1) (with_name place l names) ds)
   where
-    by : (o : Option Line) → ((l : Line) → AtMost length (items_size ds) (ops_from (place + 1) (with_name place l.op l.name names) ds))
-        → AtMost length (size d + items_size ds) (after o (λ l. option_map (λ ops. l.op ∷ ops) (ops_from (place + 1) (with_name place l.op l.name names) ds)))
-    by None h = tt
-    by (Some l) h = one_more l.op (items_size ds) (size d + items_size ds) (ops_from (place + 1) (with_name place l.op l.name names) ds) (omega (arith, size-positive d)) (h l)
+    by : (r : Result Line What) → ((l : Line) → AtMost length (items_size ds) (ops_from script (place + 1) (with_name place l names) ds))
+        → AtMost length (size d + items_size ds) (after_line script place (op_of d) r (λ l. ops_from script (place + 1) (with_name place l names) ds))
+    by (Ok l) h = more_ops l.op (items_size ds) (size d + items_size ds) (ops_from script (place + 1) (with_name place l names) ds) (omega (arith, size-positive d)) (h l)
+    by (Err e) h = tt
 
-more : (n m : ℕ) (o : Option (List Op)) → n ≤ m → AtMost length n o → AtMost length m o
-more n m None le x = tt
-more n m (Some ops) le x = omega (arith, le, x)
-
-script_few : (d : Data) → AtMost length (size d) (script_in d)
-script_few null = tt
-script_few (boolean b) = tt
-script_few (number n) = tt
-script_few (string s) = tt
-script_few (array ds) = more (items_size ds) (2 + items_size ds) (ops_from 1 [] ds) (omega arith) (ops_few 1 [] ds)
-script_few (object ms) = tt
-
-one_few : (ds : Items) → AtMost length (items_size ds) (one_script ds)
-one_few no_items = tt
-one_few (item d no_items) = more (size d) (size d + 0) (script_in d) (omega arith) (script_few d)
-one_few (item d (item e ds)) = tt
-
-scripts_few : (d : Data) → AtMost (λ ops. length ops + 2) (size d) (scripts_in d)
-scripts_few null = tt
-scripts_few (boolean b) = tt
-scripts_few (number n) = tt
-scripts_few (string s) = tt
-scripts_few (array ds) = by (one_script ds) (one_few ds)
+script_few : (script : ℕ) (d : Data) → AtMost length (size d) (script_of script d)
+script_few script null = tt
+script_few script (boolean b) = tt
+script_few script (number n) = tt
+script_few script (string s) = tt
+script_few script (array ds) = weaker (ops_from script 1 [] ds) (ops_few script 1 [] ds)
   where
-    by : (o : Option (List Op)) → AtMost length (items_size ds) o → AtMost (λ ops. length ops + 2) (2 + items_size ds) o
-    by None x = tt
-    by (Some ops) x = omega (arith, x)
-scripts_few (object ms) = tt
+    weaker : (r : Result (List Op) Refusal) → AtMost length (items_size ds) r → AtMost length (2 + items_size ds) r
+    weaker (Ok ops) h = omega (arith, h)
+    weaker (Err e) h = tt
+script_few script (object ms) = tt
+
+scripts_few : (script : ℕ) (ds : Items) → AtMost total (items_size ds) (scripts_from script ds)
+scripts_few script no_items = omega arith
+scripts_few script (item d ds) = by (script_of script d) (scripts_from (script + 1) ds) (script_few script d) (scripts_few (script + 1) ds)
+  where
+    by : (r : Result (List Op) Refusal) (more : Result (List (List Op)) Refusal) → AtMost length (size d) r → AtMost total (items_size ds) more → AtMost total (size d + items_size ds) (after_script r more)
+    by (Err e) more x y = tt
+    by (Ok ops) (Err e) x y = tt
+    by (Ok ops) (Ok more) x y = omega (arith, x, y)
+
+-- ---- what an object has
 
 abbrev SizeAtMost : ℕ → Option Data → Type 0
 SizeAtMost n None = ⊤
@@ -94,55 +92,64 @@ get-size k (object ms) = weaker (get_member k ms) (get_member-size k ms)
     weaker None h = tt
     weaker (Some e) h = omega (arith, h)
 
-abbrev IsFew : ℕ → Option Scenario → Type 0
-IsFew n None = ⊤
-IsFew n (Some s) = (total s.scripts + 2 ≤ n) × (length s.scripts ≡ 1)
+-- ---- the whole
 
-found_few : (n : ℕ) (o : Option Data) → SizeAtMost n o → AtMost (λ ops. length ops + 2) n (option_and_then scripts_in o)
+abbrev most_of : List (List Op) → ℕ
+most_of scripts = 2 + total scripts
+
+abbrev most_in : Scenario → ℕ
+most_in s = most_of s.scripts
+
+if_few : {T : Type 0} (f : T → ℕ) (n : ℕ) (b : Bool) (r : Result T Refusal) (e : Refusal) → AtMost f n r → AtMost f n (if b then r else Err e)
+if_few f n true r e h = h
+if_few f n false r e h = tt
+
+found_few : (n : ℕ) (o : Option Data) → SizeAtMost n o → AtMost most_of n (scripts_by (option_and_then as_array o))
 found_few n None h = tt
-found_few n (Some d) h = by (scripts_in d) (scripts_few d)
+found_few n (Some null) h = tt
+found_few n (Some (boolean b)) h = tt
+found_few n (Some (number x)) h = tt
+found_few n (Some (string s)) h = tt
+found_few n (Some (array ds)) h = if_few most_of n _ (scripts_from 1 ds) _ (weaker (scripts_from 1 ds) (scripts_few 1 ds))
   where
-    by : (o : Option (List Op)) → AtMost (λ ops. length ops + 2) (size d) o → AtMost (λ ops. length ops + 2) n o
-    by None x = tt
-    by (Some ops) x = omega (arith, x, h)
+    weaker : (r : Result (List (List Op)) Refusal) → AtMost total (items_size ds) r → AtMost most_of n r
+    weaker (Ok scripts) x = omega (arith, x, h)
+    weaker (Err e) x = tt
+found_few n (Some (object ms)) h = tt
 
-scenario_few : (d : Data) → IsFew (size d) (scenario_in d)
-scenario_few d = by (field version_in (codes "version") d) (field scripts_in (codes "scripts") d) (found_few (size d) (get (codes "scripts") d) (get-size (codes "scripts") d)) (only_keys (codes "version" ∷ codes "scripts" ∷ []) d)
-  where
-    by : (v : Option ℕ) (o : Option (List Op)) → AtMost (λ ops. length ops + 2) (size d) o → (b : Bool)
-        → IsFew (size d) (after v (λ number. after o (λ ops. if b then Some (scenario number ops) else None)))
-    by None o x b = tt
-    by (Some v) None x b = tt
-    by (Some v) (Some ops) x true = (omega (arith, x), refl)
-    by (Some v) (Some ops) x false = tt
+by_few : (n : ℕ) (r : Result (List (List Op)) Refusal) → AtMost most_of n r → AtMost most_in n (scenario_by r)
+by_few n (Ok scripts) h = h
+by_few n (Err e) h = tt
 
-value_few : (text : List ℕ) → length text ≤ 1048576 → (o : Option Data) → read text ≡ o → IsFew 1048577 (option_and_then scenario_in o)
+scenario_few : (d : Data) → AtMost most_in (size d) (scenario_in d)
+scenario_few d =
+    if_few most_in (size d) _ (if has_version d then scenario_by (scripts_in d) else _) _ (if_few most_in (size d) (has_version d) _ _
+    (by_few (size d) (scripts_in d) (found_few (size d) (get (codes "scripts") d) (get-size (codes "scripts") d))))
+
+value_few : (text : List ℕ) → length text ≤ 1048576 → (o : Option Data) → read text ≡ o → AtMost most_in 1048577 (scenario_if o)
 value_few text short None e = tt
 value_few text short (Some d) e = by (scenario_in d) (scenario_few d)
   where
-    by : (o : Option Scenario) → IsFew (size d) o → IsFew 1048577 o
-    by None x = tt
-    by (Some s) x = (omega (arith, x.0, short, holds_less text d e), x.1)
+    by : (r : Result Scenario Refusal) → AtMost most_in (size d) r → AtMost most_in 1048577 r
+    by (Ok s) x = omega (arith, x, short, holds_less text d e)
+    by (Err why) x = tt
 
-text_few : (text : List ℕ) → IsFew 1048577 (scenario_of text)
+text_few : (text : List ℕ) → AtMost most_in 1048577 (scenario_of text)
 text_few text = by (nat_lt 1048576 (length text)) refl
   where
-    utf8 : (b : Bool) → length text ≤ 1048576 → IsFew 1048577 (option_and_then scenario_in (if b then read text else None))
+    utf8 : (b : Bool) → length text ≤ 1048576 → AtMost most_in 1048577 (scenario_if (if b then read text else None))
     utf8 true short = value_few text short (read text) refl
     utf8 false short = tt
 
-    by : (b : Bool) → nat_lt 1048576 (length text) ≡ b → IsFew 1048577 (scenario_of text)
+    by : (b : Bool) → nat_lt 1048576 (length text) ≡ b → AtMost most_in 1048577 (scenario_of text)
     by true h = rw h tt
     by false h = rw h (utf8 (is_utf8 text) (ltb-false 1048576 (length text) h))
 
-pub few_read : (text : List ℕ) (s : Scenario) → scenario_of text ≡ Some s → total s.scripts < 1048576
-few_read text s e = let few : IsFew 1048577 (Some s) = subst (IsFew 1048577) e (text_few text) in omega (arith, few.0)
+pub few_read : (text : List ℕ) (s : Scenario) → scenario_of text ≡ Ok s → total s.scripts < 1048576
+few_read text s e = let few : AtMost most_in 1048577 (Ok s) = subst (AtMost most_in 1048577) e (text_few text) in omega (arith, few)
 
 pub few_ops : FewOps
 few_ops = few_read
-
-pub one_script_read : (text : List ℕ) (s : Scenario) → scenario_of text ≡ Some s → length s.scripts ≡ 1
-one_script_read text s e = let few : IsFew 1048577 (Some s) = subst (IsFew 1048577) e (text_few text) in few.1
 
 -- ---- for the reader's places
 

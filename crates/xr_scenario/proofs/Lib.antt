@@ -2,4 +2,5 @@ pub mod Sizes
 pub mod Json
 pub mod Lines
 pub mod Few
-pub mod Givers
+pub mod Formed
+pub mod InForm

@@ -1,5 +1,5 @@
 -- How many ops there are.
-use Rattle.std.specs.Prelude.{◌≡◌, ◌<◌, Some, ℕ, ◌+◌, List, [], ◌∷◌, length}
+use Rattle.std.specs.Prelude.{◌≡◌, ◌<◌, Ok, ℕ, ◌+◌, List, [], ◌∷◌, length}
 use Rattle.xr_types.specs.declared.scenario.Op.{Op}
 use Rattle.xr_types.specs.declared.scenario.Scenario.{Scenario}
 use Rattle.xr_model.specs.Scenario.{scenario_of}
@@ -10,4 +10,4 @@ total (ops ∷ more) = length ops + total more
 
 -- A scenario that is read has fewer than 2^20 ops.
 abbrev pub FewOps : Type 0
-FewOps = (text : List ℕ) (s : Scenario) → scenario_of text ≡ Some s → total s.scripts < 1048576
+FewOps = (text : List ℕ) (s : Scenario) → scenario_of text ≡ Ok s → total s.scripts < 1048576

@@ -1,4 +1,3 @@
 pub mod Size
 pub mod Few
-pub mod Reads
-pub mod Given
+pub mod Shapes

@@ -1,145 +1,193 @@
-// The reader: a text, its JSON value, the scenario's object, its script, and the script's ops.
-ghost use Rattle.std.specs.Prelude.{◌≡◌, ◌≤◌, ◌<◌, ◌^◌, ◌+◌, [], ◌∷◌, ◌++◌, length, codes, IfOk, IfErr, OnOk, Some, option_map};
+// The reader: a text, its JSON value, the scenario's object, its scripts, and each script's ops.
+ghost use Rattle.std.specs.Prelude.{◌≡◌, ◌≤◌, ◌<◌, ◌^◌, ◌+◌, [], ◌∷◌, ◌++◌, length, IfOk, IfErr, OnOk, Some, None, Err, option_map};
 ghost use Rattle.serde_json.specs.View.{view, items_view};
-ghost use Rattle.xr_model.specs.Fields.{field};
-ghost use Rattle.xr_model.specs.Ops.{sort_of, with_name};
-ghost use Rattle.xr_model.specs.Scenario.{ops_from, script_in, scripts_in, version_in, scenario_in, json_of, scenario_of};
-ghost use Rattle.xr_scenario.specs.declared.fault.Fault.TheVariants.{NoMemory};
+ghost use Rattle.serde_json.specs.Find.{as_array};
+ghost use Rattle.xr_types.specs.declared.status.Refusal.TheVariants.{BadShape};
+ghost use Rattle.xr_model.specs.InForm.{IsInForm, AllInForm};
+ghost use Rattle.xr_model.specs.Lines.{with_name_of};
+ghost use Rattle.xr_model.specs.Scenario.{ops_from, script_of, scripts_from, scripts_by, has_version, scenario_in, json_of, scenario_of};
+ghost use Rattle.xr_scenario.specs.declared.fault.ScenarioFault.TheVariants.{Refused, NoMemory};
 ghost use Rattle.xr_scenario.specs.Few.{total};
 ghost use Rattle.xr_scenario.specs.Size.{size, items_size};
-ghost use Rattle.xr_scenario.specs.Reads.{Reads, ReadsText, IsJsonFault, refusal_of};
+ghost use Rattle.xr_scenario.specs.Shapes.{ReadsShape, IsJsonFault};
 
-use crate::fault::{Fault, ScenarioFault};
-use crate::fields::number_in;
-use crate::keys::only_keys;
-use crate::names::Names;
-use crate::ops::read_line;
+use crate::fault::ScenarioFault;
+use crate::line::{op_of, read_line};
 use serde_json::Value;
 use std::alloc::Global;
-use xr_types::{Op, Refusal, Scenario, Script, Several, Sort};
+use xr_fields::{Fault, Givers, only_keys};
+use xr_types::{Op, Refusal, Scenario, Script, Several, Sort, What};
 
 const MOST_BYTES: usize = 1_048_576;
 
-/// What the name of an op stands for.
-fn sort_of(op: &Op) -> Sort
-    ensures { result ≡ sort_of op.now }
-{
-    match op {
-        Op::StringToPath { .. } => Sort::Atom,
-        Op::CreateInstance { .. } | Op::PathToString { .. } => Sort::Handle,
-    }
-}
+const MOST_SCRIPTS: usize = 8;
 
 /// Keeps the name that an op gives, if it gives one.
-fn keep<'v>(names: &mut Names<'v>, place: u32, op: &Op, name: Option<&'v str>) -> Result<(), Fault>
-    ensures kept { OnOk result (names.new ≡ with_name place op.now (option_map (λ n. n.now) name.entry) names.old) }
+fn keep<'v>(
+    givers: &mut Givers<'v>,
+    place: u32,
+    sort: Option<Sort>,
+    name: Option<&'v str>,
+) -> Result<(), ScenarioFault>
+    ensures kept { OnOk result (givers.new ≡ with_name_of place sort (option_map (λ n. n.now) name.entry) givers.old) }
     ensures cause { IfErr result (λ e. e ≡ NoMemory) }
 {
+    let Some(sort) = sort else {
+        return Ok(());
+    };
     let Some(name) = name else {
         return Ok(());
     };
-    if names.give(name, place, sort_of(op)).is_err() {
-        return Err(Fault::NoMemory);
+    if givers.give(name, place, sort).is_err() {
+        return Err(ScenarioFault::NoMemory);
     }
     Ok(())
 }
 
-fn add<T: Drop>(list: &mut Vec<T>, item: T) -> Result<(), Fault>
+fn add<T: Drop>(list: &mut Vec<T>, item: T) -> Result<(), ScenarioFault>
     ensures kept { OnOk result (list.new.items ≡ list.old.items ++ item ∷ []) }
     ensures cause { IfErr result (λ e. e ≡ NoMemory) }
 {
     if list.push(item).is_err() {
-        return Err(Fault::NoMemory);
+        return Err(ScenarioFault::NoMemory);
     }
     Ok(())
 }
 
-/// The ops of a script.
+/// The ops of a script, or the first wrong place.
 #[tactic(auto, using(crate::proofs::Lines::prepended, crate::proofs::Lines::ops_step, crate::proofs::Lines::list_sizes))]
-fn read_ops(alloc: Global, values: &[Value]) -> Result<Script, Fault>
+fn read_ops(alloc: Global, script: u32, values: &[Value]) -> Result<Script, ScenarioFault>
     requires { items_size (items_view values.now) < 2 ^ 31 }
-    ensures { Reads result (ops_from 1 [] (items_view values.now)) }
+    ensures reads { ReadsShape result (ops_from script 1 [] (items_view values.now)) }
+    ensures formed { IfOk result (λ ops. IsInForm ops) }
 {
-    let mut names = Names::new(alloc);
-    let mut ops = Vec::new(alloc);
+    let mut givers = Givers::new(alloc);
+    let mut ops: Vec<Op> = Vec::new(alloc);
     let mut place = 0;
     for value in values {
         place += 1;
-        let line = match read_line(alloc, &names, value) {
+        let line = match read_line(alloc, &givers, value) {
             Ok(line) => line,
-            Err(fault) => return Err(fault),
+            Err(Fault::Wrong(what)) => {
+                return Err(ScenarioFault::Refused(Refusal::BadShape {
+                    script,
+                    op: place,
+                    name: op_of(value),
+                    what,
+                }));
+            }
+            Err(Fault::NoMemory) => return Err(ScenarioFault::NoMemory),
         };
-        keep(&mut names, place, &line.op, line.name)?;
+        keep(&mut givers, place, line.op.sort(), line.name)?;
         add(&mut ops, line.op)?;
     }
     Ok(Several::new(ops))
 }
 
-/// The script of a value.
+/// The ops of one script.
 #[tactic(auto, using(crate::proofs::Few::array_size))]
-fn read_script(alloc: Global, value: &Value) -> Result<Script, Fault>
+fn read_script(alloc: Global, script: u32, value: &Value) -> Result<Script, ScenarioFault>
     requires { size (view value.now) < 2 ^ 31 }
-    ensures { Reads result (script_in (view value.now)) }
+    ensures reads { ReadsShape result (script_of script (view value.now)) }
+    ensures formed { IfOk result (λ ops. IsInForm ops) }
 {
     match value.as_array() {
-        Some(list) => read_ops(alloc, list.as_slice()),
-        None => Err(Fault::Wrong),
+        Some(list) => read_ops(alloc, script, list.as_slice()),
+        None => Err(ScenarioFault::Refused(Refusal::BadShape {
+            script,
+            op: 0,
+            name: None,
+            what: What::Script,
+        })),
     }
 }
 
-/// The one script of a value.
-#[tactic(auto, using(crate::proofs::Lines::one_script_of, crate::proofs::Lines::list_sizes, crate::proofs::Few::array_size))]
-fn read_scripts(alloc: Global, value: &Value) -> Result<Script, Fault>
-    requires { size (view value.now) < 2 ^ 31 }
-    ensures { Reads result (scripts_in (view value.now)) }
+/// The scripts of a scenario, or the first wrong place.
+#[tactic(auto, using(crate::proofs::Lines::list_sizes, crate::proofs::Lines::script_steps))]
+fn read_scripts(alloc: Global, values: &[Value]) -> Result<Several<Script>, ScenarioFault>
+    requires { items_size (items_view values.now) < 2 ^ 31 }
+    ensures reads { ReadsShape result (scripts_from 1 (items_view values.now)) }
+    ensures formed { IfOk result (λ scripts. AllInForm scripts) }
+    ensures count { IfOk result (λ scripts. length scripts ≡ length values.now) }
 {
-    let Some(list) = value.as_array() else {
-        return Err(Fault::Wrong);
-    };
-    if list.len() != 1 {
-        return Err(Fault::Wrong);
+    let mut scripts: Vec<Script> = Vec::new(alloc);
+    let mut script = 0;
+    for value in values {
+        script += 1;
+        let ops = match read_script(alloc, script, value) {
+            Ok(ops) => ops,
+            Err(fault) => return Err(fault),
+        };
+        add(&mut scripts, ops)?;
     }
-    read_script(alloc, &list[0])
+    Ok(Several::new(scripts))
 }
 
-/// The version of a scenario's object. There is one version, 1.
-fn read_version(value: &Value) -> Result<u8, Fault>
-    ensures { Reads result (field version_in (codes "version") (view value.now)) }
+fn top<T>(what: What) -> Result<T, ScenarioFault>
+    ensures { result ≡ Err (Refused (BadShape 0 0 None what)) }
 {
-    let Some(found) = value.get("version") else {
-        return Err(Fault::Wrong);
+    Err(ScenarioFault::Refused(Refusal::BadShape {
+        script: 0,
+        op: 0,
+        name: None,
+        what,
+    }))
+}
+
+/// The scripts of a list of 1 to 8.
+#[tactic(auto, using(crate::proofs::Lines::items_counted, crate::proofs::Few::array_size))]
+fn read_list(alloc: Global, scripts: &Value) -> Result<Several<Script>, ScenarioFault>
+    requires { size (view scripts.now) < 2 ^ 31 }
+    ensures reads { ReadsShape result (scripts_by (as_array (view scripts.now))) }
+    ensures formed { IfOk result (λ scripts. AllInForm scripts) }
+    ensures count { IfOk result (λ scripts. (1 ≤ length scripts) × (length scripts ≤ 8)) }
+{
+    let Some(list) = scripts.as_array() else {
+        return top(What::Scripts);
     };
-    match number_in(found, 1) {
-        Some(1) => Ok(1),
-        _ => Err(Fault::Wrong),
+    if list.is_empty() || list.len() > MOST_SCRIPTS {
+        return top(What::Scripts);
+    }
+    read_scripts(alloc, list.as_slice())
+}
+
+/// Whether the version is the one that there is.
+fn has_version(value: &Value) -> bool
+    ensures { result ≡ has_version (view value.now) }
+{
+    match value.get("version") {
+        Some(version) => version.as_u64() == Some(1),
+        None => false,
     }
 }
 
 /// The scenario of a value.
 #[tactic(auto, using(crate::proofs::Few::get_size))]
-fn read_value(alloc: Global, value: &Value) -> Result<Scenario, Fault>
+fn read_value(alloc: Global, value: &Value) -> Result<Scenario, ScenarioFault>
     requires { size (view value.now) < 2 ^ 31 }
-    ensures { Reads result (scenario_in (view value.now)) }
+    ensures reads { ReadsShape result (scenario_in (view value.now)) }
+    ensures formed { IfOk result (λ scenario. AllInForm scenario.scripts) }
+    ensures count { IfOk result (λ scenario. (1 ≤ length scenario.scripts) × (length scenario.scripts ≤ 8)) }
 {
-    let version = read_version(value)?;
-    let Some(found) = value.get("scripts") else {
-        return Err(Fault::Wrong);
-    };
-    let script = read_scripts(alloc, found)?;
     if !only_keys(&["version", "scripts"], value) {
-        return Err(Fault::Wrong);
+        return top(What::Top);
     }
-    let mut scripts = Vec::new(alloc);
-    add(&mut scripts, script)?;
+    if !has_version(value) {
+        return top(What::Version);
+    }
+    let Some(found) = value.get("scripts") else {
+        return top(What::Scripts);
+    };
+    let scripts = read_list(alloc, found)?;
     Ok(Scenario {
-        version,
-        scripts: Several::new(scripts),
+        version: 1,
+        scripts,
     })
 }
 
 /// The value of a text, if it is JSON.
 #[tactic(auto, using(crate::proofs::Json::json_some, crate::proofs::Json::json_none, crate::proofs::Json::json_size))]
-fn json(alloc: Global, text: &[u8]) -> Result<Value, Fault>
+fn json(alloc: Global, text: &[u8]) -> Result<Value, ScenarioFault>
     ensures value { IfOk result (λ value. json_of text.now ≡ Some (view value)) }
     ensures cause { IfErr result (λ e. IsJsonFault e (json_of text.now)) }
     ensures size { IfOk result (λ value. size (view value) ≤ length text.now + 1) }
@@ -148,41 +196,27 @@ fn json(alloc: Global, text: &[u8]) -> Result<Value, Fault>
         Ok(value) => Ok(value),
         Err(e) => {
             if e.is_memory() {
-                return Err(Fault::NoMemory);
+                return Err(ScenarioFault::NoMemory);
             }
-            Err(Fault::Wrong)
+            Err(ScenarioFault::Refused(Refusal::Json))
         }
     }
 }
 
-/// How a text is refused that says no scenario.
-fn refusal(fault: Fault) -> ScenarioFault
-    ensures { result ≡ refusal_of fault }
-{
-    match fault {
-        Fault::Wrong => ScenarioFault::Refused(Refusal::Unbuilt),
-        Fault::NoMemory => ScenarioFault::NoMemory,
-    }
-}
-
-/// The scenario of a text, or why there is none. It has one script, of fewer than 2^20 ops. A text is
-/// refused as `Unbuilt` exactly where it isn't
-/// a scenario of at most 1,048,576 bytes with one script of ops that are built.
-#[tactic(auto, using(crate::proofs::Few::one_script_read))]
+/// The scenario of a text, or why there is none: `TooLong` exactly where it has more than 1,048,576 bytes,
+/// else `Json` exactly where `serde_json` by its own statement doesn't read it as a value nested at most 127
+/// deep, else `BadShape` exactly with the first wrong place. A scenario has 1 to 8 scripts, fewer than 2^20
+/// ops, and only ops in form.
 pub fn read(alloc: Global, text: &[u8]) -> Result<Scenario, ScenarioFault>
-    ensures text { ReadsText result (scenario_of text.now) }
+    ensures reads { ReadsShape result (scenario_of text.now) }
     ensures few { IfOk result (λ scenario. total scenario.scripts < 1048576) }
-    ensures one { IfOk result (λ scenario. length scenario.scripts ≡ 1) }
+    ensures formed { IfOk result (λ scenario. AllInForm scenario.scripts) }
+    ensures count { IfOk result (λ scenario. (1 ≤ length scenario.scripts) × (length scenario.scripts ≤ 8)) }
 {
     if text.len() > MOST_BYTES {
-        return Err(ScenarioFault::Refused(Refusal::Unbuilt));
+        return Err(ScenarioFault::Refused(Refusal::TooLong));
     }
-    let value = match json(alloc, text) {
-        Ok(value) => value,
-        Err(fault) => return Err(refusal(fault)),
-    };
-    match read_value(alloc, &value) {
-        Ok(scenario) => Ok(scenario),
-        Err(fault) => Err(refusal(fault)),
-    }
+    let value = json(alloc, text)?;
+    let scenario = read_value(alloc, &value)?;
+    Ok(scenario)
 }

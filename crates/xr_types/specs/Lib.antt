@@ -1,2 +1,5 @@
 pub mod Code
+pub mod Device
+pub mod Name
 pub mod Op
+pub mod Printed

@@ -1,20 +1,111 @@
--- Ops by their names.
-use Rattle.std.specs.Prelude.{ℕ, List, codes}
+-- Ops by their names, and what the names that they give stand for.
+use Rattle.std.specs.Prelude.{ℕ, nat_le, List, codes, Option, Some, None, if◌then◌else◌}
 use Rattle.xr_types.specs.declared.scenario.Op.{Op}
 use Rattle.xr_types.specs.declared.scenario.Op.TheVariants as op
-use Rattle.xr_types.specs.declared.scenario.CallName.{CallName}
-use Rattle.xr_types.specs.declared.scenario.CallName.TheVariants.{CreateInstance, StringToPath, PathToString, Leave, NextFrame}
+use Rattle.xr_types.specs.declared.scenario.Sort.{Sort}
+use Rattle.xr_types.specs.declared.scenario.Sort.TheVariants.{Handle, Atom, Number}
+use Rattle.xr_types.specs.declared.names.CallName.{CallName}
+use Rattle.xr_types.specs.declared.names.CallName.TheVariants.{CreateInstance, DestroyInstance, PollEvent, GetSystem, StringToPath, PathToString, CreateSession, DestroySession, EndSession, RequestExitSession, BeginFrame, BeginSession, CreateReferenceSpace, CreateActionSpace, DestroySpace, LocateSpace, CreateActionSet, DestroyActionSet, CreateAction, DestroyAction, SuggestBindings, AttachSets, SyncActions, GetBoolean, GetFloat, GetVector, GetPoseActive, CreateSwapchain, DestroySwapchain, AcquireImage, ReleaseImage, WaitImage, Paint, WaitFrame, EndFrame, Mark, Await, Leave, Device, NextFrame, ImageDone}
 
 -- the name of an op
 abbrev pub call_name : Op → CallName
 call_name (op.CreateInstance major minor) = CreateInstance
+call_name (op.DestroyInstance instance) = DestroyInstance
+call_name (op.PollEvent instance) = PollEvent
+call_name (op.GetSystem instance form) = GetSystem
 call_name (op.StringToPath instance text) = StringToPath
 call_name (op.PathToString instance path capacity) = PathToString
+call_name (op.CreateSession instance system) = CreateSession
+call_name (op.DestroySession session) = DestroySession
+call_name (op.EndSession session) = EndSession
+call_name (op.RequestExitSession session) = RequestExitSession
+call_name (op.BeginFrame session) = BeginFrame
+call_name (op.BeginSession session view) = BeginSession
+call_name (op.CreateReferenceSpace session kind offset) = CreateReferenceSpace
+call_name (op.CreateActionSpace session action sub offset) = CreateActionSpace
+call_name (op.DestroySpace space) = DestroySpace
+call_name (op.LocateSpace space base time) = LocateSpace
+call_name (op.CreateActionSet instance name localized priority) = CreateActionSet
+call_name (op.DestroyActionSet set) = DestroyActionSet
+call_name (op.CreateAction set name kind subactions localized) = CreateAction
+call_name (op.DestroyAction action) = DestroyAction
+call_name (op.SuggestBindings instance profile bindings) = SuggestBindings
+call_name (op.AttachSets session sets) = AttachSets
+call_name (op.SyncActions session active) = SyncActions
+call_name (op.GetBoolean session action sub) = GetBoolean
+call_name (op.GetFloat session action sub) = GetFloat
+call_name (op.GetVector session action sub) = GetVector
+call_name (op.GetPoseActive session action sub) = GetPoseActive
+call_name (op.CreateSwapchain session format width height fixed) = CreateSwapchain
+call_name (op.DestroySwapchain chain) = DestroySwapchain
+call_name (op.AcquireImage chain) = AcquireImage
+call_name (op.ReleaseImage chain) = ReleaseImage
+call_name (op.WaitImage chain timeout) = WaitImage
+call_name (op.Paint chain stamp) = Paint
+call_name (op.WaitFrame session) = WaitFrame
+call_name (op.EndFrame session time blend layers) = EndFrame
+call_name (op.Mark mark value) = Mark
+call_name (op.Await mark) = Await
 
 -- the name as scenarios and reports write it
 abbrev pub name_of : CallName → List ℕ
 name_of CreateInstance = codes "create_instance"
+name_of DestroyInstance = codes "destroy_instance"
+name_of PollEvent = codes "poll_event"
+name_of GetSystem = codes "get_system"
 name_of StringToPath = codes "string_to_path"
 name_of PathToString = codes "path_to_string"
+name_of CreateSession = codes "create_session"
+name_of DestroySession = codes "destroy_session"
+name_of EndSession = codes "end_session"
+name_of RequestExitSession = codes "request_exit_session"
+name_of BeginFrame = codes "begin_frame"
+name_of BeginSession = codes "begin_session"
+name_of CreateReferenceSpace = codes "create_reference_space"
+name_of CreateActionSpace = codes "create_action_space"
+name_of DestroySpace = codes "destroy_space"
+name_of LocateSpace = codes "locate_space"
+name_of CreateActionSet = codes "create_action_set"
+name_of DestroyActionSet = codes "destroy_action_set"
+name_of CreateAction = codes "create_action"
+name_of DestroyAction = codes "destroy_action"
+name_of SuggestBindings = codes "suggest_bindings"
+name_of AttachSets = codes "attach_sets"
+name_of SyncActions = codes "sync_actions"
+name_of GetBoolean = codes "get_boolean"
+name_of GetFloat = codes "get_float"
+name_of GetVector = codes "get_vector"
+name_of GetPoseActive = codes "get_pose_active"
+name_of CreateSwapchain = codes "create_swapchain"
+name_of DestroySwapchain = codes "destroy_swapchain"
+name_of AcquireImage = codes "acquire_image"
+name_of ReleaseImage = codes "release_image"
+name_of WaitImage = codes "wait_image"
+name_of Paint = codes "paint"
+name_of WaitFrame = codes "wait_frame"
+name_of EndFrame = codes "end_frame"
+name_of Mark = codes "mark"
+name_of Await = codes "await"
 name_of Leave = codes "leave"
+name_of Device = codes "device"
 name_of NextFrame = codes "next_frame"
+name_of ImageDone = codes "image_done"
+
+-- what the value of a mark is
+abbrev pub mark_sort : ℕ → Sort
+mark_sort mark = if nat_le mark 32 then Handle else Atom
+
+-- what the name that an op gives stands for, where its row has a name
+abbrev pub sort_of : Op → Option Sort
+sort_of (op.CreateInstance major minor) = Some Handle
+sort_of (op.GetSystem instance form) = Some Number
+sort_of (op.StringToPath instance text) = Some Atom
+sort_of (op.CreateSession instance system) = Some Handle
+sort_of (op.CreateReferenceSpace session kind offset) = Some Handle
+sort_of (op.CreateActionSpace session action sub offset) = Some Handle
+sort_of (op.CreateActionSet instance name localized priority) = Some Handle
+sort_of (op.CreateAction set name kind subactions localized) = Some Handle
+sort_of (op.CreateSwapchain session format width height fixed) = Some Handle
+sort_of (op.WaitFrame session) = Some Number
+sort_of (op.Await mark) = Some (mark_sort mark)
+sort_of _ = None

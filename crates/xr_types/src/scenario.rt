@@ -1,9 +1,11 @@
 // A scenario: scripts of ops, as a text gives them.
-ghost use Rattle.std.specs.Prelude.{◌≡◌, Some};
-ghost use Rattle.xr_types.specs.Op.{name_of, call_name};
+ghost use Rattle.std.specs.Prelude.{◌≡◌};
+ghost use Rattle.xr_types.specs.Op.{call_name, sort_of};
 
-use crate::{Bytes, Several};
-use std::fmt;
+use crate::{ActionType, Blend, Bytes, CallName, Form, RefKind, Several, ViewConfig};
+
+/// Marks up to this one have handles for values, and the marks behind it atoms.
+pub const MOST_HANDLE_MARK: u8 = 32;
 
 /// A value of an op: a number, or what the op at this place of the script (from 1) gave to its name.
 #[derive(Clone, Copy, Debug, PartialEq, Eq)]
@@ -12,20 +14,82 @@ pub enum Use {
     Of(u32),
 }
 
-/// What a name of a script stands for.
+/// What a name of a script stands for. A system and a predicted time are numbers.
 #[derive(Clone, Copy, Debug, PartialEq, Eq)]
 pub enum Sort {
     Handle,
     Atom,
+    Number,
 }
 
-/// One op of a script, with the fields of its row in the scenario format. A name that the op gives is
-/// no field: the ops that use it hold this op's place.
+/// A handle in a list of an op.
+#[derive(Clone, Copy, Debug, PartialEq, Eq)]
+pub struct HandleUse {
+    pub handle: Use,
+}
+
+/// An atom in a list of an op.
+#[derive(Clone, Copy, Debug, PartialEq, Eq)]
+pub struct AtomUse {
+    pub atom: Use,
+}
+
+/// A suggestion of an op: an action and a path.
+#[derive(Clone, Copy, Debug, PartialEq, Eq)]
+pub struct BindingUse {
+    pub action: Use,
+    pub path: Use,
+}
+
+/// An action set that an op syncs, with a user path or 0.
+#[derive(Clone, Copy, Debug, PartialEq, Eq)]
+pub struct ActiveSetUse {
+    pub set: Use,
+    pub sub: Use,
+}
+
+/// A part of a chain's image, in pixels.
+#[derive(Clone, Copy, Debug, PartialEq, Eq)]
+pub struct SubImageUse {
+    pub chain: Use,
+    pub x: i32,
+    pub y: i32,
+    pub w: i32,
+    pub h: i32,
+}
+
+/// A layer of an op: a projection of up to four views, or a quad.
+#[derive(Debug, Drop)]
+pub enum LayerUse {
+    Projection {
+        space: Use,
+        views: Several<SubImageUse>,
+    },
+    Quad {
+        space: Use,
+        image: SubImageUse,
+        pose: u64,
+    },
+}
+
+/// One op of a script, with the fields of its row in the scenario format: `kind` is the field `type`,
+/// and `fixed` the field `static`. A name that the op gives is no field: the ops that use it hold this
+/// op's place.
 #[derive(Debug, Drop)]
 pub enum Op {
     CreateInstance {
         major: u32,
         minor: u32,
+    },
+    DestroyInstance {
+        instance: Use,
+    },
+    PollEvent {
+        instance: Use,
+    },
+    GetSystem {
+        instance: Use,
+        form: Form,
     },
     StringToPath {
         instance: Use,
@@ -36,6 +100,137 @@ pub enum Op {
         path: Use,
         capacity: u64,
     },
+    CreateSession {
+        instance: Use,
+        system: Use,
+    },
+    DestroySession {
+        session: Use,
+    },
+    EndSession {
+        session: Use,
+    },
+    RequestExitSession {
+        session: Use,
+    },
+    BeginFrame {
+        session: Use,
+    },
+    BeginSession {
+        session: Use,
+        view: ViewConfig,
+    },
+    CreateReferenceSpace {
+        session: Use,
+        kind: RefKind,
+        offset: u64,
+    },
+    CreateActionSpace {
+        session: Use,
+        action: Use,
+        sub: Use,
+        offset: u64,
+    },
+    DestroySpace {
+        space: Use,
+    },
+    LocateSpace {
+        space: Use,
+        base: Use,
+        time: Use,
+    },
+    CreateActionSet {
+        instance: Use,
+        name: Bytes,
+        localized: Bytes,
+        priority: u32,
+    },
+    DestroyActionSet {
+        set: Use,
+    },
+    CreateAction {
+        set: Use,
+        name: Bytes,
+        kind: ActionType,
+        subactions: Several<AtomUse>,
+        localized: Bytes,
+    },
+    DestroyAction {
+        action: Use,
+    },
+    SuggestBindings {
+        instance: Use,
+        profile: Use,
+        bindings: Several<BindingUse>,
+    },
+    AttachSets {
+        session: Use,
+        sets: Several<HandleUse>,
+    },
+    SyncActions {
+        session: Use,
+        active: Several<ActiveSetUse>,
+    },
+    GetBoolean {
+        session: Use,
+        action: Use,
+        sub: Use,
+    },
+    GetFloat {
+        session: Use,
+        action: Use,
+        sub: Use,
+    },
+    GetVector {
+        session: Use,
+        action: Use,
+        sub: Use,
+    },
+    GetPoseActive {
+        session: Use,
+        action: Use,
+        sub: Use,
+    },
+    CreateSwapchain {
+        session: Use,
+        format: u64,
+        width: u32,
+        height: u32,
+        fixed: bool,
+    },
+    DestroySwapchain {
+        chain: Use,
+    },
+    AcquireImage {
+        chain: Use,
+    },
+    ReleaseImage {
+        chain: Use,
+    },
+    WaitImage {
+        chain: Use,
+        timeout: i64,
+    },
+    Paint {
+        chain: Use,
+        stamp: u64,
+    },
+    WaitFrame {
+        session: Use,
+    },
+    EndFrame {
+        session: Use,
+        time: Use,
+        blend: Blend,
+        layers: Several<LayerUse>,
+    },
+    Mark {
+        mark: u8,
+        value: Use,
+    },
+    Await {
+        mark: u8,
+    },
 }
 
 impl Op {
@@ -45,43 +240,68 @@ impl Op {
     {
         match self {
             Op::CreateInstance { .. } => CallName::CreateInstance,
+            Op::DestroyInstance { .. } => CallName::DestroyInstance,
+            Op::PollEvent { .. } => CallName::PollEvent,
+            Op::GetSystem { .. } => CallName::GetSystem,
             Op::StringToPath { .. } => CallName::StringToPath,
             Op::PathToString { .. } => CallName::PathToString,
+            Op::CreateSession { .. } => CallName::CreateSession,
+            Op::DestroySession { .. } => CallName::DestroySession,
+            Op::EndSession { .. } => CallName::EndSession,
+            Op::RequestExitSession { .. } => CallName::RequestExitSession,
+            Op::BeginFrame { .. } => CallName::BeginFrame,
+            Op::BeginSession { .. } => CallName::BeginSession,
+            Op::CreateReferenceSpace { .. } => CallName::CreateReferenceSpace,
+            Op::CreateActionSpace { .. } => CallName::CreateActionSpace,
+            Op::DestroySpace { .. } => CallName::DestroySpace,
+            Op::LocateSpace { .. } => CallName::LocateSpace,
+            Op::CreateActionSet { .. } => CallName::CreateActionSet,
+            Op::DestroyActionSet { .. } => CallName::DestroyActionSet,
+            Op::CreateAction { .. } => CallName::CreateAction,
+            Op::DestroyAction { .. } => CallName::DestroyAction,
+            Op::SuggestBindings { .. } => CallName::SuggestBindings,
+            Op::AttachSets { .. } => CallName::AttachSets,
+            Op::SyncActions { .. } => CallName::SyncActions,
+            Op::GetBoolean { .. } => CallName::GetBoolean,
+            Op::GetFloat { .. } => CallName::GetFloat,
+            Op::GetVector { .. } => CallName::GetVector,
+            Op::GetPoseActive { .. } => CallName::GetPoseActive,
+            Op::CreateSwapchain { .. } => CallName::CreateSwapchain,
+            Op::DestroySwapchain { .. } => CallName::DestroySwapchain,
+            Op::AcquireImage { .. } => CallName::AcquireImage,
+            Op::ReleaseImage { .. } => CallName::ReleaseImage,
+            Op::WaitImage { .. } => CallName::WaitImage,
+            Op::Paint { .. } => CallName::Paint,
+            Op::WaitFrame { .. } => CallName::WaitFrame,
+            Op::EndFrame { .. } => CallName::EndFrame,
+            Op::Mark { .. } => CallName::Mark,
+            Op::Await { .. } => CallName::Await,
         }
     }
-}
 
-/// The calls by their names in scenarios and reports. Each script ends with `leave`; `next_frame` is
-/// the compositor's.
-#[derive(Clone, Copy, Debug, PartialEq, Eq)]
-pub enum CallName {
-    CreateInstance,
-    StringToPath,
-    PathToString,
-    Leave,
-    NextFrame,
-}
-
-impl CallName {
-    /// The name as scenarios and reports write it.
-    pub fn name(self) -> &'static str
-        ensures { result.now ≡ name_of self }
+    /// What the name that the op gives stands for, where its row has a name.
+    pub fn sort(&self) -> Option<Sort>
+        ensures { result ≡ sort_of self.now }
     {
         match self {
-            CallName::CreateInstance => "create_instance",
-            CallName::StringToPath => "string_to_path",
-            CallName::PathToString => "path_to_string",
-            CallName::Leave => "leave",
-            CallName::NextFrame => "next_frame",
+            Op::CreateInstance { .. }
+            | Op::CreateSession { .. }
+            | Op::CreateReferenceSpace { .. }
+            | Op::CreateActionSpace { .. }
+            | Op::CreateActionSet { .. }
+            | Op::CreateAction { .. }
+            | Op::CreateSwapchain { .. } => Some(Sort::Handle),
+            Op::StringToPath { .. } => Some(Sort::Atom),
+            Op::GetSystem { .. } | Op::WaitFrame { .. } => Some(Sort::Number),
+            Op::Await { mark } => {
+                if *mark <= MOST_HANDLE_MARK {
+                    Some(Sort::Handle)
+                } else {
+                    Some(Sort::Atom)
+                }
+            }
+            _ => None,
         }
-    }
-}
-
-impl fmt::Display for CallName {
-    ghost output = { λ call. Some (name_of call) };
-
-    fn fmt<W: fmt::Write>(&self, f: &mut fmt::Formatter<W>) -> fmt::Result {
-        f.write_str(self.name())
     }
 }
 

@@ -1,4 +1,5 @@
 // How a run ends, and why a scenario is refused.
+use crate::CallName;
 
 /// A read, a write or an opening that failed. It comes only where the named count of faults rose.
 #[derive(Clone, Copy, Debug, PartialEq, Eq)]
@@ -30,13 +31,19 @@ pub enum Status {
 }
 
 /// Why a text is refused. A wrong place counts scripts and ops from 1; op 0 is a script itself, and
-/// script 0 the top.
+/// script 0 the top. Where the op is one of the format its name stands beside it, so that a field can be
+/// told by its name.
 #[derive(Clone, Copy, Debug, PartialEq, Eq)]
 pub enum Refusal {
     TooLong,
     Json,
-    BadShape { script: u32, op: u32, what: What },
-    /// The text is no scenario of the ops that are built so far.
+    BadShape {
+        script: u32,
+        op: u32,
+        name: Option<CallName>,
+        what: What,
+    },
+    /// The text is a scenario, and it has more than one script or an op that isn't built.
     Unbuilt,
 }
 

@@ -69,6 +69,7 @@ text_fits s e = by e.request
         ((λ h. refl), ((λ h. refl), ((λ h. refl), (copy_gives_none (text_at s.atoms path) capacity, tt)))) (copied_fits (text_at s.atoms path) capacity)
     by leave = refl
     by next_frame = refl
+    by _ = refl
 
 -- an application's call never waits
 pub app_ready : (s : State) (e : Entry) (k : ℕ) → IsCaller (App k) e.request → ready s e ≡ true
@@ -80,6 +81,7 @@ app_ready s e k caller = by e.request caller
     by (path_to_string instance path capacity) c = refl
     by leave c = refl
     by next_frame c = absurd c
+    by _ c = absurd c
 
 -- the front of a buffer that was written over
 pub front_of-written : (bytes buffer : List ℕ) (n : ℕ) → length bytes ≡ n → take n (written_over bytes buffer) ≡ bytes
@@ -92,6 +94,7 @@ lent_fits (string_to_path instance text) = tt
 lent_fits (path_to_string instance path capacity) = refl
 lent_fits leave = tt
 lent_fits next_frame = tt
+lent_fits _ = tt
 
 same_outcome : (o : Outcome) (answer : Reply) (bytes : List ℕ) → answer ≡ o.reply → bytes ≡ o.text → o ≡ record { reply = answer; text = bytes }
 same_outcome o answer bytes e f = rw (e, f) refl

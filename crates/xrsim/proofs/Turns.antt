@@ -10,28 +10,30 @@ use Rattle.xr_model.specs.Machine.{step}
 use Rattle.xr_model.specs.Robin.{Seat, script, compositor, next_call, is_next_ready, seat_after, IsRobinFrom}
 use Rattle.xrsim.specs.Play.{IsOpen, IsTurnOf}
 
-script_ready : (s : State) (rest : List Op) (values : List ℕ) → is_next_ready s (script 1 rest values) ≡ true
-script_ready s [] values = refl
-script_ready s (op.CreateInstance major minor ∷ rest) values = refl
-script_ready s (op.StringToPath instance text ∷ rest) values = refl
-script_ready s (op.PathToString instance path capacity ∷ rest) values = refl
+op_ready : (s : State) (place : ℕ) (o : Op) (rest : List Op) (values : List ℕ) → is_next_ready s (script 1 place (o ∷ rest) values) ≡ true
+op_ready s place (op.CreateInstance major minor) rest values = refl
+op_ready s place _ rest values = refl
+
+script_ready : (s : State) (place : ℕ) (rest : List Op) (values : List ℕ) → is_next_ready s (script 1 place rest values) ≡ true
+script_ready s place [] values = refl
+script_ready s place (o ∷ rest) values = op_ready s place o rest values
 
 compositor_waits : (s : State) → IsOpen s → is_next_ready s compositor ≡ false
 compositor_waits s there = rw there.left refl
 
 -- the script makes its next call, wherever the compositor stands
-pub script_turn : (s new : State) (rest : List Op) (values : List ℕ) (seats : List Seat) (e : Entry) (outcome : Outcome) (es : List Entry) → IsOpen s → IsTurnOf (script 1 rest values) seats
-    → e.actor ≡ App 1 → e.request ≡ next_call (script 1 rest values) → new ≡ (step s e).0 → (step s e).1 ≡ outcome
-    → IsRobinFrom new (compositor ∷ seat_after (script 1 rest values) outcome) es → IsRobinFrom s seats (e ∷ es)
-script_turn s new rest values seats e outcome es there turn who what leads came more = by turn
+pub script_turn : (s new : State) (place : ℕ) (rest : List Op) (values : List ℕ) (seats : List Seat) (e : Entry) (outcome : Outcome) (es : List Entry) → IsOpen s → IsTurnOf (script 1 place rest values) seats
+    → e.actor ≡ App 1 → e.request ≡ next_call (script 1 place rest values) → new ≡ (step s e).0 → (step s e).1 ≡ outcome
+    → IsRobinFrom new (compositor ∷ seat_after (script 1 place rest values) outcome) es → IsRobinFrom s seats (e ∷ es)
+script_turn s new place rest values seats e outcome es there turn who what leads came more = by turn
   where
-    at_step : IsRobinFrom (step s e).0 (compositor ∷ seat_after (script 1 rest values) (step s e).1) es
-    at_step = subst (λ (o : Outcome). IsRobinFrom (step s e).0 (compositor ∷ seat_after (script 1 rest values) o) es) (sym came)
-        (subst (λ (n : State). IsRobinFrom n (compositor ∷ seat_after (script 1 rest values) outcome) es) leads more)
+    at_step : IsRobinFrom (step s e).0 (compositor ∷ seat_after (script 1 place rest values) (step s e).1) es
+    at_step = subst (λ (o : Outcome). IsRobinFrom (step s e).0 (compositor ∷ seat_after (script 1 place rest values) o) es) (sym came)
+        (subst (λ (n : State). IsRobinFrom n (compositor ∷ seat_after (script 1 place rest values) outcome) es) leads more)
 
-    by : IsTurnOf (script 1 rest values) seats → IsRobinFrom s seats (e ∷ es)
-    by (inl now) = rw (now, script_ready s rest values) ((who, what), at_step)
-    by (inr next) = rw (next, compositor_waits s there, script_ready s rest values) ((who, what), at_step)
+    by : IsTurnOf (script 1 place rest values) seats → IsRobinFrom s seats (e ∷ es)
+    by (inl now) = rw (now, script_ready s place rest values) ((who, what), at_step)
+    by (inr next) = rw (next, compositor_waits s there, script_ready s place rest values) ((who, what), at_step)
 
 -- the compositor alone is left, and is told the end
 pub compositor_turn : (s : State) (e : Entry) → s.left ≡ true ∷ [] → e.actor ≡ Compositor → e.request ≡ next_frame → (step s e).1.reply.gives ≡ Ended → IsRobinFrom s (compositor ∷ []) (e ∷ [])

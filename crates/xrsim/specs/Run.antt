@@ -1,5 +1,5 @@
 -- A run of a scenario text: the one history that its report is of.
-use Rattle.std.specs.Prelude.{◌≡◌, List, [], ◌∷◌, ℕ, Some}
+use Rattle.std.specs.Prelude.{◌≡◌, List, [], ◌∷◌, ℕ, Ok}
 use Rattle.xr_types.specs.declared.calls.Actor.TheVariants.{App, Compositor, Device}
 use Rattle.xr_types.specs.declared.calls.Gives.TheVariants.{Ended}
 use Rattle.xr_types.specs.declared.made.Lists.{Lists}
@@ -10,7 +10,7 @@ use Rattle.xr_model.specs.History.{IsLegal, calls_of}
 use Rattle.xr_model.specs.Scripts.{Follows}
 use Rattle.xr_model.specs.Robin.{IsRobin}
 use Rattle.xr_model.specs.Lists.{lists_of}
-use Rattle.xr_model.specs.Scenario.{scenario_of}
+use Rattle.xr_model.specs.Built.{run_scenario_of}
 
 -- the compositor asked once and was told the end
 abbrev pub IsEnd : List Told → Type 0
@@ -31,9 +31,9 @@ pub record Plays (scenario : Scenario) (ops : List Op) (lists : Lists) : Type 0 
   pub alone : calls_of 1 Device history ≡ []
   pub made : lists ≡ lists_of 1 history
 
--- A run of a text: it is a scenario, and the lists are those of its history.
+-- A run of a text: it is a scenario that is run, and the lists are those of its history.
 pub record Run (text : List ℕ) (lists : Lists) : Type 0 where
   pub scenario : Scenario
   pub ops : List Op
-  pub reads : scenario_of text ≡ Some scenario
+  pub reads : run_scenario_of text ≡ Ok scenario
   pub plays : Plays scenario ops lists

@@ -5,12 +5,14 @@ pub(crate) const HELP: &str = "\
 xrsim runs a scenario of OpenXR calls on a runtime core without graphics and prints a report.
 
 usage:
-  xrsim serial FILE     run the scenario under FILE on one thread and print its report
-  xrsim --help          print this
-  xrsim --version       print the version
+  xrsim serial FILE [--places]   run the scenario under FILE on one thread and print its report
+  xrsim --help                   print this
+  xrsim --version                print the version
 
-FILE has 1 to 4095 bytes and doesn't begin with '-'. It holds a JSON object of at most 1,048,576
-bytes: a version, 1, and one script of the ops create_instance, string_to_path and path_to_string.
+FILE has 1 to 4095 bytes; write '--' before one that begins with '-'. It holds a JSON object of at most
+1,048,576 bytes: a version, 1, and scripts of ops, which docs/scenario.schema.json describes. One script
+of the ops create_instance, string_to_path and path_to_string is run; what is more isn't built yet.
+With --places each line of a call ends in '@' and its reply's place, the count of calls up to it.
 
 example:
   {\"version\":1,\"scripts\":[[{\"op\":\"create_instance\",\"major\":1,\"minor\":0,\"as\":\"i\"},
@@ -22,7 +24,7 @@ exit status, with one line on standard error for each but 0:
   1  the words aren't of a form above
   2  the file couldn't be opened
   3  the file couldn't be read
-  4  the text is no scenario that is run
+  4  the text is no scenario that is run; the line tells the script, the op and the field
   8  the report couldn't be written whole
   9  memory was short; nothing was written
 ";

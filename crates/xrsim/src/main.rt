@@ -1,21 +1,23 @@
-//! `xrsim` runs a scenario of OpenXR calls on the written machine and prints its report. Words, reading,
-//! the run and writing are private modules; `serial` has the top call, over any files and output. This
-//! file makes the real ones, says in one line why there is no whole report, and ends with the status.
+//! `xrsim` runs a scenario of OpenXR calls on the written machine and prints its report. Reading, the run
+//! and writing are private modules; `serial` has the top call, over any files and output. This file makes
+//! the real ones, says in one line why there is no whole report, and ends with the status.
 #![tactic(auto)]
 
+mod built;
 mod calls;
 mod help;
 mod input;
 mod output;
 mod play;
+mod reason;
 pub mod serial;
-mod words;
 
 ghost use Rattle.std.specs.Prelude.{◌≡◌};
 ghost use Rattle.xrsim.specs.Exit.{exit_of};
 
 use help::text_for;
 use output::write_all;
+use reason::Reason;
 use serial::run_serial;
 use std::alloc::Global;
 use std::env;
@@ -23,7 +25,7 @@ use std::io::{Eprint, ErrorKind, Print};
 use std::process::ExitCode;
 use std::rt::Files;
 use xr_io::{FileOpener, StdSink};
-use xr_types::{Refusal, Status};
+use xr_types::Status;
 
 /// The number that the process ends with.
 fn exit_of(status: Status) -> u8
@@ -43,18 +45,6 @@ fn exit_of(status: Status) -> u8
     }
 }
 
-/// Says on standard error why a scenario is refused.
-fn explain_refusal<R: Eprint>(rt: &R, why: Refusal) {
-    let _ = match why {
-        Refusal::TooLong => eprintln!(rt; "xrsim: scenario refused: too long"),
-        Refusal::Json => eprintln!(rt; "xrsim: scenario refused: json"),
-        Refusal::BadShape { script, op, .. } => eprintln!(rt;
-            "xrsim: scenario refused: script {script} op {op}"
-        ),
-        Refusal::Unbuilt => eprintln!(rt; "xrsim: scenario refused: unbuilt"),
-    };
-}
-
 /// Says on standard error, in one line, why there is no whole report. What can't be said is dropped.
 fn explain<R: Eprint>(rt: &R, status: Status) {
     let _ = match status {
@@ -65,8 +55,8 @@ fn explain<R: Eprint>(rt: &R, status: Status) {
         Status::OpenFault => eprintln!(rt; "xrsim: cannot open"),
         Status::ReadFault => eprintln!(rt; "xrsim: cannot read the scenario"),
         Status::ScenarioRefused(why) => {
-            explain_refusal(rt, why);
-            Ok(())
+            let reason = Reason { why };
+            eprintln!(rt; "xrsim: scenario refused: {reason}")
         }
         Status::DeviceFailed => eprintln!(rt; "xrsim: device failed"),
         Status::DeviceGarbled(line) => eprintln!(rt; "xrsim: device line {line} garbled"),

@@ -1,26 +1,30 @@
 // A script's calls, one after another, and the compositor's end.
-ghost use Rattle.std.specs.Prelude.{◌≡◌, ◌<◌, ◌^◌, ◌+◌, ◌++◌, ◌∷◌, [], true, ℕ, List, IfOk, OnOk, length, Some};
+ghost use Rattle.std.specs.Prelude.{◌≡◌, ◌<◌, ◌^◌, ◌++◌, ◌∷◌, [], true, ℕ, pos, List, IfOk, OnOk, length};
+ghost use Rattle.std.specs.List.{list_all};
 ghost use Rattle.xr_types.specs.declared.calls.Actor.TheVariants.{Compositor};
 ghost use Rattle.xr_types.specs.declared.scenario.Scenario.{Scenario};
+ghost use Rattle.xr_model.specs.Built.{is_built_op};
+ghost use Rattle.xr_model.specs.InForm.{IsInForm};
 ghost use Rattle.xr_model.specs.Request.{next_frame};
 ghost use Rattle.xr_model.specs.State.{opening};
-ghost use Rattle.xrsim.specs.Play.{IsMade, IsOpen, ToldSo};
+ghost use Rattle.xrsim.specs.Play.{IsMade, IsOpen, ToldSo, one_list_of};
 ghost use Rattle.xrsim.specs.Run.{Plays};
 
-use crate::calls::{Answered, call_of, make, named_by};
+use crate::calls::{Answered, make};
 use std::alloc::Global;
 use xr_core::Core;
+use xr_scenario::{Names, Scratch, call_of};
 use xr_types::{Actor, Call, CallName, Lists, Made, NoMemory, Op, Reply, Several, Step};
 
-/// Keeps a call that was made, at the next place of the script.
-fn add(made: &mut Vec<Made>, name: CallName, answered: Answered) -> Result<(), NoMemory>
-    requires { length made.old.items < 2 ^ 30 }
-    ensures { OnOk result (made.new.items ≡ made.old.items ++ record { op = length made.old.items + 1; name = name; reply = answered.reply; text = answered.text } ∷ []) }
+/// Keeps a call that was made, at its place in the script.
+fn add(made: &mut Vec<Made>, op: u32, name: CallName, answered: Answered) -> Result<(), NoMemory>
+    ensures { OnOk result (made.new.items ≡ made.old.items ++ record { op = op; name = name; mark = 0; start = pos 0; reply = answered.reply; text = answered.text } ∷ []) }
 {
-    let op = made.len() as u32 + 1;
     let next = Made {
         op,
         name,
+        mark: 0,
+        start: 0,
         reply: answered.reply,
         text: answered.text,
     };
@@ -30,31 +34,26 @@ fn add(made: &mut Vec<Made>, name: CallName, answered: Answered) -> Result<(), N
     }
 }
 
-fn keep(values: &mut Vec<u64>, value: u64) -> Result<(), NoMemory>
-    ensures { OnOk result (values.new.items ≡ values.old.items ++ value ∷ []) }
-{
-    match values.push(value) {
-        Ok(()) => Ok(()),
-        Err(_) => Err(NoMemory),
-    }
-}
-
-/// Makes the calls of all ops, in order.
+/// Makes the calls of all ops, in order. None that is built awaits a mark or an image.
 fn make_ops(alloc: Global, core: &mut Core, ops: &[Op]) -> Result<Vec<Made>, NoMemory>
     requires opening { core.old ≡ opening 1 }
     requires few { length ops.now < 2 ^ 20 }
+    requires formed { IsInForm ops.now }
+    requires built { list_all is_built_op ops.now ≡ true }
     ensures told { IfOk result (λ made. (values : List ℕ) × ToldSo ops.now (length ops.now) values core.new made.items) }
     ensures open { OnOk result (IsOpen core.new) }
     ensures calls { OnOk result (core.new.locked ≡ length ops.now) }
-    ensures count { IfOk result (λ made. length made.items ≡ length ops.now) }
 {
     let mut made = Vec::new(alloc);
-    let mut values = Vec::new(alloc);
+    let mut names = Names::start(alloc, ops.len())?;
+    let mut scratch = Scratch::new();
+    let mut place = 0;
     for op in ops {
-        let call = call_of(values.as_slice(), op);
+        place += 1;
+        let call = call_of(op, &names, &mut scratch);
         let answered = make(alloc, core, &call)?;
-        keep(&mut values, named_by(answered.reply.gives))?;
-        add(&mut made, op.name(), answered)?;
+        names.learn(place, op, &answered.reply);
+        add(&mut made, place, op.name(), answered)?;
     }
     Ok(made)
 }
@@ -74,13 +73,19 @@ fn end(core: &mut Core) -> Reply
 
 /// The lists of one script and the compositor's end.
 fn lists(alloc: Global, made: Vec<Made>, ended: Reply) -> Result<Lists, NoMemory>
-    ensures { IfOk result (λ lists. lists ≡ record { apps = made.items ∷ []; ended = Some ended }) }
+    ensures { IfOk result (λ lists. lists ≡ one_list_of made.items ended) }
 {
     let mut apps = Vec::new(alloc);
     match apps.push(Several::new(made)) {
         Ok(()) => Ok(Lists {
             apps: Several::new(apps),
+            device: Several::new(Vec::new(alloc)),
+            compositor: Several::new(Vec::new(alloc)),
             ended: Some(ended),
+            shown: Several::new(Vec::new(alloc)),
+            done: Several::new(Vec::new(alloc)),
+            events: Several::new(Vec::new(alloc)),
+            next: Several::new(Vec::new(alloc)),
         }),
         Err(_) => Err(NoMemory),
     }
@@ -90,11 +95,14 @@ fn lists(alloc: Global, made: Vec<Made>, ended: Reply) -> Result<Lists, NoMemory
 fn run(alloc: Global, core: &mut Core, ops: &[Op]) -> Result<Lists, NoMemory>
     requires opening { core.old ≡ opening 1 }
     requires few { length ops.now < 2 ^ 20 }
+    requires formed { IsInForm ops.now }
+    requires built { list_all is_built_op ops.now ≡ true }
     ensures { IfOk result (λ lists. (scenario : Scenario) → scenario.scripts ≡ ops.now ∷ [] → Plays scenario ops.now lists) }
 {
     let mut made = make_ops(alloc, core, ops)?;
     let answered = make(alloc, core, &Call::Leave)?;
-    add(&mut made, CallName::Leave, answered)?;
+    let last = ops.len() as u32 + 1;
+    add(&mut made, last, CallName::Leave, answered)?;
     let ended = end(core);
     let all = lists(alloc, made, ended)?;
     Ok(all)
@@ -102,7 +110,9 @@ fn run(alloc: Global, core: &mut Core, ops: &[Op]) -> Result<Lists, NoMemory>
 
 /// The lists that a script's run makes.
 pub(crate) fn play(alloc: Global, ops: &[Op]) -> Result<Lists, NoMemory>
-    requires { length ops.now < 2 ^ 20 }
+    requires few { length ops.now < 2 ^ 20 }
+    requires formed { IsInForm ops.now }
+    requires built { list_all is_built_op ops.now ≡ true }
     ensures { IfOk result (λ lists. (scenario : Scenario) → scenario.scripts ≡ ops.now ∷ [] → Plays scenario ops.now lists) }
 {
     let mut core = Core::start(alloc, 1)?;

@@ -1,9 +1,10 @@
 // The top call over files and output in memory, on values from outside.
+use super::reason::Reason;
 use super::serial::run_serial;
 use std::alloc::Global;
 use std::test::Fail;
 use xr_io::{Failing, MemoryFile, MemoryOpener, MemorySink};
-use xr_types::{Refusal, Status};
+use xr_types::{CallName, Refusal, Status, What};
 
 const NEVER: Failing<'static> = Failing {
     open: false,
@@ -64,6 +65,20 @@ device
 status 0
 ";
 
+const FIRST_PLACES: &str = "\
+xrsim report 1
+thread 1
+1 create_instance XR_SUCCESS @1
+2 string_to_path XR_SUCCESS 1 @2
+3 string_to_path XR_SUCCESS 1 @3
+4 path_to_string XR_SUCCESS 16 /user/hand/left @4
+5 leave XR_SUCCESS @5
+compositor
+ended @6
+device
+status 0
+";
+
 /// The status of `serial FILE`, where FILE holds this text, and its opening or these reads fail.
 fn run_failing<'x>(
     alloc: Global,
@@ -101,35 +116,114 @@ fn scenarios_give_their_reports(rt: HostRuntime) -> Result<(), Fail> {
     Ok(())
 }
 
+/// The first wrong place is this one.
+fn wrong(script: u32, op: u32, name: Option<CallName>, what: What) -> Refusal {
+    Refusal::BadShape {
+        script,
+        op,
+        name,
+        what,
+    }
+}
+
 #[test]
 fn texts_that_are_no_scenario_are_refused(rt: HostRuntime) -> Result<(), Fail> {
-    let refused = Status::ScenarioRefused(Refusal::Unbuilt);
-    for text in [
-        "",
-        "[1,",
-        "[]",
-        r#"{"version":1}"#,
-        r#"{"version":2,"scripts":[[]]}"#,
-        r#"{"version":1.0,"scripts":[[]]}"#,
-        r#"{"version":1,"scripts":[]}"#,
-        r#"{"version":1,"scripts":[[],[]]}"#,
-        r#"{"version":1,"scripts":[[]],"more":0}"#,
-        r#"{"version":1,"scripts":[[{"op":"poll_event","instance":0}]]}"#,
-        r#"{"version":1,"scripts":[[{"op":"create_instance","major":1}]]}"#,
-        r#"{"version":1,"scripts":[[{"op":"create_instance","major":-1,"minor":0}]]}"#,
-        r#"{"version":1,"scripts":[[{"op":"create_instance","major":4294967296,"minor":0}]]}"#,
-        r#"{"version":1,"scripts":[[{"op":"create_instance","major":1,"minor":0,"as":"I"}]]}"#,
-        r#"{"version":1,"scripts":[[{"op":"create_instance","major":1,"minor":0,"x":0}]]}"#,
-        r#"{"version":1,"scripts":[[{"op":"string_to_path","instance":1,"text":"/a"}]]}"#,
-        r#"{"version":1,"scripts":[[{"op":"string_to_path","instance":"i","text":"/a"}]]}"#,
-        r#"{"version":1,"scripts":[[{"op":"create_instance","major":1,"minor":0,"as":"i"},{"op":"string_to_path","instance":"i","text":"/a","as":"i"},{"op":"string_to_path","instance":"i","text":"/a"}]]}"#,
-        r#"{"version":1,"scripts":[[{"op":"path_to_string","instance":0,"path":1,"capacity":1025}]]}"#,
-        r#"{"version":1,"scripts":[[{"op":"create_instance","major":1,"minor":0,"as":"i"},{"op":"path_to_string","instance":0,"path":"i","capacity":0}]]}"#,
+    let create = Some(CallName::CreateInstance);
+    for (text, why) in [
+        ("", Refusal::Json),
+        ("[1,", Refusal::Json),
+        ("[]", wrong(0, 0, None, What::Top)),
+        (r#"{"version":1}"#, wrong(0, 0, None, What::Scripts)),
+        (
+            r#"{"version":2,"scripts":[[]]}"#,
+            wrong(0, 0, None, What::Version),
+        ),
+        (
+            r#"{"version":1,"scripts":[[],0]}"#,
+            wrong(2, 0, None, What::Script),
+        ),
+        (
+            r#"{"version":1,"scripts":[[{"op":"poll_event"}]]}"#,
+            wrong(1, 1, Some(CallName::PollEvent), What::Field(1)),
+        ),
+        (
+            r#"{"version":1,"scripts":[[{"op":"create_instance","major":1,"minor":-1}]]}"#,
+            wrong(1, 1, create, What::Field(2)),
+        ),
+        (
+            r#"{"version":1,"scripts":[[{"op":"create_instance","major":1,"minor":0,"x":0}]]}"#,
+            wrong(1, 1, create, What::Extra),
+        ),
+        (
+            r#"{"version":1,"scripts":[[{"op":"nothing"}]]}"#,
+            wrong(1, 1, None, What::Op),
+        ),
+        (r#"{"version":1,"scripts":[[],[]]}"#, Refusal::Unbuilt),
+        (
+            r#"{"version":1,"scripts":[[{"op":"poll_event","instance":0}]]}"#,
+            Refusal::Unbuilt,
+        ),
     ] {
         let mut sink = MemorySink::new(rt.alloc(), 1000, &[], &[])?;
-        assert_eq!(rt; run(rt.alloc(), text, &mut sink)?, refused, "{text}");
+        let status = run(rt.alloc(), text, &mut sink)?;
+        assert_eq!(rt; status, Status::ScenarioRefused(why), "{text}");
         assert_eq!(rt; sink.bytes().len(), 0);
     }
+    Ok(())
+}
+
+#[test]
+fn a_refusal_is_told_in_words(rt: HostRuntime) -> Result<(), Fail> {
+    let alloc = rt.alloc();
+    for (why, text) in [
+        (Refusal::TooLong, "too long"),
+        (Refusal::Json, "json"),
+        (Refusal::Unbuilt, "unbuilt"),
+        (wrong(0, 0, None, What::Top), "script 0 op 0 top"),
+        (wrong(0, 0, None, What::Version), "script 0 op 0 version"),
+        (wrong(0, 0, None, What::Scripts), "script 0 op 0 scripts"),
+        (wrong(2, 0, None, What::Script), "script 2 op 0 script"),
+        (wrong(1, 3, None, What::Op), "script 1 op 3 op"),
+        (
+            wrong(1, 3, Some(CallName::Paint), What::Extra),
+            "script 1 op 3 extra key",
+        ),
+        (
+            wrong(1, 1, Some(CallName::PollEvent), What::Field(1)),
+            "script 1 op 1 instance",
+        ),
+        (
+            wrong(1, 9, Some(CallName::CreateSwapchain), What::Field(5)),
+            "script 1 op 9 static",
+        ),
+        (
+            wrong(8, 9, Some(CallName::CreateAction), What::Field(6)),
+            "script 8 op 9 as",
+        ),
+    ] {
+        let told = format!(in alloc; "{}", Reason { why })?;
+        assert_eq!(rt; told.as_str(), text);
+    }
+    Ok(())
+}
+
+#[test]
+fn places_are_printed_where_they_are_wanted(rt: HostRuntime) -> Result<(), Fail> {
+    let alloc = rt.alloc();
+    let files = [MemoryFile {
+        name: "row.json",
+        bytes: FIRST.as_bytes(),
+    }];
+    let words = vec![in alloc;
+        "serial".to_string(alloc)?,
+        "row.json".to_string(alloc)?,
+        "--places".to_string(alloc)?,
+    ]?;
+    let mut opener = MemoryOpener::new(&files, NEVER, NEVER);
+    let mut sink = MemorySink::new(alloc, 1000, &[], &[])?;
+    let status = run_serial(alloc, words.as_slice(), &mut opener, &mut sink);
+    assert_eq!(rt; status, Status::Done);
+    assert_eq!(rt; sink.bytes(), FIRST_PLACES.as_bytes());
     Ok(())
 }
 
@@ -144,7 +238,7 @@ fn a_text_has_at_most_1048576_bytes(rt: HostRuntime) -> Result<(), Fail> {
     assert_eq!(rt; run(alloc, text.as_str(), &mut sink)?, Status::Done);
     text.push(' ')?;
     let mut other = MemorySink::new(alloc, 1000, &[], &[])?;
-    let refused = Status::ScenarioRefused(Refusal::Unbuilt);
+    let refused = Status::ScenarioRefused(Refusal::TooLong);
     assert_eq!(rt; run(alloc, text.as_str(), &mut other)?, refused);
     assert_eq!(rt; other.bytes().len(), 0);
     Ok(())

@@ -19,3 +19,7 @@ leave_rule s who = record { before = []; disorder = false; behind = []; effect =
 -- the compositor asks for a frame; there are none, so it is told the end
 abbrev pub next_frame_rule : State → Rule
 next_frame_rule s = record { before = []; disorder = false; behind = []; effect = done s Ended }
+
+-- A call that isn't built yet does nothing. No entry with it is allowed.
+abbrev pub unbuilt_rule : State → Rule
+unbuilt_rule s = record { before = []; disorder = false; behind = []; effect = done s Nothing }

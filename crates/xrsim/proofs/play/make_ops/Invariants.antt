@@ -4,8 +4,9 @@ use Rattle.xrsim.proofs.play.make_ops.Given as goal
 
 abbrev pub invariant-loop-op : goal.invariant-loop-op
 invariant-loop-op l = record {
-  count : length l.made.items ≡ l.op-index;
+  count : l.place ≡ l.op-index;
   calls : l.core.locked ≡ l.op-index;
   open_ : IsOpen l.core;
-  told : ToldSo l.ops l.op-index l.values.items l.core l.made.items;
+  named : length l.names ≡ length l.ops;
+  told : ToldSo l.ops l.op-index l.names l.core l.made.items;
 }

@@ -1,0 +1,125 @@
+//! The words of the command line, read by `clap`. It knows words alone, and opens no file.
+#![tactic(auto)]
+
+ghost use Rattle.std.specs.Prelude.{◌≡◌, ◌≤◌, IfOk, IfSome, false, length, map, option_map, string_bytes};
+ghost use Rattle.clap.specs.Words.{app_of, rule_of, first_of, found_of, rows_of};
+ghost use Rattle.xr_model.specs.Words.{run_app, file_rule, places_rule, is_file, is_serial, form_in, form_of};
+ghost use Rattle.xr_command.specs.Reads.{shown, ReadsForm, ReadsRows};
+
+use clap::error::ErrorKind;
+use clap::{Arg, ArgAction, ArgMatches, Command};
+use std::alloc::{AllocError, Global};
+
+const MOST_FILE: usize = 4095;
+
+/// What the words ask for: a run of the scenario under `file`, with or without the places of replies
+/// in its report.
+#[derive(Clone, Copy, Debug)]
+pub struct Form<'a> {
+    pub file: &'a str,
+    pub places: bool,
+}
+
+/// Why there is no form: the words have none, or memory was short.
+#[derive(Clone, Copy, Debug, PartialEq, Eq)]
+pub enum WordsFault {
+    Usage,
+    NoMemory,
+}
+
+fn file_arg<'a>(alloc: Global) -> Arg<'a>
+    ensures rule { rule_of result ≡ file_rule }
+    ensures local { result.global ≡ false }
+{
+    Arg::new(alloc, "file").required(true)
+}
+
+fn places_arg<'a>(alloc: Global) -> Arg<'a>
+    ensures rule { rule_of result ≡ places_rule }
+    ensures local { result.global ≡ false }
+{
+    Arg::new(alloc, "places")
+        .long("places")
+        .action(ArgAction::SetTrue)
+}
+
+/// The command that reads the words of a run.
+fn run_command<'a>(alloc: Global) -> Result<Command<'a>, AllocError>
+    ensures { IfOk result (λ command. app_of command ≡ run_app) }
+{
+    let command = Command::new(alloc, "xrsim");
+    let command = command.arg(file_arg(alloc))?;
+    let command = command.arg(places_arg(alloc))?;
+    Ok(command)
+}
+
+/// What the command makes of the words.
+#[tactic(auto, unfolding(xr_model::specs::Words::is_taken, xr_model::specs::Words::rows_in))]
+fn run_matches<'a>(alloc: Global, words: &'a [String]) -> Result<ArgMatches<'a>, WordsFault>
+    ensures { ReadsRows result (map string_bytes words.entry.now) }
+{
+    let Ok(command) = run_command(alloc) else {
+        return Err(WordsFault::NoMemory);
+    };
+    match command.try_get_matches_from(words) {
+        Ok(matches) => Ok(matches),
+        Err(e) => match e.kind() {
+            ErrorKind::OutOfMemory => Err(WordsFault::NoMemory),
+            _ => Err(WordsFault::Usage),
+        },
+    }
+}
+
+fn is_serial(words: &[String]) -> bool
+    ensures { result ≡ is_serial (map string_bytes words.now) }
+{
+    !words.is_empty() && words[0].as_str() == "serial"
+}
+
+fn is_file(name: &str) -> bool
+    ensures { result ≡ is_file name.now }
+{
+    !name.is_empty() && name.len() <= MOST_FILE
+}
+
+/// The text that the command found for an argument.
+#[tactic(auto, using(crate::proofs::Rows::rows))]
+fn text_of<'a>(matches: &ArgMatches<'a>, id: &str) -> Option<&'a str>
+    ensures { option_map (λ text. text.now) result ≡ first_of id.now (rows_of (found_of matches.now)) }
+{
+    matches.get_str(id)
+}
+
+/// The form of what the command found.
+fn form_in<'a>(matches: &ArgMatches<'a>) -> Option<Form<'a>>
+    ensures form { option_map shown result ≡ form_in (rows_of (found_of matches.now)) }
+    ensures short { IfSome result (λ form. length form.file.now ≤ 4095) }
+{
+    let Some(file) = text_of(matches, "file") else {
+        return None;
+    };
+    if !is_file(file) {
+        return None;
+    }
+    let places = text_of(matches, "places") == Some("true");
+    Some(Form { file, places })
+}
+
+/// The form of the words: `serial FILE`, with `--places` where that is wanted. `Usage` comes exactly
+/// where they have no form, and `NoMemory` is free.
+pub fn form_of<'a>(alloc: Global, words: &'a [String]) -> Result<Form<'a>, WordsFault>
+    ensures form { ReadsForm result (form_of (map string_bytes words.entry.now)) }
+    ensures short { IfOk result (λ form. length form.file.now ≤ 4095) }
+{
+    if !is_serial(words) {
+        return Err(WordsFault::Usage);
+    }
+    let matches = match run_matches(alloc, words) {
+        Ok(matches) => matches,
+        Err(e) => return Err(e),
+    };
+    match form_in(&matches) {
+        Some(form) => Ok(form),
+        None => Err(WordsFault::Usage),
+    }
+}

@@ -1,0 +1,13 @@
+use Rattle.std.proofs.Common.{◌≡◌, length, drop}
+use Rattle.serde_json.specs.View.{items_view}
+use Rattle.xr_model.specs.Formed.{Each}
+use Rattle.xr_model.specs.Parts.{all_of}
+use Rattle.xr_fields.proofs.Items.{prepend}
+use Rattle.xr_fields.proofs.lists.all_of.Given as goal
+
+abbrev pub invariant-loop-value : goal.invariant-loop-value
+invariant-loop-value g l = record {
+  meant : all_of (g.T.Part.part l.givers) (items_view l.values) ≡ prepend l.list.items (all_of (g.T.Part.part l.givers) (items_view (drop l.value-index l.values)));
+  count : length l.list.items ≡ l.value-index;
+  each : Each (g.T.Part.formed l.givers) l.list.items;
+}

@@ -1,0 +1,84 @@
+// The names that the ops of a script have given, each with the latest op that gave it.
+ghost use Rattle.std.specs.Prelude.{◌≡◌, [], OnOk, IfSome};
+ghost use Rattle.xr_model.specs.InForm.{IsKnownPlace};
+ghost use Rattle.xr_model.specs.Names.{given, place_of};
+ghost use Rattle.xr_fields.specs.Given.{place_by};
+
+use indexmap::IndexMap;
+use std::alloc::{AllocError, Global};
+use std::marker::Model;
+use xr_types::Sort;
+
+/// An op that gave a name: its place in the script and what the name stands for.
+#[derive(Clone, Copy)]
+pub(crate) struct Giver {
+    pub(crate) place: u32,
+    pub(crate) sort: Sort,
+}
+
+/// The names that ops have given, each with the place and the sort of the latest op that gave it. A name
+/// is looked up at about the same cost however many there are.
+#[derive(Drop)]
+pub struct Givers<'v> {
+    givers: IndexMap<&'v str, Giver>,
+}
+
+impl<'v> Model for Givers<'v> {
+    ghost use Rattle.std.specs.Prelude.{List, map};
+    ghost use Rattle.xr_model.specs.Names.{Known};
+
+    ghost Value = { List Known };
+
+    ghost use Rattle.xr_fields.specs.Given.{known_of};
+
+    ghost view = { λ names. map known_of names.givers.entries };
+}
+
+impl<'v> Givers<'v> {
+    /// No name is known. Takes no memory.
+    pub fn new(alloc: Global) -> Givers<'v>
+        ensures { result ≡ [] }
+    {
+        Givers {
+            givers: IndexMap::new(alloc),
+        }
+    }
+
+    /// The op at this place gives a name. Nothing is said of the names where memory was short.
+    pub fn give(&mut self, name: &'v str, place: u32, sort: Sort) -> Result<(), AllocError>
+        ensures { OnOk result (self.new ≡ given name.entry.now place sort self.old) }
+    {
+        let _earlier = self.givers.insert(name, Giver { place, sort })?;
+        Ok(())
+    }
+
+    /// The place of the latest op that gave a name, where it is of this sort.
+    pub fn place_of(&self, name: &str, sort: Sort) -> Option<u32>
+        ensures { result ≡ place_of sort name.now self.now }
+    {
+        match self.givers.get(name) {
+            Some(giver) => of_sort(giver, sort),
+            None => None,
+        }
+    }
+}
+
+/// The place of an op, where its name is of this sort.
+fn of_sort(giver: &Giver, sort: Sort) -> Option<u32>
+    ensures { result ≡ place_by sort giver.now }
+{
+    if giver.sort == sort {
+        Some(giver.place)
+    } else {
+        None
+    }
+}
+
+/// The place of an op that gave a name of this sort.
+#[tactic(auto, using(crate::proofs::Known::known_place))]
+pub(crate) fn known_place(givers: &Givers<'_>, name: &str, sort: Sort) -> Option<u32>
+    ensures place { result ≡ place_of sort name.now givers.now }
+    ensures known { IfSome result (λ place. IsKnownPlace givers.now sort place) }
+{
+    givers.place_of(name, sort)
+}

@@ -1,0 +1,25 @@
+//! Readers of the fields, keys, names and lists of a scenario's ops, over JSON values of `serde_json`.
+//! Each tells what the definitions of the scenario format say of a value, or the first wrong place, and
+//! promises that what it reads is in form.
+#![tactic(auto)]
+
+mod fault;
+mod givers;
+mod keys;
+mod lines;
+mod lists;
+mod names;
+mod numbers;
+mod parts;
+mod uses;
+mod words;
+
+pub use fault::Fault;
+pub use givers::Givers;
+pub use keys::only_keys;
+pub use lines::{ReadLine, line};
+pub use lists::{Part, list};
+pub use names::name;
+pub use numbers::{MOST, MOST_CAPACITY, mark_number, number, small, timeout, truth};
+pub use uses::{atom, handle, mark_value, system, time};
+pub use words::{action_type, blend, form, ref_kind, text, view_config};

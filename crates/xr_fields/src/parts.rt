@@ -1,0 +1,208 @@
+// What the lists of an op may hold.
+ghost use Rattle.std.specs.Prelude.{◌≡◌, IfOk, IfSome};
+ghost use Rattle.serde_json.specs.View.{view};
+ghost use Rattle.xr_model.specs.Formed.{IsHandlePart, IsAtomPart, IsBinding, IsActiveSet, IsPixel, IsSubImage, IsLayer};
+ghost use Rattle.xr_model.specs.InForm.{IsKnownPlace};
+ghost use Rattle.xr_model.specs.Parts.{item_count, handle_part, atom_part, binding_part, active_set_part, pixel_at, sub_image_part, projection_in, quad_in, layer_part};
+
+use crate::givers::Givers;
+use crate::keys::only_keys;
+use crate::lists::{Part, list_in};
+use crate::numbers::{MOST, number_in};
+use crate::uses::{atom_in, handle_in};
+use serde_json::Value;
+use std::alloc::{AllocError, Global};
+use xr_types::{ActiveSetUse, AtomUse, BindingUse, HandleUse, LayerUse, SubImageUse};
+
+const MOST_VIEWS: usize = 4;
+
+impl Part for HandleUse {
+    ghost part = { handle_part };
+
+    ghost formed = { λ names u. IsHandlePart (IsKnownPlace names) u };
+
+    fn read(
+        _alloc: Global,
+        givers: &Givers<'_>,
+        value: &Value,
+    ) -> Result<Option<HandleUse>, AllocError> {
+        match handle_in(givers, value) {
+            Some(handle) => Ok(Some(HandleUse { handle })),
+            None => Ok(None),
+        }
+    }
+}
+
+impl Part for AtomUse {
+    ghost part = { atom_part };
+
+    ghost formed = { λ names u. IsAtomPart (IsKnownPlace names) u };
+
+    fn read(
+        _alloc: Global,
+        givers: &Givers<'_>,
+        value: &Value,
+    ) -> Result<Option<AtomUse>, AllocError> {
+        match atom_in(givers, value) {
+            Some(atom) => Ok(Some(AtomUse { atom })),
+            None => Ok(None),
+        }
+    }
+}
+
+/// How many items an array has.
+#[tactic(auto, using(crate::proofs::Items::items_counted))]
+fn item_count(value: &Value) -> usize
+    ensures { result ≡ item_count (view value.now) }
+{
+    match value.as_array() {
+        Some(items) => items.len(),
+        None => 0,
+    }
+}
+
+fn binding(givers: &Givers<'_>, value: &Value) -> Option<BindingUse>
+    ensures found { result ≡ binding_part givers.now (view value.now) }
+    ensures formed { IfSome result (λ u. IsBinding (IsKnownPlace givers.now) u) }
+{
+    if item_count(value) != 2 {
+        return None;
+    }
+    let action = handle_in(givers, value.get(0)?)?;
+    let path = atom_in(givers, value.get(1)?)?;
+    Some(BindingUse { action, path })
+}
+
+impl Part for BindingUse {
+    ghost part = { binding_part };
+
+    ghost formed = { λ names u. IsBinding (IsKnownPlace names) u };
+
+    fn read(
+        _alloc: Global,
+        givers: &Givers<'_>,
+        value: &Value,
+    ) -> Result<Option<BindingUse>, AllocError> {
+        Ok(binding(givers, value))
+    }
+}
+
+fn active_set(givers: &Givers<'_>, value: &Value) -> Option<ActiveSetUse>
+    ensures found { result ≡ active_set_part givers.now (view value.now) }
+    ensures formed { IfSome result (λ u. IsActiveSet (IsKnownPlace givers.now) u) }
+{
+    if item_count(value) != 2 {
+        return None;
+    }
+    let set = handle_in(givers, value.get(0)?)?;
+    let sub = atom_in(givers, value.get(1)?)?;
+    Some(ActiveSetUse { set, sub })
+}
+
+impl Part for ActiveSetUse {
+    ghost part = { active_set_part };
+
+    ghost formed = { λ names u. IsActiveSet (IsKnownPlace names) u };
+
+    fn read(
+        _alloc: Global,
+        givers: &Givers<'_>,
+        value: &Value,
+    ) -> Result<Option<ActiveSetUse>, AllocError> {
+        Ok(active_set(givers, value))
+    }
+}
+
+fn pixel_at(value: &Value, place: usize) -> Option<i32>
+    ensures found { result ≡ pixel_at place (view value.now) }
+    ensures formed { IfSome result IsPixel }
+{
+    let number = value.get(place)?.as_i64()?;
+    if i64::from(i32::MIN) <= number && number <= i64::from(i32::MAX) {
+        Some(number as i32)
+    } else {
+        None
+    }
+}
+
+fn sub_image(givers: &Givers<'_>, value: &Value) -> Option<SubImageUse>
+    ensures found { result ≡ sub_image_part givers.now (view value.now) }
+    ensures formed { IfSome result (λ u. IsSubImage (IsKnownPlace givers.now) u) }
+{
+    if item_count(value) != 5 {
+        return None;
+    }
+    let chain = handle_in(givers, value.get(0)?)?;
+    let x = pixel_at(value, 1)?;
+    let y = pixel_at(value, 2)?;
+    let w = pixel_at(value, 3)?;
+    let h = pixel_at(value, 4)?;
+    Some(SubImageUse { chain, x, y, w, h })
+}
+
+impl Part for SubImageUse {
+    ghost part = { sub_image_part };
+
+    ghost formed = { λ names u. IsSubImage (IsKnownPlace names) u };
+
+    fn read(
+        _alloc: Global,
+        givers: &Givers<'_>,
+        value: &Value,
+    ) -> Result<Option<SubImageUse>, AllocError> {
+        Ok(sub_image(givers, value))
+    }
+}
+
+fn quad(givers: &Givers<'_>, value: &Value) -> Option<LayerUse>
+    ensures found { result ≡ quad_in givers.now (view value.now) }
+    ensures formed { IfSome result (λ u. IsLayer (IsKnownPlace givers.now) u) }
+{
+    let space = handle_in(givers, value.get("quad")?)?;
+    let image = sub_image(givers, value.get("image")?)?;
+    let pose = number_in(value.get("pose")?, MOST)?;
+    Some(LayerUse::Quad { space, image, pose })
+}
+
+fn projection(
+    alloc: Global,
+    givers: &Givers<'_>,
+    value: &Value,
+) -> Result<Option<LayerUse>, AllocError>
+    ensures found { IfOk result (λ found. found ≡ projection_in givers.now (view value.now)) }
+    ensures formed { IfOk result (λ found. IfSome found (λ u. IsLayer (IsKnownPlace givers.now) u)) }
+{
+    let Some(space) = value.get("projection") else {
+        return Ok(None);
+    };
+    let Some(space) = handle_in(givers, space) else {
+        return Ok(None);
+    };
+    let Some(views) = value.get("views") else {
+        return Ok(None);
+    };
+    match list_in(alloc, givers, views, MOST_VIEWS)? {
+        Some(views) => Ok(Some(LayerUse::Projection { space, views })),
+        None => Ok(None),
+    }
+}
+
+impl Part for LayerUse {
+    ghost part = { layer_part };
+
+    ghost formed = { λ names u. IsLayer (IsKnownPlace names) u };
+
+    fn read(
+        alloc: Global,
+        givers: &Givers<'_>,
+        value: &Value,
+    ) -> Result<Option<LayerUse>, AllocError> {
+        if only_keys(&["projection", "views"], value) {
+            return projection(alloc, givers, value);
+        }
+        if only_keys(&["quad", "image", "pose"], value) {
+            return Ok(quad(givers, value));
+        }
+        Ok(None)
+    }
+}

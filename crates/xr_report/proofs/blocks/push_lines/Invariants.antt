@@ -1,6 +1,0 @@
-use Rattle.std.proofs.Common.{◌≡◌, ◌++◌, drop}
-use Rattle.xr_model.specs.Report.{lines_of}
-use Rattle.xr_report.proofs.blocks.push_lines.Given as goal
-
-abbrev pub invariant-loop-made : goal.invariant-loop-made
-invariant-loop-made l = l.initial.out.items ++ lines_of l.calls ≡ l.out.items ++ lines_of (drop l.made-index l.calls)

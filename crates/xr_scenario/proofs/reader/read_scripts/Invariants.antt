@@ -1,0 +1,14 @@
+use Rattle.std.proofs.Common.{◌≡◌, ◌+◌, drop, length}
+use Rattle.serde_json.specs.View.{items_view}
+use Rattle.xr_model.specs.InForm.{AllInForm}
+use Rattle.xr_model.specs.Scenario.{scripts_from}
+use Rattle.xr_scenario.proofs.Lines.{prepend}
+use Rattle.xr_scenario.proofs.reader.read_scripts.Given as goal
+
+abbrev pub invariant-loop-value : goal.invariant-loop-value
+invariant-loop-value l = record {
+  count : l.script ≡ l.value-index;
+  made : length l.scripts.items ≡ l.value-index;
+  meant : scripts_from 1 (items_view l.values) ≡ prepend l.scripts.items (scripts_from (l.script + 1) (items_view (drop l.value-index l.values)));
+  formed : AllInForm l.scripts.items;
+}

@@ -1,0 +1,188 @@
+//! Reading the ops on instances, paths, events and sessions (OpenXR 1.0 chapters 2, 4, 6 and 9), and on marks.
+//! Each reader tells what an op's object says, or the first place of it that is wrong.
+#![tactic(auto)]
+
+ghost use Rattle.std.specs.Prelude.{IfErr, IfOk, List};
+ghost use Rattle.serde_json.specs.View.{view};
+ghost use Rattle.xr_fields.specs.Reads.{IsWrong, ReadsLine};
+ghost use Rattle.xr_model.specs.Formed.{IsFormed};
+ghost use Rattle.xr_model.specs.InForm.{IsKnownPlace};
+ghost use Rattle.xr_model.specs.Names.{Known};
+ghost use Rattle.xr_model.specs.Ops.Session.{create_instance, destroy_instance, poll_event, get_system, string_to_path, path_to_string, create_session, destroy_session, end_session, request_exit_session, begin_session, mark, await};
+
+use serde_json::Value;
+use std::alloc::Global;
+use xr_fields::{
+    Fault, Givers, MOST_CAPACITY, ReadLine, atom, form, handle, line, mark_number, mark_value,
+    name, number, small, system, text, view_config,
+};
+use xr_types::Op;
+
+/// Reads `create_instance`: `major`, `minor`, `as`?.
+pub fn create_instance<'v>(value: &'v Value) -> Result<ReadLine<'v>, Fault>
+    ensures reads { ReadsLine result (create_instance (view value.now)) }
+    ensures formed { IfOk result (λ l. (names : List Known) → IsFormed (IsKnownPlace names) l.op) }
+    ensures told { IfErr result IsWrong }
+{
+    let major = small(value, "major", 1)?;
+    let minor = small(value, "minor", 2)?;
+    let name = name(value, 3)?;
+    let op = Op::CreateInstance { major, minor };
+    line(value, &["op", "major", "minor", "as"], op, name)
+}
+
+/// Reads `destroy_instance`: `instance`.
+pub fn destroy_instance<'v>(givers: &Givers<'_>, value: &'v Value) -> Result<ReadLine<'v>, Fault>
+    ensures reads { ReadsLine result (destroy_instance givers.now (view value.now)) }
+    ensures formed { IfOk result (λ l. IsFormed (IsKnownPlace givers.now) l.op) }
+    ensures told { IfErr result IsWrong }
+{
+    let instance = handle(givers, value, "instance", 1)?;
+    let op = Op::DestroyInstance { instance };
+    line(value, &["op", "instance"], op, None)
+}
+
+/// Reads `poll_event`: `instance`.
+pub fn poll_event<'v>(givers: &Givers<'_>, value: &'v Value) -> Result<ReadLine<'v>, Fault>
+    ensures reads { ReadsLine result (poll_event givers.now (view value.now)) }
+    ensures formed { IfOk result (λ l. IsFormed (IsKnownPlace givers.now) l.op) }
+    ensures told { IfErr result IsWrong }
+{
+    let instance = handle(givers, value, "instance", 1)?;
+    let op = Op::PollEvent { instance };
+    line(value, &["op", "instance"], op, None)
+}
+
+/// Reads `get_system`: `instance`, `form`, `as`?.
+pub fn get_system<'v>(givers: &Givers<'_>, value: &'v Value) -> Result<ReadLine<'v>, Fault>
+    ensures reads { ReadsLine result (get_system givers.now (view value.now)) }
+    ensures formed { IfOk result (λ l. IsFormed (IsKnownPlace givers.now) l.op) }
+    ensures told { IfErr result IsWrong }
+{
+    let instance = handle(givers, value, "instance", 1)?;
+    let form = form(value, "form", 2)?;
+    let name = name(value, 3)?;
+    let op = Op::GetSystem { instance, form };
+    line(value, &["op", "instance", "form", "as"], op, name)
+}
+
+/// Reads `string_to_path`: `instance`, `text`, `as`?.
+pub fn string_to_path<'v>(
+    alloc: Global,
+    givers: &Givers<'_>,
+    value: &'v Value,
+) -> Result<ReadLine<'v>, Fault>
+    ensures reads { ReadsLine result (string_to_path givers.now (view value.now)) }
+    ensures formed { IfOk result (λ l. IsFormed (IsKnownPlace givers.now) l.op) }
+{
+    let instance = handle(givers, value, "instance", 1)?;
+    let text = text(alloc, value, "text", 2)?;
+    let name = name(value, 3)?;
+    let op = Op::StringToPath { instance, text };
+    line(value, &["op", "instance", "text", "as"], op, name)
+}
+
+/// Reads `path_to_string`: `instance`, `path`, `capacity`.
+pub fn path_to_string<'v>(givers: &Givers<'_>, value: &'v Value) -> Result<ReadLine<'v>, Fault>
+    ensures reads { ReadsLine result (path_to_string givers.now (view value.now)) }
+    ensures formed { IfOk result (λ l. IsFormed (IsKnownPlace givers.now) l.op) }
+    ensures told { IfErr result IsWrong }
+{
+    let instance = handle(givers, value, "instance", 1)?;
+    let path = atom(givers, value, "path", 2)?;
+    let capacity = number(value, "capacity", 3, MOST_CAPACITY)?;
+    let op = Op::PathToString {
+        instance,
+        path,
+        capacity,
+    };
+    line(value, &["op", "instance", "path", "capacity"], op, None)
+}
+
+/// Reads `create_session`: `instance`, `system`, `as`?.
+pub fn create_session<'v>(givers: &Givers<'_>, value: &'v Value) -> Result<ReadLine<'v>, Fault>
+    ensures reads { ReadsLine result (create_session givers.now (view value.now)) }
+    ensures formed { IfOk result (λ l. IsFormed (IsKnownPlace givers.now) l.op) }
+    ensures told { IfErr result IsWrong }
+{
+    let instance = handle(givers, value, "instance", 1)?;
+    let system = system(givers, value, "system", 2)?;
+    let name = name(value, 3)?;
+    let op = Op::CreateSession { instance, system };
+    line(value, &["op", "instance", "system", "as"], op, name)
+}
+
+/// Reads `destroy_session`: `session`.
+pub fn destroy_session<'v>(givers: &Givers<'_>, value: &'v Value) -> Result<ReadLine<'v>, Fault>
+    ensures reads { ReadsLine result (destroy_session givers.now (view value.now)) }
+    ensures formed { IfOk result (λ l. IsFormed (IsKnownPlace givers.now) l.op) }
+    ensures told { IfErr result IsWrong }
+{
+    let session = handle(givers, value, "session", 1)?;
+    let op = Op::DestroySession { session };
+    line(value, &["op", "session"], op, None)
+}
+
+/// Reads `end_session`: `session`.
+pub fn end_session<'v>(givers: &Givers<'_>, value: &'v Value) -> Result<ReadLine<'v>, Fault>
+    ensures reads { ReadsLine result (end_session givers.now (view value.now)) }
+    ensures formed { IfOk result (λ l. IsFormed (IsKnownPlace givers.now) l.op) }
+    ensures told { IfErr result IsWrong }
+{
+    let session = handle(givers, value, "session", 1)?;
+    let op = Op::EndSession { session };
+    line(value, &["op", "session"], op, None)
+}
+
+/// Reads `request_exit_session`: `session`.
+pub fn request_exit_session<'v>(
+    givers: &Givers<'_>,
+    value: &'v Value,
+) -> Result<ReadLine<'v>, Fault>
+    ensures reads { ReadsLine result (request_exit_session givers.now (view value.now)) }
+    ensures formed { IfOk result (λ l. IsFormed (IsKnownPlace givers.now) l.op) }
+    ensures told { IfErr result IsWrong }
+{
+    let session = handle(givers, value, "session", 1)?;
+    let op = Op::RequestExitSession { session };
+    line(value, &["op", "session"], op, None)
+}
+
+/// Reads `begin_session`: `session`, `view`.
+pub fn begin_session<'v>(givers: &Givers<'_>, value: &'v Value) -> Result<ReadLine<'v>, Fault>
+    ensures reads { ReadsLine result (begin_session givers.now (view value.now)) }
+    ensures formed { IfOk result (λ l. IsFormed (IsKnownPlace givers.now) l.op) }
+    ensures told { IfErr result IsWrong }
+{
+    let session = handle(givers, value, "session", 1)?;
+    let view = view_config(value, "view", 2)?;
+    let op = Op::BeginSession { session, view };
+    line(value, &["op", "session", "view"], op, None)
+}
+
+/// Reads `mark`: `mark`, `value`?.
+pub fn mark<'v>(givers: &Givers<'_>, value: &'v Value) -> Result<ReadLine<'v>, Fault>
+    ensures reads { ReadsLine result (mark givers.now (view value.now)) }
+    ensures formed { IfOk result (λ l. IsFormed (IsKnownPlace givers.now) l.op) }
+    ensures told { IfErr result IsWrong }
+{
+    let mark = mark_number(value, "mark", 1)?;
+    let marked = mark_value(givers, value, "value", 2, mark)?;
+    let op = Op::Mark {
+        mark,
+        value: marked,
+    };
+    line(value, &["op", "mark", "value"], op, None)
+}
+
+/// Reads `await`: `mark`, `as`?.
+pub fn await_mark<'v>(value: &'v Value) -> Result<ReadLine<'v>, Fault>
+    ensures reads { ReadsLine result (await (view value.now)) }
+    ensures formed { IfOk result (λ l. (names : List Known) → IsFormed (IsKnownPlace names) l.op) }
+    ensures told { IfErr result IsWrong }
+{
+    let mark = mark_number(value, "mark", 1)?;
+    let name = name(value, 2)?;
+    let op = Op::Await { mark };
+    line(value, &["op", "mark", "as"], op, name)
+}

@@ -1,0 +1,101 @@
+// Frames, layers and images (OpenXR 1.0 chapter 10, "Rendering"). An image's content is one number, its stamp.
+use arrayvec::ArrayVec;
+
+/// How many layers a frame has at most (OpenXR 1.0 chapter 10).
+pub const MOST_LAYERS: usize = 16;
+
+/// How a frame is blended with what is around (chapter 10, XrEnvironmentBlendMode).
+#[derive(Clone, Copy, Debug, PartialEq, Eq)]
+pub enum Blend {
+    Opaque,
+    Additive,
+    Alpha,
+}
+
+/// A part of a swapchain's image, in pixels (chapter 10, XrSwapchainSubImage).
+#[derive(Clone, Copy, Debug, Default, PartialEq, Eq)]
+pub struct SubImage {
+    pub chain: u64,
+    pub x: i32,
+    pub y: i32,
+    pub w: i32,
+    pub h: i32,
+}
+
+/// A layer of a frame (chapter 10): a projection into a space, of which the first `count` views
+/// count, or a quad with a pose in a space.
+#[derive(Clone, Copy, Debug, PartialEq, Eq)]
+pub enum Layer {
+    Projection {
+        space: u64,
+        count: u8,
+        views: [SubImage; 4],
+    },
+    Quad {
+        space: u64,
+        image: SubImage,
+        pose: u64,
+    },
+}
+
+impl Default for Layer {
+    fn default() -> Layer {
+        Layer::Quad {
+            space: 0,
+            image: SubImage::default(),
+            pose: 0,
+        }
+    }
+}
+
+/// A layer that the compositor shows, by the stamps of its images.
+#[derive(Clone, Copy, Debug, PartialEq, Eq)]
+pub enum ShownLayer {
+    Projection(u64, u64),
+    Quad(u64),
+}
+
+impl Default for ShownLayer {
+    fn default() -> ShownLayer {
+        ShownLayer::Quad(0)
+    }
+}
+
+/// A frame that the compositor shows: its number from 1, its predicted time in ns of device time, and
+/// its layers.
+#[derive(Debug, Drop)]
+pub struct Shown {
+    pub number: u64,
+    pub time: i64,
+    pub layers: ArrayVec<ShownLayer, MOST_LAYERS>,
+}
+
+/// An image, by its chain's place from 0 and its index in the chain.
+#[derive(Clone, Copy, Debug, Default, PartialEq, Eq)]
+pub struct Image {
+    pub place: u8,
+    pub index: u8,
+}
+
+/// A layer of a pending frame, by its images.
+#[derive(Clone, Copy, Debug, PartialEq, Eq)]
+pub enum FrameLayer {
+    Projection(Image, Image),
+    Quad(Image),
+}
+
+impl Default for FrameLayer {
+    fn default() -> FrameLayer {
+        FrameLayer::Quad(Image::default())
+    }
+}
+
+/// A frame that was ended: its number from 1, its time in ns of device time, its layers, and the
+/// distinct images that they use in the order of first use.
+#[derive(Debug, Drop)]
+pub struct Frame {
+    pub number: u64,
+    pub time: i64,
+    pub layers: ArrayVec<FrameLayer, MOST_LAYERS>,
+    pub images: ArrayVec<Image, MOST_LAYERS>,
+}

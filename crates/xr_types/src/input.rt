@@ -1,0 +1,172 @@
+// Input: actions, their states, and what they are bound to (OpenXR 1.0 chapter 11, "Input and Haptics").
+ghost use Rattle.std.specs.Prelude.{◌≡◌, Some};
+ghost use Rattle.xr_types.specs.Printed.{user_path, profile_name};
+
+use crate::Origin;
+use std::fmt;
+
+/// What an action gives (OpenXR 1.0 chapter 11, XrActionType).
+#[derive(Clone, Copy, Debug, PartialEq, Eq)]
+pub enum ActionType {
+    Boolean,
+    Float,
+    Vector,
+    Pose,
+    Vibration,
+}
+
+/// A top-level user path (section 6.3.1).
+#[derive(Clone, Copy, Debug, PartialEq, Eq)]
+pub enum User {
+    Left,
+    Right,
+    Head,
+    Gamepad,
+    Treadmill,
+}
+
+impl User {
+    /// The path, as a device text writes it.
+    pub fn path(self) -> &'static str
+        ensures { result.now ≡ user_path self }
+    {
+        match self {
+            User::Left => "/user/hand/left",
+            User::Right => "/user/hand/right",
+            User::Head => "/user/head",
+            User::Gamepad => "/user/gamepad",
+            User::Treadmill => "/user/treadmill",
+        }
+    }
+}
+
+impl fmt::Display for User {
+    ghost output = { λ user. Some (user_path user) };
+
+    fn fmt<W: fmt::Write>(&self, f: &mut fmt::Formatter<W>) -> fmt::Result {
+        f.write_str(self.path())
+    }
+}
+
+/// An interaction profile (section 6.4): the simple controller of Khronos, and the controllers of
+/// Oculus Touch, HTC Vive and Microsoft Xbox.
+#[derive(Clone, Copy, Debug, PartialEq, Eq)]
+pub enum Profile {
+    Simple,
+    Touch,
+    Vive,
+    Xbox,
+}
+
+impl Profile {
+    /// The profile's path behind `/interaction_profiles/`, as a device text writes it.
+    pub fn name(self) -> &'static str
+        ensures { result.now ≡ profile_name self }
+    {
+        match self {
+            Profile::Simple => "khr/simple_controller",
+            Profile::Touch => "oculus/touch_controller",
+            Profile::Vive => "htc/vive_controller",
+            Profile::Xbox => "microsoft/xbox_controller",
+        }
+    }
+}
+
+impl fmt::Display for Profile {
+    ghost output = { λ profile. Some (profile_name profile) };
+
+    fn fmt<W: fmt::Write>(&self, f: &mut fmt::Formatter<W>) -> fmt::Result {
+        f.write_str(self.name())
+    }
+}
+
+/// The state of a boolean action (chapter 11, XrActionStateBoolean). `time` is that of the last change, in
+/// ns of device time.
+#[derive(Clone, Copy, Debug, PartialEq, Eq)]
+pub struct BoolState {
+    pub value: bool,
+    pub changed: bool,
+    pub time: i64,
+    pub active: bool,
+}
+
+/// The state of a float action (chapter 11, XrActionStateFloat), with a whole number from -32768 to 32768
+/// for -1 to 1.
+#[derive(Clone, Copy, Debug, PartialEq, Eq)]
+pub struct FloatState {
+    pub value: i32,
+    pub changed: bool,
+    pub time: i64,
+    pub active: bool,
+}
+
+/// The state of a vector action (chapter 11, XrActionStateVector2f), its components as those of a float.
+#[derive(Clone, Copy, Debug, PartialEq, Eq)]
+pub struct VectorState {
+    pub x: i32,
+    pub y: i32,
+    pub changed: bool,
+    pub time: i64,
+    pub active: bool,
+}
+
+/// A suggestion of a call (chapter 11, XrActionSuggestedBinding): an action and the atom of a path.
+#[derive(Clone, Copy, Debug, Default, PartialEq, Eq)]
+pub struct Binding {
+    pub action: u64,
+    pub path: u64,
+}
+
+/// An action set that a sync lists (chapter 11, XrActiveActionSet): the set, and the atom of a user
+/// path or 0 for all.
+#[derive(Clone, Copy, Debug, Default, PartialEq, Eq)]
+pub struct ActiveSet {
+    pub set: u64,
+    pub sub: u64,
+}
+
+/// Which rows of a controller's inputs a suggestion picks: a digital input, an analogue one, the two
+/// axes of a vector, a pose, or an output. Rows count from 1.
+#[derive(Clone, Copy, Debug, PartialEq, Eq)]
+pub enum Part {
+    Digital(u8),
+    Analogue(u8),
+    Both(u8, u8),
+    Pose(u8),
+    Output,
+}
+
+/// What a suggested path picks: its user path, the place of its identifier among all identifiers and
+/// outputs, and the part of the controller.
+#[derive(Clone, Copy, Debug, PartialEq, Eq)]
+pub struct Pick {
+    pub user: User,
+    pub identifier: u8,
+    pub part: Part,
+}
+
+/// A suggestion that was accepted: an action, and what its path picks.
+#[derive(Clone, Copy, Debug, PartialEq, Eq)]
+pub struct Bound {
+    pub action: u64,
+    pub pick: Pick,
+}
+
+/// What a sync found for an action at a user path: its value in `x`, and in `y` for a vector; when it
+/// changed, in ns of device time; and the origin of a pose.
+#[derive(Clone, Copy, Debug, PartialEq, Eq)]
+pub struct Column {
+    pub x: i32,
+    pub y: i32,
+    pub changed: bool,
+    pub time: i64,
+    pub active: bool,
+    pub origin: Option<Origin>,
+}
+
+/// The states of a sync: a row for each of 64 places of actions. Its column 0 is that of all user paths,
+/// the others are those of the five user paths in their order.
+#[derive(Clone, Copy)]
+pub struct States {
+    pub columns: [[Column; 6]; 64],
+}

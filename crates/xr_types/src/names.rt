@@ -1,0 +1,111 @@
+// The calls by their names in scenarios and reports.
+ghost use Rattle.std.specs.Prelude.{◌≡◌, Some};
+ghost use Rattle.xr_types.specs.Op.{name_of};
+
+use std::fmt;
+
+/// A call by its name. Each script ends with `leave`; `device` is what the device does; `next_frame` and
+/// `image_done` are the compositor's.
+#[derive(Clone, Copy, Debug, PartialEq, Eq)]
+pub enum CallName {
+    CreateInstance,
+    DestroyInstance,
+    PollEvent,
+    GetSystem,
+    StringToPath,
+    PathToString,
+    CreateSession,
+    DestroySession,
+    EndSession,
+    RequestExitSession,
+    BeginFrame,
+    BeginSession,
+    CreateReferenceSpace,
+    CreateActionSpace,
+    DestroySpace,
+    LocateSpace,
+    CreateActionSet,
+    DestroyActionSet,
+    CreateAction,
+    DestroyAction,
+    SuggestBindings,
+    AttachSets,
+    SyncActions,
+    GetBoolean,
+    GetFloat,
+    GetVector,
+    GetPoseActive,
+    CreateSwapchain,
+    DestroySwapchain,
+    AcquireImage,
+    ReleaseImage,
+    WaitImage,
+    Paint,
+    WaitFrame,
+    EndFrame,
+    Mark,
+    Await,
+    Leave,
+    Device,
+    NextFrame,
+    ImageDone,
+}
+
+impl CallName {
+    /// The name as scenarios and reports write it.
+    pub fn name(self) -> &'static str
+        ensures { result.now ≡ name_of self }
+    {
+        match self {
+            CallName::CreateInstance => "create_instance",
+            CallName::DestroyInstance => "destroy_instance",
+            CallName::PollEvent => "poll_event",
+            CallName::GetSystem => "get_system",
+            CallName::StringToPath => "string_to_path",
+            CallName::PathToString => "path_to_string",
+            CallName::CreateSession => "create_session",
+            CallName::DestroySession => "destroy_session",
+            CallName::EndSession => "end_session",
+            CallName::RequestExitSession => "request_exit_session",
+            CallName::BeginFrame => "begin_frame",
+            CallName::BeginSession => "begin_session",
+            CallName::CreateReferenceSpace => "create_reference_space",
+            CallName::CreateActionSpace => "create_action_space",
+            CallName::DestroySpace => "destroy_space",
+            CallName::LocateSpace => "locate_space",
+            CallName::CreateActionSet => "create_action_set",
+            CallName::DestroyActionSet => "destroy_action_set",
+            CallName::CreateAction => "create_action",
+            CallName::DestroyAction => "destroy_action",
+            CallName::SuggestBindings => "suggest_bindings",
+            CallName::AttachSets => "attach_sets",
+            CallName::SyncActions => "sync_actions",
+            CallName::GetBoolean => "get_boolean",
+            CallName::GetFloat => "get_float",
+            CallName::GetVector => "get_vector",
+            CallName::GetPoseActive => "get_pose_active",
+            CallName::CreateSwapchain => "create_swapchain",
+            CallName::DestroySwapchain => "destroy_swapchain",
+            CallName::AcquireImage => "acquire_image",
+            CallName::ReleaseImage => "release_image",
+            CallName::WaitImage => "wait_image",
+            CallName::Paint => "paint",
+            CallName::WaitFrame => "wait_frame",
+            CallName::EndFrame => "end_frame",
+            CallName::Mark => "mark",
+            CallName::Await => "await",
+            CallName::Leave => "leave",
+            CallName::Device => "device",
+            CallName::NextFrame => "next_frame",
+            CallName::ImageDone => "image_done",
+        }
+    }
+}
+
+impl fmt::Display for CallName {
+    ghost output = { λ call. Some (name_of call) };
+
+    fn fmt<W: fmt::Write>(&self, f: &mut fmt::Formatter<W>) -> fmt::Result {
+        f.write_str(self.name())
+    }
+}
