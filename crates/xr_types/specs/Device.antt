@@ -1,4 +1,4 @@
--- Which events a device may give.
+-- Which events of a device have their numbers in range.
 use Rattle.std.specs.Prelude.{ℕ, ℤ, pos, negsuc, ◌-◌, ◌^◌, ◌&&◌, int_le, nat_le, Bool, true, false}
 use Rattle.xr_types.specs.declared.device.DeviceEvent.{DeviceEvent}
 use Rattle.xr_types.specs.declared.device.DeviceEvent.TheVariants as event
