@@ -6,10 +6,10 @@ use Rattle.serde_json.specs.declared.value.Value.{Value}
 use Rattle.xr_types.specs.declared.scenario.Op.{Op}
 use Rattle.xr_types.specs.declared.status.Refusal.{Refusal}
 use Rattle.xr_model.specs.Names.{Known}
-use Rattle.xr_model.specs.Parts.{count_items}
 use Rattle.xr_model.specs.Line.{Line}
 use Rattle.xr_model.specs.Lines.{op_of, line_of, with_name}
 use Rattle.xr_model.specs.Scenario.{and_first, after_line, ops_from, script_of, after_script, scripts_from}
+use Rattle.xr_fields.proofs.Items.{count_items-view}
 use Rattle.xr_scenario.specs.Size.{size, items_size}
 
 -- these, and then the rest, or the rest's wrong place
@@ -54,10 +54,6 @@ scripts_more script vs i d scripts ops h e =
 pub ruleset script_steps = (prepend_first, prepend_none, scripts_step)
 
 -- ---- counts and sizes
-
-pub count_items-view : (vs : List Value) → count_items (items_view vs) ≡ length vs
-count_items-view [] = refl
-count_items-view (v ∷ vs) = omega (arith, count_items-view vs)
 
 pub ruleset items_counted = (count_items-view)
 
