@@ -1,13 +1,15 @@
--- What a refusal by the atoms makes of the core's call.
-use Rattle.std.proofs.Common.{◌≡◌, ◌+◌, ◌&&◌, ℕ, Bool, true, false, not, nat_le, nat_lt, List, [], ◌∷◌, length, Option, Some, None, refl, sym, ap, ◌∙◌, true≢false}
+-- What a refusal by a part makes of the core's call.
+use Rattle.std.proofs.Common.{◌≡◌, ◌+◌, ◌&&◌, ◌||◌, ◌==◌, ℕ, Bool, true, false, not, nat_le, nat_lt, List, [], ◌∷◌, length, Option, Some, None, refl, sym, ap, ◌∙◌, true≢false}
 use Rattle.std.specs.Prelude.{is_none}
 use Rattle.xr_types.specs.declared.code.Code.{Code}
-use Rattle.xr_types.specs.declared.code.Code.TheVariants.{Success, SizeInsufficient, PathInvalid, PathFormatInvalid, PathCountExceeded, OutOfMemory}
+use Rattle.xr_types.specs.declared.code.Code.TheVariants.{Success, SizeInsufficient, PathInvalid, PathFormatInvalid, PathCountExceeded, OutOfMemory, LimitReached}
 use Rattle.xr_types.specs.declared.calls.Answer.{Answer}
 use Rattle.xr_types.specs.declared.calls.Gives.TheVariants.{Nothing}
 use Rattle.xr_types.specs.Code.{is_out_of_memory}
-use Rattle.xr_model.specs.Request.{string_to_path, path_to_string}
-use Rattle.xr_model.specs.Handles.{is_instance}
+use Rattle.xr_model.specs.Request.{create_instance, string_to_path, path_to_string, create_session}
+use Rattle.xr_types.specs.declared.handles.Kind.{Kind}
+use Rattle.xr_types.specs.declared.handles.Kind.TheVariants.{Instance, Session}
+use Rattle.xr_model.specs.Handles.{Handles, is_live, has_room, no_room}
 use Rattle.xr_model.specs.Paths.{is_path_text, intern_refusals, with_text, atom_of, may_want_memory, is_new, text_at, copy_refusals, copied, size_at, size_of}
 use Rattle.xr_model.specs.Refusals.{Refusal, when, first_of, unless, answer_by}
 use Rattle.xr_model.specs.Rules.{written_over}
@@ -44,7 +46,7 @@ gives_nothing atoms text short r e =
     first_gives_nothing (not (is_path_text text)) (is_new atoms text && nat_le 1024 (length atoms)) (is_new atoms text && short) PathFormatInvalid PathCountExceeded OutOfMemory r e
 
 -- a text that the atoms refuse is refused by the call, and nothing but the count has changed
-pub intern_refused : (s : State) (instance : ℕ) (text : List ℕ) (a : Answer) (atoms : List (List ℕ)) → is_instance s.handles instance ≡ true → (a.code ≡ Success → ⊥)
+pub intern_refused : (s : State) (instance : ℕ) (text : List ℕ) (a : Answer) (atoms : List (List ℕ)) → is_live s.handles Instance instance ≡ true → (a.code ≡ Success → ⊥)
     → atoms ≡ unless (first_of (intern_refusals s.atoms text (is_out_of_memory a.code))) s.atoms (with_text s.atoms text)
     → a ≡ answer_by (first_of (intern_refusals s.atoms text (is_out_of_memory a.code))) (atom_of s.atoms text)
     → (is_out_of_memory a.code ≡ true → may_want_memory s.atoms text ≡ true)
@@ -71,7 +73,7 @@ intern_refused s instance text a atoms live failed kept answer memory = by (firs
         }
 
 -- an atom that isn't known is refused by the call, and the buffer stays
-pub copy_refused : (s : State) (instance path : ℕ) (a : Answer) (before after : List ℕ) → is_instance s.handles instance ≡ true → (a.code ≡ Success → ⊥) → (a.code ≡ SizeInsufficient → ⊥)
+pub copy_refused : (s : State) (instance path : ℕ) (a : Answer) (before after : List ℕ) → is_live s.handles Instance instance ≡ true → (a.code ≡ Success → ⊥) → (a.code ≡ SizeInsufficient → ⊥)
     → a ≡ answer_by (first_of (copy_refusals (text_at s.atoms path) (length before))) (size_at (text_at s.atoms path))
     → after ≡ written_over (copied (text_at s.atoms path) (length before)) before
     → MakesOver s (path_to_string instance path (length before)) (record s { locked = s.locked + 1 }) (record { code = a.code; gives = Nothing; place = s.locked + 1 }) before after
@@ -93,3 +95,43 @@ copy_refused s instance path a before after live failed small answer written = b
           writes = λ who. rw (live, e, kept) refl;
         }
     by (Some t) e = absurd (neither t _ refl (rw e at answer))
+
+-- ---- a kind without room
+
+-- a kind that has no room gives no handle, and all is as it was
+kind_is_full : (h new taken : Handles) (kind : Kind) (a : Answer) (n : ℕ) → (a.code ≡ Success → ⊥) → new ≡ unless (first_of (no_room h kind ∷ [])) h taken → a ≡ answer_by (first_of (no_room h kind ∷ [])) n
+    → (has_room h kind ≡ false) × (new ≡ h) × (a.code ≡ LimitReached)
+kind_is_full h new taken kind a n failed kept answer = by (has_room h kind) refl
+  where
+    by : (room : Bool) → has_room h kind ≡ room → (has_room h kind ≡ false) × (new ≡ h) × (a.code ≡ LimitReached)
+    by true e = absurd (failed (ap (λ (x : Answer). x.code) (rw e at answer)))
+    by false e = (e, rw e at kept, ap (λ (x : Answer). x.code) (rw e at answer))
+
+not_short : (c : Code) → c ≡ LimitReached → is_out_of_memory c ≡ true → ⊥
+not_short c e short = true≢false (sym short ∙ rw e refl)
+
+-- an instance that is one too many is refused by the call
+pub instance_refused : (s : State) (major minor : ℕ) (a : Answer) (handles taken : Handles) (n : ℕ) → (not (major == 1) || not (minor == 0)) ≡ false → (a.code ≡ Success → ⊥)
+    → handles ≡ unless (first_of (no_room s.handles Instance ∷ [])) s.handles taken → a ≡ answer_by (first_of (no_room s.handles Instance ∷ [])) n
+    → Makes s (create_instance major minor) (record s { handles = handles; locked = s.locked + 1 }) (record { code = a.code; gives = Nothing; place = s.locked + 1 }) []
+instance_refused s major minor a handles taken n good failed kept answer =
+    let full = kind_is_full s.handles handles taken Instance a n failed kept answer in
+    record {
+      allowed = λ who there. record { built = refl; handle = rw (good, full.0) refl; memory = λ short. absurd (not_short a.code full.2 short); present = there };
+      leads = λ who. rw (good, full.0, full.1) refl;
+      replies = λ who. rw (good, full.0, full.2) refl;
+      writes = λ who. rw (good, full.0) refl;
+    }
+
+-- a session that is one too many is refused by the call
+pub session_refused : (s : State) (instance system : ℕ) (a : Answer) (handles taken : Handles) (n : ℕ) → is_live s.handles Instance instance ≡ true → (system == 1) ≡ true → (a.code ≡ Success → ⊥)
+    → handles ≡ unless (first_of (no_room s.handles Session ∷ [])) s.handles taken → a ≡ answer_by (first_of (no_room s.handles Session ∷ [])) n
+    → Makes s (create_session instance system) (record s { handles = handles; locked = s.locked + 1 }) (record { code = a.code; gives = Nothing; place = s.locked + 1 }) []
+session_refused s instance system a handles taken n live good failed kept answer =
+    let full = kind_is_full s.handles handles taken Session a n failed kept answer in
+    record {
+      allowed = λ who there. record { built = refl; handle = rw (live, good, full.0) refl; memory = λ short. absurd (not_short a.code full.2 short); present = there };
+      leads = λ who. rw (live, good, full.0, full.1) refl;
+      replies = λ who. rw (live, good, full.0, full.2) refl;
+      writes = λ who. rw (live, good, full.0) refl;
+    }

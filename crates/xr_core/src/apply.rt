@@ -20,6 +20,8 @@ impl Core {
             Call::CreateInstance { major, minor } => Step::Done(self.create_instance(
                 *major, *minor,
             )),
+            Call::DestroyInstance { instance } => Step::Done(self.destroy_instance(*instance)),
+            Call::GetSystem { instance, form } => Step::Done(self.get_system(*instance, *form)),
             Call::StringToPath { instance, text } => Step::Done(self.string_to_path(
                 *instance, text,
             )),
@@ -28,6 +30,11 @@ impl Core {
                 path,
                 capacity: _,
             } => Step::Done(self.path_to_string(*instance, *path, text)),
+            Call::PollEvent { instance } => Step::Done(self.poll_event(*instance)),
+            Call::CreateSession { instance, system } => Step::Done(self.create_session(
+                *instance, *system,
+            )),
+            Call::DestroySession { session } => Step::Done(self.destroy_session(*session)),
             Call::Leave => match who {
                 Actor::App(app) => Step::Done(self.leave(app)),
                 Actor::Compositor | Actor::Device => unreachable!(),

@@ -2,3 +2,4 @@
 mod instance;
 mod own;
 mod paths;
+mod session;

@@ -10,8 +10,13 @@ use Rattle.xr_model.specs.Scenario.{scenario_of}
 
 abbrev pub is_built_op : Op → Bool
 is_built_op (op.CreateInstance major minor) = true
+is_built_op (op.DestroyInstance instance) = true
+is_built_op (op.GetSystem instance form) = true
 is_built_op (op.StringToPath instance text) = true
 is_built_op (op.PathToString instance path capacity) = true
+is_built_op (op.PollEvent instance) = true
+is_built_op (op.CreateSession instance system) = true
+is_built_op (op.DestroySession session) = true
 is_built_op _ = false
 
 -- there is one script, and all its ops are built

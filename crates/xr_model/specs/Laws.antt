@@ -1,10 +1,11 @@
 -- What holds of every state, entry and history.
-use Rattle.std.specs.Prelude.{◌≡◌, ◌+◌, ℕ, false, List, ◌++◌, length, Option, Some, None}
+use Rattle.std.specs.Prelude.{◌≡◌, ◌+◌, ◌-◌, ℕ, false, List, ◌++◌, length, slice_get, Option, Some, None}
 use Rattle.xr_types.specs.Code.{is_success}
-use Rattle.xr_model.specs.Request.{Entry, Outcome}
+use Rattle.xr_types.specs.declared.calls.Actor.{Actor}
+use Rattle.xr_model.specs.Request.{Entry, Outcome, Told}
 use Rattle.xr_model.specs.State.{State}
 use Rattle.xr_model.specs.Machine.{step}
-use Rattle.xr_model.specs.History.{after, outcome_from, IsLegalFrom}
+use Rattle.xr_model.specs.History.{after, outcome_from, reply_at, calls_of, IsLegalFrom}
 
 -- a call that is no success changes nothing but the count of locked calls
 abbrev pub RefusalsChangeNothing : Type 0
@@ -29,3 +30,9 @@ PlacesCount = (s : State) (es : List Entry) (k : ℕ) → IsAtPlace (s.locked + 
 -- the front of a legal history is legal
 abbrev pub FrontsAreLegal : Type 0
 FrontsAreLegal = (s : State) (es fs : List Entry) → IsLegalFrom s (es ++ fs) → IsLegalFrom s es
+
+-- ---- replies and actors
+
+-- each call that is told of an actor came to what the history has at its reply's place
+abbrev pub ToldAtTheirPlaces : Type 0
+ToldAtTheirPlaces = (apps : ℕ) (who : Actor) (es : List Entry) (k : ℕ) (t : Told) → slice_get (calls_of apps who es) k ≡ Some t → reply_at apps es (t.outcome.reply.place - 1) ≡ Some t.outcome

@@ -1,6 +1,7 @@
 pub mod Request
 pub mod Refusals
 pub mod Handles
+pub mod Events
 pub mod Paths
 pub mod State
 pub mod Rules
@@ -28,3 +29,5 @@ pub mod InForm
 pub mod Scenario
 pub mod Built
 pub mod Laws
+pub mod AnswerLaws
+pub mod HandleLaws

@@ -9,21 +9,27 @@ use Rattle.xr_types.specs.declared.calls.Call.{Call}
 use Rattle.xr_types.specs.declared.calls.Step.{Step}
 use Rattle.xr_types.specs.declared.calls.Step.TheVariants.{Done, NotReady}
 use Rattle.xr_types.specs.Code.{is_success}
-use Rattle.xr_model.specs.Request.{Request, create_instance, string_to_path, path_to_string, leave, next_frame, Entry, entry_of, request_of, Outcome}
+use Rattle.xr_model.specs.Request.{Request, create_instance, destroy_instance, get_system, string_to_path, path_to_string, poll_event, create_session, destroy_session, leave, next_frame, Entry, entry_of, request_of, Outcome}
 use Rattle.xr_model.specs.Handles.{Handles, was_given}
 use Rattle.xr_model.specs.Paths.{is_new}
 use Rattle.xr_model.specs.Refusals.{first_of}
 use Rattle.xr_model.specs.State.{State}
 use Rattle.xr_model.specs.Rules.{Rule, Effect, refusals, carried_out, placed, written_over}
-use Rattle.xr_model.specs.Steps.Instance.{create_instance_rule}
+use Rattle.xr_model.specs.Steps.Instance.{create_instance_rule, destroy_instance_rule, get_system_rule, poll_event_rule}
+use Rattle.xr_model.specs.Steps.Session.{create_session_rule, destroy_session_rule}
 use Rattle.xr_model.specs.Steps.Paths.{string_to_path_rule, path_to_string_rule}
 use Rattle.xr_model.specs.Steps.Own.{leave_rule, next_frame_rule, unbuilt_rule}
 
 -- the rule of a call
 abbrev pub rule_of : State → Actor → ℕ → Bool → Request → Rule
 rule_of s who given short (create_instance major minor) = create_instance_rule s given major minor
+rule_of s who given short (destroy_instance instance) = destroy_instance_rule s instance
+rule_of s who given short (get_system instance form) = get_system_rule s instance form
 rule_of s who given short (string_to_path instance text) = string_to_path_rule s short instance text
 rule_of s who given short (path_to_string instance path capacity) = path_to_string_rule s instance path capacity
+rule_of s who given short (poll_event instance) = poll_event_rule s instance
+rule_of s who given short (create_session instance system) = create_session_rule s given instance system
+rule_of s who given short (destroy_session session) = destroy_session_rule s session
 rule_of s who given short leave = leave_rule s who
 rule_of s who given short next_frame = next_frame_rule s
 rule_of s who given short _ = unbuilt_rule s
@@ -55,8 +61,13 @@ ready s e = not (is_held_back s e.request) || is_some (first_of (refusals (rule 
 -- the calls that have a rule
 abbrev pub is_built : Request → Bool
 is_built (create_instance major minor) = true
+is_built (destroy_instance instance) = true
+is_built (get_system instance form) = true
 is_built (string_to_path instance text) = true
 is_built (path_to_string instance path capacity) = true
+is_built (poll_event instance) = true
+is_built (create_session instance system) = true
+is_built (destroy_session session) = true
 is_built leave = true
 is_built next_frame = true
 is_built _ = false
@@ -64,6 +75,7 @@ is_built _ = false
 -- the calls whose success gives a new handle
 abbrev pub is_creation : Request → Bool
 is_creation (create_instance major minor) = true
+is_creation (create_session instance system) = true
 is_creation _ = false
 
 -- the calls that take memory in this state
@@ -109,8 +121,13 @@ IsCompositor Device = ⊥
 -- who makes which call; nobody makes one that isn't built
 abbrev pub IsCaller : Actor → Request → Type 0
 IsCaller who (create_instance major minor) = IsApp who
+IsCaller who (destroy_instance instance) = IsApp who
+IsCaller who (get_system instance form) = IsApp who
 IsCaller who (string_to_path instance text) = IsApp who
 IsCaller who (path_to_string instance path capacity) = IsApp who
+IsCaller who (poll_event instance) = IsApp who
+IsCaller who (create_session instance system) = IsApp who
+IsCaller who (destroy_session session) = IsApp who
 IsCaller who leave = IsApp who
 IsCaller who next_frame = IsCompositor who
 IsCaller who _ = ⊥

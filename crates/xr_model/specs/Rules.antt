@@ -3,6 +3,7 @@ use Rattle.std.specs.Prelude.{ℕ, ◌+◌, Bool, List, [], ◌∷◌, ◌++◌,
 use Rattle.xr_types.specs.declared.code.Code.{Code}
 use Rattle.xr_types.specs.declared.code.Code.TheVariants.{Success, CallOrderInvalid}
 use Rattle.xr_types.specs.declared.calls.Gives.{Gives}
+use Rattle.xr_types.specs.declared.calls.Gives.TheVariants.{Nothing}
 use Rattle.xr_model.specs.Request.{Outcome}
 use Rattle.xr_model.specs.Refusals.{Refusal, when, first_of}
 use Rattle.xr_model.specs.State.{State}
@@ -42,6 +43,10 @@ done s value = record { state = s; code = Success; gives = value; text = []; did
 -- a success that also puts bytes into the lent buffer
 abbrev pub done_writing : State → Gives → List ℕ → Effect
 done_writing s value bytes = record { state = s; code = Success; gives = value; text = bytes; did = nothing_done }
+
+-- a success by which these handles go
+abbrev pub destroying : State → List ℕ → Effect
+destroying s handles = record { state = s; code = Success; gives = Nothing; text = []; did = record { gone = handles } }
 
 -- a refusal leaves the state as it was
 abbrev pub unless_refused : State → Option Refusal → Effect → Effect

@@ -1,4 +1,5 @@
 -- One rule a call, a file a group.
 pub mod Instance
+pub mod Session
 pub mod Paths
 pub mod Own

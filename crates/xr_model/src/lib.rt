@@ -2,7 +2,9 @@
 //! definitions in `specs/`. The code here is one empty function for each law that holds of them.
 #![tactic(auto)]
 
-ghost use Rattle.xr_model.specs.Laws.{RefusalsChangeNothing, AfterIsInTurn, EntriesAreCounted, PlacesCount, FrontsAreLegal};
+ghost use Rattle.xr_model.specs.AnswerLaws.{AnswersAreAHistory};
+ghost use Rattle.xr_model.specs.HandleLaws.{NoOrphans, DestroyedForGood};
+ghost use Rattle.xr_model.specs.Laws.{RefusalsChangeNothing, AfterIsInTurn, EntriesAreCounted, PlacesCount, FrontsAreLegal, ToldAtTheirPlaces};
 
 /// A call that is no success changes nothing but the count of locked calls.
 #[tactic(auto, using(crate::proofs::Histories::refusals_change_nothing))]
@@ -32,4 +34,27 @@ pub fn places_count()
 #[tactic(auto, using(crate::proofs::Histories::fronts_are_legal))]
 pub fn fronts_are_legal()
     ensures { FrontsAreLegal }
+{}
+
+/// Each call that is told of an actor came to what the history has at its reply's place.
+#[tactic(auto, using(crate::proofs::Told::told_at_their_places))]
+pub fn told_at_their_places()
+    ensures { ToldAtTheirPlaces }
+{}
+
+/// Calls that were answered one after another are a legal history, and the answers are the machine's.
+#[tactic(auto, using(crate::proofs::Answering::answers_are_a_history))]
+pub fn answers_are_a_history()
+    ensures { AnswersAreAHistory }
+{}
+
+/// After every history, each live handle's parent is live.
+pub fn no_orphans()
+    ensures { NoOrphans }
+{}
+
+/// A handle that was destroyed in a legal history is never live again.
+#[tactic(auto, using(crate::proofs::Destroying::destroyed_for_good))]
+pub fn destroyed_for_good()
+    ensures { DestroyedForGood }
 {}

@@ -7,6 +7,7 @@ mod calls;
 mod code;
 mod device;
 mod frames;
+mod handles;
 mod input;
 mod lists;
 mod made;
@@ -21,6 +22,9 @@ pub use code::Code;
 pub use device::{DeviceEvent, Wish};
 pub use frames::{
     Blend, Frame, FrameLayer, Image, Layer, MOST_LAYERS, Shown, ShownLayer, SubImage,
+};
+pub use handles::{
+    ACTION_SETS, ACTIONS, INSTANCES, Kind, MOST_HANDLES, SESSIONS, SPACES, SWAPCHAINS, Slot,
 };
 pub use input::{
     ActionType, ActiveSet, Binding, BoolState, Bound, Column, FloatState, Part, Pick, Profile,

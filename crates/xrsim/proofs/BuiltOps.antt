@@ -17,6 +17,11 @@ built_at (o ∷ ops) (suc i) d all h = built_at ops i d (and_parts (is_built_op 
 -- an application makes the call of an op that is built
 pub op_caller : (values : List ℕ) (o : Op) → is_built_op o ≡ true → IsCaller (App 1) (request_for values o)
 op_caller values (op.CreateInstance major minor) built = tt
+op_caller values (op.DestroyInstance instance) built = tt
+op_caller values (op.GetSystem instance form) built = tt
 op_caller values (op.StringToPath instance text) built = tt
 op_caller values (op.PathToString instance path capacity) built = tt
+op_caller values (op.PollEvent instance) built = tt
+op_caller values (op.CreateSession instance system) built = tt
+op_caller values (op.DestroySession session) built = tt
 op_caller values _ built = absurd (true≢false (sym built))

@@ -7,7 +7,10 @@ use Rattle.xr_types.specs.declared.calls.Actor.{Actor}
 use Rattle.xr_types.specs.declared.calls.Actor.TheVariants.{App}
 use Rattle.xr_types.specs.declared.calls.Gives.TheVariants.{Size}
 use Rattle.xr_types.specs.declared.calls.Reply.{Reply}
-use Rattle.xr_model.specs.Request.{Request, create_instance, string_to_path, path_to_string, leave, next_frame, Entry, Outcome, entry_of}
+use Rattle.xr_model.specs.Request.{Request, create_instance, destroy_instance, get_system, string_to_path, path_to_string, poll_event, create_session, destroy_session, leave, next_frame, Entry, Outcome, entry_of}
+use Rattle.xr_types.specs.declared.session.Event.{Event}
+use Rattle.xr_model.specs.Events.{polled}
+use Rattle.xr_model.specs.Steps.Instance.{told_event}
 use Rattle.xr_model.specs.Paths.{text_at, copied, size_at, size_of}
 use Rattle.xr_model.specs.Refusals.{Refusal, first_of}
 use Rattle.xr_model.specs.State.{State}
@@ -57,16 +60,26 @@ copied_fits (Some t) size = by (nat_le (size_of t) size)
     by true = length-append t (0 ∷ [])
     by false = refl
 
+-- an event that is told takes no bytes of a buffer
+told_writes_none : (told : Option Event) → 0 ≡ written_size (told_event told) 0
+told_writes_none None = refl
+told_writes_none (Some event) = refl
+
 -- the bytes that a call writes are as many as its reply says
 pub text_fits : (s : State) (e : Entry) → length (step s e).1.text ≡ written_size (step s e).1.reply.gives (lent_size e.request)
 text_fits s e = by e.request
   where
     by : (r : Request) → Fits (lent_size r) (unless_refused s (first_of (refusals (rule s (record e { request = r })))) (rule s (record e { request = r })).effect)
     by (create_instance major minor) = carried_fits s 0 (refusals (rule s (record e { request = create_instance major minor }))) (rule s (record e { request = create_instance major minor })).effect ((λ h. refl), ((λ h. refl), ((λ h. refl), tt))) refl
+    by (destroy_instance instance) = carried_fits s 0 (refusals (rule s (record e { request = destroy_instance instance }))) (rule s (record e { request = destroy_instance instance })).effect ((λ h. refl), ((λ h. refl), tt)) refl
+    by (get_system instance form) = carried_fits s 0 (refusals (rule s (record e { request = get_system instance form }))) (rule s (record e { request = get_system instance form })).effect ((λ h. refl), ((λ h. refl), ((λ h. refl), tt))) refl
     by (string_to_path instance text) = carried_fits s 0 (refusals (rule s (record e { request = string_to_path instance text }))) (rule s (record e { request = string_to_path instance text })).effect ((λ h. refl), ((λ h. refl), ((λ h. refl), ((λ h. refl), ((λ h. refl), tt))))) refl
     by (path_to_string instance path capacity) =
         carried_fits s capacity (refusals (rule s (record e { request = path_to_string instance path capacity }))) (rule s (record e { request = path_to_string instance path capacity })).effect
         ((λ h. refl), ((λ h. refl), ((λ h. refl), (copy_gives_none (text_at s.atoms path) capacity, tt)))) (copied_fits (text_at s.atoms path) capacity)
+    by (poll_event instance) = carried_fits s 0 (refusals (rule s (record e { request = poll_event instance }))) (rule s (record e { request = poll_event instance })).effect ((λ h. refl), ((λ h. refl), ((λ h. refl), tt))) (told_writes_none (polled s.events))
+    by (create_session instance system) = carried_fits s 0 (refusals (rule s (record e { request = create_session instance system }))) (rule s (record e { request = create_session instance system })).effect ((λ h. refl), ((λ h. refl), ((λ h. refl), ((λ h. refl), tt)))) refl
+    by (destroy_session session) = carried_fits s 0 (refusals (rule s (record e { request = destroy_session session }))) (rule s (record e { request = destroy_session session })).effect ((λ h. refl), ((λ h. refl), tt)) refl
     by leave = refl
     by next_frame = refl
     by _ = refl
@@ -79,6 +92,11 @@ app_ready s e k caller = by e.request caller
     by (create_instance major minor) c = refl
     by (string_to_path instance text) c = refl
     by (path_to_string instance path capacity) c = refl
+    by (destroy_instance instance) c = refl
+    by (get_system instance form) c = refl
+    by (poll_event instance) c = refl
+    by (create_session instance system) c = refl
+    by (destroy_session session) c = refl
     by leave c = refl
     by next_frame c = absurd c
     by _ c = absurd c

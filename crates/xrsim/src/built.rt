@@ -10,7 +10,14 @@ fn is_built(op: &Op) -> bool
 {
     matches!(
         op,
-        Op::CreateInstance { .. } | Op::StringToPath { .. } | Op::PathToString { .. }
+        Op::CreateInstance { .. }
+            | Op::DestroyInstance { .. }
+            | Op::GetSystem { .. }
+            | Op::StringToPath { .. }
+            | Op::PathToString { .. }
+            | Op::PollEvent { .. }
+            | Op::CreateSession { .. }
+            | Op::DestroySession { .. }
     )
 }
 

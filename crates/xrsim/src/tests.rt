@@ -65,6 +65,50 @@ device
 status 0
 ";
 
+const SESSION: &str =
+    r#"{"version":1,"scripts":[[{"op":"create_instance","major":1,"minor":0,"as":"i"},{"op":"get_system","instance":"i","form":"head","as":"y"},{"op":"create_session","instance":"i","system":"y","as":"s"},{"op":"poll_event","instance":"i"},{"op":"poll_event","instance":"i"},{"op":"create_session","instance":"i","system":"y"},{"op":"string_to_path","instance":"i","text":"/a"},{"op":"destroy_instance","instance":"i"},{"op":"path_to_string","instance":"i","path":1,"capacity":0},{"op":"create_instance","major":1,"minor":0,"as":"j"},{"op":"string_to_path","instance":"j","text":"/b"},{"op":"destroy_session","session":"s"},{"op":"poll_event","instance":"j"}]]}"#;
+
+const SESSION_REPORT: &str = "\
+xrsim report 1
+thread 1
+1 create_instance XR_SUCCESS
+2 get_system XR_SUCCESS 1
+3 create_session XR_SUCCESS
+4 poll_event XR_SUCCESS state 1 IDLE
+5 poll_event XR_EVENT_UNAVAILABLE
+6 create_session XR_ERROR_LIMIT_REACHED
+7 string_to_path XR_SUCCESS 1
+8 destroy_instance XR_SUCCESS
+9 path_to_string XR_ERROR_HANDLE_INVALID
+10 create_instance XR_SUCCESS
+11 string_to_path XR_SUCCESS 1
+12 destroy_session XR_ERROR_HANDLE_INVALID
+13 poll_event XR_EVENT_UNAVAILABLE
+14 leave XR_SUCCESS
+compositor
+ended
+device
+status 0
+";
+
+const LIMITS: &str =
+    r#"{"version":1,"scripts":[[{"op":"create_instance","major":2,"minor":0},{"op":"create_instance","major":1,"minor":0,"as":"i"},{"op":"create_instance","major":1,"minor":0},{"op":"get_system","instance":"i","form":"hand"},{"op":"create_session","instance":"i","system":9}]]}"#;
+
+const LIMITS_REPORT: &str = "\
+xrsim report 1
+thread 1
+1 create_instance XR_ERROR_API_VERSION_UNSUPPORTED
+2 create_instance XR_SUCCESS
+3 create_instance XR_ERROR_LIMIT_REACHED
+4 get_system XR_ERROR_FORM_FACTOR_UNSUPPORTED
+5 create_session XR_ERROR_SYSTEM_INVALID
+6 leave XR_SUCCESS
+compositor
+ended
+device
+status 0
+";
+
 const FIRST_PLACES: &str = "\
 xrsim report 1
 thread 1
@@ -108,6 +152,8 @@ fn scenarios_give_their_reports(rt: HostRuntime) -> Result<(), Fail> {
         (FIRST, FIRST_REPORT),
         (SIZES, SIZES_REPORT),
         (REFUSALS, REFUSALS_REPORT),
+        (SESSION, SESSION_REPORT),
+        (LIMITS, LIMITS_REPORT),
     ] {
         let mut sink = MemorySink::new(rt.alloc(), 1000, &[], &[])?;
         assert_eq!(rt; run(rt.alloc(), text, &mut sink)?, Status::Done);
@@ -160,7 +206,7 @@ fn texts_that_are_no_scenario_are_refused(rt: HostRuntime) -> Result<(), Fail> {
         ),
         (r#"{"version":1,"scripts":[[],[]]}"#, Refusal::Unbuilt),
         (
-            r#"{"version":1,"scripts":[[{"op":"poll_event","instance":0}]]}"#,
+            r#"{"version":1,"scripts":[[{"op":"end_session","session":0}]]}"#,
             Refusal::Unbuilt,
         ),
     ] {

@@ -1,14 +1,15 @@
-// The calls on instances (OpenXR 1.0 section 4.2).
-ghost use Rattle.std.specs.Prelude.{◌≡◌, ◌<◌, ◌^◌, []};
-ghost use Rattle.xr_model.specs.Request.{create_instance};
-ghost use Rattle.xr_model.specs.Handles.{is_instance};
+// The calls on instances, their systems and their events (OpenXR 1.0 chapters 2, 4 and 5).
+ghost use Rattle.std.specs.Prelude.{◌<◌, ◌^◌, []};
+ghost use Rattle.xr_model.specs.Request.{create_instance, destroy_instance, get_system, poll_event};
 ghost use Rattle.xr_core.specs.Calls.{Makes};
 
 use crate::Core;
-use xr_types::{Code, Gives, Reply};
+use xr_types::{Code, Form, Gives, Kind, Reply};
+
+/// The one system.
+pub(crate) const SYSTEM: u64 = 1;
 
 impl Core {
-    #[tactic(auto, using(crate::proofs::Start::new_number))]
     pub(crate) fn create_instance(&mut self, major: u32, minor: u32) -> Reply
         requires { self.old.locked < 2 ^ 44 }
         ensures { Makes self.old (create_instance major minor) self.new result [] }
@@ -16,23 +17,54 @@ impl Core {
         if major != 1 || minor != 0 {
             return self.refused(Code::ApiVersionUnsupported);
         }
-        if self.instance != 0 {
-            return self.refused(Code::LimitReached);
+        let answer = self.handles.give(Kind::Instance, 0);
+        if answer.code != Code::Success {
+            return self.refused(answer.code);
         }
-        self.given += 1;
-        self.instance = self.given;
         self.calls += 1;
         Reply {
             code: Code::Success,
-            gives: Gives::Handle(self.given),
+            gives: Gives::Handle(answer.number),
             place: self.calls,
         }
     }
 
-    /// Whether a handle is that of the live instance.
-    pub(crate) fn is_instance(&self, handle: u64) -> bool
-        ensures { result ≡ is_instance self.now.handles handle }
+    pub(crate) fn destroy_instance(&mut self, instance: u64) -> Reply
+        requires { self.old.locked < 2 ^ 44 }
+        ensures { Makes self.old (destroy_instance instance) self.new result [] }
     {
-        handle != 0 && handle == self.instance
+        if !self.handles.is_live(Kind::Instance, instance) {
+            return self.refused(Code::HandleInvalid);
+        }
+        self.destroy(instance);
+        self.paths.clear();
+        self.events.clear();
+        self.answered(Code::Success, Gives::Nothing)
+    }
+
+    pub(crate) fn get_system(&mut self, instance: u64, form: Form) -> Reply
+        requires { self.old.locked < 2 ^ 44 }
+        ensures { Makes self.old (get_system instance form) self.new result [] }
+    {
+        if !self.handles.is_live(Kind::Instance, instance) {
+            return self.refused(Code::HandleInvalid);
+        }
+        match form {
+            Form::Head => self.answered(Code::Success, Gives::Number(SYSTEM)),
+            Form::Hand => self.refused(Code::FormFactorUnsupported),
+        }
+    }
+
+    pub(crate) fn poll_event(&mut self, instance: u64) -> Reply
+        requires { self.old.locked < 2 ^ 44 }
+        ensures { Makes self.old (poll_event instance) self.new result [] }
+    {
+        if !self.handles.is_live(Kind::Instance, instance) {
+            return self.refused(Code::HandleInvalid);
+        }
+        match self.events.poll() {
+            Some(event) => self.answered(Code::Success, Gives::Event(event)),
+            None => self.refused(Code::EventUnavailable),
+        }
     }
 }

@@ -4,14 +4,14 @@ ghost use Rattle.xr_model.specs.Request.{string_to_path, path_to_string};
 ghost use Rattle.xr_core.specs.Calls.{Makes, MakesOver};
 
 use crate::Core;
-use xr_types::{Code, Gives, Reply};
+use xr_types::{Code, Gives, Kind, Reply};
 
 impl Core {
     pub(crate) fn string_to_path(&mut self, instance: u64, text: &[u8]) -> Reply
         requires { self.old.locked < 2 ^ 44 }
         ensures { Makes self.old (string_to_path instance text.now) self.new result [] }
     {
-        if !self.is_instance(instance) {
+        if !self.handles.is_live(Kind::Instance, instance) {
             return self.refused(Code::HandleInvalid);
         }
         let answer = self.paths.intern(text);
@@ -25,7 +25,7 @@ impl Core {
         requires { self.old.locked < 2 ^ 44 }
         ensures { MakesOver self.old (path_to_string instance path (length out.old)) self.new result out.old out.new }
     {
-        if !self.is_instance(instance) {
+        if !self.handles.is_live(Kind::Instance, instance) {
             return self.refused(Code::HandleInvalid);
         }
         let answer = self.paths.text_of(path, out);

@@ -1,20 +1,16 @@
 -- Path texts and atoms (OpenXR 1.0 section 6.2).
-use Rattle.std.specs.Prelude.{ℕ, not, Bool, false, List, [], ◌∷◌}
-use Rattle.xr_types.specs.declared.code.Code.TheVariants.{HandleInvalid}
+use Rattle.std.specs.Prelude.{ℕ, Bool, false, List, [], ◌∷◌}
 use Rattle.xr_types.specs.declared.calls.Gives.TheVariants.{Number, Size}
-use Rattle.xr_model.specs.Handles.{is_instance}
+use Rattle.xr_types.specs.declared.handles.Kind.TheVariants.{Instance}
+use Rattle.xr_model.specs.Handles.{no_handle}
 use Rattle.xr_model.specs.Paths.{intern_refusals, with_text, atom_of, text_at, copy_refusals, copied, size_at}
-use Rattle.xr_model.specs.Refusals.{Refusal, when}
 use Rattle.xr_model.specs.State.{State}
 use Rattle.xr_model.specs.Rules.{Rule, done, done_writing}
-
-abbrev pub no_instance : State → ℕ → Refusal
-no_instance s instance = when (not (is_instance s.handles instance)) HandleInvalid
 
 -- xrStringToPath
 abbrev pub string_to_path_rule : State → Bool → ℕ → List ℕ → Rule
 string_to_path_rule s short instance text = record {
-  before = no_instance s instance ∷ [];
+  before = no_handle s.handles Instance instance ∷ [];
   disorder = false;
   behind = intern_refusals s.atoms text short;
   effect = done (record s { atoms = with_text s.atoms text }) (Number (atom_of s.atoms text));
@@ -23,7 +19,7 @@ string_to_path_rule s short instance text = record {
 -- xrPathToString
 abbrev pub path_to_string_rule : State → ℕ → ℕ → ℕ → Rule
 path_to_string_rule s instance path capacity = record {
-  before = no_instance s instance ∷ [];
+  before = no_handle s.handles Instance instance ∷ [];
   disorder = false;
   behind = copy_refusals (text_at s.atoms path) capacity;
   effect = done_writing s (Size (size_at (text_at s.atoms path))) (copied (text_at s.atoms path) capacity);

@@ -21,3 +21,23 @@ pub returns-else-not-all_left : goal.returns-else-not-all_left
 returns-else-not-all_left c =
     let gone : true ≡ list_all (λ b. b) c.args.self.now.left = c.if-not-all_left.ensures in
     made_answers c.args.self.now c.args.who _ _ _ c.next_frame.new.self c.next_frame.result c.args.text.now (ap request_of c.in-NextFrame.is) (rw (← gone) refl) c.requires.may c.next_frame.ensures
+
+pub returns-in-DestroyInstance : goal.returns-in-DestroyInstance
+returns-in-DestroyInstance c =
+    made_answers c.args.self.now c.args.who _ _ _ c.destroy_instance.new.self c.destroy_instance.result c.args.text.now (ap request_of c.in-DestroyInstance.is) refl c.requires.may c.destroy_instance.ensures
+
+pub returns-in-GetSystem : goal.returns-in-GetSystem
+returns-in-GetSystem c =
+    made_answers c.args.self.now c.args.who _ _ _ c.get_system.new.self c.get_system.result c.args.text.now (ap request_of c.in-GetSystem.is) refl c.requires.may c.get_system.ensures
+
+pub returns-in-PollEvent : goal.returns-in-PollEvent
+returns-in-PollEvent c =
+    made_answers c.args.self.now c.args.who _ _ _ c.poll_event.new.self c.poll_event.result c.args.text.now (ap request_of c.in-PollEvent.is) refl c.requires.may c.poll_event.ensures
+
+pub returns-in-CreateSession : goal.returns-in-CreateSession
+returns-in-CreateSession c =
+    made_answers c.args.self.now c.args.who _ _ _ c.create_session.new.self c.create_session.result c.args.text.now (ap request_of c.in-CreateSession.is) refl c.requires.may c.create_session.ensures
+
+pub returns-in-DestroySession : goal.returns-in-DestroySession
+returns-in-DestroySession c =
+    made_answers c.args.self.now c.args.who _ _ _ c.destroy_session.new.self c.destroy_session.result c.args.text.now (ap request_of c.in-DestroySession.is) refl c.requires.may c.destroy_session.ensures

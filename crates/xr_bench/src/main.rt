@@ -1,0 +1,116 @@
+//! `xr_bench` measures how many calls a second the core answers, beside how many ops a second `serde_json`
+//! reads of the same calls as a scenario. A measure and no test. It touches the clock and standard output.
+#![tactic(auto)]
+
+mod round;
+
+use round::{CALLS, TEXT, round};
+use serde_json::Value;
+use std::alloc::Global;
+use std::io::Print;
+use std::process::ExitCode;
+use std::time::{Clock, Instant};
+use std::{env, io};
+use xr_core::Core;
+
+const HELP: &str = "\
+xr_bench ROUNDS
+Makes ROUNDS rounds of calls, 1 to 100000000, on a core of one application, and prints how many calls a
+second it answers. Then it reads the calls of a round as a scenario with serde_json, a tenth as often and at
+most 100000 times, and prints how many ops a second are read.
+";
+
+/// So many things in so many microseconds, a second.
+fn rate(count: u64, micros: u128) -> u128 {
+    let spent = if micros == 0 { 1 } else { micros };
+    (count as u128 * 1_000_000) / spent
+}
+
+/// Makes these rounds on a core.
+fn make_rounds(core: &mut Core, rounds: u64) {
+    for _ in 0..rounds {
+        round(core);
+    }
+}
+
+/// Reads the scenario so often; whether each reading gave a value.
+fn read_rounds(alloc: Global, rounds: u64) -> bool {
+    for _ in 0..rounds {
+        if Value::from_slice(alloc, TEXT.as_bytes()).is_err() {
+            return false;
+        }
+    }
+    true
+}
+
+/// Measures the core.
+fn measure_core<R: Clock + Print>(rt: &R, alloc: Global, rounds: u64) -> io::Result<bool> {
+    let Ok(mut core) = Core::start(alloc, 1) else {
+        return Ok(false);
+    };
+    let start = Instant::now(rt)?;
+    make_rounds(&mut core, rounds);
+    let spent = start.elapsed(rt)?.as_micros();
+    let calls = core.calls();
+    println!(rt;
+        "core: {calls} calls in {spent} microseconds, {} a second",
+        rate(calls, spent)
+    )?;
+    Ok(true)
+}
+
+/// Measures the reader.
+fn measure_reading<R: Clock + Print>(rt: &R, alloc: Global, rounds: u64) -> io::Result<bool> {
+    let start = Instant::now(rt)?;
+    if !read_rounds(alloc, rounds) {
+        return Ok(false);
+    }
+    let spent = start.elapsed(rt)?.as_micros();
+    let ops = CALLS.saturating_mul(rounds);
+    println!(rt;
+        "serde_json: {ops} ops in {spent} microseconds, {} a second",
+        rate(ops, spent)
+    )?;
+    Ok(true)
+}
+
+/// Measures both; whether memory was found.
+fn measure<R: Clock + Print>(rt: &R, alloc: Global, rounds: u64) -> io::Result<bool> {
+    let readings = if rounds < 1_000_000 {
+        rounds / 10
+    } else {
+        100_000
+    };
+    Ok(measure_core(rt, alloc, rounds)? && measure_reading(rt, alloc, readings)?)
+}
+
+/// The rounds that the words ask for.
+fn rounds_of(words: &[String]) -> Option<u64> {
+    if words.len() != 1 {
+        return None;
+    }
+    match words[0].as_str().parse::<u64>() {
+        Ok(rounds) if 1 <= rounds && rounds <= 100_000_000 => Some(rounds),
+        _ => None,
+    }
+}
+
+fn main(rt: HostRuntime) -> ExitCode {
+    let alloc = rt.alloc();
+    let words = match env::args(&rt) {
+        Ok(given) => given.skip(1).collect::<Vec<String>>(alloc),
+        Err(_) => return ExitCode::from(1),
+    };
+    let Ok(words) = words else {
+        return ExitCode::from(9);
+    };
+    let done = match rounds_of(words.as_slice()) {
+        Some(rounds) => measure(&rt, alloc, rounds),
+        None => print!(&rt; "{HELP}").map(|()| true),
+    };
+    match done {
+        Ok(true) => ExitCode::from(0),
+        Ok(false) => ExitCode::from(9),
+        Err(_) => ExitCode::from(8),
+    }
+}

@@ -1,0 +1,95 @@
+// One round of calls, on a core and as a scenario.
+ghost use Rattle.std.specs.Prelude.{◌≡◌, ◌<◌, ◌^◌, IsTrue};
+ghost use Rattle.xr_types.specs.declared.calls.Actor.TheVariants.{App};
+ghost use Rattle.xr_model.specs.Request.{request_of};
+ghost use Rattle.xr_model.specs.Machine.{IsCaller, FitsBuffer};
+
+use xr_core::Core;
+use xr_types::{Actor, Call, Form, Gives, Step};
+
+/// How many calls a round makes.
+pub(crate) const CALLS: u64 = 11;
+
+/// The calls of a round as a scenario.
+pub(crate) const TEXT: &str =
+    r#"{"version":1,"scripts":[[{"op":"create_instance","major":1,"minor":0,"as":"i"},{"op":"get_system","instance":"i","form":"head","as":"y"},{"op":"create_session","instance":"i","system":"y","as":"s"},{"op":"poll_event","instance":"i"},{"op":"poll_event","instance":"i"},{"op":"string_to_path","instance":"i","text":"/user/hand/left","as":"p"},{"op":"string_to_path","instance":"i","text":"/user/hand/left"},{"op":"path_to_string","instance":"i","path":"p","capacity":0},{"op":"create_session","instance":"i","system":"y"},{"op":"destroy_session","session":"s"},{"op":"destroy_instance","instance":"i"}]]}"#;
+
+/// Whether an application may make this call and be lent no bytes.
+fn is_own(call: &Call<'_>) -> bool
+    ensures caller { IsTrue result → IsCaller (App 1) (request_of call.now) }
+    ensures buffer { IsTrue result → FitsBuffer (request_of call.now) 0 }
+{
+    matches!(
+        call,
+        Call::CreateInstance { .. }
+            | Call::DestroyInstance { .. }
+            | Call::GetSystem { .. }
+            | Call::StringToPath { .. }
+            | Call::PathToString { capacity: 0, .. }
+            | Call::PollEvent { .. }
+            | Call::CreateSession { .. }
+            | Call::DestroySession { .. }
+    )
+}
+
+/// Whether the core may be asked once more.
+fn has_places(core: &Core) -> bool
+    ensures { IsTrue result → core.now.locked < 2 ^ 44 }
+{
+    core.calls() < 1 << 44
+}
+
+/// What a call of the only application gives, nothing where it can't be made.
+fn ask(core: &mut Core, call: &Call<'_>) -> Gives {
+    if !is_own(call) || !core.is_present(1) || !has_places(core) {
+        return Gives::Nothing;
+    }
+    match core.apply(Actor::App(1), call, &mut []) {
+        Step::Done(reply) => reply.gives,
+        Step::NotReady => Gives::Nothing,
+    }
+}
+
+/// The handle that was given, or 0.
+fn handle(gives: Gives) -> u64 {
+    match gives {
+        Gives::Handle(handle) => handle,
+        _ => 0,
+    }
+}
+
+/// Makes a round: an instance with a session comes and goes, and what is between.
+pub(crate) fn round(core: &mut Core) {
+    let instance = handle(ask(core, &Call::CreateInstance { major: 1, minor: 0 }));
+    let form = Form::Head;
+    let text = b"/user/hand/left";
+    let _ = ask(core, &Call::GetSystem { instance, form });
+    let session = handle(ask(
+        core,
+        &Call::CreateSession {
+            instance,
+            system: 1,
+        },
+    ));
+    let path = 1;
+    let capacity = 0;
+    for call in [
+        Call::PollEvent { instance },
+        Call::PollEvent { instance },
+        Call::StringToPath { instance, text },
+        Call::StringToPath { instance, text },
+        Call::PathToString {
+            instance,
+            path,
+            capacity,
+        },
+        Call::CreateSession {
+            instance,
+            system: 1,
+        },
+        Call::DestroySession { session },
+        Call::DestroyInstance { instance },
+    ] {
+        let _ = ask(core, &call);
+    }
+}

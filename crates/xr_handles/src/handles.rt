@@ -1,0 +1,176 @@
+// The rows of all kinds, and the calls on them.
+ghost use Rattle.std.specs.Prelude.{◌≡◌, ◌≢◌, ◌<◌, ◌^◌, [], ◌∷◌, false, length};
+ghost use Rattle.xr_model.specs.Handles as model;
+ghost use Rattle.xr_model.specs.Handles.{no_handles, row_of, is_live, kind_of, parent_of, place_of, no_room, was_given, with_handle, without};
+ghost use Rattle.xr_model.specs.Refusals.{first_of, answer_by, unless};
+ghost use Rattle.xr_handles.specs.Numbers.{next_number};
+
+use crate::row;
+use arrayvec::ArrayVec;
+use std::marker::Model;
+use xr_types::{
+    ACTION_SETS, ACTIONS, Answer, Code, INSTANCES, Kind, MOST_HANDLES, SESSIONS, SPACES,
+    SWAPCHAINS, Slot,
+};
+
+/// The live handles, seen by contracts as the rows of the machine and the list of all that were given. Numbers
+/// are counted up from 1, so none is given twice.
+#[derive(Drop)]
+pub struct Handles {
+    instances: [Slot; INSTANCES],
+    sessions: [Slot; SESSIONS],
+    sets: [Slot; ACTION_SETS],
+    actions: [Slot; ACTIONS],
+    spaces: [Slot; SPACES],
+    chains: [Slot; SWAPCHAINS],
+    given: u64,
+}
+
+impl Model for Handles {
+    ghost use Rattle.xr_model.specs.Handles as model;
+    ghost use Rattle.xr_handles.specs.Numbers.{counted};
+
+    ghost Value = { model.Handles };
+
+    ghost view = { λ h. record {
+      given = counted h.given;
+      instances = h.instances;
+      sessions = h.sessions;
+      sets = h.sets;
+      actions = h.actions;
+      spaces = h.spaces;
+      chains = h.chains;
+    } };
+}
+
+impl Handles {
+    /// No handle is live, and none was given. The rows stand in the value itself, so that nothing later takes
+    /// memory, and neither does this.
+    pub fn start() -> Handles
+        ensures { result ≡ no_handles }
+    {
+        Handles {
+            instances: [row::FREE; INSTANCES],
+            sessions: [row::FREE; SESSIONS],
+            sets: [row::FREE; ACTION_SETS],
+            actions: [row::FREE; ACTIONS],
+            spaces: [row::FREE; SPACES],
+            chains: [row::FREE; SWAPCHAINS],
+            given: 0,
+        }
+    }
+
+    /// How many handles were given.
+    #[tactic(auto, using(crate::proofs::Numbers::count_of))]
+    pub fn count(&self) -> u64
+        ensures { result ≡ length self.now.given }
+    {
+        self.given
+    }
+
+    /// The row of a kind.
+    fn row(&self, kind: Kind) -> &[Slot]
+        ensures { result.now ≡ row_of self.now kind }
+    {
+        match kind {
+            Kind::Instance => &self.instances,
+            Kind::Session => &self.sessions,
+            Kind::ActionSet => &self.sets,
+            Kind::Action => &self.actions,
+            Kind::Space => &self.spaces,
+            Kind::Swapchain => &self.chains,
+        }
+    }
+    /// Whether a handle is live and of this kind.
+    pub fn is_live(&self, kind: Kind, handle: u64) -> bool
+        ensures { result ≡ is_live self.now kind handle }
+    {
+        handle != 0 && row::has(self.row(kind), handle)
+    }
+
+    /// The kind of a live handle.
+    pub fn kind_of(&self, handle: u64) -> Option<Kind>
+        ensures { result ≡ kind_of self.now handle }
+    {
+        if self.is_live(Kind::Instance, handle) {
+            return Some(Kind::Instance);
+        }
+        if self.is_live(Kind::Session, handle) {
+            return Some(Kind::Session);
+        }
+        if self.is_live(Kind::ActionSet, handle) {
+            return Some(Kind::ActionSet);
+        }
+        if self.is_live(Kind::Action, handle) {
+            return Some(Kind::Action);
+        }
+        if self.is_live(Kind::Space, handle) {
+            return Some(Kind::Space);
+        }
+        if self.is_live(Kind::Swapchain, handle) {
+            return Some(Kind::Swapchain);
+        }
+        None
+    }
+
+    /// The parent of a live handle, 0 for an instance.
+    pub fn parent_of(&self, handle: u64) -> Option<u64>
+        ensures { result ≡ parent_of self.now handle }
+    {
+        match self.kind_of(handle) {
+            Some(kind) => row::parent_in(self.row(kind), handle),
+            None => None,
+        }
+    }
+
+    /// The place of a live handle in the row of its kind, from 0.
+    pub fn place_of(&self, handle: u64) -> Option<usize>
+        ensures { result ≡ place_of self.now handle }
+    {
+        match self.kind_of(handle) {
+            Some(kind) => row::place_in(self.row(kind), handle),
+            None => None,
+        }
+    }
+
+    /// Gives a new handle under a parent (0 for an instance), in the first free place of its kind. `LimitReached`
+    /// comes exactly where no place is free, and then all is as it was.
+    #[tactic(auto, using(crate::proofs::Numbers::new_number, crate::proofs::Numbers::count_of))]
+    pub fn give(&mut self, kind: Kind, parent: u64) -> Answer
+        requires { length self.old.given < 2 ^ 44 }
+        ensures kept { self.new ≡ unless (first_of (no_room self.old kind ∷ [])) self.old (with_handle self.old kind parent result.number) }
+        ensures answer { result ≡ answer_by (first_of (no_room self.old kind ∷ [])) (next_number self.old) }
+        ensures fresh { was_given self.old (next_number self.old) ≡ false }
+    {
+        let handle = self.given + 1;
+        let put = match kind {
+            Kind::Instance => row::put(&mut self.instances, handle, parent),
+            Kind::Session => row::put(&mut self.sessions, handle, parent),
+            Kind::ActionSet => row::put(&mut self.sets, handle, parent),
+            Kind::Action => row::put(&mut self.actions, handle, parent),
+            Kind::Space => row::put(&mut self.spaces, handle, parent),
+            Kind::Swapchain => row::put(&mut self.chains, handle, parent),
+        };
+        if !put {
+            return Answer::plain(Code::LimitReached);
+        }
+        self.given = handle;
+        Answer::numbered(handle)
+    }
+
+    /// Destroys a handle and all below it, and lists them: a level behind the one above it.
+    pub fn destroy(&mut self, handle: u64, gone: &mut ArrayVec<u64, MOST_HANDLES>)
+        requires { gone.old.items ≡ [] }
+        ensures kept { self.new ≡ without self.old handle }
+        ensures gone { gone.new.items ≡ model.gone self.old handle }
+    {
+        row::sweep(&mut self.instances, handle, &[], gone);
+        let above = row::copied(gone);
+        row::sweep(&mut self.sessions, handle, above.as_slice(), gone);
+        row::sweep(&mut self.sets, handle, above.as_slice(), gone);
+        let parents = row::copied(gone);
+        row::sweep(&mut self.actions, handle, parents.as_slice(), gone);
+        row::sweep(&mut self.spaces, handle, parents.as_slice(), gone);
+        row::sweep(&mut self.chains, handle, parents.as_slice(), gone);
+    }
+}

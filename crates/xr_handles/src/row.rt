@@ -1,0 +1,97 @@
+// One row of places: what is found in it, put into it, and swept out of it.
+ghost use Rattle.std.specs.Prelude.{◌≡◌, ◌≤◌, ◌<◌, ◌+◌, ◌++◌, length, is_some, option_map, IfSome};
+ghost use Rattle.xr_model.specs.Handles.{first_free, put_in, has, place_in, slot_in, goes, going, cleared};
+
+use arrayvec::ArrayVec;
+use xr_types::{MOST_HANDLES, Slot};
+
+/// A place without a handle.
+pub(crate) const FREE: Slot = Slot {
+    handle: 0,
+    parent: 0,
+};
+
+/// The first free place of a row.
+fn free_place(row: &[Slot]) -> Option<usize>
+    ensures place { result ≡ first_free row.now }
+    ensures within { IfSome result (λ k. k < length row.now) }
+{
+    row.iter().position(|slot| slot.handle == 0)
+}
+
+/// Puts a handle into the first free place, where there is one.
+pub(crate) fn put(row: &mut [Slot], handle: u64, parent: u64) -> bool
+    ensures fits { result ≡ is_some (first_free row.old) }
+    ensures row { row.new ≡ put_in row.old (record { handle = handle; parent = parent }) (first_free row.old) }
+{
+    let Some(place) = free_place(row) else {
+        return false;
+    };
+    row[place] = Slot { handle, parent };
+    true
+}
+
+/// Whether a handle stands in a row.
+pub(crate) fn has(row: &[Slot], handle: u64) -> bool
+    ensures { result ≡ has row.now handle }
+{
+    row.iter().any(|slot| slot.handle == handle)
+}
+
+/// The place of a handle in a row.
+pub(crate) fn place_in(row: &[Slot], handle: u64) -> Option<usize>
+    ensures { result ≡ place_in row.now handle }
+{
+    row.iter().position(|slot| slot.handle == handle)
+}
+
+/// The parent of a handle of a row.
+pub(crate) fn parent_in(row: &[Slot], handle: u64) -> Option<u64>
+    ensures { result ≡ option_map (λ s. s.parent) (slot_in row.now handle) }
+{
+    match row.iter().find(|slot| slot.handle == handle) {
+        Some(slot) => Some(slot.parent),
+        None => None,
+    }
+}
+
+/// Whether a place's handle is the one that is destroyed or is below one that goes.
+#[tactic(auto, unfolding(xr_model::specs::Handles::goes))]
+fn leaves(slot: Slot, handle: u64, above: &[u64]) -> bool
+    ensures { result ≡ goes handle above.now slot }
+{
+    slot.handle != 0 && (slot.handle == handle || above.contains(&slot.parent))
+}
+
+/// Frees the places of the handles that go, and lists these.
+pub(crate) fn sweep(
+    row: &mut [Slot],
+    handle: u64,
+    above: &[u64],
+    gone: &mut ArrayVec<u64, MOST_HANDLES>,
+)
+    requires { length gone.old.items + length row.old ≤ 165 }
+    ensures row { row.new ≡ cleared handle above.now row.old }
+    ensures gone { gone.new.items ≡ gone.old.items ++ going handle above.now row.old }
+    ensures few { length gone.new.items ≤ length gone.old.items + length row.old }
+{
+    let count = row.len();
+    for i in 0..count {
+        let slot = row[i];
+        if leaves(slot, handle, above) {
+            gone.push(slot.handle);
+            row[i] = FREE;
+        }
+    }
+}
+
+/// The same handles in the same order.
+pub(crate) fn copied(all: &ArrayVec<u64, MOST_HANDLES>) -> ArrayVec<u64, MOST_HANDLES>
+    ensures { result.items ≡ all.now.items }
+{
+    let mut same = ArrayVec::new();
+    for handle in all.as_slice() {
+        same.push(*handle);
+    }
+    same
+}

@@ -1,0 +1,180 @@
+-- A handle that was destroyed is never live again: it stands in no row, and no new handle was given before.
+use Rattle.std.proofs.Common.{◌≡◌, ℕ, ◌==◌, ◌&&◌, ◌||◌, not, Bool, true, false, List, [], ◌∷◌, ◌++◌, None, refl, sym, ap, ◌∙◌, subst, true≢false}
+use Rattle.xr_types.specs.Code.{is_success}
+use Rattle.xr_types.specs.declared.code.Code.TheVariants.{HandleInvalid}
+use Rattle.xr_types.specs.declared.handles.Kind.{Kind}
+use Rattle.xr_types.specs.declared.handles.Kind.TheVariants.{Instance, Session}
+use Rattle.xr_types.specs.declared.handles.Slot.{Slot}
+use Rattle.xr_types.specs.declared.handles.TheConstants.{INSTANCES, SESSIONS, ACTION_SETS, ACTIONS, SPACES, SWAPCHAINS}
+use Rattle.xr_model.specs.Request.{Entry, Request, destroy_instance, destroy_session}
+use Rattle.xr_model.specs.Handles.{Handles, has, is_live, kind_of, was_given, with_handle, gone_instances, gone_parents, without}
+use Rattle.xr_model.specs.Refusals.{when, first_of}
+use Rattle.xr_model.specs.State.{State, opening}
+use Rattle.xr_model.specs.Rules.{Effect, unless_refused}
+use Rattle.xr_model.specs.Machine.{step, rule, IsGiven, IsAllowed}
+use Rattle.xr_model.specs.History.{after, IsLegalFrom}
+use Rattle.xr_model.specs.HandleLaws.{destroys, DestroyedForGood}
+use Rattle.xr_model.proofs.Histories.{after_is_in_turn}
+use Rattle.xr_model.proofs.Rows.{same_key, both_of, neither_of, not_true, hasnt_put, hasnt_free, hasnt_cleared, cleared_away}
+use Rattle.xr_model.proofs.HandleSteps.{gives_handle, kept_by_step}
+
+-- the handle stands in no row
+record IsAbsent (h : Handles) (handle : ℕ) : Type 0 where
+  instances : has h.instances handle ≡ false
+  sessions : has h.sessions handle ≡ false
+  sets : has h.sets handle ≡ false
+  actions : has h.actions handle ≡ false
+  spaces : has h.spaces handle ≡ false
+  chains : has h.chains handle ≡ false
+
+and_false : (b : Bool) → b && false ≡ false
+and_false true = refl
+and_false false = refl
+
+-- so it is of no kind
+absent_kind : (h : Handles) (handle : ℕ) → IsAbsent h handle → kind_of h handle ≡ None
+absent_kind h handle a = rw (a.instances, a.sessions, a.sets, a.actions, a.spaces, a.chains, and_false (not (handle == 0))) refl
+
+absent_without : (h : Handles) (gone handle : ℕ) → (handle == 0) ≡ false → IsAbsent h handle → IsAbsent (without h gone) handle
+absent_without h gone handle nz a = record {
+  instances = hasnt_cleared gone [] h.instances handle nz a.instances;
+  sessions = hasnt_cleared gone (gone_instances h gone) h.sessions handle nz a.sessions;
+  sets = hasnt_cleared gone (gone_instances h gone) h.sets handle nz a.sets;
+  actions = hasnt_cleared gone (gone_parents h gone) h.actions handle nz a.actions;
+  spaces = hasnt_cleared gone (gone_parents h gone) h.spaces handle nz a.spaces;
+  chains = hasnt_cleared gone (gone_parents h gone) h.chains handle nz a.chains;
+}
+
+-- nor does it stand anywhere once it was destroyed
+absent_itself : (h : Handles) (handle : ℕ) → (handle == 0) ≡ false → IsAbsent (without h handle) handle
+absent_itself h handle nz = record {
+  instances = cleared_away handle [] h.instances nz;
+  sessions = cleared_away handle (gone_instances h handle) h.sessions nz;
+  sets = cleared_away handle (gone_instances h handle) h.sets nz;
+  actions = cleared_away handle (gone_parents h handle) h.actions nz;
+  spaces = cleared_away handle (gone_parents h handle) h.spaces nz;
+  chains = cleared_away handle (gone_parents h handle) h.chains nz;
+}
+
+module _ (h : Handles) (parent given handle : ℕ) (other : (given == handle) ≡ false) (a : IsAbsent h handle) where
+  slot : Slot
+  slot = record { handle = given; parent = parent }
+
+  -- nor where another handle is given
+  absent_instance : IsAbsent (with_handle h Instance parent given) handle
+  unfolding slot
+  absent_instance = record { instances = hasnt_put slot h.instances handle a.instances other; sessions = a.sessions; sets = a.sets; actions = a.actions; spaces = a.spaces; chains = a.chains }
+
+  absent_session : IsAbsent (with_handle h Session parent given) handle
+  unfolding slot
+  absent_session = record { instances = a.instances; sessions = hasnt_put slot h.sessions handle a.sessions other; sets = a.sets; actions = a.actions; spaces = a.spaces; chains = a.chains }
+
+-- ---- each live handle was given
+
+AreKnown : Handles → Type 0
+AreKnown h = (handle : ℕ) → (handle == 0) ≡ false → was_given h handle ≡ false → IsAbsent h handle
+
+known_step : (s : State) (e : Entry) → AreKnown s.handles → AreKnown (step s e).0.handles
+unfolding AreKnown
+known_step s e known = kept_by_step AreKnown s e (record {
+  same = known;
+  instance = λ gives handle nz new. let two = neither_of (e.given == handle) (was_given s.handles handle) new in absent_instance s.handles 0 e.given handle two.0 (known handle nz two.1);
+  session = λ gives instance live handle nz new. let two = neither_of (e.given == handle) (was_given s.handles handle) new in absent_session s.handles instance e.given handle two.0 (known handle nz two.1);
+  without = λ gone handle nz new. absent_without s.handles gone handle nz (known handle nz new);
+})
+
+known_after : (s : State) (es : List Entry) → AreKnown s.handles → AreKnown (after s es).handles
+known_after s [] known = known
+known_after s (e ∷ es) known = known_after (step s e).0 es (known_step s e known)
+
+known_opening : (apps : ℕ) → AreKnown (opening apps).handles
+unfolding AreKnown
+known_opening apps handle nz new = record {
+  instances = hasnt_free INSTANCES handle nz;
+  sessions = hasnt_free SESSIONS handle nz;
+  sets = hasnt_free ACTION_SETS handle nz;
+  actions = hasnt_free ACTIONS handle nz;
+  spaces = hasnt_free SPACES handle nz;
+  chains = hasnt_free SWAPCHAINS handle nz;
+}
+
+-- ---- a handle that was given and stands nowhere
+
+record IsOver (handle : ℕ) (h : Handles) : Type 0 where
+  some : (handle == 0) ≡ false
+  given : was_given h handle ≡ true
+  absent : IsAbsent h handle
+
+-- a new handle is another one
+is_other : (h : Handles) (handle new : ℕ) (gives : Bool) → IsOver handle h → IsGiven gives h new → gives ≡ true → (new == handle) ≡ false
+is_other h handle new false over fresh e = absurd (true≢false (sym e))
+is_other h handle new true over fresh e = by (new == handle) refl
+  where
+    by : (b : Bool) → (new == handle) ≡ b → b ≡ false
+    by true same = absurd (true≢false (sym over.given ∙ ap (λ n. was_given h n) (sym (same_key new handle same)) ∙ fresh.1))
+    by false same = refl
+
+or_given : (b c : Bool) → c ≡ true → b || c ≡ true
+or_given true c e = refl
+or_given false c e = e
+
+over_step : (s : State) (e : Entry) (handle : ℕ) → IsAllowed s e → IsOver handle s.handles → IsOver handle (step s e).0.handles
+over_step s e handle allowed over = kept_by_step (IsOver handle) s e (record {
+  same = over;
+  instance = λ gives. let other = is_other s.handles handle e.given (gives_handle s e) over allowed.handle gives in
+      record { some = over.some; given = or_given (e.given == handle) (was_given s.handles handle) over.given; absent = absent_instance s.handles 0 e.given handle other over.absent };
+  session = λ gives instance live. let other = is_other s.handles handle e.given (gives_handle s e) over allowed.handle gives in
+      record { some = over.some; given = or_given (e.given == handle) (was_given s.handles handle) over.given; absent = absent_session s.handles instance e.given handle other over.absent };
+  without = λ gone. record { some = over.some; given = over.given; absent = absent_without s.handles gone handle over.some over.absent };
+})
+
+over_after : (s : State) (es : List Entry) (handle : ℕ) → IsLegalFrom s es → IsOver handle s.handles → IsOver handle (after s es).handles
+over_after s [] handle legal over = over
+over_after s (e ∷ es) handle legal over = over_after (step s e).0 es handle legal.2 (over_step s e handle legal.0 over)
+
+-- ---- a handle is destroyed
+
+-- one that was live is over
+over_without : (h : Handles) (kind : Kind) (handle : ℕ) → AreKnown h → is_live h kind handle ≡ true → (IsAbsent h handle → is_live h kind handle ≡ false) → IsOver handle (without h handle)
+unfolding AreKnown
+over_without h kind handle known live dead =
+    let some = not_true (handle == 0) (both_of (not (handle == 0)) _ live).0 in
+    record { some = some; given = by (was_given h handle) refl some; absent = absent_itself h handle some }
+  where
+    by : (b : Bool) → was_given h handle ≡ b → (handle == 0) ≡ false → b ≡ true
+    by true e nz = refl
+    by false e nz = absurd (true≢false (sym live ∙ dead (known handle nz e)))
+
+-- a destroying call that succeeds has its effect, and its handle is live
+destroyed : (P : Handles → Type 0) (s : State) (live : Bool) (x : Effect) → is_success (unless_refused s (first_of (when (not live) HandleInvalid ∷ [])) x).code ≡ true
+    → (live ≡ true → P x.state.handles) → P (unless_refused s (first_of (when (not live) HandleInvalid ∷ [])) x).state.handles
+destroyed P s true x good done = done refl
+destroyed P s false x good done = absurd (true≢false (sym good))
+
+over_destroyed : (s : State) (e : Entry) (handle : ℕ) → AreKnown s.handles → destroys e.request handle ≡ true → is_success (step s e).1.reply.code ≡ true → IsOver handle (step s e).0.handles
+over_destroyed s e handle known = by e.request
+  where
+    by : (r : Request) → destroys r handle ≡ true → is_success (step s (record e { request = r })).1.reply.code ≡ true → IsOver handle (step s (record e { request = r })).0.handles
+    by (destroy_instance instance) names good =
+        destroyed (IsOver handle) s (is_live s.handles Instance instance) (rule s (record e { request = destroy_instance instance })).effect good
+        (λ live. subst (λ (n : ℕ). IsOver n (without s.handles instance)) (same_key instance handle names)
+        (over_without s.handles Instance instance known live (λ a. rw a.instances (and_false (not (instance == 0))))))
+    by (destroy_session session) names good =
+        destroyed (IsOver handle) s (is_live s.handles Session session) (rule s (record e { request = destroy_session session })).effect good
+        (λ live. subst (λ (n : ℕ). IsOver n (without s.handles session)) (same_key session handle names)
+        (over_without s.handles Session session known live (λ a. rw a.sessions (and_false (not (session == 0))))))
+    by _ names good = absurd (true≢false (sym names))
+
+-- ---- the law
+
+-- the end of a legal history is legal from where its front leads
+legal_behind : (s : State) (es fs : List Entry) → IsLegalFrom s (es ++ fs) → IsLegalFrom (after s es) fs
+legal_behind s [] fs legal = legal
+legal_behind s (e ∷ es) fs legal = legal_behind (step s e).0 es fs legal.2
+
+pub destroyed_for_good : DestroyedForGood
+destroyed_for_good apps es fs e handle legal names good =
+    let known = known_after (opening apps) es (known_opening apps) in
+    let rest = legal_behind (opening apps) es (e ∷ fs) legal in
+    let over = over_after (step (after (opening apps) es) e).0 fs handle rest.2 (over_destroyed (after (opening apps) es) e handle known names good) in
+    ap (λ (t : State). kind_of t.handles handle) (after_is_in_turn (opening apps) es (e ∷ fs)) ∙ absent_kind (after (step (after (opening apps) es) e).0 fs).handles handle over.absent

@@ -1,0 +1,66 @@
+-- What an entry does to the handles: it adds one, destroys one with all below it, or leaves them.
+use Rattle.std.proofs.Common.{◌≡◌, ℕ, ◌&&◌, not, Bool, true, false, List, ◌∷◌, Option, Some, None, refl}
+use Rattle.xr_types.specs.Code.{is_success}
+use Rattle.xr_types.specs.declared.code.Code.{Code}
+use Rattle.xr_types.specs.declared.code.Code.TheVariants.{HandleInvalid, CallOrderInvalid}
+use Rattle.xr_types.specs.declared.calls.Actor.{Actor}
+use Rattle.xr_types.specs.declared.calls.Actor.TheVariants.{App, Compositor, Device}
+use Rattle.xr_types.specs.declared.handles.Kind.TheVariants.{Instance, Session}
+use Rattle.xr_model.specs.Request.{Entry, Request, create_instance, destroy_instance, create_session, destroy_session, leave}
+use Rattle.xr_model.specs.Handles.{Handles, is_live, with_handle, without}
+use Rattle.xr_model.specs.Refusals.{Refusal, when, first_of}
+use Rattle.xr_model.specs.State.{State}
+use Rattle.xr_model.specs.Rules.{Effect, refusals, unless_refused}
+use Rattle.xr_model.specs.Steps.Own.{with_left}
+use Rattle.xr_model.specs.Machine.{step, rule, is_creation}
+
+-- the entry gives a new handle
+abbrev pub gives_handle : State → Entry → Bool
+gives_handle s e = is_creation e.request && is_success (step s e).1.reply.code
+
+-- A property that the handles have before an entry, and that each thing that the entry may do to them keeps.
+pub record Keeps (P : Handles → Type 0) (s : State) (e : Entry) : Type 0 where
+  pub same : P s.handles
+  pub instance : gives_handle s e ≡ true → P (with_handle s.handles Instance 0 e.given)
+  pub session : gives_handle s e ≡ true → (instance : ℕ) → is_live s.handles Instance instance ≡ true → P (with_handle s.handles Session instance e.given)
+  pub without : (handle : ℕ) → P (without s.handles handle)
+
+-- a refused effect leaves the handles
+kept : (P : Handles → Type 0) (s : State) (o : Option Refusal) (x : Effect) → P s.handles → (o ≡ None → P x.state.handles) → P (unless_refused s o x).state.handles
+kept P s None x same done = done refl
+kept P s (Some r) x same done = same
+
+succeeds : (s : State) (o : Option Refusal) (x : Effect) → is_success x.code ≡ true → o ≡ None → is_success (unless_refused s o x).code ≡ true
+succeeds s None x good none = good
+succeeds s (Some r) x good none = cc
+
+-- the first refusal doesn't hold where none does
+first_fails : (test : Bool) (code : Code) (rest : List Refusal) → first_of (when (not test) code ∷ rest) ≡ None → test ≡ true
+first_fails true code rest none = refl
+first_fails false code rest none = cc
+
+left_alone : (P : Handles → Type 0) (s : State) (who : Actor) → P s.handles → P (with_left s who).handles
+left_alone P s (App k) same = same
+left_alone P s Compositor same = same
+left_alone P s Device same = same
+
+-- the property holds after the entry
+pub kept_by_step : (P : Handles → Type 0) (s : State) (e : Entry) → Keeps P s e → P (step s e).0.handles
+kept_by_step P s e = by e.request
+  where
+    by : (r : Request) → Keeps P s (record e { request = r }) → P (step s (record e { request = r })).0.handles
+    by (create_instance major minor) k =
+        let f = rule s (record e { request = create_instance major minor }) in
+        kept P s (first_of (refusals f)) f.effect k.same (λ none. k.instance (succeeds s (first_of (refusals f)) f.effect refl none))
+    by (create_session instance system) k =
+        let f = rule s (record e { request = create_session instance system }) in
+        kept P s (first_of (refusals f)) f.effect k.same
+        (λ none. k.session (succeeds s (first_of (refusals f)) f.effect refl none) instance (first_fails (is_live s.handles Instance instance) HandleInvalid (when f.disorder CallOrderInvalid ∷ f.behind) none))
+    by (destroy_instance instance) k =
+        let f = rule s (record e { request = destroy_instance instance }) in
+        kept P s (first_of (refusals f)) f.effect k.same (λ none. k.without instance)
+    by (destroy_session session) k =
+        let f = rule s (record e { request = destroy_session session }) in
+        kept P s (first_of (refusals f)) f.effect k.same (λ none. k.without session)
+    by leave k = left_alone P s e.actor k.same
+    by r k = let f = rule s (record e { request = r }) in kept P s (first_of (refusals f)) f.effect k.same (λ none. k.same)

@@ -1,0 +1,77 @@
+-- No live handle is without its parent after any history.
+use Rattle.std.proofs.Common.{◌≡◌, ℕ, ◌==◌, not, true, List, [], ◌∷◌, refl}
+use Rattle.xr_types.specs.declared.handles.Kind.TheVariants.{Instance, Session}
+use Rattle.xr_types.specs.declared.handles.Slot.{Slot}
+use Rattle.xr_model.specs.Request.{Entry}
+use Rattle.xr_model.specs.Handles.{Handles, is_live, has, with_handle, going, gone_instances, gone_parents, without}
+use Rattle.xr_model.specs.State.{State, opening}
+use Rattle.xr_model.specs.Machine.{step}
+use Rattle.xr_model.specs.History.{after}
+use Rattle.xr_model.specs.HandleLaws.{AreUnder, NoOrphans}
+use Rattle.xr_model.proofs.Rows.{both_of, or_true, in_none, has_put, under_put, under_more, cleared_under}
+use Rattle.xr_model.proofs.HandleSteps.{kept_by_step}
+
+-- what is live without a handle and all below it
+without_under : (h : Handles) (handle : ℕ) → AreUnder h → AreUnder (without h handle)
+without_under h handle u = record {
+  sessions = cleared_under handle [] instances h.instances h.sessions (λ p e. e) u.sessions;
+  sets = cleared_under handle [] instances h.instances h.sets (λ p e. e) u.sets;
+  actions = cleared_under handle instances parents h.sets h.actions (λ p e. (in_none (λ g. g == p) instances sessions sets e).2) u.actions;
+  spaces = cleared_under handle instances parents h.sessions h.spaces (λ p e. (in_none (λ g. g == p) instances sessions sets e).1) u.spaces;
+  chains = cleared_under handle instances parents h.sessions h.chains (λ p e. (in_none (λ g. g == p) instances sessions sets e).1) u.chains;
+}
+  where
+    instances : List ℕ
+    instances = gone_instances h handle
+
+    parents : List ℕ
+    parents = gone_parents h handle
+
+    sessions : List ℕ
+    sessions = going handle (gone_instances h handle) h.sessions
+
+    sets : List ℕ
+    sets = going handle (gone_instances h handle) h.sets
+
+-- with an instance more
+instance_under : (h : Handles) (given : ℕ) → AreUnder h → AreUnder (with_handle h Instance 0 given)
+instance_under h given u = record {
+  sessions = under_more h.instances _ (has_put new h.instances) h.sessions u.sessions;
+  sets = under_more h.instances _ (has_put new h.instances) h.sets u.sets;
+  actions = u.actions;
+  spaces = u.spaces;
+  chains = u.chains;
+}
+  where
+    new : Slot
+    new = record { handle = given; parent = 0 }
+
+-- with a session more, of a live instance
+session_under : (h : Handles) (instance given : ℕ) → is_live h Instance instance ≡ true → AreUnder h → AreUnder (with_handle h Session instance given)
+session_under h instance given live u =
+    let parts = both_of (not (instance == 0)) (has h.instances instance) live in
+    record {
+      sessions = under_put new h.sessions h.instances u.sessions (rw (parts.0, parts.1) (or_true (given == 0)));
+      sets = u.sets;
+      actions = u.actions;
+      spaces = under_more h.sessions _ (has_put new h.sessions) h.spaces u.spaces;
+      chains = under_more h.sessions _ (has_put new h.sessions) h.chains u.chains;
+    }
+  where
+    new : Slot
+    new = record { handle = given; parent = instance }
+
+under_step : (s : State) (e : Entry) → AreUnder s.handles → AreUnder (step s e).0.handles
+under_step s e u = kept_by_step (λ h. AreUnder h) s e (record {
+  same = u;
+  instance = λ gives. instance_under s.handles e.given u;
+  session = λ gives instance live. session_under s.handles instance e.given live u;
+  without = λ handle. without_under s.handles handle u;
+})
+
+under_after : (s : State) (es : List Entry) → AreUnder s.handles → AreUnder (after s es).handles
+under_after s [] u = u
+under_after s (e ∷ es) u = under_after (step s e).0 es (under_step s e u)
+
+pub no_orphans : NoOrphans
+no_orphans apps es = under_after (opening apps) es (record { sessions = refl; sets = refl; actions = refl; spaces = refl; chains = refl })
