@@ -35,6 +35,20 @@ impl Core {
                 *instance, *system,
             )),
             Call::DestroySession { session } => Step::Done(self.destroy_session(*session)),
+            Call::BeginSession { session, view } => Step::Done(self.begin_session(*session, *view)),
+            Call::EndSession { session } => Step::Done(self.end_session(*session)),
+            Call::RequestExitSession { session } => Step::Done(self.request_exit_session(*session)),
+            Call::Mark { mark, value } => Step::Done(self.mark(*mark, *value)),
+            Call::AwaitMark { mark } => match self.mark_value(*mark) {
+                Some(value) => Step::Done(self.await_mark(*mark, value)),
+                None => Step::NotReady,
+            },
+            Call::Device(event) => {
+                if self.is_waiting(*event) {
+                    return Step::NotReady;
+                }
+                Step::Done(self.device(*event))
+            }
             Call::Leave => match who {
                 Actor::App(app) => Step::Done(self.leave(app)),
                 Actor::Compositor | Actor::Device => unreachable!(),

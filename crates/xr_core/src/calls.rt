@@ -1,4 +1,5 @@
 // What each call does, a method a call.
+mod device;
 mod instance;
 mod own;
 mod paths;

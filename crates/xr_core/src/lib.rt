@@ -4,6 +4,7 @@
 
 mod apply;
 mod calls;
+mod sessions;
 mod state;
 #[cfg(test)]
 mod tests;

@@ -4,13 +4,20 @@ ghost use Rattle.xr_model.specs.Handles.{without};
 ghost use Rattle.xr_model.specs.State.{opening};
 ghost use Rattle.xr_model.specs.Machine.{IsPresent};
 
+use crate::sessions::{LiveSession, free_places};
 use arrayvec::ArrayVec;
 use std::alloc::Global;
 use std::marker::Model;
 use xr_events::Events;
 use xr_handles::Handles;
 use xr_paths::Paths;
-use xr_types::{Actor, Code, Gives, MOST_HANDLES, NoMemory, Reply};
+use xr_types::{Actor, Code, Gives, MOST_HANDLES, NoMemory, Reply, Wish};
+
+/// How many marks there are.
+pub(crate) const MARKS: usize = 64;
+
+/// The period of frames until the device tells another, in ns.
+const FIRST_PERIOD: i64 = 11_111_111;
 
 /// How many applications a core may have.
 pub const MOST_APPS: usize = 8;
@@ -21,17 +28,26 @@ pub struct Core {
     pub(crate) handles: Handles,
     pub(crate) paths: Paths,
     pub(crate) events: Events,
+    /// A session for each place of their handles.
+    pub(crate) sessions: Vec<LiveSession>,
     /// How many sessions were created.
     pub(crate) created: u64,
     /// The device's clock, in ns.
     pub(crate) clock: i64,
+    /// The base and the period of frames, in ns.
+    pub(crate) base: i64,
+    pub(crate) period: i64,
+    pub(crate) wish: Wish,
+    /// The value of each mark that is set, from mark 1 on.
+    pub(crate) marks: [Option<u64>; MARKS],
     pub(crate) apps: u8,
     pub(crate) left: [bool; MOST_APPS],
     pub(crate) calls: u64,
 }
 
 impl Model for Core {
-    ghost use Rattle.std.specs.Prelude.{◌≤◌, take, length};
+    ghost use Rattle.std.specs.Prelude.{◌≡◌, ◌≤◌, take, length, map};
+    ghost use Rattle.xr_types.specs.declared.handles.TheConstants.{SESSIONS};
     ghost use Rattle.xr_model.specs.State.{State};
 
     ghost Value = { State };
@@ -40,14 +56,16 @@ impl Model for Core {
       handles = c.handles;
       atoms = c.paths;
       events = c.events;
+      sessions = map (λ x. record { ordinal = x.ordinal; life = x.life }) c.sessions.items;
       created = c.created;
-      clock = c.clock;
+      device = record { clock = c.clock; base = c.base; period = c.period; wish = c.wish };
+      marks = c.marks;
       apps = c.apps;
       left = take c.apps c.left;
       locked = c.calls;
     } };
 
-    ghost invariant = { λ c. (length c.handles.given ≤ c.calls) × (c.created ≤ c.calls) × (c.apps ≤ 8) };
+    ghost invariant = { λ c. (length c.sessions.items ≡ SESSIONS) × (length c.handles.given ≤ c.calls) × (c.created ≤ c.calls) × (c.apps ≤ 8) };
 }
 
 impl Core {
@@ -60,12 +78,18 @@ impl Core {
     {
         let paths = Paths::start(alloc)?;
         let events = Events::start(alloc)?;
+        let sessions = free_places(alloc)?;
         Ok(Core {
             handles: Handles::start(),
             paths,
             events,
+            sessions,
             created: 0,
             clock: 0,
+            base: 0,
+            period: FIRST_PERIOD,
+            wish: Wish::Rest,
+            marks: [None; MARKS],
             apps,
             left: [false; MOST_APPS],
             calls: 0,
@@ -90,9 +114,9 @@ impl Core {
         matches!(self.left[..apps].get(app as usize - 1), Some(false))
     }
 
-    /// The device's clock, in ns of device time. It is 0 until a device tells the time.
+    /// The device's clock, in ns of device time.
     pub fn clock(&self) -> i64
-        ensures { result ≡ self.now.clock }
+        ensures { result ≡ self.now.device.clock }
     {
         self.clock
     }

@@ -1,11 +1,15 @@
-ghost use Rattle.std.specs.Prelude.{◌<◌, ◌^◌, IsTrue};
+ghost use Rattle.std.specs.Prelude.{◌≡◌, ◌<◌, ◌^◌, IsTrue};
+ghost use Rattle.xr_types.specs.Device.{is_mark};
+ghost use Rattle.xr_model.specs.Device.{is_built_event};
 ghost use Rattle.xr_model.specs.Request.{request_of};
 ghost use Rattle.xr_types.specs.declared.calls.Actor.TheVariants.{App};
 ghost use Rattle.xr_model.specs.Machine.{IsPresent, MayMake};
 
 use super::Core;
 use std::test::Fail;
-use xr_types::{Actor, Call, Code, Event, Form, Gives, Reply, SessionState, Step};
+use xr_types::{
+    Actor, Call, Code, DeviceEvent, Event, Form, Gives, Reply, SessionState, Step, ViewConfig, Wish,
+};
 
 /// Whether the only application hasn't left.
 fn is_here(core: &Core) -> bool
@@ -14,12 +18,33 @@ fn is_here(core: &Core) -> bool
     core.apps == 1 && matches!(core.left[..1].first(), Some(false))
 }
 
+fn is_mark(mark: u8) -> bool
+    ensures { result ≡ is_mark mark }
+{
+    1 <= mark && mark <= 64
+}
+
+fn is_built(event: &DeviceEvent) -> bool
+    ensures { result ≡ is_built_event event.now }
+{
+    !matches!(
+        event,
+        DeviceEvent::Stage(_)
+            | DeviceEvent::Profile { .. }
+            | DeviceEvent::Input { .. }
+            | DeviceEvent::Pose { .. }
+    )
+}
+
 /// Whether an actor may make this call of a core of one application, and be lent no bytes.
 fn may_make(core: &Core, who: Actor, call: &Call<'_>) -> bool
     ensures { IsTrue result → MayMake core.now who (request_of call.now) 0 }
 {
     match (who, call) {
         (Actor::Compositor, Call::NextFrame) => true,
+        (Actor::Device, Call::Device(event)) => event.check() && is_built(event),
+        (Actor::App(1), Call::Mark { mark, .. } | Call::AwaitMark { mark }) => is_mark(*mark)
+            && is_here(core),
         (
             Actor::App(1),
             Call::CreateInstance { .. }
@@ -29,6 +54,9 @@ fn may_make(core: &Core, who: Actor, call: &Call<'_>) -> bool
             | Call::PollEvent { .. }
             | Call::CreateSession { .. }
             | Call::DestroySession { .. }
+            | Call::BeginSession { .. }
+            | Call::EndSession { .. }
+            | Call::RequestExitSession { .. }
             | Call::Leave,
         ) => is_here(core),
         (Actor::App(1), Call::PathToString { capacity: 0, .. }) => is_here(core),
@@ -216,5 +244,118 @@ fn the_count_of_lost_events_is_told_first(rt: HostRuntime) -> Result<(), Fail> {
         assert_eq!(rt; told(&mut core), Some(idle(ordinal, ordinal + 1)));
     }
     assert_eq!(rt; told(&mut core), Some(Gives::Nothing));
+    Ok(())
+}
+
+fn state(ordinal: u64, session: u64, state: SessionState) -> Gives {
+    Gives::Event(Event::State {
+        ordinal,
+        session,
+        state,
+    })
+}
+
+#[test]
+fn a_session_follows_the_device(rt: HostRuntime) -> Result<(), Fail> {
+    let mut core = Core::start(rt.alloc(), 1)?;
+    let poll = Call::PollEvent { instance: 1 };
+    let begin = |view| Call::BeginSession { session: 2, view };
+    let end = Call::EndSession { session: 2 };
+    let exit = Call::RequestExitSession { session: 2 };
+    let happens = |event| Call::Device(event);
+    let stereo = ViewConfig::Stereo;
+    let mut place = 0;
+    for (who, call, code, gives) in [
+        (APP, create(1), Code::Success, Gives::Handle(1)),
+        (APP, begin(stereo), Code::HandleInvalid, Gives::Nothing),
+        (APP, session(1, 1), Code::Success, Gives::Handle(2)),
+        (APP, begin(stereo), Code::SessionNotReady, Gives::Nothing),
+        (APP, exit, Code::SessionNotRunning, Gives::Nothing),
+        (
+            Actor::Device,
+            happens(DeviceEvent::Wish(Wish::Ready)),
+            Code::Success,
+            Gives::Nothing,
+        ),
+        (
+            APP,
+            begin(ViewConfig::Mono),
+            Code::ViewConfigurationTypeUnsupported,
+            Gives::Nothing,
+        ),
+        (APP, begin(stereo), Code::Success, Gives::Nothing),
+        (APP, begin(stereo), Code::SessionRunning, Gives::Nothing),
+        (APP, end, Code::SessionNotStopping, Gives::Nothing),
+        (
+            Actor::Device,
+            happens(DeviceEvent::Loss),
+            Code::Success,
+            Gives::Nothing,
+        ),
+        (APP, exit, Code::SessionLossPending, Gives::Nothing),
+        (APP, poll, Code::Success, idle(1, 2)),
+        (APP, poll, Code::Success, state(1, 2, SessionState::Ready)),
+        (
+            APP,
+            poll,
+            Code::Success,
+            state(1, 2, SessionState::LossPending),
+        ),
+        (APP, poll, Code::EventUnavailable, Gives::Nothing),
+        (
+            Actor::Device,
+            happens(DeviceEvent::Fault),
+            Code::Success,
+            Gives::Nothing,
+        ),
+        (APP, begin(stereo), Code::SessionLost, Gives::Nothing),
+        (APP, end, Code::SessionLost, Gives::Nothing),
+        (APP, exit, Code::SessionLost, Gives::Nothing),
+        (APP, poll, Code::EventUnavailable, Gives::Nothing),
+        (
+            APP,
+            Call::DestroySession { session: 2 },
+            Code::Success,
+            Gives::Nothing,
+        ),
+        (APP, begin(stereo), Code::HandleInvalid, Gives::Nothing),
+        (APP, session(1, 1), Code::Success, Gives::Handle(3)),
+        (APP, poll, Code::Success, idle(2, 3)),
+        (APP, poll, Code::Success, state(2, 3, SessionState::Ready)),
+    ] {
+        assert!(rt; place < 100);
+        place += 1;
+        let want = Some(Step::Done(Reply { code, gives, place }));
+        assert_eq!(rt; asked(&mut core, who, &call), want, "at {call:?}");
+    }
+    Ok(())
+}
+
+#[test]
+fn marks_and_clock(rt: HostRuntime) -> Result<(), Fail> {
+    let mut core = Core::start(rt.alloc(), 1)?;
+    let done = |gives| Some((Code::Success, gives));
+    let nothing = Some((Code::Success, Gives::Nothing));
+    let happens = |event| Call::Device(event);
+    for (who, call, want, clock) in [
+        (APP, Call::AwaitMark { mark: 64 }, None, 0),
+        (APP, Call::Mark { mark: 64, value: 7 }, nothing, 0),
+        (APP, Call::AwaitMark { mark: 64 }, done(Gives::Number(7)), 0),
+        (Actor::Device, happens(DeviceEvent::Await(64)), nothing, 0),
+        (Actor::Device, happens(DeviceEvent::Await(1)), None, 0),
+        (Actor::Device, happens(DeviceEvent::Mark(1)), nothing, 0),
+        (Actor::Device, happens(DeviceEvent::Await(1)), nothing, 0),
+        (APP, Call::AwaitMark { mark: 1 }, done(Gives::Number(0)), 0),
+        (Actor::Device, happens(DeviceEvent::Clock(5)), nothing, 5),
+        (Actor::Device, happens(DeviceEvent::Clock(3)), nothing, 5),
+    ] {
+        let told = match asked(&mut core, who, &call) {
+            Some(Step::Done(reply)) => Some((reply.code, reply.gives)),
+            _ => None,
+        };
+        assert_eq!(rt; told, want, "at {call:?}");
+        assert_eq!(rt; core.clock(), clock, "at {call:?}");
+    }
+    assert_eq!(rt; core.calls(), 8);
     Ok(())
 }

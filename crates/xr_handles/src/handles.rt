@@ -1,7 +1,7 @@
 // The rows of all kinds, and the calls on them.
-ghost use Rattle.std.specs.Prelude.{◌≡◌, ◌≢◌, ◌<◌, ◌^◌, [], ◌∷◌, false, length};
+ghost use Rattle.std.specs.Prelude.{◌≡◌, ◌≢◌, ◌<◌, ◌^◌, [], ◌∷◌, false, length, is_some, IfSome};
 ghost use Rattle.xr_model.specs.Handles as model;
-ghost use Rattle.xr_model.specs.Handles.{no_handles, row_of, is_live, kind_of, parent_of, place_of, no_room, was_given, with_handle, without};
+ghost use Rattle.xr_model.specs.Handles.{no_handles, limit_of, row_of, is_live, kind_of, parent_of, place_of, place_among, handle_in, first_free, no_room, was_given, with_handle, without};
 ghost use Rattle.xr_model.specs.Refusals.{first_of, answer_by, unless};
 ghost use Rattle.xr_handles.specs.Numbers.{next_number};
 
@@ -70,7 +70,8 @@ impl Handles {
 
     /// The row of a kind.
     fn row(&self, kind: Kind) -> &[Slot]
-        ensures { result.now ≡ row_of self.now kind }
+        ensures row { result.now ≡ row_of self.now kind }
+        ensures limit { length result.now ≡ limit_of kind }
     {
         match kind {
             Kind::Instance => &self.instances,
@@ -131,6 +132,35 @@ impl Handles {
             Some(kind) => row::place_in(self.row(kind), handle),
             None => None,
         }
+    }
+
+    /// The place of a handle of this kind in its row, from 0, where it is live.
+    #[tactic(auto, using(crate::proofs::Places::place_is_there))]
+    pub fn place_among(&self, kind: Kind, handle: u64) -> Option<usize>
+        ensures place { result ≡ place_among self.now kind handle }
+        ensures live { is_some result ≡ is_live self.now kind handle }
+        ensures within { IfSome result (λ place. place < limit_of kind) }
+    {
+        if !self.is_live(kind, handle) {
+            return None;
+        }
+        row::place_in(self.row(kind), handle)
+    }
+
+    /// The first free place of a kind, from 0, which the next handle of that kind takes.
+    pub fn free_place(&self, kind: Kind) -> Option<usize>
+        ensures place { result ≡ first_free (row_of self.now kind) }
+        ensures within { IfSome result (λ place. place < limit_of kind) }
+    {
+        row::free_place(self.row(kind))
+    }
+
+    /// The handle that stands in a place of a kind, 0 where none does.
+    pub fn handle_at(&self, kind: Kind, place: usize) -> u64
+        requires { place < limit_of kind }
+        ensures { result ≡ handle_in (row_of self.now kind) place }
+    {
+        self.row(kind)[place].handle
     }
 
     /// Gives a new handle under a parent (0 for an instance), in the first free place of its kind. `LimitReached`

@@ -12,7 +12,7 @@ pub(crate) const FREE: Slot = Slot {
 };
 
 /// The first free place of a row.
-fn free_place(row: &[Slot]) -> Option<usize>
+pub(crate) fn free_place(row: &[Slot]) -> Option<usize>
     ensures place { result ≡ first_free row.now }
     ensures within { IfSome result (λ k. k < length row.now) }
 {
@@ -40,7 +40,8 @@ pub(crate) fn has(row: &[Slot], handle: u64) -> bool
 
 /// The place of a handle in a row.
 pub(crate) fn place_in(row: &[Slot], handle: u64) -> Option<usize>
-    ensures { result ≡ place_in row.now handle }
+    ensures place { result ≡ place_in row.now handle }
+    ensures within { IfSome result (λ k. k < length row.now) }
 {
     row.iter().position(|slot| slot.handle == handle)
 }

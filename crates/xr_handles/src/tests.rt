@@ -83,6 +83,12 @@ fn a_live_handle_has_a_kind_a_parent_and_a_place(rt: HostRuntime) -> Result<(), 
         assert_eq!(rt; told, found, "of {handle}");
         let live = matches!(kind, Some(kind) if handles.is_live(kind, handle));
         assert_eq!(rt; live, found.is_some(), "of {handle}");
+        let among = handles.place_among(Kind::Space, handle);
+        let place = match found {
+            Some((Kind::Space, _, place)) => Some(place),
+            _ => None,
+        };
+        assert_eq!(rt; among, place, "of {handle}");
     }
     Ok(())
 }
@@ -120,8 +126,12 @@ fn a_number_is_never_given_twice(rt: HostRuntime) -> Result<(), Fail> {
     let mut handles = full();
     let mut gone: ArrayVec<u64, MOST_HANDLES> = ArrayVec::new();
     handles.destroy(20, &mut gone);
+    assert_eq!(rt; handles.free_place(Kind::Space), Some(1));
+    assert_eq!(rt; handles.handle_at(Kind::Space, 1), 0);
     assert_eq!(rt; give(&mut handles, Kind::Space, 2), Answer::numbered(163));
     assert_eq!(rt; handles.place_of(163), Some(1));
+    assert_eq!(rt; handles.handle_at(Kind::Space, 1), 163);
+    assert_eq!(rt; handles.free_place(Kind::Space), None);
     assert_eq!(rt; handles.kind_of(20), None);
     assert_eq!(rt; handles.count(), 163);
     Ok(())

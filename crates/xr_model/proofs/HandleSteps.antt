@@ -1,17 +1,24 @@
 -- What an entry does to the handles: it adds one, destroys one with all below it, or leaves them.
-use Rattle.std.proofs.Common.{◌≡◌, ℕ, ◌&&◌, not, Bool, true, false, List, ◌∷◌, Option, Some, None, refl}
+use Rattle.std.proofs.Common.{◌≡◌, ℕ, ◌&&◌, not, Bool, true, false, List, ◌∷◌, Option, Some, None, zero, suc, ◌==◌, refl, sym, subst, if◌then◌else◌}
 use Rattle.xr_types.specs.Code.{is_success}
 use Rattle.xr_types.specs.declared.code.Code.{Code}
 use Rattle.xr_types.specs.declared.code.Code.TheVariants.{HandleInvalid, CallOrderInvalid}
 use Rattle.xr_types.specs.declared.calls.Actor.{Actor}
 use Rattle.xr_types.specs.declared.calls.Actor.TheVariants.{App, Compositor, Device}
 use Rattle.xr_types.specs.declared.handles.Kind.TheVariants.{Instance, Session}
-use Rattle.xr_model.specs.Request.{Entry, Request, create_instance, destroy_instance, create_session, destroy_session, leave}
-use Rattle.xr_model.specs.Handles.{Handles, is_live, with_handle, without}
+use Rattle.xr_model.specs.Request.{Entry, Request, create_instance, destroy_instance, create_session, destroy_session, begin_session, end_session, request_exit_session, leave, device}
+use Rattle.xr_model.specs.Handles.{Handles, is_live, handle_in, place_among, with_handle, without}
 use Rattle.xr_model.specs.Refusals.{Refusal, when, first_of}
 use Rattle.xr_model.specs.State.{State}
 use Rattle.xr_model.specs.Rules.{Effect, refusals, unless_refused}
+use Rattle.xr_types.specs.declared.device.DeviceEvent.{DeviceEvent}
+use Rattle.xr_types.specs.declared.device.DeviceEvent.TheVariants as event
 use Rattle.xr_model.specs.Steps.Own.{with_left}
+use Rattle.xr_types.specs.declared.handles.TheConstants.{SESSIONS}
+use Rattle.xr_model.specs.States.{Life, Changed, unchanged, settled, losing, lost}
+use Rattle.xr_model.specs.Sessions.{session_in}
+use Rattle.xr_model.specs.Steps.Session.{changed_at, with_change_in}
+use Rattle.xr_model.specs.Steps.Device.{behind_event, with_changes_to}
 use Rattle.xr_model.specs.Machine.{step, rule, is_creation}
 
 -- the entry gives a new handle
@@ -44,6 +51,33 @@ left_alone P s (App k) same = same
 left_alone P s Compositor same = same
 left_alone P s Device same = same
 
+-- no event of the device moves a handle
+changes_leave : (s : State) (f : Life → Changed) (n : ℕ) → (with_changes_to s f n).handles ≡ s.handles
+changes_leave s f zero = refl
+changes_leave s f (suc n) = by (with_changes_to s f n) (changes_leave s f n)
+  where
+    by : (t : State) → t.handles ≡ s.handles
+        → (if handle_in t.handles.sessions n == 0 then t else changed_at t n (handle_in t.handles.sessions n) (f (session_in t.sessions n).life)).handles ≡ s.handles
+    by t same = each (handle_in t.handles.sessions n == 0) t (changed_at t n (handle_in t.handles.sessions n) (f (session_in t.sessions n).life)) same same
+      where
+        each : (b : Bool) (t u : State) → t.handles ≡ s.handles → u.handles ≡ s.handles → (if b then t else u).handles ≡ s.handles
+        each true t u e k = e
+        each false t u e k = k
+
+events_leave : (P : Handles → Type 0) (s : State) (what : DeviceEvent) → P s.handles → P (behind_event s what).handles
+events_leave P s (event.Clock time) same = same
+events_leave P s (event.Wish wish) same = subst P (sym (changes_leave (record s { device = record s.device { wish = wish } }) (settled wish) SESSIONS)) same
+events_leave P s event.Loss same = subst P (sym (changes_leave s losing SESSIONS)) same
+events_leave P s event.Lost same = subst P (sym (changes_leave s (λ life. unchanged (lost life)) SESSIONS)) same
+events_leave P s event.Fault same = subst P (sym (changes_leave s (λ life. unchanged (lost life)) SESSIONS)) same
+events_leave P s (event.Garbled line) same = subst P (sym (changes_leave s (λ life. unchanged (lost life)) SESSIONS)) same
+events_leave P s _ same = same
+
+-- nor does a session's change
+change_leaves : (P : Handles → Type 0) (s : State) (place : Option ℕ) (handle : ℕ) (c : Changed) → P s.handles → P (with_change_in s place handle c).handles
+change_leaves P s None handle c same = same
+change_leaves P s (Some place) handle c same = same
+
 -- the property holds after the entry
 pub kept_by_step : (P : Handles → Type 0) (s : State) (e : Entry) → Keeps P s e → P (step s e).0.handles
 kept_by_step P s e = by e.request
@@ -62,5 +96,15 @@ kept_by_step P s e = by e.request
     by (destroy_session session) k =
         let f = rule s (record e { request = destroy_session session }) in
         kept P s (first_of (refusals f)) f.effect k.same (λ none. k.without session)
+    by (begin_session session view) k =
+        let f = rule s (record e { request = begin_session session view }) in
+        kept P s (first_of (refusals f)) f.effect k.same (λ none. change_leaves P s (place_among s.handles Session session) session _ k.same)
+    by (end_session session) k =
+        let f = rule s (record e { request = end_session session }) in
+        kept P s (first_of (refusals f)) f.effect k.same (λ none. change_leaves P s (place_among s.handles Session session) session _ k.same)
+    by (request_exit_session session) k =
+        let f = rule s (record e { request = request_exit_session session }) in
+        kept P s (first_of (refusals f)) f.effect k.same (λ none. change_leaves P s (place_among s.handles Session session) session _ k.same)
     by leave k = left_alone P s e.actor k.same
+    by (device what) k = events_leave P s what k.same
     by r k = let f = rule s (record e { request = r }) in kept P s (first_of (refusals f)) f.effect k.same (λ none. k.same)

@@ -1,7 +1,13 @@
 -- Laws of histories, by induction over their entries.
-use Rattle.std.proofs.Common.{◌≡◌, ◌+◌, zero, suc, true, false, [], ◌∷◌, Option, Some, None, refl, sym, ap, ◌∙◌, arith, true≢false}
+use Rattle.std.specs.Prelude.{if◌then◌else◌}
+use Rattle.std.proofs.Common.{◌≡◌, ◌+◌, Bool, zero, suc, true, false, [], ◌∷◌, Option, Some, None, refl, sym, ap, ◌∙◌, arith, true≢false}
 use Rattle.xr_types.specs.Code.{is_success}
-use Rattle.xr_model.specs.Request.{Entry, Request, create_instance, string_to_path, path_to_string, leave, next_frame}
+use Rattle.xr_types.specs.declared.code.Code.TheVariants.{Success, SessionLossPending}
+use Rattle.xr_types.specs.declared.session.SessionState.TheVariants.{LossPending}
+use Rattle.xr_model.specs.States.{Life, is_state}
+use Rattle.xr_model.specs.Sessions.{success_in}
+use Rattle.xr_model.specs.Steps.Session.{life_of}
+use Rattle.xr_model.specs.Request.{Entry, Request, create_instance, string_to_path, path_to_string, begin_session, end_session, request_exit_session, leave, next_frame}
 use Rattle.xr_model.specs.Refusals.{Refusal, first_of}
 use Rattle.xr_model.specs.State.{State}
 use Rattle.xr_model.specs.Rules.{Effect, refusals, unless_refused}
@@ -14,6 +20,13 @@ refused_or_done : (s : State) (o : Option Refusal) (e : Effect) → is_success e
 refused_or_done s None e good bad = absurd (true≢false (sym good ∙ bad))
 refused_or_done s (Some r) e good bad = refl
 
+success_succeeds : (life : Life) → is_success (success_in life) ≡ true
+success_succeeds life = by (is_state life.state LossPending)
+  where
+    by : (pending : Bool) → is_success (if pending then SessionLossPending else Success) ≡ true
+    by true = refl
+    by false = refl
+
 effects_succeed : (s : State) (e : Entry) → is_success (rule s e).effect.code ≡ true
 effects_succeed s e = by e.request
   where
@@ -21,6 +34,9 @@ effects_succeed s e = by e.request
     by (create_instance major minor) = refl
     by (string_to_path instance text) = refl
     by (path_to_string instance path capacity) = refl
+    by (begin_session session view) = success_succeeds (life_of s session)
+    by (end_session session) = success_succeeds (life_of s session)
+    by (request_exit_session session) = success_succeeds (life_of s session)
     by leave = refl
     by next_frame = refl
     by _ = refl

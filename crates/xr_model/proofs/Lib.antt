@@ -6,3 +6,4 @@ pub mod Rows
 pub mod HandleSteps
 pub mod Orphans
 pub mod Destroying
+pub mod Settling

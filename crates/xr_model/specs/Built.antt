@@ -17,6 +17,9 @@ is_built_op (op.PathToString instance path capacity) = true
 is_built_op (op.PollEvent instance) = true
 is_built_op (op.CreateSession instance system) = true
 is_built_op (op.DestroySession session) = true
+is_built_op (op.BeginSession session view) = true
+is_built_op (op.EndSession session) = true
+is_built_op (op.RequestExitSession session) = true
 is_built_op _ = false
 
 -- there is one script, and all its ops are built

@@ -1,6 +1,6 @@
 -- Handles (OpenXR 1.0 chapter 2, "Handles"): those that were given in the run, and the live ones, which
 -- stand in a row of places for each kind.
-use Rattle.std.specs.Prelude.{ℕ, ◌&&◌, ◌||◌, ◌==◌, Bool, not, List, [], ◌∷◌, ◌++◌, map, replicate, slice_set, Option, Some, None, option_map, is_some, if◌then◌else◌}
+use Rattle.std.specs.Prelude.{ℕ, ◌&&◌, ◌||◌, ◌==◌, Bool, not, List, [], ◌∷◌, ◌++◌, map, replicate, slice_set, slice_index_or, Option, Some, None, option_map, is_some, if◌then◌else◌}
 use Rattle.std.specs.List.{list_any, position_from, find}
 use Rattle.xr_types.specs.declared.code.Code.TheVariants.{HandleInvalid, LimitReached}
 use Rattle.xr_types.specs.declared.handles.Kind.{Kind}
@@ -33,6 +33,15 @@ no_handles = record {
   spaces = replicate SPACES free;
   chains = replicate SWAPCHAINS free;
 }
+
+-- how many handles of a kind are live at most
+abbrev pub limit_of : Kind → ℕ
+limit_of Instance = INSTANCES
+limit_of Session = SESSIONS
+limit_of ActionSet = ACTION_SETS
+limit_of Action = ACTIONS
+limit_of Space = SPACES
+limit_of Swapchain = SWAPCHAINS
 
 abbrev pub row_of : Handles → Kind → List Slot
 row_of h Instance = h.instances
@@ -93,6 +102,14 @@ place_of h handle = place_of_kind h (kind_of h handle) handle
 -- the parent of a live handle, 0 for an instance
 abbrev pub parent_of : Handles → ℕ → Option ℕ
 parent_of h handle = parent_of_kind h (kind_of h handle) handle
+
+-- the place of a handle of this kind, where it is live
+abbrev pub place_among : Handles → Kind → ℕ → Option ℕ
+place_among h kind handle = if is_live h kind handle then place_in (row_of h kind) handle else None
+
+-- the handle that stands in a place of a row, 0 where none does
+abbrev pub handle_in : List Slot → ℕ → ℕ
+handle_in row place = (slice_index_or row place free).handle
 
 -- a call's own handle has to be live and of its kind
 abbrev pub no_handle : Handles → Kind → ℕ → Refusal

@@ -2,6 +2,10 @@ pub mod Request
 pub mod Refusals
 pub mod Handles
 pub mod Events
+pub mod States
+pub mod Sessions
+pub mod Marks
+pub mod Device
 pub mod Paths
 pub mod State
 pub mod Rules
@@ -16,6 +20,7 @@ pub mod Report
 pub mod ReportLines
 pub mod ReportValues
 pub mod DeviceLines
+pub mod DeviceText
 pub mod Inputs
 pub mod Words
 pub mod Names
@@ -29,5 +34,6 @@ pub mod InForm
 pub mod Scenario
 pub mod Built
 pub mod Laws
+pub mod StateLaws
 pub mod AnswerLaws
 pub mod HandleLaws

@@ -8,17 +8,23 @@ use Rattle.xr_types.specs.declared.calls.Reply.{Reply}
 use Rattle.xr_types.specs.declared.calls.Call.{Call}
 use Rattle.xr_types.specs.declared.calls.Step.{Step}
 use Rattle.xr_types.specs.declared.calls.Step.TheVariants.{Done, NotReady}
+use Rattle.xr_types.specs.declared.device.DeviceEvent.{DeviceEvent}
+use Rattle.xr_types.specs.declared.device.DeviceEvent.TheVariants.{Await}
 use Rattle.xr_types.specs.Code.{is_success}
-use Rattle.xr_model.specs.Request.{Request, create_instance, destroy_instance, get_system, string_to_path, path_to_string, poll_event, create_session, destroy_session, leave, next_frame, Entry, entry_of, request_of, Outcome}
+use Rattle.xr_types.specs.Device.{is_mark, checks}
+use Rattle.xr_model.specs.Request.{Request, create_instance, destroy_instance, get_system, string_to_path, path_to_string, poll_event, create_session, destroy_session, begin_session, end_session, request_exit_session, mark, await_mark, leave, device, next_frame, Entry, entry_of, request_of, Outcome}
 use Rattle.xr_model.specs.Handles.{Handles, was_given}
 use Rattle.xr_model.specs.Paths.{is_new}
+use Rattle.xr_model.specs.Marks.{is_set}
+use Rattle.xr_model.specs.Device.{is_built_event}
 use Rattle.xr_model.specs.Refusals.{first_of}
 use Rattle.xr_model.specs.State.{State}
 use Rattle.xr_model.specs.Rules.{Rule, Effect, refusals, carried_out, placed, written_over}
 use Rattle.xr_model.specs.Steps.Instance.{create_instance_rule, destroy_instance_rule, get_system_rule, poll_event_rule}
-use Rattle.xr_model.specs.Steps.Session.{create_session_rule, destroy_session_rule}
+use Rattle.xr_model.specs.Steps.Session.{create_session_rule, destroy_session_rule, begin_session_rule, end_session_rule, request_exit_session_rule}
+use Rattle.xr_model.specs.Steps.Device.{device_rule}
 use Rattle.xr_model.specs.Steps.Paths.{string_to_path_rule, path_to_string_rule}
-use Rattle.xr_model.specs.Steps.Own.{leave_rule, next_frame_rule, unbuilt_rule}
+use Rattle.xr_model.specs.Steps.Own.{leave_rule, mark_rule, await_mark_rule, next_frame_rule, unbuilt_rule}
 
 -- the rule of a call
 abbrev pub rule_of : State → Actor → ℕ → Bool → Request → Rule
@@ -30,7 +36,13 @@ rule_of s who given short (path_to_string instance path capacity) = path_to_stri
 rule_of s who given short (poll_event instance) = poll_event_rule s instance
 rule_of s who given short (create_session instance system) = create_session_rule s given instance system
 rule_of s who given short (destroy_session session) = destroy_session_rule s session
+rule_of s who given short (begin_session session view) = begin_session_rule s session view
+rule_of s who given short (end_session session) = end_session_rule s session
+rule_of s who given short (request_exit_session session) = request_exit_session_rule s session
+rule_of s who given short (mark number value) = mark_rule s number value
+rule_of s who given short (await_mark number) = await_mark_rule s number
 rule_of s who given short leave = leave_rule s who
+rule_of s who given short (device what) = device_rule s what
 rule_of s who given short next_frame = next_frame_rule s
 rule_of s who given short _ = unbuilt_rule s
 
@@ -47,8 +59,16 @@ step s e = placed s (effect s e)
 
 -- ---- readiness
 
--- a call that would succeed has to wait: the compositor waits until every application has left
+-- the device waits for a mark
+abbrev pub is_awaiting : State → DeviceEvent → Bool
+is_awaiting s (Await number) = not (is_set s.marks number)
+is_awaiting s _ = false
+
+-- A call that would succeed has to wait: a script or the device until a mark is set, the compositor until
+-- every application has left.
 abbrev pub is_held_back : State → Request → Bool
+is_held_back s (await_mark number) = not (is_set s.marks number)
+is_held_back s (device what) = is_awaiting s what
 is_held_back s next_frame = not (list_all (λ gone. gone) s.left)
 is_held_back s _ = false
 
@@ -68,7 +88,13 @@ is_built (path_to_string instance path capacity) = true
 is_built (poll_event instance) = true
 is_built (create_session instance system) = true
 is_built (destroy_session session) = true
+is_built (begin_session session view) = true
+is_built (end_session session) = true
+is_built (request_exit_session session) = true
+is_built (mark number value) = true
+is_built (await_mark number) = true
 is_built leave = true
+is_built (device what) = is_built_event what
 is_built next_frame = true
 is_built _ = false
 
@@ -118,6 +144,11 @@ IsCompositor (App k) = ⊥
 IsCompositor Compositor = Unit {0}
 IsCompositor Device = ⊥
 
+abbrev pub IsDevice : Actor → Type 0
+IsDevice (App k) = ⊥
+IsDevice Compositor = ⊥
+IsDevice Device = Unit {0}
+
 -- who makes which call; nobody makes one that isn't built
 abbrev pub IsCaller : Actor → Request → Type 0
 IsCaller who (create_instance major minor) = IsApp who
@@ -128,19 +159,34 @@ IsCaller who (path_to_string instance path capacity) = IsApp who
 IsCaller who (poll_event instance) = IsApp who
 IsCaller who (create_session instance system) = IsApp who
 IsCaller who (destroy_session session) = IsApp who
+IsCaller who (begin_session session view) = IsApp who
+IsCaller who (end_session session) = IsApp who
+IsCaller who (request_exit_session session) = IsApp who
+IsCaller who (mark number value) = IsApp who
+IsCaller who (await_mark number) = IsApp who
 IsCaller who leave = IsApp who
+IsCaller who (device what) = IsDevice who × (is_built_event what ≡ true)
 IsCaller who next_frame = IsCompositor who
 IsCaller who _ = ⊥
+
+-- which numbers a call may have: marks are 1 to 64, and a device's event checks
+abbrev pub HasNumbers : Request → Type 0
+HasNumbers (mark number value) = is_mark number ≡ true
+HasNumbers (await_mark number) = is_mark number ≡ true
+HasNumbers (device what) = checks what ≡ true
+HasNumbers _ = Unit {0}
 
 -- how many bytes a call wants to be lent
 abbrev pub FitsBuffer : Request → ℕ → Type 0
 FitsBuffer (path_to_string instance path capacity) size = size ≡ capacity
 FitsBuffer _ size = Unit {0}
 
--- What an actor may ask of the core: it is there, the call is its own, and the buffer has the size asked for.
+-- What an actor may ask of the core: it is there, the call is its own, its numbers are in range, and the buffer
+-- has the size asked for.
 pub record MayMake (s : State) (who : Actor) (what : Request) (size : ℕ) : Type 0 where
   pub present : IsPresent s who
   pub caller : IsCaller who what
+  pub numbers : HasNumbers what
   pub buffer : FitsBuffer what size
 
 -- A reply and the bytes over a buffer are the outcome of an allowed and ready entry, and new is the

@@ -5,6 +5,7 @@
 ghost use Rattle.xr_model.specs.AnswerLaws.{AnswersAreAHistory};
 ghost use Rattle.xr_model.specs.HandleLaws.{NoOrphans, DestroyedForGood};
 ghost use Rattle.xr_model.specs.Laws.{RefusalsChangeNothing, AfterIsInTurn, EntriesAreCounted, PlacesCount, FrontsAreLegal, ToldAtTheirPlaces};
+ghost use Rattle.xr_model.specs.StateLaws.{NoRowFits};
 
 /// A call that is no success changes nothing but the count of locked calls.
 #[tactic(auto, using(crate::proofs::Histories::refusals_change_nothing))]
@@ -57,4 +58,10 @@ pub fn no_orphans()
 #[tactic(auto, using(crate::proofs::Destroying::destroyed_for_good))]
 pub fn destroyed_for_good()
     ensures { DestroyedForGood }
+{}
+
+/// Where a session has settled, no row of the table of states fits.
+#[tactic(auto, using(crate::proofs::Settling::no_row_fits))]
+pub fn no_row_fits()
+    ensures { NoRowFits }
 {}

@@ -7,7 +7,7 @@ use Rattle.xr_types.specs.declared.calls.Actor.{Actor}
 use Rattle.xr_types.specs.declared.calls.Actor.TheVariants.{App}
 use Rattle.xr_types.specs.declared.calls.Gives.TheVariants.{Size}
 use Rattle.xr_types.specs.declared.calls.Reply.{Reply}
-use Rattle.xr_model.specs.Request.{Request, create_instance, destroy_instance, get_system, string_to_path, path_to_string, poll_event, create_session, destroy_session, leave, next_frame, Entry, Outcome, entry_of}
+use Rattle.xr_model.specs.Request.{Request, create_instance, destroy_instance, get_system, string_to_path, path_to_string, poll_event, create_session, destroy_session, begin_session, end_session, request_exit_session, mark, await_mark, device, leave, next_frame, Entry, Outcome, entry_of}
 use Rattle.xr_types.specs.declared.session.Event.{Event}
 use Rattle.xr_model.specs.Events.{polled}
 use Rattle.xr_model.specs.Steps.Instance.{told_event}
@@ -15,8 +15,8 @@ use Rattle.xr_model.specs.Paths.{text_at, copied, size_at, size_of}
 use Rattle.xr_model.specs.Refusals.{Refusal, first_of}
 use Rattle.xr_model.specs.State.{State}
 use Rattle.xr_model.specs.Rules.{Effect, refusals, unless_refused, written_over}
-use Rattle.xr_model.specs.Machine.{step, rule, ready, IsCaller, FitsBuffer, Answers}
-use Rattle.xrsim.specs.Lent.{lent_size, written_size}
+use Rattle.xr_model.specs.Machine.{step, rule, ready, IsCaller, HasNumbers, FitsBuffer, Answers}
+use Rattle.xrsim.specs.Lent.{IsPrompt, lent_size, written_size}
 use Rattle.xrsim.specs.Play.{IsMade}
 
 -- a refusal that holds gives nothing that fits the buffer
@@ -80,26 +80,31 @@ text_fits s e = by e.request
     by (poll_event instance) = carried_fits s 0 (refusals (rule s (record e { request = poll_event instance }))) (rule s (record e { request = poll_event instance })).effect ((λ h. refl), ((λ h. refl), ((λ h. refl), tt))) (told_writes_none (polled s.events))
     by (create_session instance system) = carried_fits s 0 (refusals (rule s (record e { request = create_session instance system }))) (rule s (record e { request = create_session instance system })).effect ((λ h. refl), ((λ h. refl), ((λ h. refl), ((λ h. refl), tt)))) refl
     by (destroy_session session) = carried_fits s 0 (refusals (rule s (record e { request = destroy_session session }))) (rule s (record e { request = destroy_session session })).effect ((λ h. refl), ((λ h. refl), tt)) refl
+    by (begin_session session view) = carried_fits s 0 (refusals (rule s (record e { request = begin_session session view }))) (rule s (record e { request = begin_session session view })).effect ((λ h. refl), ((λ h. refl), ((λ h. refl), ((λ h. refl), ((λ h. refl), ((λ h. refl), tt)))))) refl
+    by (end_session session) = carried_fits s 0 (refusals (rule s (record e { request = end_session session }))) (rule s (record e { request = end_session session })).effect ((λ h. refl), ((λ h. refl), ((λ h. refl), ((λ h. refl), ((λ h. refl), tt))))) refl
+    by (request_exit_session session) = carried_fits s 0 (refusals (rule s (record e { request = request_exit_session session }))) (rule s (record e { request = request_exit_session session })).effect ((λ h. refl), ((λ h. refl), ((λ h. refl), ((λ h. refl), tt)))) refl
     by leave = refl
     by next_frame = refl
     by _ = refl
 
--- an application's call never waits
-pub app_ready : (s : State) (e : Entry) (k : ℕ) → IsCaller (App k) e.request → ready s e ≡ true
-app_ready s e k caller = by e.request caller
+-- an application's prompt call never waits
+pub app_ready : (s : State) (e : Entry) (k : ℕ) → IsCaller (App k) e.request → IsPrompt e.request → ready s e ≡ true
+app_ready s e k caller prompt = by e.request caller prompt
   where
-    by : (r : Request) → IsCaller (App k) r → ready s (record e { request = r }) ≡ true
-    by (create_instance major minor) c = refl
-    by (string_to_path instance text) c = refl
-    by (path_to_string instance path capacity) c = refl
-    by (destroy_instance instance) c = refl
-    by (get_system instance form) c = refl
-    by (poll_event instance) c = refl
-    by (create_session instance system) c = refl
-    by (destroy_session session) c = refl
-    by leave c = refl
-    by next_frame c = absurd c
-    by _ c = absurd c
+    by : (r : Request) → IsCaller (App k) r → IsPrompt r → ready s (record e { request = r }) ≡ true
+    by (create_instance major minor) c p = refl
+    by (await_mark number) c p = absurd p
+    by (device what) c p = absurd p
+    by next_frame c p = absurd c
+    by _ c p = refl
+
+-- nor has it a number that is out of range
+pub prompt_numbers : (r : Request) → IsPrompt r → HasNumbers r
+prompt_numbers (create_instance major minor) p = tt
+prompt_numbers (mark number value) p = absurd p
+prompt_numbers (await_mark number) p = absurd p
+prompt_numbers (device what) p = absurd p
+prompt_numbers _ p = tt
 
 -- the front of a buffer that was written over
 pub front_of-written : (bytes buffer : List ℕ) (n : ℕ) → length bytes ≡ n → take n (written_over bytes buffer) ≡ bytes

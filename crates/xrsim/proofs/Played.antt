@@ -13,7 +13,11 @@ use Rattle.xr_types.specs.declared.scenario.Op.{Op}
 use Rattle.xr_types.specs.declared.scenario.Op.TheVariants as op
 use Rattle.xr_types.specs.declared.scenario.Scenario.{Scenario}
 use Rattle.xr_types.specs.Op.{call_name}
-use Rattle.xr_model.specs.Request.{Request, leave, next_frame, Entry, Told, Outcome, entry_of, is_actor}
+use Rattle.xr_types.specs.declared.handles.Kind.TheVariants.{Session}
+use Rattle.xr_model.specs.Handles.{place_among}
+use Rattle.xr_model.specs.States.{Changed}
+use Rattle.xr_model.specs.Steps.Session.{with_change_in}
+use Rattle.xr_model.specs.Request.{Request, begin_session, end_session, request_exit_session, leave, device, next_frame, Entry, Told, Outcome, entry_of, is_actor}
 use Rattle.xr_model.specs.Refusals.{Refusal, first_of}
 use Rattle.xr_model.specs.State.{State, opening}
 use Rattle.xr_model.specs.Rules.{Effect, refusals, unless_refused}
@@ -26,7 +30,7 @@ use Rattle.xr_model.specs.Robin.{Seat, script, compositor, first_seats, IsRobinF
 use Rattle.xr_model.specs.Lists.{made_at, made_from, name_of, mark_of, start_of}
 use Rattle.xrsim.specs.Play.{IsMade, IsOpen, Playing, ToldSo, one_list_of}
 use Rattle.xrsim.specs.Run.{IsEnd, Plays}
-use Rattle.xrsim.proofs.Turns.{script_turn, compositor_turn}
+use Rattle.xrsim.proofs.Turns.{op_ready, script_turn, compositor_turn}
 
 -- ---- the one application stays while ops are made
 
@@ -40,9 +44,15 @@ refused_keeps : (s : State) (o : Option Refusal) (e : Effect) → KeepsOpen s e 
 refused_keeps s None e h = h
 refused_keeps s (Some r) e h = refl
 
+-- a session's change lets nobody leave
+change_keeps : (s : State) (place : Option ℕ) (handle : ℕ) (c : Changed) → (with_change_in s place handle c).left ≡ s.left
+change_keeps s None handle c = refl
+change_keeps s (Some place) handle c = refl
+
 -- only `leave` tells that somebody has left
 abbrev IsStaying : Request → Type 0
 IsStaying leave = ⊥
+IsStaying (device what) = ⊥
 IsStaying _ = Unit {0}
 
 call_keeps : (s : State) (e : Entry) → IsStaying e.request → (step s e).0.left ≡ s.left
@@ -50,6 +60,10 @@ call_keeps s e stays = refused_keeps s (first_of (refusals (rule s e))) (rule s 
   where
     by : (r : Request) → IsStaying r → KeepsOpen s (rule s (record e { request = r })).effect
     by leave stays = absurd stays
+    by (device what) stays = absurd stays
+    by (begin_session session view) stays = change_keeps s (place_among s.handles Session session) session _
+    by (end_session session) stays = change_keeps s (place_among s.handles Session session) session _
+    by (request_exit_session session) stays = change_keeps s (place_among s.handles Session session) session _
     by _ stays = refl
 
 op_stays : (values : List ℕ) (o : Op) → IsStaying (request_for values o)
@@ -109,10 +123,10 @@ calls_mine s new e outcome who more mine leads came =
 calls_others : (s new : State) (e : Entry) (who : Actor) (more : List Entry) → is_actor who e.actor ≡ false → new ≡ (step s e).0 → calls_from s who (e ∷ more) ≡ calls_from new who more
 calls_others s new e who more other leads = rw other (ap (λ (n : State). calls_from n who more) (sym leads))
 
-pub playing_more : (ops os : List Op) (o : Op) (place : ℕ) (values : List ℕ) (s new : State) (told : List Told) (answer : Reply) (bytes : List ℕ) → IsOpen s → IsMade s new (App 1) (request_for values o) answer bytes
+pub playing_more : (ops os : List Op) (o : Op) (place : ℕ) (values : List ℕ) (s new : State) (told : List Told) (answer : Reply) (bytes : List ℕ) → is_built_op o ≡ true → IsOpen s → IsMade s new (App 1) (request_for values o) answer bytes
     → Playing ops (o ∷ os) place values s told
     → Playing ops os (place + 1) (learned values place o answer) new (told ++ told_of (request_for values o) answer bytes ∷ [])
-playing_more ops os o place values s new told answer bytes there made p =
+playing_more ops os o place values s new told answer bytes built there made p =
     let e : Entry = entry_of (App 1) (request_for values o) answer in
     let outcome : Outcome = record { reply = answer; text = bytes } in
     let t : Told = told_of (request_for values o) answer bytes in
@@ -121,7 +135,7 @@ playing_more ops os o place values s new told answer bytes there made p =
       seats = compositor ∷ script 1 (place + 1) os (learned values place o answer) ∷ [];
       turn = inr refl;
       legal = λ more h. rw append_assoc (p.legal (e ∷ more) (made.allowed, made.is_ready, subst (λ (n : State). IsLegalFrom n more) made.leads h));
-      robin = λ more h. rw append_assoc (p.robin (e ∷ more) (script_turn s new place (o ∷ os) values p.seats e outcome more there p.turn refl refl made.leads made.outcome h));
+      robin = λ more h. rw append_assoc (p.robin (e ∷ more) (script_turn s new place (o ∷ os) values p.seats e outcome more there (op_ready s place o os values built) p.turn refl refl made.leads made.outcome h));
       mine = λ more. rw append_assoc (p.mine (e ∷ more) ∙ ap (λ (ts : List Told). told ++ ts) (calls_mine s new e outcome (App 1) more refl made.leads made.outcome) ∙ sym (append_assoc told (t ∷ []) (calls_from new (App 1) more)));
       others = λ who other more. rw append_assoc (p.others who other (e ∷ more) ∙ calls_others s new e who more other made.leads);
       follows = λ more h. rw append_assoc (p.follows (t ∷ more) (same_request values o, h));
@@ -147,7 +161,7 @@ told_more ops i o d values s new made answer bytes inside here built there is_ma
       told = t.told ++ told_of (request_for values o) answer bytes ∷ [];
       count = length-append t.told (told_of (request_for values o) answer bytes ∷ []) ∙ rw t.count refl;
       kept = rw t.kept (sym (made_snoc 1 t.told (told_of (request_for values o) answer bytes) ∙ ap (λ (m : Made). made_from 1 t.told ++ m ∷ []) last));
-      playing = playing_more ops (drop (i + 1) ops) o (i + 1) values s new t.told answer bytes there is_made (subst (λ (os : List Op). Playing ops os (i + 1) values s t.told) rest t.playing);
+      playing = playing_more ops (drop (i + 1) ops) o (i + 1) values s new t.told answer bytes built there is_made (subst (λ (os : List Op). Playing ops os (i + 1) values s t.told) rest t.playing);
     }
 
 -- ---- the end
@@ -189,7 +203,7 @@ played ops scenario values s gone last made answer ended bytes lists one there t
       one = one;
       legal = p.legal (e ∷ f ∷ []) (leaves.allowed, leaves.is_ready, subst (λ (n : State). IsLegalFrom n (f ∷ [])) leaves.leads (ends.allowed, ends.is_ready, tt));
       robin = subst (λ (seats : List Seat). IsRobinFrom (opening 1) seats (p.past ++ e ∷ f ∷ [])) (sym (one_list ops scenario one))
-          (p.robin (e ∷ f ∷ []) (script_turn s gone (length ops + 1) [] values p.seats e came (f ∷ []) there p.turn refl refl leaves.leads leaves.outcome
+          (p.robin (e ∷ f ∷ []) (script_turn s gone (length ops + 1) [] values p.seats e came (f ∷ []) there refl p.turn refl refl leaves.leads leaves.outcome
           (compositor_turn gone f (left_after s gone answer bytes there leaves) refl refl (ap (λ (o : Outcome). o.reply.gives) ends.outcome ∙ end_gives gone last ended ends))));
       follows = subst (λ (ts : List Told). Follows ops ts) (sym mine) (p.follows (told_of leave answer bytes ∷ []) refl);
       ends = subst (λ (ts : List Told). IsEnd ts) (sym theirs) (refl, end_gives gone last ended ends);

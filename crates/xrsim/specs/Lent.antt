@@ -2,7 +2,14 @@
 use Rattle.std.specs.Prelude.{ℕ, nat_le, if◌then◌else◌}
 use Rattle.xr_types.specs.declared.calls.Gives.{Gives}
 use Rattle.xr_types.specs.declared.calls.Gives.TheVariants.{Size}
-use Rattle.xr_model.specs.Request.{Request, path_to_string}
+use Rattle.xr_model.specs.Request.{Request, path_to_string, mark, await_mark, device}
+
+-- a call that never waits and has no number that could be out of range
+abbrev pub IsPrompt : Request → Type 0
+IsPrompt (mark number value) = ⊥
+IsPrompt (await_mark number) = ⊥
+IsPrompt (device what) = ⊥
+IsPrompt _ = Unit {0}
 
 -- how many bytes a call is lent
 abbrev pub lent_size : Request → ℕ

@@ -18,6 +18,9 @@ fn is_built(op: &Op) -> bool
             | Op::PollEvent { .. }
             | Op::CreateSession { .. }
             | Op::DestroySession { .. }
+            | Op::BeginSession { .. }
+            | Op::EndSession { .. }
+            | Op::RequestExitSession { .. }
     )
 }
 

@@ -4,7 +4,7 @@ ghost use Rattle.xr_types.specs.declared.calls.Actor.TheVariants.{App};
 ghost use Rattle.xr_model.specs.Request.{request_of};
 ghost use Rattle.xr_model.specs.Machine.{IsCaller, IsPresent};
 ghost use Rattle.xrsim.specs.Play.{IsMade};
-ghost use Rattle.xrsim.specs.Lent.{lent_size, written_size};
+ghost use Rattle.xrsim.specs.Lent.{IsPrompt, lent_size, written_size};
 
 use std::alloc::Global;
 use xr_core::Core;
@@ -42,7 +42,7 @@ fn written_size(gives: Gives, size: u64) -> u64
     }
 }
 
-/// Makes a call of the application over a buffer of the size that it asks for.
+/// Makes a call of the application, which never waits, over a buffer of the size that it asks for.
 fn make_over(
     alloc: Global,
     core: &mut Core,
@@ -51,6 +51,7 @@ fn make_over(
 ) -> Result<Answered, NoMemory>
     requires calls { core.old.locked < 2 ^ 44 }
     requires caller { IsCaller (App 1) (request_of call.now) }
+    requires prompt { IsPrompt (request_of call.now) }
     requires present { IsPresent core.old (App 1) }
     requires size { length buffer.old ≡ lent_size (request_of call.now) }
     ensures { IfOk result (λ answered. IsMade core.old core.new (App 1) (request_of call.now) answered.reply answered.text) }
@@ -66,10 +67,11 @@ fn make_over(
     }
 }
 
-/// Makes a call of the application, which is lent a buffer of the size that it asks for.
+/// Makes a call of the application, which never waits and is lent a buffer of the size that it asks for.
 pub(crate) fn make(alloc: Global, core: &mut Core, call: &Call<'_>) -> Result<Answered, NoMemory>
     requires calls { core.old.locked < 2 ^ 44 }
     requires caller { IsCaller (App 1) (request_of call.now) }
+    requires prompt { IsPrompt (request_of call.now) }
     requires present { IsPresent core.old (App 1) }
     ensures { IfOk result (λ answered. IsMade core.old core.new (App 1) (request_of call.now) answered.reply answered.text) }
 {

@@ -12,7 +12,8 @@ usage:
 FILE has 1 to 4095 bytes; write '--' before one that begins with '-'. It holds a JSON object of at most
 1,048,576 bytes: a version, 1, and scripts of ops, which docs/scenario.schema.json describes. One script
 of these ops is run: create_instance, destroy_instance, get_system, string_to_path, path_to_string,
-poll_event, create_session and destroy_session. What is more isn't built yet.
+poll_event, create_session, destroy_session, begin_session, end_session and request_exit_session. What is
+more isn't built yet.
 With --places each line of a call ends in '@' and its reply's place, the count of calls up to it.
 
 example:

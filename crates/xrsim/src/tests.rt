@@ -109,6 +109,27 @@ device
 status 0
 ";
 
+const STATES: &str =
+    r#"{"version":1,"scripts":[[{"op":"create_instance","major":1,"minor":0,"as":"i"},{"op":"create_session","instance":"i","system":1,"as":"s"},{"op":"begin_session","session":"s","view":"stereo"},{"op":"end_session","session":"s"},{"op":"request_exit_session","session":"s"},{"op":"begin_session","session":"i","view":"stereo"},{"op":"destroy_session","session":"s"},{"op":"end_session","session":"s"}]]}"#;
+
+const STATES_REPORT: &str = "\
+xrsim report 1
+thread 1
+1 create_instance XR_SUCCESS
+2 create_session XR_SUCCESS
+3 begin_session XR_ERROR_SESSION_NOT_READY
+4 end_session XR_ERROR_SESSION_NOT_RUNNING
+5 request_exit_session XR_ERROR_SESSION_NOT_RUNNING
+6 begin_session XR_ERROR_HANDLE_INVALID
+7 destroy_session XR_SUCCESS
+8 end_session XR_ERROR_HANDLE_INVALID
+9 leave XR_SUCCESS
+compositor
+ended
+device
+status 0
+";
+
 const FIRST_PLACES: &str = "\
 xrsim report 1
 thread 1
@@ -154,6 +175,7 @@ fn scenarios_give_their_reports(rt: HostRuntime) -> Result<(), Fail> {
         (REFUSALS, REFUSALS_REPORT),
         (SESSION, SESSION_REPORT),
         (LIMITS, LIMITS_REPORT),
+        (STATES, STATES_REPORT),
     ] {
         let mut sink = MemorySink::new(rt.alloc(), 1000, &[], &[])?;
         assert_eq!(rt; run(rt.alloc(), text, &mut sink)?, Status::Done);
@@ -206,7 +228,7 @@ fn texts_that_are_no_scenario_are_refused(rt: HostRuntime) -> Result<(), Fail> {
         ),
         (r#"{"version":1,"scripts":[[],[]]}"#, Refusal::Unbuilt),
         (
-            r#"{"version":1,"scripts":[[{"op":"end_session","session":0}]]}"#,
+            r#"{"version":1,"scripts":[[{"op":"mark","mark":1}]]}"#,
             Refusal::Unbuilt,
         ),
     ] {

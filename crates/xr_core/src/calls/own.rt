@@ -1,6 +1,9 @@
 // The calls that are this project's own.
-ghost use Rattle.std.specs.Prelude.{◌≡◌, ◌<◌, ◌^◌, []};
+ghost use Rattle.std.specs.Prelude.{◌≡◌, ◌<◌, ◌^◌, [], true, Some};
 ghost use Rattle.std.specs.List.{list_all};
+ghost use Rattle.xr_types.specs.Device.{is_mark};
+ghost use Rattle.xr_model.specs.Marks.{mark_at, with_mark};
+ghost use Rattle.xr_model.specs.Request as request;
 ghost use Rattle.xr_model.specs.Request.{leave, next_frame};
 ghost use Rattle.xr_model.specs.Machine.{Answers, IsPresent};
 ghost use Rattle.xr_model.specs.Request.{entry_of};
@@ -27,6 +30,45 @@ impl Core {
     {
         let apps = self.apps as usize;
         self.left[..apps].iter().all(|gone| *gone)
+    }
+
+    /// Sets a mark, from 1, with a value.
+    pub(crate) fn set_mark(&mut self, mark: u8, value: u64)
+        requires { is_mark mark ≡ true }
+        ensures { self.new ≡ record self.old { marks = with_mark self.old.marks mark value } }
+    {
+        self.marks[mark as usize - 1] = Some(value);
+    }
+
+    /// The value of a mark that is set.
+    pub(crate) fn mark_value(&self, mark: u8) -> Option<u64>
+        ensures { result ≡ mark_at self.now.marks mark }
+    {
+        if mark == 0 {
+            return None;
+        }
+        match self.marks.get(mark as usize - 1) {
+            Some(value) => *value,
+            None => None,
+        }
+    }
+
+    pub(crate) fn mark(&mut self, mark: u8, value: u64) -> Reply
+        requires calls { self.old.locked < 2 ^ 44 }
+        requires number { is_mark mark ≡ true }
+        ensures { Makes self.old (request.mark mark value) self.new result [] }
+    {
+        self.set_mark(mark, value);
+        self.answered(Code::Success, Gives::Nothing)
+    }
+
+    /// The value of a mark that was awaited.
+    pub(crate) fn await_mark(&mut self, mark: u8, value: u64) -> Reply
+        requires calls { self.old.locked < 2 ^ 44 }
+        requires set { mark_at self.old.marks mark ≡ Some value }
+        ensures { Makes self.old (request.await_mark mark) self.new result [] }
+    {
+        self.answered(Code::Success, Gives::Number(value))
     }
 
     /// The end. There are no frames.

@@ -1,11 +1,11 @@
 // The calls on sessions (OpenXR 1.0 chapter 9).
 ghost use Rattle.std.specs.Prelude.{◌<◌, ◌^◌, []};
-ghost use Rattle.xr_model.specs.Request.{create_session, destroy_session};
+ghost use Rattle.xr_model.specs.Request.{create_session, destroy_session, begin_session, end_session, request_exit_session};
 ghost use Rattle.xr_core.specs.Calls.{Makes};
 
 use crate::Core;
 use crate::calls::instance::SYSTEM;
-use xr_types::{Code, Event, Gives, Kind, Reply, SessionState};
+use xr_types::{Code, Gives, Kind, Reply, ViewConfig};
 
 impl Core {
     pub(crate) fn create_session(&mut self, instance: u64, system: u64) -> Reply
@@ -18,22 +18,10 @@ impl Core {
         if system != SYSTEM {
             return self.refused(Code::SystemInvalid);
         }
-        let answer = self.handles.give(Kind::Session, instance);
-        if answer.code != Code::Success {
-            return self.refused(answer.code);
-        }
-        self.created += 1;
-        self.events.push(Event::State {
-            ordinal: self.created,
-            session: answer.number,
-            state: SessionState::Idle,
-        });
-        self.calls += 1;
-        Reply {
-            code: Code::Success,
-            gives: Gives::Handle(answer.number),
-            place: self.calls,
-        }
+        let Some(place) = self.handles.free_place(Kind::Session) else {
+            return self.refused(Code::LimitReached);
+        };
+        self.give_session(place, instance)
     }
 
     pub(crate) fn destroy_session(&mut self, session: u64) -> Reply
@@ -45,5 +33,50 @@ impl Core {
         }
         self.destroy(session);
         self.answered(Code::Success, Gives::Nothing)
+    }
+
+    pub(crate) fn begin_session(&mut self, session: u64, view: ViewConfig) -> Reply
+        requires { self.old.locked < 2 ^ 44 }
+        ensures { Makes self.old (begin_session session view) self.new result [] }
+    {
+        let Some(place) = self.handles.place_among(Kind::Session, session) else {
+            return self.refused(Code::HandleInvalid);
+        };
+        let success = self.success_at(place);
+        let code = self.begin_at(place, session, view);
+        if code != Code::Success {
+            return self.refused(code);
+        }
+        self.answered(success, Gives::Nothing)
+    }
+
+    pub(crate) fn end_session(&mut self, session: u64) -> Reply
+        requires { self.old.locked < 2 ^ 44 }
+        ensures { Makes self.old (end_session session) self.new result [] }
+    {
+        let Some(place) = self.handles.place_among(Kind::Session, session) else {
+            return self.refused(Code::HandleInvalid);
+        };
+        let success = self.success_at(place);
+        let code = self.end_at(place, session);
+        if code != Code::Success {
+            return self.refused(code);
+        }
+        self.answered(success, Gives::Nothing)
+    }
+
+    pub(crate) fn request_exit_session(&mut self, session: u64) -> Reply
+        requires { self.old.locked < 2 ^ 44 }
+        ensures { Makes self.old (request_exit_session session) self.new result [] }
+    {
+        let Some(place) = self.handles.place_among(Kind::Session, session) else {
+            return self.refused(Code::HandleInvalid);
+        };
+        let success = self.success_at(place);
+        let code = self.request_exit_at(place, session);
+        if code != Code::Success {
+            return self.refused(code);
+        }
+        self.answered(success, Gives::Nothing)
     }
 }

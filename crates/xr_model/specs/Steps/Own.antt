@@ -1,8 +1,9 @@
 -- The calls that are this project's own and no statement about the standard.
-use Rattle.std.specs.Prelude.{◌-◌, slice_set, true, false, []}
+use Rattle.std.specs.Prelude.{ℕ, ◌-◌, slice_set, true, false, []}
 use Rattle.xr_types.specs.declared.calls.Actor.{Actor}
 use Rattle.xr_types.specs.declared.calls.Actor.TheVariants.{App, Compositor, Device}
-use Rattle.xr_types.specs.declared.calls.Gives.TheVariants.{Nothing, Ended}
+use Rattle.xr_types.specs.declared.calls.Gives.TheVariants.{Nothing, Number, Ended}
+use Rattle.xr_model.specs.Marks.{with_mark, value_at}
 use Rattle.xr_model.specs.State.{State}
 use Rattle.xr_model.specs.Rules.{Rule, done}
 
@@ -15,6 +16,14 @@ with_left s Device = s
 -- an application says that it makes no further call
 abbrev pub leave_rule : State → Actor → Rule
 leave_rule s who = record { before = []; disorder = false; behind = []; effect = done (with_left s who) Nothing }
+
+-- an application sets a mark with a value
+abbrev pub mark_rule : State → ℕ → ℕ → Rule
+mark_rule s number value = record { before = []; disorder = false; behind = []; effect = done (record s { marks = with_mark s.marks number value }) Nothing }
+
+-- an application has waited for a mark
+abbrev pub await_mark_rule : State → ℕ → Rule
+await_mark_rule s number = record { before = []; disorder = false; behind = []; effect = done s (Number (value_at s.marks number)) }
 
 -- the compositor asks for a frame; there are none, so it is told the end
 abbrev pub next_frame_rule : State → Rule

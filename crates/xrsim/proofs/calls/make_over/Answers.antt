@@ -8,7 +8,7 @@ use Rattle.xrsim.proofs.calls.make_over.Goals as goal
 pub unreachable-requires : goal.unreachable-requires
 unreachable-requires c =
     let waits = c.in-NotReady.ensures 0 false in
-    true≢false (sym (app_ready c.args.core.now (record { actor = App 1; request = request_of c.args.call.now; given = 0; short = false }) 1 c.requires.caller) ∙ waits.not_ready)
+    true≢false (sym (app_ready c.args.core.now (record { actor = App 1; request = request_of c.args.call.now; given = 0; short = false }) 1 c.requires.caller c.requires.prompt) ∙ waits.not_ready)
 
 pub returns-in-Ok : goal.returns-in-Ok
 returns-in-Ok c =

@@ -8,7 +8,7 @@ use Rattle.xr_model.specs.Scripts.{request_for}
 use Rattle.xr_model.specs.Values.{no_values}
 use Rattle.xrsim.specs.Play.{IsMade}
 use Rattle.xr_scenario.proofs.InForm.{in_range-item}
-use Rattle.xrsim.proofs.BuiltOps.{built_at, op_caller}
+use Rattle.xrsim.proofs.BuiltOps.{built_at, op_caller, op_prompt}
 use Rattle.xrsim.proofs.Played.{told_start, told_more, open_after, named_start, named_more}
 use Rattle.xrsim.proofs.play.make_ops.Goals as goal
 
@@ -30,6 +30,11 @@ pub make-requires-clause-caller : goal.make-requires-clause-caller
 make-requires-clause-caller c =
     let built : is_built_op c.op-item.result ≡ true = subst (λ (o : Op). is_built_op o ≡ true) (sym c.op-item.is) (built_at c.args.ops.now c.loop-op.op-index c.op-item.result c.requires.built c.loop-op-test.true) in
     rw c.call_of-call.ensures (op_caller c.loop-op.names c.op-item.result built)
+
+pub make-requires-clause-prompt : goal.make-requires-clause-prompt
+make-requires-clause-prompt c =
+    let built : is_built_op c.op-item.result ≡ true = subst (λ (o : Op). is_built_op o ≡ true) (sym c.op-item.is) (built_at c.args.ops.now c.loop-op.op-index c.op-item.result c.requires.built c.loop-op-test.true) in
+    rw c.call_of-call.ensures (op_prompt c.loop-op.names c.op-item.result built)
 
 pub loop-op-preserved : goal.loop-op-preserved
 loop-op-preserved c =

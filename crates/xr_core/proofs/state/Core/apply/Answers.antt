@@ -1,6 +1,8 @@
-use Rattle.std.proofs.Common.{refl, ap, ◌≡◌, true}
+use Rattle.std.proofs.Common.{refl, sym, ap, ◌≡◌, ◌∙◌, true, false, Some}
 use Rattle.std.specs.List.{list_all}
 use Rattle.xr_model.specs.Request.{request_of}
+use Rattle.xr_model.specs.Marks.{mark_at}
+use Rattle.xr_model.specs.Machine.{is_awaiting}
 use Rattle.xr_core.proofs.Answering.{made_answers, made_over_answers, buffer_fits}
 use Rattle.xr_core.proofs.state.Core.apply.Goals as goal
 
@@ -41,3 +43,29 @@ returns-in-CreateSession c =
 pub returns-in-DestroySession : goal.returns-in-DestroySession
 returns-in-DestroySession c =
     made_answers c.args.self.now c.args.who _ _ _ c.destroy_session.new.self c.destroy_session.result c.args.text.now (ap request_of c.in-DestroySession.is) refl c.requires.may c.destroy_session.ensures
+
+pub returns-in-BeginSession : goal.returns-in-BeginSession
+returns-in-BeginSession c =
+    made_answers c.args.self.now c.args.who _ _ _ c.begin_session.new.self c.begin_session.result c.args.text.now (ap request_of c.in-BeginSession.is) refl c.requires.may c.begin_session.ensures
+
+pub returns-in-EndSession : goal.returns-in-EndSession
+returns-in-EndSession c =
+    made_answers c.args.self.now c.args.who _ _ _ c.end_session.new.self c.end_session.result c.args.text.now (ap request_of c.in-EndSession.is) refl c.requires.may c.end_session.ensures
+
+pub returns-in-RequestExitSession : goal.returns-in-RequestExitSession
+returns-in-RequestExitSession c =
+    made_answers c.args.self.now c.args.who _ _ _ c.request_exit_session.new.self c.request_exit_session.result c.args.text.now (ap request_of c.in-RequestExitSession.is) refl c.requires.may c.request_exit_session.ensures
+
+pub returns-in-Mark : goal.returns-in-Mark
+returns-in-Mark c =
+    made_answers c.args.self.now c.args.who _ _ _ c.mark.new.self c.mark.result c.args.text.now (ap request_of c.in-Mark.is) refl c.requires.may c.mark.ensures
+
+pub returns-in-Some : goal.returns-in-Some
+returns-in-Some c =
+    let set : mark_at c.args.self.now.marks c.in-AwaitMark.mark ≡ Some c.in-Some.value = sym c.mark_value.ensures ∙ c.in-Some.is in
+    made_answers c.args.self.now c.args.who _ _ _ c.await_mark.new.self c.await_mark.result c.args.text.now (ap request_of c.in-AwaitMark.is) (rw set refl) c.requires.may c.await_mark.ensures
+
+pub returns-else-is_waiting : goal.returns-else-is_waiting
+returns-else-is_waiting c =
+    let goes : false ≡ is_awaiting c.args.self.now c.in-Device.event = c.if-is_waiting.ensures in
+    made_answers c.args.self.now c.args.who _ _ _ c.device.new.self c.device.result c.args.text.now (ap request_of c.in-Device.is) (rw (← goes) refl) c.requires.may c.device.ensures

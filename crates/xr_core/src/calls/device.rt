@@ -1,0 +1,62 @@
+// What happens at the device, which is this project's own.
+ghost use Rattle.std.specs.Prelude.{◌≡◌, ◌<◌, ◌^◌, [], true};
+ghost use Rattle.xr_types.specs.Device.{checks};
+ghost use Rattle.xr_model.specs.Request as request;
+ghost use Rattle.xr_model.specs.Device.{is_built_event};
+ghost use Rattle.xr_model.specs.Machine.{is_awaiting};
+ghost use Rattle.xr_model.specs.Steps.Device.{behind_event};
+ghost use Rattle.xr_core.specs.Calls.{Makes};
+
+use crate::Core;
+use crate::sessions::Change;
+use xr_types::{Code, DeviceEvent, Gives, Reply};
+
+impl Core {
+    /// The event happens. A mark for which the device waits is set by then.
+    fn happen(&mut self, event: DeviceEvent)
+        requires { checks event ≡ true }
+        ensures { self.new ≡ behind_event self.old event }
+    {
+        match event {
+            DeviceEvent::Clock(time) => {
+                if self.clock <= time {
+                    self.clock = time;
+                }
+            }
+            DeviceEvent::Grid { base, period } => {
+                self.base = base;
+                self.period = period;
+            }
+            DeviceEvent::Wish(wish) => {
+                self.wish = wish;
+                self.change_all(Change::Settle(wish));
+            }
+            DeviceEvent::Loss => self.change_all(Change::Loss),
+            DeviceEvent::Lost | DeviceEvent::Fault | DeviceEvent::Garbled(_) => self.change_all(
+                Change::Lost,
+            ),
+            DeviceEvent::Mark(mark) => self.set_mark(mark, 0),
+            _ => {}
+        }
+    }
+
+    /// Whether the device waits for a mark that isn't set.
+    pub(crate) fn is_waiting(&self, event: DeviceEvent) -> bool
+        ensures { result ≡ is_awaiting self.now event }
+    {
+        match event {
+            DeviceEvent::Await(mark) => self.mark_value(mark).is_none(),
+            _ => false,
+        }
+    }
+
+    pub(crate) fn device(&mut self, event: DeviceEvent) -> Reply
+        requires calls { self.old.locked < 2 ^ 44 }
+        requires checks { checks event ≡ true }
+        requires built { is_built_event event ≡ true }
+        ensures { Makes self.old (request.device event) self.new result [] }
+    {
+        self.happen(event);
+        self.answered(Code::Success, Gives::Nothing)
+    }
+}

@@ -1,0 +1,4 @@
+pub mod FirstBytes
+pub mod Numbers
+pub mod TextLines
+pub mod HeldBytes

@@ -1,0 +1,68 @@
+-- What the answers of a device say.
+use Rattle.std.specs.Prelude.{◌≡◌, ℕ, ◌&&◌, Bool, true, false, not, [], ◌∷◌, Option, Some, None}
+use Rattle.xr_types.specs.declared.device.DeviceEvent.{DeviceEvent}
+use Rattle.xr_types.specs.declared.device.DeviceEvent.TheVariants as event
+use Rattle.xr_types.specs.Device.{checks}
+use Rattle.xr_model.specs.DeviceText.{Told, nothing_more, garbled_at}
+use Rattle.xr_device.specs.declared.Next.{Next}
+use Rattle.xr_device.specs.declared.Next.TheVariants as next
+
+-- ---- by the kind of an answer
+
+-- what holds of the event, where the answer is one
+abbrev pub OnEvent : Next → (DeviceEvent → Type 0) → Type 0
+OnEvent (next.Event e) P = P e
+OnEvent next.End P = Unit {0}
+OnEvent (next.Garbled line) P = Unit {0}
+OnEvent next.Failed P = Unit {0}
+
+-- what holds where the answer is any but an event
+abbrev pub UnlessEvent : Next → Type 0 → Type 0
+UnlessEvent (next.Event e) P = Unit {0}
+UnlessEvent next.End P = P
+UnlessEvent (next.Garbled line) P = P
+UnlessEvent next.Failed P = P
+
+-- what holds where the device couldn't be read on
+abbrev pub OnFailed : Next → Type 0 → Type 0
+OnFailed (next.Event e) P = Unit {0}
+OnFailed next.End P = Unit {0}
+OnFailed (next.Garbled line) P = Unit {0}
+OnFailed next.Failed P = P
+
+-- ---- events
+
+-- whether it is one of the two ways in which a device ends early, which no device tells as an event
+abbrev pub ends_early : DeviceEvent → Bool
+ends_early event.Fault = true
+ends_early (event.Garbled line) = true
+ends_early _ = false
+
+-- an event that a device may tell: its numbers are in range, and it is no early end
+pub record IsTold (e : DeviceEvent) : Type 0 where
+  pub checked : checks e ≡ true
+  pub plain : ends_early e ≡ false
+
+abbrev pub may_tell : DeviceEvent → Bool
+may_tell e = checks e && not (ends_early e)
+
+-- ---- what was to come, and what is still to come
+
+-- the line of this number is none
+abbrev pub garbled : ℕ → Told
+garbled number = record { events = []; ending = garbled_at number }
+
+-- this event was the first to come, and the rest is still to come
+abbrev pub IsFirst : DeviceEvent → Told → Option Told → Type 0
+IsFirst e before None = ⊥
+IsFirst e before (Some rest) = before ≡ record { events = e ∷ rest.events; ending = rest.ending }
+
+-- An event is the first that was to come; the end and a garbled line come only where no event was left to come, and are
+-- the ending that was told. Nothing is said where nothing was told, and a device that couldn't be read on may have had
+-- anything to come.
+abbrev pub Tells : Option Told → Option Told → Next → Type 0
+Tells None after answer = Unit {0}
+Tells (Some before) after (next.Event e) = IsFirst e before after
+Tells (Some before) after next.End = before ≡ nothing_more
+Tells (Some before) after (next.Garbled line) = before ≡ garbled line
+Tells (Some before) after next.Failed = Unit {0}

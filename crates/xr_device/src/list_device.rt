@@ -1,0 +1,73 @@
+// The device that holds its events.
+ghost use Rattle.std.specs.Prelude.{◌≡◌, ◌≤◌, true, length};
+ghost use Rattle.std.specs.List.{list_all};
+ghost use Rattle.xr_device.specs.Answers.{may_tell};
+
+use crate::{Device, Next};
+use std::marker::Model;
+use xr_types::DeviceEvent;
+
+/// Whether a device may tell an event: its numbers are in range, and it is none of the two ways in which a device ends
+/// early.
+pub fn may_tell(event: &DeviceEvent) -> bool
+    ensures { result ≡ may_tell event.now }
+{
+    event.check() && !matches!(*event, DeviceEvent::Fault | DeviceEvent::Garbled(_))
+}
+
+/// A device that gives the events of a list in their order, seen by contracts as the list of those that are still to
+/// come.
+#[derive(Drop)]
+pub struct ListDevice {
+    events: Vec<DeviceEvent>,
+    next: usize,
+}
+
+impl Model for ListDevice {
+    ghost use Rattle.std.specs.Prelude.{◌≡◌, ◌≤◌, true, List, length, drop};
+    ghost use Rattle.std.specs.List.{list_all};
+    ghost use Rattle.xr_types.specs.declared.device.DeviceEvent.{DeviceEvent};
+    ghost use Rattle.xr_device.specs.Answers.{may_tell};
+
+    ghost Value = { List DeviceEvent };
+
+    ghost view = { λ d. drop d.next d.events.items };
+
+    ghost invariant = { λ d. (d.next ≤ length d.events.items) × (length d.events.items ≤ 16777216) × (list_all may_tell d.events.items ≡ true) };
+}
+
+impl ListDevice {
+    /// A device of these events, each of which a device may tell.
+    pub fn new(events: Vec<DeviceEvent>) -> ListDevice
+        requires few { length events.items ≤ 16777216 }
+        requires all { list_all may_tell events.items ≡ true }
+        ensures { result ≡ events.items }
+    {
+        ListDevice { events, next: 0 }
+    }
+}
+
+impl Device for ListDevice {
+    ghost use Rattle.std.specs.Prelude.{◌==◌, Some, length};
+    ghost use Rattle.xr_io.specs.declared.Which.TheVariants.{Device};
+    ghost use Rattle.xr_model.specs.DeviceText.{ends};
+
+    ghost told = { λ d. Some (record { events = d; ending = ends }) };
+
+    ghost bound = { λ d. length d };
+
+    ghost faults = { λ d. 0 };
+
+    ghost which = { λ d. Device };
+
+    ghost over = { λ d. length d == 0 };
+
+    fn next(&mut self) -> Next {
+        if self.next == self.events.len() {
+            return Next::End;
+        }
+        let event = self.events[self.next];
+        self.next += 1;
+        Next::Event(event)
+    }
+}

@@ -1,0 +1,47 @@
+-- What happens at the device. Its events are this project's own and no statement about the standard.
+use Rattle.xr_types.specs.declared.handles.TheConstants.{SESSIONS}
+use Rattle.std.specs.Prelude.{zero, suc, ℕ, ℤ, ◌==◌, int_le, false, [], if◌then◌else◌}
+use Rattle.xr_types.specs.declared.device.DeviceEvent.{DeviceEvent}
+use Rattle.xr_types.specs.declared.device.DeviceEvent.TheVariants as event
+use Rattle.xr_types.specs.declared.calls.Gives.TheVariants.{Nothing}
+use Rattle.xr_model.specs.States.{Life, Changed, unchanged, settled, losing, lost}
+use Rattle.xr_model.specs.Handles.{handle_in}
+use Rattle.xr_model.specs.Sessions.{session_in}
+use Rattle.xr_model.specs.Steps.Session.{changed_at}
+use Rattle.xr_model.specs.Marks.{with_mark}
+use Rattle.xr_model.specs.State.{State}
+use Rattle.xr_model.specs.Rules.{Rule, done}
+
+abbrev pub later_of : ℤ → ℤ → ℤ
+later_of a b = if int_le a b then b else a
+
+-- The live sessions of the first places change so, in the order of their places, and what they go through is
+-- told.
+abbrev pub with_changes_to : State → (Life → Changed) → ℕ → State
+with_changes_to s f zero = s
+with_changes_to s f (suc n) =
+    let t = with_changes_to s f n in
+    if handle_in t.handles.sessions n == 0 then t else changed_at t n (handle_in t.handles.sessions n) (f (session_in t.sessions n).life)
+
+-- all live sessions do
+abbrev pub with_changes : State → (Life → Changed) → State
+with_changes s f = with_changes_to s f SESSIONS
+
+-- each live session answers its calls by the loss from now on; nothing is told
+abbrev pub with_lost : State → State
+with_lost s = with_changes s (λ life. unchanged (lost life))
+
+-- The state behind an event. A mark of the device has the value 0, and its waiting for one changes nothing.
+abbrev pub behind_event : State → DeviceEvent → State
+behind_event s (event.Clock time) = record s { device = record s.device { clock = later_of s.device.clock time } }
+behind_event s (event.Grid base period) = record s { device = record s.device { base = base; period = period } }
+behind_event s (event.Wish wish) = with_changes (record s { device = record s.device { wish = wish } }) (settled wish)
+behind_event s event.Loss = with_changes s losing
+behind_event s event.Lost = with_lost s
+behind_event s (event.Mark mark) = record s { marks = with_mark s.marks mark 0 }
+behind_event s event.Fault = with_lost s
+behind_event s (event.Garbled line) = with_lost s
+behind_event s _ = s
+
+abbrev pub device_rule : State → DeviceEvent → Rule
+device_rule s what = record { before = []; disorder = false; behind = []; effect = done (behind_event s what) Nothing }

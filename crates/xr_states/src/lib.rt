@@ -1,0 +1,12 @@
+//! The states of one session: what a call, the device's wish and a loss do to them. It knows of a session
+//! what its states depend on, and nothing of events, handles or frames.
+#![tactic(auto)]
+
+mod changes;
+mod session;
+mod table;
+#[cfg(test)]
+mod tests;
+
+pub use changes::Changes;
+pub use session::Session;
