@@ -1,9 +1,12 @@
 //! `xr_bench` measures how many calls a second the core answers, beside how many ops a second `serde_json`
-//! reads of the same calls as a scenario. A measure and no test. It touches the clock and standard output.
+//! reads of the same calls as a scenario, and how many lines a second a device text is read. A measure and no
+//! test. It touches the clock and standard output.
 #![tactic(auto)]
 
+mod lines;
 mod round;
 
+use lines::{read_lines, text_of_lines};
 use round::{CALLS, TEXT, round};
 use serde_json::Value;
 use std::alloc::Global;
@@ -17,7 +20,8 @@ const HELP: &str = "\
 xr_bench ROUNDS
 Makes ROUNDS rounds of calls, 1 to 100000000, on a core of one application, and prints how many calls a
 second it answers. Then it reads the calls of a round as a scenario with serde_json, a tenth as often and at
-most 100000 times, and prints how many ops a second are read.
+most 100000 times, and prints how many ops a second are read; and then a device text of 16777208 bytes, and
+prints how many lines a second are read.
 ";
 
 /// So many things in so many microseconds, a second.
@@ -74,14 +78,28 @@ fn measure_reading<R: Clock + Print>(rt: &R, alloc: Global, rounds: u64) -> io::
     Ok(true)
 }
 
-/// Measures both; whether memory was found.
-fn measure<R: Clock + Print>(rt: &R, alloc: Global, rounds: u64) -> io::Result<bool> {
-    let readings = if rounds < 1_000_000 {
-        rounds / 10
-    } else {
-        100_000
+/// Measures the device's reader.
+fn measure_lines<R: Clock + Print>(rt: &R, alloc: Global) -> io::Result<bool> {
+    let Ok(text) = text_of_lines(alloc) else {
+        return Ok(false);
     };
-    Ok(measure_core(rt, alloc, rounds)? && measure_reading(rt, alloc, readings)?)
+    let start = Instant::now(rt)?;
+    let lines = read_lines(text.as_slice());
+    let spent = start.elapsed(rt)?.as_micros();
+    println!(rt;
+        "device: {lines} lines in {spent} microseconds, {} a second",
+        rate(lines, spent)
+    )?;
+    Ok(true)
+}
+
+/// Measures all three; whether memory was found.
+fn measure<R: Clock + Print>(rt: &R, alloc: Global, rounds: u64) -> io::Result<bool> {
+    let readings = (rounds / 10).min(100_000);
+    let core = measure_core(rt, alloc, rounds)?;
+    let reading = measure_reading(rt, alloc, readings)?;
+    let lines = measure_lines(rt, alloc)?;
+    Ok(core && reading && lines)
 }
 
 /// The rounds that the words ask for.
