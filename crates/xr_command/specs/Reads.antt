@@ -1,5 +1,5 @@
 -- What reading the words came to.
-use Rattle.std.specs.Prelude.{◌≡◌, ℕ, true, false, List, Option, Some, None, Result, Ok, Err}
+use Rattle.std.specs.Prelude.{◌≡◌, ℕ, true, false, List, Option, Some, None, option_map, Result, Ok, Err}
 use Rattle.clap.specs.Words.{found_of, rows_of}
 use Rattle.clap.specs.declared.parser.matches.ArgMatches.{ArgMatches}
 use Rattle.xr_model.specs.Words as words
@@ -9,7 +9,7 @@ use Rattle.xr_command.specs.declared.WordsFault.TheVariants.{Usage, NoMemory}
 
 -- the form as the definition has it
 abbrev pub shown : Form → words.Form
-shown form = record { file = form.file.now; places = form.places }
+shown form = record { file = form.file.now; device = option_map (λ name. name.now) form.device; places = form.places }
 
 -- The answer is the form of the words, they have none, or memory was short.
 abbrev pub ReadsForm : Result Form WordsFault → Option words.Form → Type 0

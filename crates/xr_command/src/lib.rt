@@ -3,7 +3,7 @@
 
 ghost use Rattle.std.specs.Prelude.{◌≡◌, ◌≤◌, IfOk, IfSome, false, length, map, option_map, string_bytes};
 ghost use Rattle.clap.specs.Words.{app_of, rule_of, first_of, found_of, rows_of};
-ghost use Rattle.xr_model.specs.Words.{run_app, file_rule, places_rule, is_file, is_serial, form_in, form_of};
+ghost use Rattle.xr_model.specs.Words.{run_app, file_rule, device_rule, places_rule, is_file, is_file_or_none, is_serial, form_in, form_of};
 ghost use Rattle.xr_command.specs.Reads.{shown, ReadsForm, ReadsRows};
 
 use clap::error::ErrorKind;
@@ -12,11 +12,12 @@ use std::alloc::{AllocError, Global};
 
 const MOST_FILE: usize = 4095;
 
-/// What the words ask for: a run of the scenario under `file`, with or without the places of replies
-/// in its report.
+/// What the words ask for: a run of the scenario under `file`, with the device under `device` where
+/// one is named, and with or without the places of replies in its report.
 #[derive(Clone, Copy, Debug)]
 pub struct Form<'a> {
     pub file: &'a str,
+    pub device: Option<&'a str>,
     pub places: bool,
 }
 
@@ -34,6 +35,13 @@ fn file_arg<'a>(alloc: Global) -> Arg<'a>
     Arg::new(alloc, "file").required(true)
 }
 
+fn device_arg<'a>(alloc: Global) -> Arg<'a>
+    ensures rule { rule_of result ≡ device_rule }
+    ensures local { result.global ≡ false }
+{
+    Arg::new(alloc, "device").long("device")
+}
+
 fn places_arg<'a>(alloc: Global) -> Arg<'a>
     ensures rule { rule_of result ≡ places_rule }
     ensures local { result.global ≡ false }
@@ -49,6 +57,7 @@ fn run_command<'a>(alloc: Global) -> Result<Command<'a>, AllocError>
 {
     let command = Command::new(alloc, "xrsim");
     let command = command.arg(file_arg(alloc))?;
+    let command = command.arg(device_arg(alloc))?;
     let command = command.arg(places_arg(alloc))?;
     Ok(command)
 }
@@ -82,6 +91,16 @@ fn is_file(name: &str) -> bool
     !name.is_empty() && name.len() <= MOST_FILE
 }
 
+/// Whether the name is a file's, or there is none.
+fn is_file_or_none(name: Option<&str>) -> bool
+    ensures { result ≡ is_file_or_none (option_map (λ text. text.now) name.entry) }
+{
+    match name {
+        Some(name) => is_file(name),
+        None => true,
+    }
+}
+
 /// The text that the command found for an argument.
 #[tactic(auto, using(crate::proofs::Rows::rows))]
 fn text_of<'a>(matches: &ArgMatches<'a>, id: &str) -> Option<&'a str>
@@ -94,22 +113,29 @@ fn text_of<'a>(matches: &ArgMatches<'a>, id: &str) -> Option<&'a str>
 fn form_in<'a>(matches: &ArgMatches<'a>) -> Option<Form<'a>>
     ensures form { option_map shown result ≡ form_in (rows_of (found_of matches.now)) }
     ensures short { IfSome result (λ form. length form.file.now ≤ 4095) }
+    ensures short_device { IfSome result (λ form. IfSome form.device (λ name. length name.now ≤ 4095)) }
 {
     let Some(file) = text_of(matches, "file") else {
         return None;
     };
-    if !is_file(file) {
+    let device = text_of(matches, "device");
+    if !is_file(file) || !is_file_or_none(device) {
         return None;
     }
     let places = text_of(matches, "places") == Some("true");
-    Some(Form { file, places })
+    Some(Form {
+        file,
+        device,
+        places,
+    })
 }
 
-/// The form of the words: `serial FILE`, with `--places` where that is wanted. `Usage` comes exactly
-/// where they have no form, and `NoMemory` is free.
+/// The form of the words: `serial FILE`, with `--device FILE` and `--places` where these are wanted.
+/// `Usage` comes exactly where they have no form, and `NoMemory` is free.
 pub fn form_of<'a>(alloc: Global, words: &'a [String]) -> Result<Form<'a>, WordsFault>
     ensures form { ReadsForm result (form_of (map string_bytes words.entry.now)) }
     ensures short { IfOk result (λ form. length form.file.now ≤ 4095) }
+    ensures short_device { IfOk result (λ form. IfSome form.device (λ name. length name.now ≤ 4095)) }
 {
     if !is_serial(words) {
         return Err(WordsFault::Usage);

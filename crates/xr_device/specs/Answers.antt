@@ -1,8 +1,9 @@
 -- What the answers of a device say.
-use Rattle.std.specs.Prelude.{◌≡◌, ℕ, ◌&&◌, Bool, true, false, not, [], ◌∷◌, Option, Some, None}
+use Rattle.std.specs.Prelude.{◌≡◌, ℕ, ◌&&◌, Bool, true, false, [], ◌∷◌, Option, Some, None}
 use Rattle.xr_types.specs.declared.device.DeviceEvent.{DeviceEvent}
 use Rattle.xr_types.specs.declared.device.DeviceEvent.TheVariants as event
 use Rattle.xr_types.specs.Device.{checks}
+use Rattle.xr_model.specs.Device.{is_built_event}
 use Rattle.xr_model.specs.DeviceText.{Told, nothing_more, garbled_at}
 use Rattle.xr_device.specs.declared.Next.{Next}
 use Rattle.xr_device.specs.declared.Next.TheVariants as next
@@ -32,19 +33,19 @@ OnFailed next.Failed P = P
 
 -- ---- events
 
--- whether it is one of the two ways in which a device ends early, which no device tells as an event
-abbrev pub ends_early : DeviceEvent → Bool
-ends_early event.Fault = true
-ends_early (event.Garbled line) = true
-ends_early _ = false
+-- whether a line tells it: it is none of the two ways in which a device ends early, and its part is built
+abbrev pub is_of_line : DeviceEvent → Bool
+is_of_line event.Fault = false
+is_of_line (event.Garbled line) = false
+is_of_line e = is_built_event e
 
--- an event that a device may tell: its numbers are in range, and it is no early end
+-- an event that a device may tell: its numbers are in range, and a line tells it
 pub record IsTold (e : DeviceEvent) : Type 0 where
   pub checked : checks e ≡ true
-  pub plain : ends_early e ≡ false
+  pub line : is_of_line e ≡ true
 
 abbrev pub may_tell : DeviceEvent → Bool
-may_tell e = checks e && not (ends_early e)
+may_tell e = checks e && is_of_line e
 
 -- ---- what was to come, and what is still to come
 

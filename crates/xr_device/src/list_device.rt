@@ -7,12 +7,22 @@ use crate::{Device, Next};
 use std::marker::Model;
 use xr_types::DeviceEvent;
 
-/// Whether a device may tell an event: its numbers are in range, and it is none of the two ways in which a device ends
-/// early.
+/// Whether a device may tell an event: its numbers are in range, it is none of the two ways in which a device ends early,
+/// and its part is built.
 pub fn may_tell(event: &DeviceEvent) -> bool
     ensures { result ≡ may_tell event.now }
 {
-    event.check() && !matches!(*event, DeviceEvent::Fault | DeviceEvent::Garbled(_))
+    event.check()
+        && matches!(
+            *event,
+            DeviceEvent::Clock(_)
+                | DeviceEvent::Grid { .. }
+                | DeviceEvent::Wish(_)
+                | DeviceEvent::Loss
+                | DeviceEvent::Lost
+                | DeviceEvent::Mark(_)
+                | DeviceEvent::Await(_)
+        )
 }
 
 /// A device that gives the events of a list in their order, seen by contracts as the list of those that are still to

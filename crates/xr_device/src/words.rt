@@ -1,7 +1,7 @@
 // What one line says: its words, its numbers and its event.
-ghost use Rattle.std.specs.Prelude.{◌≡◌, ◌≤◌, false, [], ◌∷◌, pos, MatchOption, IfSome, option_map};
+ghost use Rattle.std.specs.Prelude.{◌≡◌, ◌≤◌, true, [], ◌∷◌, pos, MatchOption, IfSome, option_map};
 ghost use Rattle.xr_model.specs.DeviceText.{words_of, number_of, digits_behind, wish_of, grid_by, event_by, if_checked, event_of, meaning_of};
-ghost use Rattle.xr_device.specs.Answers.{ends_early};
+ghost use Rattle.xr_device.specs.Answers.{is_of_line};
 ghost use Rattle.xr_device.specs.Said.{up_to, ranged, meaning, IsSaidTold};
 ghost use Rattle.xr_types.specs.declared.device.DeviceEvent.TheVariants as event;
 
@@ -117,7 +117,7 @@ fn wish(word: &[u8]) -> Option<Wish>
 /// The event of a line of one word.
 fn event_of_one(word: &[u8]) -> Option<DeviceEvent>
     ensures value { result ≡ if_checked (event_by (word.now ∷ [])) }
-    ensures plain { IfSome result (λ e. ends_early e ≡ false) }
+    ensures line { IfSome result (λ e. is_of_line e ≡ true) }
 {
     if word == b"loss".as_slice() {
         return Some(DeviceEvent::Loss);
@@ -130,7 +130,7 @@ fn event_of_one(word: &[u8]) -> Option<DeviceEvent>
 
 fn clock(time: &[u8]) -> Option<DeviceEvent>
     ensures value { result ≡ if_checked (option_map (λ n. event.Clock (pos n)) (number_of time.now)) }
-    ensures plain { IfSome result (λ e. ends_early e ≡ false) }
+    ensures line { IfSome result (λ e. is_of_line e ≡ true) }
 {
     match time_in(time, 0, LAST_TIME) {
         Some(time) => Some(DeviceEvent::Clock(time)),
@@ -140,7 +140,7 @@ fn clock(time: &[u8]) -> Option<DeviceEvent>
 
 fn grid(base: &[u8], period: &[u8]) -> Option<DeviceEvent>
     ensures value { result ≡ if_checked (grid_by (number_of base.now) (number_of period.now)) }
-    ensures plain { IfSome result (λ e. ends_early e ≡ false) }
+    ensures line { IfSome result (λ e. is_of_line e ≡ true) }
 {
     let Some(base) = time_in(base, 0, LAST_TIME) else {
         return None;
@@ -154,7 +154,7 @@ fn grid(base: &[u8], period: &[u8]) -> Option<DeviceEvent>
 /// The event of a line of two words.
 fn event_of_two(word: &[u8], a: &[u8]) -> Option<DeviceEvent>
     ensures value { result ≡ if_checked (event_by (word.now ∷ a.now ∷ [])) }
-    ensures plain { IfSome result (λ e. ends_early e ≡ false) }
+    ensures line { IfSome result (λ e. is_of_line e ≡ true) }
 {
     if word == b"clock".as_slice() {
         return clock(a);
@@ -183,7 +183,7 @@ fn event_of_two(word: &[u8], a: &[u8]) -> Option<DeviceEvent>
 /// The event of a line of three words.
 fn event_of_three(word: &[u8], a: &[u8], b: &[u8]) -> Option<DeviceEvent>
     ensures value { result ≡ if_checked (event_by (word.now ∷ a.now ∷ b.now ∷ [])) }
-    ensures plain { IfSome result (λ e. ends_early e ≡ false) }
+    ensures line { IfSome result (λ e. is_of_line e ≡ true) }
 {
     if word == b"grid".as_slice() {
         return grid(a, b);
@@ -204,7 +204,7 @@ fn cut(line: &[u8]) -> Option<(&[u8], &[u8])>
 /// The event of a line.
 fn event_of(line: &[u8]) -> Option<DeviceEvent>
     ensures value { result ≡ event_of line.now }
-    ensures plain { IfSome result (λ e. ends_early e ≡ false) }
+    ensures line { IfSome result (λ e. is_of_line e ≡ true) }
 {
     let Some((word, rest)) = cut(line) else {
         return event_of_one(line);

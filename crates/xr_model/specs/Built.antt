@@ -20,6 +20,8 @@ is_built_op (op.DestroySession session) = true
 is_built_op (op.BeginSession session view) = true
 is_built_op (op.EndSession session) = true
 is_built_op (op.RequestExitSession session) = true
+is_built_op (op.Mark number value) = true
+is_built_op (op.Await number) = true
 is_built_op _ = false
 
 -- there is one script, and all its ops are built

@@ -1,14 +1,17 @@
 -- What a history made: each application's calls with their replies, and how the compositor ended.
-use Rattle.std.specs.Prelude.{zero, suc, ℕ, ℤ, pos, ◌+◌, List, [], ◌∷◌, ◌++◌, Option, Some, None, if◌then◌else◌}
+use Rattle.std.specs.Prelude.{zero, suc, ℕ, ℤ, pos, ◌+◌, List, [], ◌∷◌, ◌++◌, map, Option, Some, None, if◌then◌else◌}
 use Rattle.xr_types.specs.declared.calls.Actor.TheVariants.{App, Compositor, Device}
 use Rattle.xr_types.specs.declared.calls.Reply.{Reply}
 use Rattle.xr_types.specs.declared.made.Lists.{Lists}
 use Rattle.xr_types.specs.declared.made.Made.{Made}
+use Rattle.xr_types.specs.declared.made.Waiting.{Waiting}
+use Rattle.xr_types.specs.declared.device.DeviceEvent.{DeviceEvent}
+use Rattle.xr_types.specs.declared.device.DeviceEvent.TheVariants as event
 use Rattle.xr_types.specs.declared.names.CallName.{CallName}
 use Rattle.xr_types.specs.declared.names.CallName.TheVariants as call
 use Rattle.xr_model.specs.Request.{Request, create_instance, destroy_instance, get_system, string_to_path, path_to_string, poll_event, create_session, destroy_session, begin_session, end_session, request_exit_session, create_reference_space, create_action_space, destroy_space, locate_space, create_action_set, destroy_action_set, create_action, destroy_action, suggest_bindings, attach_sets, sync_actions, get_boolean, get_float, get_vector, get_pose_active, create_swapchain, destroy_swapchain, acquire_image, wait_image, paint, release_image, wait_frame, begin_frame, end_frame, mark, await_mark, leave, device, next_frame, image_done, Entry, Told}
 use Rattle.xr_model.specs.History.{calls_of}
-use Rattle.xr_model.specs.Robin.{is_ended}
+use Rattle.xr_model.specs.Robin.{Seat, script, events, compositor, next_call, in_round, is_ended}
 
 abbrev pub name_of : Request → CallName
 name_of (create_instance major minor) = call.CreateInstance
@@ -82,15 +85,34 @@ abbrev pub end_of : List Told → Option Reply
 end_of [] = None
 end_of (t ∷ ts) = if is_ended t.outcome.reply.gives then Some t.outcome.reply else end_of ts
 
--- The lists of a history in which no frame is taken, the device does nothing and nobody is stuck.
-abbrev pub lists_of : ℕ → List Entry → Lists
-lists_of n history = record {
+-- the events of the device's calls
+abbrev pub event_in : Request → List DeviceEvent
+event_in (device what) = what ∷ []
+event_in _ = []
+
+abbrev pub events_in : List Told → List DeviceEvent
+events_in [] = []
+events_in (t ∷ ts) = event_in t.request ++ events_in ts
+
+-- the next call of an actor of a run that can't go on
+abbrev pub mark_awaited : DeviceEvent → ℕ
+mark_awaited (event.Await number) = number
+mark_awaited _ = 0
+
+abbrev pub waiting_of : Seat → Waiting
+waiting_of (script app place ops values) = record { actor = App app; op = place; name = name_of (next_call (script app place ops values)) }
+waiting_of (events e es) = record { actor = Device; op = mark_awaited e; name = call.Await }
+waiting_of compositor = record { actor = Compositor; op = 0; name = call.NextFrame }
+
+-- The lists of a history in which no frame is taken, and behind which these actors can't go on.
+abbrev pub lists_of : ℕ → List Entry → List Seat → Lists
+lists_of n history left = record {
   apps = lists_to n n history;
   device = made_from 1 (calls_of n Device history);
   compositor = [];
   ended = end_of (calls_of n Compositor history);
   shown = [];
   done = [];
-  events = [];
-  next = [];
+  events = events_in (calls_of n Device history);
+  next = map waiting_of (in_round n left);
 }

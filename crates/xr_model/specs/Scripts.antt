@@ -62,3 +62,13 @@ FollowsFrom place values (o ∷ os) (t ∷ ts) = (unstarted t.request ≡ reques
 
 abbrev pub Follows : List Op → List Told → Type 0
 Follows script calls = FollowsFrom 1 (no_values (length script)) script calls
+
+-- The same of calls that may not be all of the script's, since the run can't go on.
+abbrev pub FollowsSoFarFrom : ℕ → List ℕ → List Op → List Told → Type 0
+FollowsSoFarFrom place values ops [] = Unit {0}
+FollowsSoFarFrom place values [] (t ∷ []) = t.request ≡ leave
+FollowsSoFarFrom place values [] (t ∷ u ∷ ts) = ⊥
+FollowsSoFarFrom place values (o ∷ os) (t ∷ ts) = (unstarted t.request ≡ request_for values o) × FollowsSoFarFrom (place + 1) (learned values place o t.outcome.reply) os ts
+
+abbrev pub FollowsSoFar : List Op → List Told → Type 0
+FollowsSoFar script calls = FollowsSoFarFrom 1 (no_values (length script)) script calls

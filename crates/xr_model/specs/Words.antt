@@ -12,12 +12,16 @@ use Rattle.clap.specs.declared.builder.action.ArgAction.TheVariants.{SetTrue}
 abbrev pub file_rule : Rule
 file_rule = record (new_rule (codes "file")) { required = true }
 
+-- the option `--device` with its file
+abbrev pub device_rule : Rule
+device_rule = record (new_rule (codes "device")) { long = Some (codes "device") }
+
 -- the flag `--places`
 abbrev pub places_rule : Rule
 places_rule = record (new_rule (codes "places")) { long = Some (codes "places"); action = Some SetTrue }
 
 abbrev pub run_app : App
-run_app = with_rule (with_rule (new_app (codes "xrsim")) file_rule) places_rule
+run_app = with_rule (with_rule (with_rule (new_app (codes "xrsim")) file_rule) device_rule) places_rule
 
 -- The command takes the words: by its statement it has no fault to find in them. The first word
 -- stands where a program's own name does, and isn't read. To ask for help is a fault too.
@@ -30,14 +34,20 @@ rows_in words = matches_of run_app words
 
 -- ---- the form of the words
 
--- the file to read, and whether each line of the report ends in its reply's place
+-- the files of the scenario and of the device, if there is one, and whether each line of the report ends in
+-- its reply's place
 pub record Form : Type 0 where
   pub file : List ℕ
+  pub device : Option (List ℕ)
   pub places : Bool
 
 -- a file's name has 1 to 4095 bytes
 abbrev pub is_file : List ℕ → Bool
 is_file name = nat_lt 0 (length name) && nat_le (length name) 4095
+
+abbrev pub is_file_or_none : Option (List ℕ) → Bool
+is_file_or_none None = true
+is_file_or_none (Some name) = is_file name
 
 -- a flag is set where it has the value `true`, and not where it has its other value or none
 abbrev pub is_set : Option (List ℕ) → Bool
@@ -45,7 +55,7 @@ is_set value = unwrap_or (option_map (λ text. bytes_eq text (codes "true")) val
 
 abbrev pub form_with : List Row → List ℕ → Option Form
 form_with rows name =
-    if is_file name then Some (record { file = name; places = is_set (first_of (codes "places") rows) })
+    if is_file name && is_file_or_none (first_of (codes "device") rows) then Some (record { file = name; device = first_of (codes "device") rows; places = is_set (first_of (codes "places") rows) })
     else None
 
 abbrev pub form_in : List Row → Option Form
@@ -55,6 +65,7 @@ abbrev pub is_serial : List (List ℕ) → Bool
 is_serial [] = false
 is_serial (first ∷ rest) = bytes_eq first (codes "serial")
 
--- The form of the words, if they have one: `serial FILE`, with `--places` where that is wanted.
+-- The form of the words, if they have one: `serial FILE`, with `--device FILE` and `--places` where these are
+-- wanted.
 abbrev pub form_of : List (List ℕ) → Option Form
 form_of words = if is_serial words && is_taken words then form_in (rows_in words) else None

@@ -17,12 +17,14 @@ fn assert_form(
     alloc: Global,
     words: &[&str],
     file: &str,
+    device: Option<&str>,
     places: bool,
 ) -> Result<(), AllocError> {
     let list = words_of(alloc, words)?;
     match form_of(alloc, list.as_slice()) {
         Ok(form) => {
             assert!(rt; form.file == file, "{words:?}: {form:?}");
+            assert!(rt; form.device == device, "{words:?}: {form:?}");
             assert_eq!(rt; form.places, places, "{words:?}");
         }
         Err(fault) => panic!(rt; "{words:?}: {fault:?}"),
@@ -39,27 +41,121 @@ fn assert_usage(rt: &impl Abort, alloc: Global, words: &[&str]) -> Result<(), Al
     Ok(())
 }
 
-/// Words with a file, and whether places are wanted.
-const FORMS: &[(&[&str], &str, bool)] = &[
-    (&["serial", "F"], "F", false),
-    (&["serial", "a b.json"], "a b.json", false),
-    (&["serial", "/tmp/é"], "/tmp/é", false),
-    (&["serial", "serial"], "serial", false),
-    (&["serial", "--places", "F"], "F", true),
-    (&["serial", "F", "--places"], "F", true),
-    (&["serial", "--", "-a"], "-a", false),
-    (&["serial", "--", "--places"], "--places", false),
-    (&["serial", "--places", "--", "--places"], "--places", true),
-    (&["serial", "--", "--"], "--", false),
-    (&["serial", "-"], "-", false),
-    (&["serial", "F", "--"], "F", false),
+/// Words with a file, with the device's file if they name one, and whether places are wanted.
+const FORMS: &[(&[&str], &str, Option<&str>, bool)] = &[
+    (&["serial", "F"], "F", None, false),
+    (&["serial", "a b.json"], "a b.json", None, false),
+    (&["serial", "/tmp/é"], "/tmp/é", None, false),
+    (&["serial", "serial"], "serial", None, false),
+    (&["serial", "--places", "F"], "F", None, true),
+    (&["serial", "F", "--places"], "F", None, true),
+    (&["serial", "--", "-a"], "-a", None, false),
+    (&["serial", "--", "--places"], "--places", None, false),
+    (&["serial", "--", "--device"], "--device", None, false),
+    (&["serial", "--", "--device=D"], "--device=D", None, false),
+    (
+        &["serial", "--places", "--", "--places"],
+        "--places",
+        None,
+        true,
+    ),
+    (&["serial", "--", "--"], "--", None, false),
+    (&["serial", "-"], "-", None, false),
+    (&["serial", "F", "--"], "F", None, false),
+    (&["serial", "F", "--device", "D"], "F", Some("D"), false),
+    (&["serial", "--device", "D", "F"], "F", Some("D"), false),
+    (
+        &["serial", "F", "--device", "D", "--places"],
+        "F",
+        Some("D"),
+        true,
+    ),
+    (
+        &["serial", "F", "--places", "--device", "D"],
+        "F",
+        Some("D"),
+        true,
+    ),
+    (
+        &["serial", "--device", "D", "F", "--places"],
+        "F",
+        Some("D"),
+        true,
+    ),
+    (
+        &["serial", "--device", "D", "--places", "F"],
+        "F",
+        Some("D"),
+        true,
+    ),
+    (
+        &["serial", "--places", "F", "--device", "D"],
+        "F",
+        Some("D"),
+        true,
+    ),
+    (
+        &["serial", "--places", "--device", "D", "F"],
+        "F",
+        Some("D"),
+        true,
+    ),
+    (&["serial", "--device=D", "F"], "F", Some("D"), false),
+    (&["serial", "F", "--device=D"], "F", Some("D"), false),
+    (
+        &["serial", "F", "--places", "--device=D"],
+        "F",
+        Some("D"),
+        true,
+    ),
+    (&["serial", "--device=a=b", "F"], "F", Some("a=b"), false),
+    (&["serial", "--device==", "F"], "F", Some("="), false),
+    (
+        &["serial", "--device=--places", "F"],
+        "F",
+        Some("--places"),
+        false,
+    ),
+    (&["serial", "--device=-a", "F"], "F", Some("-a"), false),
+    (&["serial", "--device", "-", "F"], "F", Some("-"), false),
+    (
+        &["serial", "--device", "/tmp/é", "F"],
+        "F",
+        Some("/tmp/é"),
+        false,
+    ),
+    (
+        &["serial", "--device", "a b.json", "F"],
+        "F",
+        Some("a b.json"),
+        false,
+    ),
+    (&["serial", "--device", "F", "F"], "F", Some("F"), false),
+    (
+        &["serial", "--device", "serial", "F"],
+        "F",
+        Some("serial"),
+        false,
+    ),
+    (
+        &["serial", "--device", "D", "--", "-a"],
+        "-a",
+        Some("D"),
+        false,
+    ),
+    (
+        &["serial", "--device=D", "--", "--device"],
+        "--device",
+        Some("D"),
+        false,
+    ),
 ];
 
 #[test]
-fn a_run_names_its_file_and_may_want_places(rt: HostRuntime) -> Result<(), Fail> {
+fn a_run_names_its_file_and_may_name_a_device_and_want_places(rt: HostRuntime) -> Result<(), Fail> {
     let alloc = rt.alloc();
-    for (words, file, places) in FORMS {
-        assert_form(&rt, alloc, words, file, *places)?;
+    for (words, file, device, places) in FORMS {
+        assert_form(&rt, alloc, words, file, *device, *places)?;
     }
     Ok(())
 }
@@ -87,7 +183,31 @@ const OTHERS: &[&[&str]] = &[
     &["serial", "-places", "a"],
     &["serial", "-p", "a"],
     &["serial", "-a"],
-    &["serial", "--device", "a", "b"],
+    &["serial", "--device"],
+    &["serial", "--device", "a"],
+    &["serial", "--device=a"],
+    &["serial", "a", "--device"],
+    &["serial", "a", "--places", "--device"],
+    &["serial", "--device", "--places", "a"],
+    &["serial", "--device", "--", "a"],
+    &["serial", "--device", "-b", "a"],
+    &["serial", "--device", "b", ""],
+    &["serial", "--device", "", "a"],
+    &["serial", "a", "--device", ""],
+    &["serial", "--device=", "a"],
+    &["serial", "a", "--device="],
+    &["serial", "--device", "b", "--device", "c", "a"],
+    &["serial", "--device", "b", "a", "--device", "b"],
+    &["serial", "--device=b", "--device=c", "a"],
+    &["serial", "--device", "b", "--device=c", "a"],
+    &["serial", "--device", "b", "c", "a"],
+    &["serial", "a", "--", "--device", "b"],
+    &["serial", "--devic", "b", "a"],
+    &["serial", "--Device", "b", "a"],
+    &["serial", "-device", "b", "a"],
+    &["serial", "-d", "b", "a"],
+    &["--device", "b", "serial", "a"],
+    &["load", "--device", "b", "a"],
     &["serial", "--help"],
     &["serial", "-h"],
     &["serial", "a", "--help"],
@@ -123,7 +243,14 @@ fn a_file_has_at_most_4095_bytes(rt: HostRuntime) -> Result<(), Fail> {
     for _ in 0..4095 {
         file.push('a')?;
     }
-    assert_form(&rt, alloc, &["serial", file.as_str()], file.as_str(), false)?;
+    assert_form(
+        &rt,
+        alloc,
+        &["serial", file.as_str()],
+        file.as_str(),
+        None,
+        false,
+    )?;
     file.push('a')?;
     assert_usage(&rt, alloc, &["serial", file.as_str()])?;
     let mut accents = String::new(alloc);
@@ -135,9 +262,48 @@ fn a_file_has_at_most_4095_bytes(rt: HostRuntime) -> Result<(), Fail> {
         alloc,
         &["serial", accents.as_str()],
         accents.as_str(),
+        None,
         false,
     )?;
     accents.push('é')?;
     assert_usage(&rt, alloc, &["serial", accents.as_str()])?;
+    Ok(())
+}
+
+#[test]
+fn a_device_file_has_at_most_4095_bytes(rt: HostRuntime) -> Result<(), Fail> {
+    let alloc = rt.alloc();
+    let mut device = String::new(alloc);
+    for _ in 0..4095 {
+        device.push('a')?;
+    }
+    assert_form(
+        &rt,
+        alloc,
+        &["serial", "F", "--device", device.as_str()],
+        "F",
+        Some(device.as_str()),
+        false,
+    )?;
+    device.push('a')?;
+    assert_usage(&rt, alloc, &["serial", "F", "--device", device.as_str()])?;
+    let mut accents = String::new(alloc);
+    for _ in 0..2047 {
+        accents.push('é')?;
+    }
+    assert_form(
+        &rt,
+        alloc,
+        &["serial", "--device", accents.as_str(), "--places", "F"],
+        "F",
+        Some(accents.as_str()),
+        true,
+    )?;
+    accents.push('é')?;
+    assert_usage(
+        &rt,
+        alloc,
+        &["serial", "--device", accents.as_str(), "--places", "F"],
+    )?;
     Ok(())
 }

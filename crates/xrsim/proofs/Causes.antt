@@ -7,7 +7,7 @@ use Rattle.xrsim.specs.declared.input.Stop.{Stop}
 use Rattle.xrsim.specs.declared.input.Stop.TheVariants.{Failed, NoMemory}
 
 -- a failed read of a source that had no fault raises the opener's count at its close
-pub stopped_cause : (stop : Stop) (before now open_before open_after read_before read_after : ℕ) → before ≡ 0 → RoseIfStopped before now stop
-    → (0 < now → Rose read_before read_after) → IsReadFault (status_of stop) open_before open_after read_before read_after
-stopped_cause Failed before now ob oa rb ra none rose raised = raised (omega arith)
-stopped_cause NoMemory before now ob oa rb ra none rose raised = tt
+pub stopped_cause : (stop : Stop) (before now read_before read_after : ℕ) → before ≡ 0 → RoseIfStopped before now stop
+    → (0 < now → Rose read_before read_after) → IsReadFault (status_of stop) read_before read_after
+stopped_cause Failed before now rb ra none rose raised = raised (omega arith)
+stopped_cause NoMemory before now rb ra none rose raised = tt

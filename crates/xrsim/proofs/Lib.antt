@@ -1,7 +1,5 @@
 pub mod Pieces
 pub mod Causes
-pub mod Lending
-pub mod Turns
-pub mod BuiltOps
-pub mod Played
+pub mod Status
+pub mod Clean
 pub mod Runs

@@ -1,6 +1,5 @@
-pub mod Lent
-pub mod Play
 pub mod Run
 pub mod Input
+pub mod Status
 pub mod Top
 pub mod Exit

@@ -21,6 +21,8 @@ fn is_built(op: &Op) -> bool
             | Op::BeginSession { .. }
             | Op::EndSession { .. }
             | Op::RequestExitSession { .. }
+            | Op::Mark { .. }
+            | Op::Await { .. }
     )
 }
 

@@ -1,14 +1,14 @@
-//! `xrsim` runs a scenario of OpenXR calls on the written machine and prints its report. Reading, the run
-//! and writing are private modules; `serial` has the top call, over any files and output. This file makes
-//! the real ones, says in one line why there is no whole report, and ends with the status.
+//! `xrsim` runs a scenario of OpenXR calls on the written machine, beside a device if one is named, and prints
+//! its report. Reading, writing and how a run ended are private modules; `serial` has the top call, over any
+//! files and output. This file makes the real ones, says in one line how a run ended that isn't done, and ends
+//! with the status.
 #![tactic(auto)]
 
 mod built;
-mod calls;
+mod ending;
 mod help;
 mod input;
 mod output;
-mod play;
 mod reason;
 pub mod serial;
 
@@ -45,7 +45,7 @@ fn exit_of(status: Status) -> u8
     }
 }
 
-/// Says on standard error, in one line, why there is no whole report. What can't be said is dropped.
+/// Says on standard error, in one line, how it ended where not all is done. What can't be said is dropped.
 fn explain<R: Eprint>(rt: &R, status: Status) {
     let _ = match status {
         Status::Done => Ok(()),

@@ -144,6 +144,123 @@ device
 status 0
 ";
 
+const WISHES: &str =
+    r#"{"version":1,"scripts":[[{"op":"create_instance","major":1,"minor":0,"as":"i"},{"op":"get_system","instance":"i","form":"head","as":"y"},{"op":"create_session","instance":"i","system":"y","as":"s"},{"op":"begin_session","session":"s","view":"stereo"},{"op":"mark","mark":1},{"op":"await","mark":2},{"op":"begin_session","session":"s","view":"mono"},{"op":"begin_session","session":"s","view":"stereo"},{"op":"begin_session","session":"s","view":"stereo"},{"op":"end_session","session":"s"}]]}"#;
+
+const WISHES_REPORT: &str = "\
+xrsim report 1
+thread 1
+1 create_instance XR_SUCCESS
+2 get_system XR_SUCCESS 1
+3 create_session XR_SUCCESS
+4 begin_session XR_ERROR_SESSION_NOT_READY
+5 mark XR_SUCCESS
+6 await XR_SUCCESS
+7 begin_session XR_ERROR_VIEW_CONFIGURATION_TYPE_UNSUPPORTED
+8 begin_session XR_SUCCESS
+9 begin_session XR_ERROR_SESSION_RUNNING
+10 end_session XR_ERROR_SESSION_NOT_STOPPING
+11 leave XR_SUCCESS
+compositor
+ended
+device
+1 await 1
+2 wish ready
+3 mark 2
+status 0
+";
+
+const EVENTS: &str =
+    r#"{"version":1,"scripts":[[{"op":"create_instance","major":1,"minor":0,"as":"i"},{"op":"get_system","instance":"i","form":"head","as":"y"},{"op":"create_session","instance":"i","system":"y","as":"s"},{"op":"poll_event","instance":"i"},{"op":"poll_event","instance":"i"},{"op":"poll_event","instance":"i"},{"op":"poll_event","instance":"i"},{"op":"begin_session","session":"s","view":"stereo"}]]}"#;
+
+const GARBLED_REPORT: &str = "\
+xrsim report 1
+thread 1
+1 create_instance XR_SUCCESS
+2 get_system XR_SUCCESS 1
+3 create_session XR_SUCCESS
+4 poll_event XR_SUCCESS state 1 IDLE
+5 poll_event XR_EVENT_UNAVAILABLE
+6 poll_event XR_EVENT_UNAVAILABLE
+7 poll_event XR_EVENT_UNAVAILABLE
+8 begin_session XR_ERROR_SESSION_LOST
+9 leave XR_SUCCESS
+compositor
+ended
+device
+1 clock 1
+2 clock 2
+3 clock 3
+4 clock 4
+5 clock 5
+6 clock 6
+garbled 7
+status 6
+";
+
+const FAILED_REPORT: &str = "\
+xrsim report 1
+thread 1
+1 create_instance XR_SUCCESS
+2 get_system XR_SUCCESS 1
+3 create_session XR_SUCCESS
+4 poll_event XR_SUCCESS state 1 IDLE
+5 poll_event XR_EVENT_UNAVAILABLE
+6 poll_event XR_EVENT_UNAVAILABLE
+7 poll_event XR_EVENT_UNAVAILABLE
+8 begin_session XR_ERROR_SESSION_LOST
+9 leave XR_SUCCESS
+compositor
+ended
+device
+1 clock 1
+2 clock 2
+3 clock 3
+4 clock 4
+5 clock 5
+6 clock 6
+fault
+status 5
+";
+
+const LOSS: &str =
+    r#"{"version":1,"scripts":[[{"op":"create_instance","major":1,"minor":0,"as":"i"},{"op":"get_system","instance":"i","form":"head","as":"y"},{"op":"create_session","instance":"i","system":"y","as":"s"},{"op":"mark","mark":1},{"op":"await","mark":2},{"op":"begin_session","session":"s","view":"stereo"},{"op":"request_exit_session","session":"s"},{"op":"create_session","instance":"i","system":"y"},{"op":"poll_event","instance":"i"},{"op":"poll_event","instance":"i"},{"op":"poll_event","instance":"i"}]]}"#;
+
+const LOSS_REPORT: &str = "\
+xrsim report 1
+thread 1
+1 create_instance XR_SUCCESS
+2 get_system XR_SUCCESS 1
+3 create_session XR_SUCCESS
+4 mark XR_SUCCESS
+5 await XR_SUCCESS
+6 begin_session XR_ERROR_SESSION_NOT_READY
+7 request_exit_session XR_ERROR_SESSION_NOT_RUNNING
+8 create_session XR_ERROR_LIMIT_REACHED
+9 poll_event XR_SUCCESS state 1 IDLE
+10 poll_event XR_SUCCESS state 1 LOSS_PENDING
+11 poll_event XR_EVENT_UNAVAILABLE
+12 leave XR_SUCCESS
+compositor
+ended
+device
+1 await 1
+2 loss
+3 mark 2
+status 0
+";
+
+const STUCK_REPORT: &str = "\
+xrsim report 1
+thread 1
+compositor
+device
+stuck
+thread 1 1 await
+compositor next_frame
+status 7
+";
+
 /// The status of `serial FILE`, where FILE holds this text, and its opening or these reads fail.
 fn run_failing<'x>(
     alloc: Global,
@@ -228,7 +345,7 @@ fn texts_that_are_no_scenario_are_refused(rt: HostRuntime) -> Result<(), Fail> {
         ),
         (r#"{"version":1,"scripts":[[],[]]}"#, Refusal::Unbuilt),
         (
-            r#"{"version":1,"scripts":[[{"op":"mark","mark":1}]]}"#,
+            r#"{"version":1,"scripts":[[{"op":"wait_frame","session":0}]]}"#,
             Refusal::Unbuilt,
         ),
     ] {
@@ -292,6 +409,167 @@ fn places_are_printed_where_they_are_wanted(rt: HostRuntime) -> Result<(), Fail>
     let status = run_serial(alloc, words.as_slice(), &mut opener, &mut sink);
     assert_eq!(rt; status, Status::Done);
     assert_eq!(rt; sink.bytes(), FIRST_PLACES.as_bytes());
+    Ok(())
+}
+
+/// The status of `serial FILE --device FILE` over these two texts, where these reads of the device fail.
+fn run_beside<'x>(
+    alloc: Global,
+    text: &'x str,
+    device: &'x str,
+    reads: &'x [u64],
+    sink: &mut MemorySink<'_>,
+) -> Result<Status, Fail> {
+    let fails = Failing { open: false, reads };
+    let files = [
+        MemoryFile {
+            name: "row.json",
+            bytes: text.as_bytes(),
+        },
+        MemoryFile {
+            name: "device.txt",
+            bytes: device.as_bytes(),
+        },
+    ];
+    let words = vec![in alloc;
+        "serial".to_string(alloc)?,
+        "row.json".to_string(alloc)?,
+        "--device".to_string(alloc)?,
+        "device.txt".to_string(alloc)?,
+    ]?;
+    let mut opener = MemoryOpener::new(&files, NEVER, fails);
+    Ok(run_serial(alloc, words.as_slice(), &mut opener, sink))
+}
+
+#[test]
+fn devices_tell_their_events(rt: HostRuntime) -> Result<(), Fail> {
+    let wait = r#"{"version":1,"scripts":[[{"op":"await","mark":1}]]}"#;
+    let wishes = "await 1\nwish ready\nmark 2\n";
+    let six = "clock 1\nclock 2\nclock 3\nclock 4\nclock 5\nclock 6\n";
+    let seven = "clock 1\nclock 2\nclock 3\nclock 4\nclock 5\nclock 6\nwish maybe\n";
+    let loss = "await 1\nloss\nmark 2\n";
+    let none: &[u64] = &[];
+    for (text, device, reads, status, report) in [
+        (WISHES, wishes, none, Status::Done, WISHES_REPORT),
+        (
+            EVENTS,
+            seven,
+            none,
+            Status::DeviceGarbled(7),
+            GARBLED_REPORT,
+        ),
+        (EVENTS, six, &[1], Status::DeviceFailed, FAILED_REPORT),
+        (LOSS, loss, none, Status::Done, LOSS_REPORT),
+        (wait, "", none, Status::Stuck, STUCK_REPORT),
+    ] {
+        let mut sink = MemorySink::new(rt.alloc(), 1000, &[], &[])?;
+        assert_eq!(rt;
+            run_beside(rt.alloc(), text, device, reads, &mut sink)?,
+            status
+        );
+        assert_eq!(rt; sink.bytes(), report.as_bytes());
+    }
+    Ok(())
+}
+
+/// The second of three lines of a device, which is none.
+const WRONG: [&str; 24] = [
+    "clock  2",
+    "clock 2 ",
+    " clock 2",
+    "clock 2\r",
+    "\r",
+    "clock",
+    "clock 02",
+    "clock +2",
+    "clock -2",
+    "clock 4611686018427387904",
+    "grid 0 0",
+    "grid 00 1",
+    "grid 0 1000000001",
+    "wish idle",
+    "wish",
+    "loss 1",
+    "lost ",
+    "mark 0",
+    "mark 65",
+    "mark 01",
+    "await 0",
+    "await 65",
+    "frobnicate",
+    "fault",
+];
+
+const WRONG_REPORT: &str = "\
+xrsim report 1
+thread 1
+1 leave XR_SUCCESS
+compositor
+ended
+device
+1 clock 1
+garbled 2
+status 6
+";
+
+const NOTHING: &str = r#"{"version":1,"scripts":[[]]}"#;
+
+/// A device of three lines with this second one.
+fn second_of_three(alloc: Global, line: &str) -> Result<String, Fail> {
+    let mut device = String::from_str(alloc, "clock 1\n")?;
+    device.push_str(line)?;
+    device.push_str("\nclock 3\n")?;
+    Ok(device)
+}
+
+#[test]
+fn wrong_lines_are_told_by_their_number(rt: HostRuntime) -> Result<(), Fail> {
+    let alloc = rt.alloc();
+    let mut devices = Vec::new(alloc);
+    for line in WRONG {
+        devices.push(second_of_three(alloc, line)?)?;
+    }
+    for first in ['c', '#'] {
+        let mut long = String::new(alloc);
+        for _ in 0..256 {
+            long.push(first)?;
+        }
+        devices.push(second_of_three(alloc, long.as_str())?)?;
+    }
+    for device in &devices {
+        let mut sink = MemorySink::new(alloc, 1000, &[], &[])?;
+        let status = run_beside(alloc, NOTHING, device.as_str(), &[], &mut sink)?;
+        assert_eq!(rt; status, Status::DeviceGarbled(2), "of {device:?}");
+        assert_eq!(rt; sink.bytes(), WRONG_REPORT.as_bytes(), "of {device:?}");
+    }
+    Ok(())
+}
+
+/// What stands before the device's events in the report of a script with no op.
+const LEFT: &str = "xrsim report 1\nthread 1\n1 leave XR_SUCCESS\ncompositor\nended\ndevice\n";
+
+#[test]
+fn a_device_may_end_anywhere(rt: HostRuntime) -> Result<(), Fail> {
+    let none: &[u64] = &[];
+    for (device, reads, status, lines) in [
+        ("", none, Status::Done, "status 0\n"),
+        ("\n# no event", none, Status::Done, "status 0\n"),
+        ("loss", none, Status::Done, "1 loss\nstatus 0\n"),
+        ("loss\n", &[0], Status::DeviceFailed, "fault\nstatus 5\n"),
+        (
+            "loss\n",
+            &[1],
+            Status::DeviceFailed,
+            "1 loss\nfault\nstatus 5\n",
+        ),
+    ] {
+        let mut report = String::from_str(rt.alloc(), LEFT)?;
+        report.push_str(lines)?;
+        let mut sink = MemorySink::new(rt.alloc(), 1000, &[], &[])?;
+        let ended = run_beside(rt.alloc(), NOTHING, device, reads, &mut sink)?;
+        assert_eq!(rt; ended, status, "of {device:?}");
+        assert_eq!(rt; sink.bytes(), report.as_bytes(), "of {device:?}");
+    }
     Ok(())
 }
 
@@ -377,5 +655,13 @@ fn other_words_are_no_form(rt: HostRuntime) -> Result<(), Fail> {
     assert_eq!(rt; status_of(alloc, &["serial", "--places"])?, Status::Usage);
     assert_eq!(rt; status_of(alloc, &["threads", "a"])?, Status::Usage);
     assert_eq!(rt; status_of(alloc, &["serial", "a", "b"])?, Status::Usage);
+    assert_eq!(rt;
+        status_of(alloc, &["serial", "a", "--device"])?,
+        Status::Usage
+    );
+    assert_eq!(rt;
+        status_of(alloc, &["serial", "a", "--device", ""])?,
+        Status::Usage
+    );
     Ok(())
 }

@@ -22,5 +22,5 @@ checked_is (Some f) e is = by (checks f) refl is
 pub returns-in-Some-clause-told : goal.returns-in-Some-clause-told
 returns-in-Some-clause-told c = record {
   checked = checked_is (event_by (words_of c.args.line.now)) c.in-Some.event c.in-Some.ensures.value;
-  plain = c.in-Some.ensures.plain;
+  line = c.in-Some.ensures.line;
 }

@@ -1,0 +1,117 @@
+-- How much of a lent buffer a call has written, by what its reply gives.
+use Rattle.std.proofs.Common.{◌≡◌, ◌&&◌, ℕ, Bool, true, false, nat_lt, nat_le, List, [], ◌∷◌, ◌++◌, length, take, drop, Option, Some, None, refl, sym, subst, ◌∙◌, ap, arith, length-append}
+use Rattle.std.specs.Prelude.{if◌then◌else◌}
+use Rattle.std.proofs.lemmas.Bool.Decides.{nat_tests}
+use Rattle.std.proofs.lemmas.Grind.{common_steps}
+use Rattle.xr_types.specs.declared.calls.Actor.{Actor}
+use Rattle.xr_types.specs.declared.calls.Gives.TheVariants.{Size}
+use Rattle.xr_types.specs.declared.calls.Reply.{Reply}
+use Rattle.xr_model.specs.Request.{Request, create_instance, destroy_instance, get_system, string_to_path, path_to_string, poll_event, create_session, destroy_session, begin_session, end_session, request_exit_session, leave, next_frame, Entry, Outcome, entry_of}
+use Rattle.xr_types.specs.declared.session.Event.{Event}
+use Rattle.xr_model.specs.Events.{polled}
+use Rattle.xr_model.specs.Steps.Instance.{told_event}
+use Rattle.xr_model.specs.Paths.{text_at, copied, size_at, size_of}
+use Rattle.xr_model.specs.Refusals.{Refusal, first_of}
+use Rattle.xr_model.specs.State.{State}
+use Rattle.xr_model.specs.Rules.{Effect, refusals, unless_refused, written_over}
+use Rattle.xr_model.specs.Machine.{step, rule, ready, FitsBuffer, Answers}
+use Rattle.xr_serial.specs.Lent.{lent_size, written_size}
+use Rattle.xr_serial.specs.Made.{IsMade}
+
+-- a refusal that holds gives nothing that fits the buffer
+abbrev GiveNone : ℕ → List Refusal → Type 0
+GiveNone size [] = Unit {0}
+GiveNone size (r ∷ rs) = (r.holds ≡ true → written_size r.gives size ≡ 0) × GiveNone size rs
+
+same_of_some : (x y : Refusal) → Some x ≡ Some y → x ≡ y
+same_of_some x y e = cc
+
+first_gives_none : (size : ℕ) (rs : List Refusal) (r : Refusal) → GiveNone size rs → first_of rs ≡ Some r → written_size r.gives size ≡ 0
+first_gives_none size [] r none e = cc
+first_gives_none size (x ∷ rs) r none e = by x.holds refl e (λ later. first_gives_none size rs r none.1 later)
+  where
+    by : (b : Bool) → x.holds ≡ b → (if b then Some x else first_of rs) ≡ Some r → (first_of rs ≡ Some r → written_size r.gives size ≡ 0) → written_size r.gives size ≡ 0
+    by true h found later = subst (λ (y : Refusal). written_size y.gives size ≡ 0) (same_of_some x r found) (none.0 h)
+    by false h found later = later found
+
+abbrev Fits : ℕ → Effect → Type 0
+Fits size e = length e.text ≡ written_size e.gives size
+
+carried_fits : (s : State) (size : ℕ) (rs : List Refusal) (e : Effect) → GiveNone size rs → Fits size e → Fits size (unless_refused s (first_of rs) e)
+carried_fits s size rs e none fits = by (first_of rs) refl
+  where
+    by : (o : Option Refusal) → first_of rs ≡ o → Fits size (unless_refused s o e)
+    by None h = fits
+    by (Some r) h = sym (first_gives_none size rs r none h)
+
+copy_gives_none : (found : Option (List ℕ)) (size : ℕ) → (nat_lt 0 size && nat_lt size (size_at found)) ≡ true → written_size (Size (size_at found)) size ≡ 0
+copy_gives_none found size h = grind (arith, nat_tests, h)
+
+either : (n : ℕ) (b : Bool) → n ≡ (if b then n else n)
+either n true = refl
+either n false = refl
+
+copied_fits : (found : Option (List ℕ)) (size : ℕ) → length (copied found size) ≡ written_size (Size (size_at found)) size
+copied_fits None size = either 0 (nat_le 0 size)
+copied_fits (Some t) size = by (nat_le (size_of t) size)
+  where
+    by : (b : Bool) → length (if b then t ++ 0 ∷ [] else []) ≡ (if b then size_of t else 0)
+    by true = length-append t (0 ∷ [])
+    by false = refl
+
+-- an event that is told takes no bytes of a buffer
+told_writes_none : (told : Option Event) → 0 ≡ written_size (told_event told) 0
+told_writes_none None = refl
+told_writes_none (Some event) = refl
+
+-- the bytes that a call writes are as many as its reply says
+pub text_fits : (s : State) (e : Entry) → length (step s e).1.text ≡ written_size (step s e).1.reply.gives (lent_size e.request)
+text_fits s e = by e.request
+  where
+    by : (r : Request) → Fits (lent_size r) (unless_refused s (first_of (refusals (rule s (record e { request = r })))) (rule s (record e { request = r })).effect)
+    by (create_instance major minor) = carried_fits s 0 (refusals (rule s (record e { request = create_instance major minor }))) (rule s (record e { request = create_instance major minor })).effect ((λ h. refl), ((λ h. refl), ((λ h. refl), tt))) refl
+    by (destroy_instance instance) = carried_fits s 0 (refusals (rule s (record e { request = destroy_instance instance }))) (rule s (record e { request = destroy_instance instance })).effect ((λ h. refl), ((λ h. refl), tt)) refl
+    by (get_system instance form) = carried_fits s 0 (refusals (rule s (record e { request = get_system instance form }))) (rule s (record e { request = get_system instance form })).effect ((λ h. refl), ((λ h. refl), ((λ h. refl), tt))) refl
+    by (string_to_path instance text) = carried_fits s 0 (refusals (rule s (record e { request = string_to_path instance text }))) (rule s (record e { request = string_to_path instance text })).effect ((λ h. refl), ((λ h. refl), ((λ h. refl), ((λ h. refl), ((λ h. refl), tt))))) refl
+    by (path_to_string instance path capacity) =
+        carried_fits s capacity (refusals (rule s (record e { request = path_to_string instance path capacity }))) (rule s (record e { request = path_to_string instance path capacity })).effect
+        ((λ h. refl), ((λ h. refl), ((λ h. refl), (copy_gives_none (text_at s.atoms path) capacity, tt)))) (copied_fits (text_at s.atoms path) capacity)
+    by (poll_event instance) = carried_fits s 0 (refusals (rule s (record e { request = poll_event instance }))) (rule s (record e { request = poll_event instance })).effect ((λ h. refl), ((λ h. refl), ((λ h. refl), tt))) (told_writes_none (polled s.events))
+    by (create_session instance system) = carried_fits s 0 (refusals (rule s (record e { request = create_session instance system }))) (rule s (record e { request = create_session instance system })).effect ((λ h. refl), ((λ h. refl), ((λ h. refl), ((λ h. refl), tt)))) refl
+    by (destroy_session session) = carried_fits s 0 (refusals (rule s (record e { request = destroy_session session }))) (rule s (record e { request = destroy_session session })).effect ((λ h. refl), ((λ h. refl), tt)) refl
+    by (begin_session session view) = carried_fits s 0 (refusals (rule s (record e { request = begin_session session view }))) (rule s (record e { request = begin_session session view })).effect ((λ h. refl), ((λ h. refl), ((λ h. refl), ((λ h. refl), ((λ h. refl), ((λ h. refl), tt)))))) refl
+    by (end_session session) = carried_fits s 0 (refusals (rule s (record e { request = end_session session }))) (rule s (record e { request = end_session session })).effect ((λ h. refl), ((λ h. refl), ((λ h. refl), ((λ h. refl), ((λ h. refl), tt))))) refl
+    by (request_exit_session session) = carried_fits s 0 (refusals (rule s (record e { request = request_exit_session session }))) (rule s (record e { request = request_exit_session session })).effect ((λ h. refl), ((λ h. refl), ((λ h. refl), ((λ h. refl), tt)))) refl
+    by leave = refl
+    by next_frame = refl
+    by _ = refl
+
+-- whether a call is ready is decided by neither a handle nor want of memory
+pub ready_any : (s : State) (who : Actor) (what : Request) (g h : ℕ) (a b : Bool) → ready s (record { actor = who; request = what; given = g; short = a }) ≡ ready s (record { actor = who; request = what; given = h; short = b })
+ready_any s who (create_instance major minor) g h a b = refl
+ready_any s who _ g h a b = refl
+
+-- the front of a buffer that was written over
+pub front_of-written : (bytes buffer : List ℕ) (n : ℕ) → length bytes ≡ n → take n (written_over bytes buffer) ≡ bytes
+front_of-written bytes buffer n e = subst (λ (m : ℕ). take m (bytes ++ drop (length bytes) buffer) ≡ bytes) e (grind (arith, common_steps))
+
+-- what a call may be lent
+pub lent_fits : (r : Request) → FitsBuffer r (lent_size r)
+lent_fits (create_instance major minor) = tt
+lent_fits (string_to_path instance text) = tt
+lent_fits (path_to_string instance path capacity) = refl
+lent_fits leave = tt
+lent_fits next_frame = tt
+lent_fits _ = tt
+
+same_outcome : (o : Outcome) (answer : Reply) (bytes : List ℕ) → answer ≡ o.reply → bytes ≡ o.text → o ≡ record { reply = answer; text = bytes }
+same_outcome o answer bytes e f = rw (e, f) refl
+
+-- what the core answered is a call that was made, with the bytes at the front of its buffer
+pub made_of : (old new : State) (who : Actor) (what : Request) (answer : Reply) (before written bytes : List ℕ) (n : ℕ) → Answers old (entry_of who what answer) new answer before written
+    → n ≡ written_size answer.gives (lent_size what) → bytes ≡ take n written → IsMade old new who what answer bytes
+made_of old new who what answer before written bytes n a size front =
+    let text : List ℕ = (step old (entry_of who what answer)).1.text in
+    let fits : length text ≡ n = text_fits old (entry_of who what answer) ∙ ap (λ (r : Reply). written_size r.gives (lent_size what)) (sym a.replies) ∙ sym size in
+    let same : bytes ≡ text = front ∙ rw a.writes (front_of-written text before n fits) in
+    record { allowed = a.allowed; is_ready = a.is_ready; leads = a.leads; outcome = same_outcome (step old (entry_of who what answer)).1 answer bytes a.replies same }

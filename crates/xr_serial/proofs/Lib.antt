@@ -1,0 +1,11 @@
+pub mod Lending
+pub mod Standing
+pub mod Ops
+pub mod Steps
+pub mod Staying
+pub mod Keeping
+pub mod KeepingDevice
+pub mod AtStart
+pub mod Ending
+pub mod AtEnd
+pub mod Measure

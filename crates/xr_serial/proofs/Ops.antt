@@ -1,0 +1,49 @@
+-- What is known of a script's op and of its call.
+use Rattle.std.proofs.Common.{◌≡◌, ◌<◌, ◌+◌, ℕ, pos, true, List, [], ◌∷◌, length, drop, get_or, refl, add-one, drop-cons, arith, zero, suc}
+use Rattle.std.proofs.lemmas.Bool.Decides.{nat_tests}
+use Rattle.std.specs.List.{list_all}
+use Rattle.std.proofs.lemmas.Bool.{and_parts}
+use Rattle.xr_types.specs.declared.scenario.Op.{Op}
+use Rattle.xr_types.specs.declared.scenario.Op.TheVariants as op
+use Rattle.xr_types.specs.Device.{is_mark}
+use Rattle.xr_types.specs.Op.{call_name}
+use Rattle.xr_model.specs.Built.{is_built_op}
+use Rattle.xr_model.specs.Formed.{IsMark}
+use Rattle.xr_model.specs.InForm.{IsInRange}
+use Rattle.xr_model.specs.Lists.{name_of, mark_of, start_of}
+use Rattle.xr_model.specs.Machine.{HasNumbers}
+use Rattle.xr_model.specs.Scripts.{request_for, unstarted}
+use Rattle.xr_serial.specs.Sides.{op_mark}
+
+pub built_at : (ops : List Op) (i : ℕ) (d : Op) → list_all is_built_op ops ≡ true → i < length ops → is_built_op (get_or ops i d) ≡ true
+built_at [] i d all h = let none : ⊥ = omega (arith, h) in absurd none
+built_at (o ∷ ops) zero d all h = (and_parts (is_built_op o) (list_all is_built_op ops) all).0
+built_at (o ∷ ops) (suc i) d all h = built_at ops i d (and_parts (is_built_op o) (list_all is_built_op ops) all).1 (omega (arith, h))
+
+pub here_at : (ops : List Op) (i : ℕ) (o : Op) → i < length ops → o ≡ get_or ops i o → drop i ops ≡ o ∷ drop (i + 1) ops
+here_at ops i o h here = rw (add-one, drop-cons ops i o h, ← here) refl
+
+mark_in_range : (n : ℕ) → IsMark n → is_mark n ≡ true
+mark_in_range n m = let low = m.0 in let high = m.1 in grind (arith, nat_tests, low, high)
+
+pub op_numbers : (values : List ℕ) (o : Op) → IsInRange o → HasNumbers (request_for values o)
+op_numbers values (op.CreateInstance major minor) r = tt
+op_numbers values (op.Mark number value) r = mark_in_range number r.0
+op_numbers values (op.Await number) r = mark_in_range number r
+op_numbers values _ r = tt
+
+pub name_is : (values : List ℕ) (o : Op) → name_of (request_for values o) ≡ call_name o
+name_is values (op.CreateInstance major minor) = refl
+name_is values _ = refl
+
+pub mark_is : (values : List ℕ) (o : Op) → mark_of (request_for values o) ≡ op_mark o
+mark_is values (op.Await number) = refl
+mark_is values _ = refl
+
+pub no_start : (values : List ℕ) (o : Op) → start_of (request_for values o) ≡ pos 0
+no_start values (op.CreateInstance major minor) = refl
+no_start values _ = refl
+
+pub same_request : (values : List ℕ) (o : Op) → unstarted (request_for values o) ≡ request_for values o
+same_request values (op.CreateInstance major minor) = refl
+same_request values _ = refl

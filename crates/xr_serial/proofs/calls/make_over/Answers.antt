@@ -1,0 +1,15 @@
+use Rattle.std.proofs.Common.{rules, ◌∙◌, ap, false, ◌≡◌, length}
+use Rattle.xr_model.specs.Request.{request_of}
+use Rattle.xr_serial.specs.Lent.{lent_size, written_size}
+use Rattle.xr_serial.proofs.Lending.{made_of}
+use Rattle.xr_serial.proofs.calls.make_over.Goals as goal
+
+pub returns-in_default : goal.returns-in_default
+returns-in_default c = let waits = c.in_default.ensures 0 false in (waits.same, waits.not_ready)
+
+pub returns-in-Ok : goal.returns-in-Ok
+returns-in-Ok c =
+    let lent : length c.apply.new.text ≡ lent_size (request_of c.args.call.now) = search rules in
+    let size : c.written_size-written.result ≡ written_size c.in-Done.reply.gives (lent_size (request_of c.args.call.now)) = c.written_size-written.ensures.written ∙ ap (written_size c.in-Done.reply.gives) lent in
+    made_of c.args.core.now c.apply.new.self c.args.who (request_of c.args.call.now) c.in-Done.reply c.args.buffer.now c.apply.new.text c.in-Ok.text c.written_size-written.result
+    c.in-Done.ensures size c.in-Ok.ensures

@@ -1,0 +1,111 @@
+// A call of an actor, and what it came to.
+ghost use Rattle.std.specs.Prelude.{◌≡◌, ◌≤◌, ◌<◌, ◌^◌, ◌++◌, ◌∷◌, [], pos, IfOk, OnOk, length};
+ghost use Rattle.xr_model.specs.Request.{request_of};
+ghost use Rattle.xr_model.specs.Machine.{IsCaller, IsPresent, HasNumbers};
+ghost use Rattle.xr_serial.specs.Made.{Comes};
+ghost use Rattle.xr_serial.specs.Lent.{lent_size, written_size};
+
+use std::alloc::Global;
+use xr_core::Core;
+use xr_types::{Actor, Bytes, Call, CallName, Gives, Made, NoMemory, Reply, Step};
+
+/// A reply, and the bytes put into the lent buffer.
+#[derive(Drop)]
+pub(crate) struct Answered {
+    pub(crate) reply: Reply,
+    pub(crate) text: Bytes,
+}
+
+/// How many bytes a call is lent.
+fn lent_size(call: &Call<'_>) -> u64
+    ensures { result ≡ lent_size (request_of call.now) }
+{
+    match call {
+        Call::PathToString {
+            instance: _,
+            path: _,
+            capacity,
+        } => *capacity,
+        _ => 0,
+    }
+}
+
+/// How many bytes of a lent buffer were written.
+fn written_size(gives: Gives, size: u64) -> u64
+    ensures written { result ≡ written_size gives size }
+    ensures within { result ≤ size }
+{
+    match gives {
+        Gives::Size(written) => { if written <= size { written } else { 0 } }
+        _ => 0,
+    }
+}
+
+/// Makes a call over a buffer of the size that it asks for, or says by nothing that it has to wait.
+fn make_over(
+    alloc: Global,
+    core: &mut Core,
+    who: Actor,
+    call: &Call<'_>,
+    buffer: &mut [u8],
+) -> Result<Option<Answered>, NoMemory>
+    requires calls { core.old.locked < 2 ^ 44 }
+    requires caller { IsCaller who (request_of call.now) }
+    requires numbers { HasNumbers (request_of call.now) }
+    requires present { IsPresent core.old who }
+    requires size { length buffer.old ≡ lent_size (request_of call.now) }
+    ensures { IfOk result (λ answered. Comes core.old core.new who (request_of call.now) answered) }
+{
+    let Step::Done(reply) = core.apply(who, call, buffer) else {
+        return Ok(None);
+    };
+    let written = written_size(reply.gives, buffer.len() as u64) as usize;
+    match Bytes::from_slice(alloc, &buffer[..written]) {
+        Ok(text) => Ok(Some(Answered { reply, text })),
+        Err(_) => Err(NoMemory),
+    }
+}
+
+/// Makes a call, which is lent a buffer of the size that it asks for, or says by nothing that it has to wait.
+pub(crate) fn make(
+    alloc: Global,
+    core: &mut Core,
+    who: Actor,
+    call: &Call<'_>,
+) -> Result<Option<Answered>, NoMemory>
+    requires calls { core.old.locked < 2 ^ 44 }
+    requires caller { IsCaller who (request_of call.now) }
+    requires numbers { HasNumbers (request_of call.now) }
+    requires present { IsPresent core.old who }
+    ensures { IfOk result (λ answered. Comes core.old core.new who (request_of call.now) answered) }
+{
+    let size = lent_size(call) as usize;
+    let Ok(mut buffer) = vec![in alloc; 0u8; size] else {
+        return Err(NoMemory);
+    };
+    make_over(alloc, core, who, call, &mut buffer)
+}
+
+/// Keeps a call that was made, at its place.
+pub(crate) fn add(
+    list: &mut Vec<Made>,
+    op: u32,
+    name: CallName,
+    mark: u8,
+    answered: Answered,
+) -> Result<(), NoMemory>
+    ensures { OnOk result (list.new.items ≡ list.old.items ++ record { op = op; name = name; mark = mark; start = pos 0; reply = answered.reply; text = answered.text } ∷ []) }
+{
+    let next = Made {
+        op,
+        name,
+        mark,
+        start: 0,
+        reply: answered.reply,
+        text: answered.text,
+    };
+    match list.push(next) {
+        Ok(()) => Ok(()),
+        Err(_) => Err(NoMemory),
+    }
+}

@@ -1,0 +1,45 @@
+// How a run ended.
+ghost use Rattle.std.specs.Prelude.{◌≡◌};
+ghost use Rattle.std.specs.List.{list_any};
+ghost use Rattle.xr_model.specs.Report.{is_fault};
+ghost use Rattle.xrsim.specs.Status.{first_garbled, status_by};
+
+use xr_types::{DeviceEvent, Lists, Status};
+
+/// Whether the device couldn't be read on.
+fn has_fault(events: &[DeviceEvent]) -> bool
+    ensures { result ≡ list_any is_fault events.now }
+{
+    events
+        .iter()
+        .any(|event| matches!(event, DeviceEvent::Fault))
+}
+
+/// The first line of the device's text that is none.
+fn first_garbled(events: &[DeviceEvent]) -> Option<u64>
+    ensures { result ≡ first_garbled events.now }
+{
+    for event in events {
+        if let DeviceEvent::Garbled(line) = *event {
+            return Some(line);
+        }
+    }
+    None
+}
+
+/// How a run ended that has made these lists.
+pub(crate) fn status_of(lists: &Lists) -> Status
+    ensures { result ≡ status_by lists.now.events lists.now.next }
+{
+    if has_fault(lists.events.as_slice()) {
+        return Status::DeviceFailed;
+    }
+    if let Some(line) = first_garbled(lists.events.as_slice()) {
+        return Status::DeviceGarbled(line);
+    }
+    if lists.next.as_slice().is_empty() {
+        Status::Done
+    } else {
+        Status::Stuck
+    }
+}
