@@ -1,5 +1,6 @@
 pub mod Histories
 pub mod Formed
+pub mod InForm
 pub mod Told
 pub mod Answering
 pub mod Rows

@@ -1,5 +1,5 @@
 -- Ops that are in form, one after another.
-use Rattle.std.proofs.Common.{◌≡◌, ◌+◌, ◌-◌, ◌==◌, ◌&&◌, ℕ, zero, suc, Bool, true, false, List, [], ◌∷◌, ◌++◌, length, Option, Some, None, refl, sym, subst, append_assoc, append-nil, true≢false, inl, inr, ◌⊎◌, arith, get_or, ◌<◌}
+use Rattle.std.proofs.Common.{◌≡◌, ◌+◌, ◌-◌, ◌==◌, ◌&&◌, ℕ, zero, suc, Bool, true, false, List, [], ◌∷◌, ◌++◌, length, Option, Some, None, refl, sym, subst, append_assoc, append-nil, true≢false, inl, inr, ◌⊎◌, arith}
 use Rattle.std.proofs.lemmas.Bool.{and_parts, or_cases, or_left, or_right, eqb-true}
 use Rattle.std.specs.Prelude.{slice_get, if◌then◌else◌}
 use Rattle.std.specs.Str.{bytes_eq}
@@ -9,7 +9,7 @@ use Rattle.xr_types.specs.declared.scenario.Sort.TheVariants.{Handle, Atom, Numb
 use Rattle.xr_types.specs.Op.{sort_of}
 use Rattle.xr_model.specs.Names.{Known, known, given, is_known, is_sort}
 use Rattle.xr_model.specs.Formed.{IsFormed}
-use Rattle.xr_model.specs.InForm.{HasSort, IsPlaceOf, AreInForm, IsInForm, AllInForm, IsKnownPlace, IsAnyPlace, IsInRange}
+use Rattle.xr_model.specs.InForm.{HasSort, IsPlaceOf, AreInForm, IsInForm, AllInForm, IsKnownPlace}
 use Rattle.xr_model.specs.Lines.{with_name_of}
 use Rattle.xr_model.proofs.Formed.{formed-weaker}
 
@@ -102,18 +102,3 @@ formed_of-known names ops o are h = formed-weaker (IsKnownPlace names) (IsPlaceO
 
 pub in_form-next : (names : List Known) (ops : List Op) (o : Op) → AreOf names ops → IsInForm ops → IsFormed (IsKnownPlace names) o → IsInForm (ops ++ o ∷ [])
 in_form-next names ops o are all h = in_form_snoc [] ops o all (formed_of-known names ops o are h)
-
--- ---- each op of scripts in form
-
-in_range-behind : (before ops : List Op) (i : ℕ) (d : Op) → AreInForm before ops → i < length ops → IsInRange (get_or ops i d)
-in_range-behind before [] i d all h = let none : ⊥ = omega (arith, h) in absurd none
-in_range-behind before (o ∷ ops) zero d all h = formed-weaker (IsPlaceOf before) IsAnyPlace (λ sort place here. tt) o all.0
-in_range-behind before (o ∷ ops) (suc i) d all h = in_range-behind (before ++ o ∷ []) ops i d all.1 (omega (arith, h))
-
-pub in_range-item : (ops : List Op) (i : ℕ) (d : Op) → IsInForm ops → i < length ops → IsInRange (get_or ops i d)
-in_range-item ops i d all h = in_range-behind [] ops i d all h
-
-pub in_form-item : (scripts : List (List Op)) (i : ℕ) (d : List Op) → AllInForm scripts → i < length scripts → IsInForm (get_or scripts i d)
-in_form-item [] i d all h = let none : ⊥ = omega (arith, h) in absurd none
-in_form-item (ops ∷ scripts) zero d all h = all.0
-in_form-item (ops ∷ scripts) (suc i) d all h = in_form-item scripts i d all.1 (omega (arith, h))

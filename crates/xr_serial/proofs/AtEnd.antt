@@ -8,6 +8,7 @@ use Rattle.xr_types.specs.declared.made.Made.{Made}
 use Rattle.xr_types.specs.declared.made.Waiting.{Waiting}
 use Rattle.xr_types.specs.declared.scenario.Op.{Op}
 use Rattle.xr_types.specs.declared.scenario.Scenario.{Scenario}
+use Rattle.xr_io.specs.Outside.{Rose}
 use Rattle.xr_model.specs.Request as request
 use Rattle.xr_model.specs.Request.{next_frame, Entry}
 use Rattle.xr_model.specs.State.{State, opening}
@@ -127,7 +128,7 @@ module _ (ops : List Op) (t : Turn) (s : State) (made : ℕ) (names : List ℕ) 
         device = ap events_in device_made ∙ sym (device.calls ∙ (ap (λ (l : List DeviceEvent). (events_in kept.dev ++ pending_list pending) ++ l) (device.none (known n.told)) ∙ append-nil (events_in kept.dev ++ pending_list pending) ∙ ap (λ (p : Option DeviceEvent). events_in kept.dev ++ pending_list p) n.told ∙ append-nil (events_in kept.dev)));
       }
 
-  pub ran : (scenario : Scenario) → scenario.scripts ≡ ops ∷ [] → Ran scenario ops told before after (lists_at ops made names list gone pending evs dlist ended)
+  pub ran : (scenario : Scenario) → scenario.scripts ≡ ops ∷ [] → Ran scenario ops told (lists_at ops made names list gone pending evs dlist ended)
   ran scenario one = record {
     history = history;
     events = device.events;
@@ -140,5 +141,7 @@ module _ (ops : List Op) (t : Turn) (s : State) (made : ℕ) (names : List ℕ) 
     device = (pending_list pending ++ device.rest, rw device_made (device.calls ∙ append_assoc (events_in kept.dev) (pending_list pending) device.rest));
     whole = whole;
     made = rw one lists_three;
-    fault = λ h. device.fault (subst (λ (l : List DeviceEvent). list_any is_fault l ≡ true) kept.device.events_are h);
   }
+
+  pub fault : list_any is_fault evs ≡ true → Rose before after
+  fault h = device.fault (subst (λ (l : List DeviceEvent). list_any is_fault l ≡ true) kept.device.events_are h)

@@ -1,13 +1,11 @@
 -- A run of one script beside a device: the one history that its lists are of.
-use Rattle.std.specs.Prelude.{◌≡◌, ℕ, true, List, [], ◌∷◌, ◌++◌, Option, Some, None}
-use Rattle.std.specs.List.{list_any}
+use Rattle.std.specs.Prelude.{◌≡◌, List, [], ◌∷◌, ◌++◌, Option, Some, None}
 use Rattle.xr_types.specs.declared.calls.Actor.TheVariants.{App, Compositor, Device}
 use Rattle.xr_types.specs.declared.calls.Gives.TheVariants.{Ended}
 use Rattle.xr_types.specs.declared.device.DeviceEvent.{DeviceEvent}
 use Rattle.xr_types.specs.declared.made.Lists.{Lists}
 use Rattle.xr_types.specs.declared.scenario.Op.{Op}
 use Rattle.xr_types.specs.declared.scenario.Scenario.{Scenario}
-use Rattle.xr_io.specs.Outside.{Rose}
 use Rattle.xr_model.specs.Request as request
 use Rattle.xr_model.specs.Request.{next_frame, Entry}
 use Rattle.xr_model.specs.State.{opening}
@@ -15,7 +13,6 @@ use Rattle.xr_model.specs.History.{IsLegal, calls_of}
 use Rattle.xr_model.specs.Scripts.{Follows, FollowsSoFar}
 use Rattle.xr_model.specs.DeviceText.{Told, Ending}
 use Rattle.xr_model.specs.Robin.{device_calls, first_seats, IsRobin, seats_left}
-use Rattle.xr_model.specs.Report.{is_fault}
 use Rattle.xr_model.specs.Lists.{lists_of, events_in}
 
 -- These are the events that the device gave and its ending, none where it couldn't be read on. Where it told what it has
@@ -41,7 +38,7 @@ pub record IsWhole (ops : List Op) (events : List DeviceEvent) (ending : Option 
 -- A run of a scenario of one script: a legal history of the machine of one thread, the round robin's beside this device,
 -- in which the application's calls follow the script. The lists are those of this history, so each reply is the machine's
 -- at its call's place; they tell next calls exactly where the run can't go on.
-pub record Ran (scenario : Scenario) (ops : List Op) (told : Option Told) (before after : ℕ) (lists : Lists) : Type 0 where
+pub record Ran (scenario : Scenario) (ops : List Op) (told : Option Told) (lists : Lists) : Type 0 where
   pub history : List Entry
   pub events : List DeviceEvent
   pub ending : Option Ending
@@ -53,4 +50,3 @@ pub record Ran (scenario : Scenario) (ops : List Op) (told : Option Told) (befor
   pub device : (rest : List DeviceEvent) × (device_calls events ending ≡ events_in (calls_of 1 Device history) ++ rest)
   pub whole : lists.next ≡ [] → IsWhole ops events ending history
   pub made : lists ≡ lists_of 1 history (seats_left (opening 1) (first_seats scenario (device_calls events ending)) history)
-  pub fault : list_any is_fault lists.events ≡ true → Rose before after

@@ -4,10 +4,12 @@
 #![tactic(auto)]
 
 ghost use Rattle.std.specs.Prelude.{◌≡◌, ◌≤◌, ◌<◌, ◌^◌, ◌∷◌, [], true, IfOk, length};
-ghost use Rattle.std.specs.List.{list_all};
+ghost use Rattle.std.specs.List.{list_all, list_any};
 ghost use Rattle.xr_types.specs.declared.scenario.Scenario.{Scenario};
+ghost use Rattle.xr_io.specs.Outside.{Rose};
 ghost use Rattle.xr_model.specs.Built.{is_built_op};
 ghost use Rattle.xr_model.specs.InForm.{IsInForm};
+ghost use Rattle.xr_model.specs.Report.{is_fault};
 ghost use Rattle.xr_serial.specs.Ran.{Ran};
 
 mod calls;
@@ -37,7 +39,8 @@ pub fn run<D: Device>(alloc: Global, ops: &[Op], device: &mut D) -> Result<Lists
     requires formed { IsInForm ops.now }
     requires built { list_all is_built_op ops.now ≡ true }
     requires fresh { D.bound device.old ≤ 16777216 }
-    ensures ran { IfOk result (λ lists. (scenario : Scenario) → scenario.scripts ≡ ops.now ∷ [] → Ran scenario ops.now (D.told device.old) (D.faults device.old) (D.faults device.new) lists) }
+    ensures ran { IfOk result (λ lists. (scenario : Scenario) → scenario.scripts ≡ ops.now ∷ [] → Ran scenario ops.now (D.told device.old) lists) }
+    ensures fault { IfOk result (λ lists. list_any is_fault lists.events ≡ true → Rose (D.faults device.old) (D.faults device.new)) }
     ensures later { D.faults device.old ≤ D.faults device.new }
     ensures which { D.which device.new ≡ D.which device.old }
 {

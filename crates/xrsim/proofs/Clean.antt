@@ -125,7 +125,7 @@ calls_clean : (told : Told) (events : List DeviceEvent) (ending : Option Ending)
 calls_clean told events None clean end gave = clean_both events (event.Fault ∷ []) (clean_front events gave.0 (subst IsClean gave.1 clean)) refl
 calls_clean told events (Some e) clean end gave = clean_both events (last_event (Some e)) (subst IsClean gave.0 clean) (last_clean e (sym end ∙ gave.1))
 
-pub run_clean : (scenario : Scenario) (ops : List Op) (told : Told) (before after : ℕ) (lists : Lists) → IsClean told.events → told.ending ≡ ends → Ran scenario ops (Some told) before after lists → IsClean lists.events
-run_clean scenario ops told before after lists clean end ran =
+pub run_clean : (scenario : Scenario) (ops : List Op) (told : Told) (lists : Lists) → IsClean told.events → told.ending ≡ ends → Ran scenario ops (Some told) lists → IsClean lists.events
+run_clean scenario ops told lists clean end ran =
     let calls = calls_clean told ran.events ran.ending clean end ran.gave in
     rw ran.made (clean_front (events_in (calls_of 1 actor.Device ran.history)) ran.device.0 (subst IsClean ran.device.1 calls))

@@ -8,11 +8,9 @@ use Rattle.xr_model.specs.DeviceText.{Told}
 use Rattle.xr_serial.specs.Ran.{Ran}
 
 -- A run of a text beside a device that is known to give this: the text is a scenario that is run, and the lists are
--- those of its history. The device's count of faults rose from one number to another.
+-- those of its history.
 pub record Run (text : List ℕ) (told : Option Told) (lists : Lists) : Type 0 where
   pub scenario : Scenario
   pub ops : List Op
-  pub before : ℕ
-  pub after : ℕ
   pub reads : run_scenario_of text ≡ Ok scenario
-  pub ran : Ran scenario ops told before after lists
+  pub ran : Ran scenario ops told lists

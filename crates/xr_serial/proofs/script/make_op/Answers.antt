@@ -7,7 +7,7 @@ use Rattle.xr_model.specs.Lists.{made_at}
 use Rattle.xr_model.specs.Machine.{HasNumbers}
 use Rattle.xr_model.specs.Request.{Request, request_of}
 use Rattle.xr_model.specs.Scripts.{request_for}
-use Rattle.xr_scenario.proofs.InForm.{in_range-item}
+use Rattle.xr_model.proofs.InForm.{in_range-item}
 use Rattle.xr_serial.specs.Made.{IsMade, Comes}
 use Rattle.xr_serial.specs.Sides.{told_of, op_mark}
 use Rattle.xr_serial.specs.declared.calls.Answered.{Answered}

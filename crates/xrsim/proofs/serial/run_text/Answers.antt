@@ -8,9 +8,4 @@ returns-in-Ok-run-clause-means g c =
     let built : are_built c.in-Ok.scenario.scripts ≡ true = search rules in
     let reads : run_scenario_of c.args.text.now ≡ Ok c.in-Ok.scenario = run_if_built c.args.text.now c.in-Ok.scenario c.in-Ok.ensures.reads built in
     let one : c.in-Ok.scenario.scripts ≡ c.in-Some.ops.now ∷ [] = search rules in
-    record { scenario = c.in-Ok.scenario; ops = c.in-Some.ops.now; before = _; after = _; reads = reads; ran = c.in-Ok-run.ensures.ran c.in-Ok.scenario one }
-
-pub returns-in-Ok-run-clause-fault : goal.returns-in-Ok-run-clause-fault
-returns-in-Ok-run-clause-fault g c =
-    let one : c.in-Ok.scenario.scripts ≡ c.in-Some.ops.now ∷ [] = search rules in
-    (c.in-Ok-run.ensures.ran c.in-Ok.scenario one).fault
+    record { scenario = c.in-Ok.scenario; ops = c.in-Some.ops.now; reads = reads; ran = c.in-Ok-run.ensures.ran c.in-Ok.scenario one }
