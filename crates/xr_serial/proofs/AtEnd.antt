@@ -1,5 +1,5 @@
 -- Where nobody can go on, what was made is a whole run, or one that is stuck.
-use Rattle.std.proofs.Common.{◌≡◌, ℕ, Bool, true, false, List, [], ◌∷◌, ◌++◌, map, Option, Some, None, refl, sym, ap, subst, ◌∙◌, append_assoc, append-nil, true≢false}
+use Rattle.std.proofs.Common.{◌≡◌, ℕ, Bool, true, false, List, [], ◌∷◌, ◌++◌, map, Option, Some, None, refl, sym, ap, subst, ◌∙◌, append_assoc, append-nil}
 use Rattle.std.specs.List.{list_any}
 use Rattle.xr_types.specs.declared.calls.Actor.TheVariants.{App, Compositor, Device}
 use Rattle.xr_types.specs.declared.calls.Reply.{Reply}
@@ -10,7 +10,7 @@ use Rattle.xr_types.specs.declared.scenario.Op.{Op}
 use Rattle.xr_types.specs.declared.scenario.Scenario.{Scenario}
 use Rattle.xr_io.specs.Outside.{Rose}
 use Rattle.xr_model.specs.Request as request
-use Rattle.xr_model.specs.Request.{next_frame, Entry}
+use Rattle.xr_model.specs.Request.{Entry}
 use Rattle.xr_model.specs.State.{State, opening}
 use Rattle.xr_model.specs.History.{calls_of}
 use Rattle.xr_model.specs.Scripts.{FollowsSoFar}
@@ -27,12 +27,8 @@ use Rattle.xr_serial.specs.declared.turn.Turn.{Turn}
 use Rattle.xr_serial.proofs.Standing.{none_turn}
 use Rattle.xr_serial.proofs.Ending.{Gives, gives, is_over, in_round_is}
 
-abbrev is_filled : List Waiting → Bool
-is_filled [] = false
-is_filled (w ∷ ws) = true
-
 filled : (w : Waiting) (ws : List Waiting) → w ∷ ws ≡ [] → ⊥
-filled w ws h = true≢false (ap is_filled h)
+filled w ws h = cc
 
 -- ---- the script
 

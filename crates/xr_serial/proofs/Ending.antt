@@ -2,6 +2,7 @@
 use Rattle.std.proofs.Common.{◌≡◌, ℕ, Bool, true, false, pos, List, [], ◌∷◌, ◌++◌, Option, Some, None, refl, sym, ap, subst, ◌∙◌, append_assoc, append-nil, true≢false}
 use Rattle.std.specs.Prelude.{if◌then◌else◌, ◌||◌}
 use Rattle.std.specs.List.{list_any}
+use Rattle.std.proofs.lemmas.Bool.{or_left}
 use Rattle.std.proofs.lemmas.List.Folds.{list_any-append}
 use Rattle.xr_types.specs.declared.calls.Actor.{Actor}
 use Rattle.xr_types.specs.declared.calls.Actor.TheVariants.{App, Compositor, Device}
@@ -38,9 +39,6 @@ pub record Gives (told : Option Told) (over : Bool) (pending : Option DeviceEven
   pub calls : device_calls events ending ≡ (events_in dev ++ pending_list pending) ++ rest
   pub fault : list_any is_fault (events_in dev) ≡ true → Rose before after
 
-front_true : (a b : Bool) → a ≡ true → a || b ≡ true
-front_true a b h = rw h refl
-
 back_true : (a b : Bool) → a ≡ false → a || b ≡ true → b ≡ true
 back_true a b none h = subst (λ (x : Bool). x || b ≡ true) none h
 
@@ -48,7 +46,7 @@ back_true a b none h = subst (λ (x : Bool). x || b ≡ true) none h
 fault_last : (given closing made more : List DeviceEvent) → given ++ closing ≡ made ++ more → list_any is_fault given ≡ false → list_any is_fault made ≡ true → list_any is_fault closing ≡ true
 fault_last given closing made more same none h =
     back_true (list_any is_fault given) (list_any is_fault closing) none
-    (sym (list_any-append is_fault given closing) ∙ ap (list_any is_fault) same ∙ list_any-append is_fault made more ∙ front_true (list_any is_fault made) (list_any is_fault more) h)
+    (sym (list_any-append is_fault given closing) ∙ ap (list_any is_fault) same ∙ list_any-append is_fault made more ∙ or_left (list_any is_fault made) (list_any is_fault more) h)
 
 open_calls : (given more last begun : List DeviceEvent) → given ++ [] ≡ begun → (given ++ more) ++ last ≡ begun ++ more ++ last
 open_calls given more last begun same = ap (λ (l : List DeviceEvent). (l ++ more) ++ last) (sym (append-nil given) ∙ same)

@@ -2,6 +2,7 @@
 use Rattle.std.proofs.Common.{◌≡◌, ◌≤◌, ◌<◌, ◌+◌, ℕ, suc, Bool, true, false, List, [], ◌∷◌, ◌++◌, length, Option, Some, None, refl, sym, ap, subst, ◌∙◌, arith, append_assoc, append-nil, length-append, true≢false}
 use Rattle.std.specs.Prelude.{if◌then◌else◌, ◌||◌, is_some}
 use Rattle.std.specs.List.{list_any}
+use Rattle.std.proofs.lemmas.List.Folds.{list_any-append}
 use Rattle.xr_types.specs.declared.calls.Actor.TheVariants.{Compositor, Device}
 use Rattle.xr_types.specs.declared.calls.Gives.TheVariants.{Ended}
 use Rattle.xr_types.specs.declared.calls.Reply.{Reply}
@@ -11,7 +12,7 @@ use Rattle.xr_types.specs.declared.made.Made.{Made}
 use Rattle.xr_types.specs.declared.scenario.Op.{Op}
 use Rattle.xr_io.specs.Outside.{Rose}
 use Rattle.xr_model.specs.Request as request
-use Rattle.xr_model.specs.Request.{Request, Outcome, device, next_frame, entry_of}
+use Rattle.xr_model.specs.Request.{Outcome, device, next_frame, entry_of}
 use Rattle.xr_model.specs.State.{State}
 use Rattle.xr_model.specs.Machine.{ready}
 use Rattle.xr_model.specs.Device.{is_built_event}
@@ -65,12 +66,7 @@ pub told_done : (e : DeviceEvent) → IsTold e → IsDone e
 told_done e t = record { checked = t.checked; built = line_built e t.line }
 
 none_more : (given : List DeviceEvent) (e : DeviceEvent) → list_any is_fault given ≡ false → is_fault e ≡ false → list_any is_fault (given ++ e ∷ []) ≡ false
-none_more [] e none this = rw this refl
-none_more (x ∷ given) e none this = by (is_fault x) none (none_more given e)
-  where
-    by : (b : Bool) → b || list_any is_fault given ≡ false → (list_any is_fault given ≡ false → is_fault e ≡ false → list_any is_fault (given ++ e ∷ []) ≡ false) → b || list_any is_fault (given ++ e ∷ []) ≡ false
-    by true bad more = bad
-    by false good more = more good this
+none_more given e none this = list_any-append is_fault given (e ∷ []) ∙ rw (none, this) refl
 
 -- ---- what the device has told
 

@@ -3,6 +3,7 @@ use Rattle.std.proofs.Common.{◌≡◌, ◌&&◌, ℕ, Bool, true, false, nat_l
 use Rattle.std.specs.Prelude.{if◌then◌else◌}
 use Rattle.std.proofs.lemmas.Bool.Decides.{nat_tests}
 use Rattle.std.proofs.lemmas.Grind.{common_steps}
+use Rattle.std.proofs.lemmas.Option.{same_Some}
 use Rattle.xr_types.specs.declared.calls.Actor.{Actor}
 use Rattle.xr_types.specs.declared.calls.Gives.TheVariants.{Size}
 use Rattle.xr_types.specs.declared.calls.Reply.{Reply}
@@ -23,15 +24,12 @@ abbrev GiveNone : ℕ → List Refusal → Type 0
 GiveNone size [] = Unit {0}
 GiveNone size (r ∷ rs) = (r.holds ≡ true → written_size r.gives size ≡ 0) × GiveNone size rs
 
-same_of_some : (x y : Refusal) → Some x ≡ Some y → x ≡ y
-same_of_some x y e = cc
-
 first_gives_none : (size : ℕ) (rs : List Refusal) (r : Refusal) → GiveNone size rs → first_of rs ≡ Some r → written_size r.gives size ≡ 0
 first_gives_none size [] r none e = cc
 first_gives_none size (x ∷ rs) r none e = by x.holds refl e (λ later. first_gives_none size rs r none.1 later)
   where
     by : (b : Bool) → x.holds ≡ b → (if b then Some x else first_of rs) ≡ Some r → (first_of rs ≡ Some r → written_size r.gives size ≡ 0) → written_size r.gives size ≡ 0
-    by true h found later = subst (λ (y : Refusal). written_size y.gives size ≡ 0) (same_of_some x r found) (none.0 h)
+    by true h found later = subst (λ (y : Refusal). written_size y.gives size ≡ 0) (same_Some x r found) (none.0 h)
     by false h found later = later found
 
 abbrev Fits : ℕ → Effect → Type 0

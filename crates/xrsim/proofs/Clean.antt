@@ -2,6 +2,7 @@
 use Rattle.std.proofs.Common.{◌≡◌, ◌+◌, ℕ, pos, Bool, true, false, List, [], ◌∷◌, Option, Some, None, option_map, refl, sym, ap, subst, ◌∙◌}
 use Rattle.std.specs.Prelude.{◌||◌, ◌==◌, nat_lt, length, if◌then◌else◌, codes}
 use Rattle.std.specs.List.{list_any}
+use Rattle.std.proofs.lemmas.Option.{none-some, same_Some}
 use Rattle.xr_types.specs.declared.calls.Actor.TheVariants as actor
 use Rattle.xr_types.specs.declared.device.DeviceEvent.{DeviceEvent}
 use Rattle.xr_types.specs.declared.device.DeviceEvent.TheVariants as event
@@ -100,20 +101,14 @@ told_from_clean number used (l ∷ ls) =
     by true clean = refl
     by false clean = clean
 
-same_told : (a b : Told) → Some a ≡ Some b → a ≡ b
-same_told a b is = cc
-
-none_is_not : (a : Told) → None ≡ Some a → ⊥
-none_is_not a is = cc
-
 -- what a device is known to give has no garbled event
 pub told_clean : (bytes : List ℕ → Option (List ℕ)) (device : Option (List ℕ)) (told : Told) → told_under bytes device ≡ Some told → IsClean told.events
-told_clean bytes None told is = ap (λ (t : Told). list_any is_garbled t.events) (sym (same_told nothing_more told is))
+told_clean bytes None told is = ap (λ (t : Told). list_any is_garbled t.events) (sym (same_Some nothing_more told is))
 told_clean bytes (Some name) told is = by (bytes name) is
   where
     by : (text : Option (List ℕ)) → option_map told_in text ≡ Some told → IsClean told.events
-    by None is = absurd (none_is_not told is)
-    by (Some text) is = subst (λ (t : Told). IsClean t.events) (same_told (told_in text) told is) (told_from_clean 1 0 (lines_in text))
+    by None is = absurd (none-some told is)
+    by (Some text) is = subst (λ (t : Told). IsClean t.events) (same_Some (told_in text) told is) (told_from_clean 1 0 (lines_in text))
 
 -- ---- a run
 

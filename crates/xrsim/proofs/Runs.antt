@@ -3,6 +3,7 @@ use Rattle.std.proofs.Common.{◌≡◌, ◌<◌, ◌≤◌, ◌+◌, inl, inr, 
 use Rattle.std.specs.Prelude.{if◌then◌else◌}
 use Rattle.std.proofs.lemmas.Grind.{common_steps}
 use Rattle.std.proofs.lemmas.Bool.{ltb-true, ltb-false, lt-ltb}
+use Rattle.std.proofs.lemmas.Option.{none-some, same_Some}
 use Rattle.xr_io.specs.declared.Which.TheVariants as which
 use Rattle.xr_types.specs.declared.made.Lists.{Lists}
 use Rattle.xr_types.specs.declared.scenario.Scenario.{Scenario}
@@ -28,9 +29,6 @@ whole_take n bytes h = grind (arith, common_steps)
 
 short_take : (n : ℕ) (bytes : List ℕ) → length (take (n + 1) bytes) ≤ n → bytes ≡ take (n + 1) bytes
 short_take n bytes h = grind (arith, common_steps)
-
-none_is_not : {T : Type 0} (x : T) → None ≡ Some x → ⊥
-none_is_not x e = cc
 
 err_is_not : {T U : Type 0} (x : T) (y : U) → Err y ≡ Ok x → ⊥
 err_is_not x y e = cc
@@ -133,9 +131,6 @@ cause_written old new lists places before after (ScenarioRefused why) m cause ro
 abbrev IsRefusedIfTold : Refusal → Option (List ℕ) → Type 0
 IsRefusedIfTold why told = IfSome told (λ bytes. run_scenario_of bytes ≡ Err why)
 
-same_form : (a b : Form) → Some a ≡ Some b → a ≡ b
-same_form a b e = cc
-
 no_opening : (old new : Faults) → NoneRose old new → HasItsCause old new OpenFault → ⊥
 no_opening old new none (inl rose) = none.opens which.Scenario rose
 no_opening old new none (inr rose) = none.opens which.Device rose
@@ -151,16 +146,16 @@ no_garbled bytes device all told lists line is end runs status =
 pub complete : (words : List (List ℕ)) (bytes : List ℕ → Option (List ℕ)) (before after : Option (List ℕ)) (old new : Faults) (status : Status) → Means words bytes before after status → HasItsCause old new status
     → IsComplete words bytes old new status
 complete words bytes before after old new Done means cause = λ form text scenario told is there good tells end none. inl refl
-complete words bytes before after old new Usage means cause = λ form text scenario told is there good tells end none. absurd (none_is_not form (sym means.0 ∙ is))
+complete words bytes before after old new Usage means cause = λ form text scenario told is there good tells end none. absurd (none-some form (sym means.0 ∙ is))
 complete words bytes before after old new OpenFault means cause = λ form text scenario told is there good tells end none. absurd (no_opening old new none cause)
 complete words bytes before after old new ReadFault means cause = λ form text scenario told is there good tells end none. absurd (none.reads which.Scenario cause)
 complete words bytes before after old new (ScenarioRefused why) means cause = λ form text scenario told is there good tells end none.
-    let same : means.0 ≡ form = same_form means.0 form (sym means.1 ∙ is) in
+    let same : means.0 ≡ form = same_Some means.0 form (sym means.1 ∙ is) in
     let refused : IsRefusedIfTold why (Some text) = subst (IsRefusedIfTold why) (ap (λ (f : Form). bytes f.file) same ∙ there) means.2.0 in
     absurd (err_is_not scenario why (sym refused ∙ good))
 complete words bytes before after old new DeviceFailed means cause = λ form text scenario told is there good tells end none. absurd (none.reads which.Device cause)
 complete words bytes before after old new (DeviceGarbled line) means cause = λ form text scenario told is there good tells end none.
-    let same : means.0 ≡ form = same_form means.0 form (sym means.1 ∙ is) in
+    let same : means.0 ≡ form = same_Some means.0 form (sym means.1 ∙ is) in
     let known : told_under bytes means.0.device ≡ Some told = ap (λ (f : Form). told_under bytes f.device) same ∙ tells in
     absurd (no_garbled bytes means.0.device (bytes means.0.file) told means.2.0 line known end means.2.1 means.2.2.0)
 complete words bytes before after old new Stuck means cause = λ form text scenario told is there good tells end none. inr (inl refl)

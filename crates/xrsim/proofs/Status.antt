@@ -1,7 +1,9 @@
 -- How a run ends, and what that tells of its device's events.
-use Rattle.std.proofs.Common.{◌≡◌, ℕ, Bool, true, false, List, [], ◌∷◌, ◌++◌, Option, Some, None, refl}
-use Rattle.std.specs.Prelude.{◌||◌, if◌then◌else◌}
+use Rattle.std.proofs.Common.{◌≡◌, ℕ, Bool, true, false, List, [], ◌∷◌, ◌++◌, Option, Some, None, refl, sym, ◌∙◌}
+use Rattle.std.specs.Prelude.{if◌then◌else◌}
 use Rattle.std.specs.List.{list_any}
+use Rattle.std.proofs.lemmas.Bool.{or_parts}
+use Rattle.std.proofs.lemmas.List.Folds.{list_any-append}
 use Rattle.xr_types.specs.declared.device.DeviceEvent.{DeviceEvent}
 use Rattle.xr_types.specs.declared.device.DeviceEvent.TheVariants as event
 use Rattle.xr_types.specs.declared.made.Waiting.{Waiting}
@@ -28,34 +30,15 @@ none_clean : (e : DeviceEvent) → is_garbled e ≡ false → garbled_line e ≡
 none_clean (event.Garbled line) is = cc
 none_clean _ is = refl
 
-clean_head : (e : DeviceEvent) (es : List DeviceEvent) → IsClean (e ∷ es) → is_garbled e ≡ false
-clean_head e es clean = by (is_garbled e) clean
-  where
-    by : (b : Bool) → (b || list_any is_garbled es) ≡ false → b ≡ false
-    by true h = cc
-    by false h = refl
-
-clean_tail : (e : DeviceEvent) (es : List DeviceEvent) → IsClean (e ∷ es) → IsClean es
-clean_tail e es clean = by (is_garbled e) clean
-  where
-    by : (b : Bool) → (b || list_any is_garbled es) ≡ false → IsClean es
-    by true h = cc
-    by false h = h
-
-clean_join : (e : DeviceEvent) (es : List DeviceEvent) → is_garbled e ≡ false → IsClean es → IsClean (e ∷ es)
-clean_join e es head tail = rw head tail
-
 clean_first : (events : List DeviceEvent) → IsClean events → first_garbled events ≡ None
 clean_first [] clean = refl
-clean_first (e ∷ es) clean = rw (none_clean e (clean_head e es clean)) (clean_first es (clean_tail e es clean))
+clean_first (e ∷ es) clean = let both = or_parts (is_garbled e) (list_any is_garbled es) clean in rw (none_clean e both.0) (clean_first es both.1)
 
 pub clean_front : (events rest : List DeviceEvent) → IsClean (events ++ rest) → IsClean events
-clean_front [] rest clean = refl
-clean_front (e ∷ es) rest clean = clean_join e es (clean_head e (es ++ rest) clean) (clean_front es rest (clean_tail e (es ++ rest) clean))
+clean_front events rest clean = (or_parts (list_any is_garbled events) (list_any is_garbled rest) (sym (list_any-append is_garbled events rest) ∙ clean)).0
 
 pub clean_both : (events more : List DeviceEvent) → IsClean events → IsClean more → IsClean (events ++ more)
-clean_both [] more front behind = behind
-clean_both (e ∷ es) more front behind = clean_join e (es ++ more) (clean_head e es front) (clean_both es more (clean_tail e es front) behind)
+clean_both events more front behind = list_any-append is_garbled events more ∙ rw (front, behind) refl
 
 -- no line is told where none is garbled
 pub never_garbled : (events : List DeviceEvent) (next : List Waiting) (line : ℕ) → IsClean events → status_by events next ≡ DeviceGarbled line → ⊥
