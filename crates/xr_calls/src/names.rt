@@ -9,7 +9,7 @@ use xr_types::{Gives, NoMemory, Op, Reply, Use};
 /// What each op of a script gave to its name, by the op's place: a handle, an atom, a system, a mark's
 /// value or a predicted time in ns of device time. 0 where the op has no name, gave nothing or wasn't
 /// made yet.
-#[derive(Debug, Drop)]
+#[derive(Drop)]
 pub struct Names {
     values: Vec<u64>,
 }

@@ -14,7 +14,7 @@ const MOST_FILE: usize = 4095;
 
 /// What the words ask for: a run of the scenario under `file`, with the device under `device` where
 /// one is named, and with or without the places of replies in its report.
-#[derive(Clone, Copy, Debug)]
+#[derive(Clone, Copy)]
 pub struct Form<'a> {
     pub file: &'a str,
     pub device: Option<&'a str>,

@@ -6,7 +6,5 @@ mod apply;
 mod calls;
 mod sessions;
 mod state;
-#[cfg(test)]
-mod tests;
 
 pub use state::{Core, MOST_APPS};

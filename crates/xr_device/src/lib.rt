@@ -21,7 +21,7 @@ pub use list_device::{ListDevice, may_tell};
 use xr_types::DeviceEvent;
 
 /// What a device answers.
-#[derive(Clone, Copy, Debug, PartialEq, Eq)]
+#[derive(Clone, Copy)]
 pub enum Next {
     /// The next event.
     Event(DeviceEvent),
@@ -69,6 +69,3 @@ pub trait Device {
         ensures cause { OnFailed result (Rose (faults self.old) (faults self.new)) }
         ensures which { which self.new ≡ which self.old };
 }
-
-#[cfg(test)]
-mod tests;

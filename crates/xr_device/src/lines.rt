@@ -11,7 +11,7 @@ const MOST_LINE: usize = 255;
 pub(crate) const MOST_TEXT: usize = 16_777_216;
 
 /// What held bytes begin with.
-#[derive(Clone, Copy, Debug)]
+#[derive(Clone, Copy)]
 pub(crate) enum Front {
     /// A line of so many bytes, which takes so many with its line feed.
     Line { bytes: usize, size: usize },

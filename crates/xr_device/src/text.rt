@@ -13,7 +13,7 @@ use crate::words::{Said, said_by};
 use xr_io::Source;
 
 /// What a step gives: nothing yet, or the answer.
-#[derive(Clone, Copy, Debug)]
+#[derive(Clone, Copy)]
 pub(crate) enum Step {
     GoesOn,
     Answer(Next),

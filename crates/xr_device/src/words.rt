@@ -9,7 +9,7 @@ use crate::bytes::place_of;
 use xr_types::{DeviceEvent, Wish};
 
 /// What a line says.
-#[derive(Clone, Copy, Debug)]
+#[derive(Clone, Copy)]
 pub(crate) enum Said {
     /// Nothing: it is empty or a comment.
     Nothing,

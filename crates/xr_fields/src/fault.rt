@@ -6,7 +6,7 @@ ghost use Rattle.std.specs.Prelude.{◌≡◌, Some, IfOk, IfErr};
 use xr_types::What;
 
 /// Why a part of a text isn't read: this of it is wrong, or memory was short.
-#[derive(Clone, Copy, Debug, PartialEq, Eq)]
+#[derive(Clone, Copy, Debug)]
 pub enum Fault {
     Wrong(What),
     NoMemory,

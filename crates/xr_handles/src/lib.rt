@@ -4,7 +4,5 @@
 
 mod handles;
 mod row;
-#[cfg(test)]
-mod tests;
 
 pub use handles::Handles;

@@ -122,6 +122,3 @@ pub trait Opener {
             (read_faults self.new (Self.S.which source)) }
         ensures later { (w : Which) → read_faults self.old w ≤ read_faults self.new w };
 }
-
-#[cfg(test)]
-mod tests;

@@ -226,14 +226,14 @@ impl<'a> Sink for MemorySink<'a> {
 }
 
 /// A file in memory.
-#[derive(Clone, Copy, Debug)]
+#[derive(Clone, Copy)]
 pub struct MemoryFile<'a> {
     pub name: &'a str,
     pub bytes: &'a [u8],
 }
 
 /// How the calls on one of the two files fail.
-#[derive(Clone, Copy, Debug)]
+#[derive(Clone, Copy)]
 pub struct Failing<'a> {
     /// Whether opening it fails.
     pub open: bool,

@@ -4,8 +4,6 @@
 
 mod atoms;
 mod copy;
-#[cfg(test)]
-mod tests;
 mod text;
 
 pub use atoms::{ATOMS, Paths};

@@ -5,6 +5,7 @@ ghost use Rattle.xr_fields.specs.Reads.{Reads, ReadsLine};
 ghost use Rattle.xr_model.specs.Formed.{IsFormed};
 ghost use Rattle.xr_model.specs.InForm.{IsKnownPlace};
 ghost use Rattle.xr_model.specs.Lines.{op_named, op_of, op_name, line_of};
+ghost use Rattle.xr_scenario.specs.OpNames.{input_op_named, frame_op_named};
 
 use serde_json::Value;
 use std::alloc::Global;
@@ -25,6 +26,49 @@ use xr_session_ops::{
 };
 use xr_types::{CallName, What};
 
+/// The op of swapchains, frames or marks of a name.
+fn frame_op_named(text: &str) -> Option<CallName>
+    ensures { result ≡ frame_op_named text.now }
+{
+    match text {
+        "create_swapchain" => Some(CallName::CreateSwapchain),
+        "destroy_swapchain" => Some(CallName::DestroySwapchain),
+        "acquire_image" => Some(CallName::AcquireImage),
+        "release_image" => Some(CallName::ReleaseImage),
+        "wait_image" => Some(CallName::WaitImage),
+        "paint" => Some(CallName::Paint),
+        "wait_frame" => Some(CallName::WaitFrame),
+        "end_frame" => Some(CallName::EndFrame),
+        "mark" => Some(CallName::Mark),
+        "await" => Some(CallName::Await),
+        _ => None,
+    }
+}
+
+/// The op of a name, where it is none of instances and sessions.
+fn input_op_named(text: &str) -> Option<CallName>
+    ensures { result ≡ input_op_named text.now }
+{
+    match text {
+        "create_reference_space" => Some(CallName::CreateReferenceSpace),
+        "create_action_space" => Some(CallName::CreateActionSpace),
+        "destroy_space" => Some(CallName::DestroySpace),
+        "locate_space" => Some(CallName::LocateSpace),
+        "create_action_set" => Some(CallName::CreateActionSet),
+        "destroy_action_set" => Some(CallName::DestroyActionSet),
+        "create_action" => Some(CallName::CreateAction),
+        "destroy_action" => Some(CallName::DestroyAction),
+        "suggest_bindings" => Some(CallName::SuggestBindings),
+        "attach_sets" => Some(CallName::AttachSets),
+        "sync_actions" => Some(CallName::SyncActions),
+        "get_boolean" => Some(CallName::GetBoolean),
+        "get_float" => Some(CallName::GetFloat),
+        "get_vector" => Some(CallName::GetVector),
+        "get_pose_active" => Some(CallName::GetPoseActive),
+        _ => frame_op_named(text),
+    }
+}
+
 /// The op of a name.
 fn op_named(text: &str) -> Option<CallName>
     ensures { result ≡ op_named text.now }
@@ -42,32 +86,7 @@ fn op_named(text: &str) -> Option<CallName>
         "request_exit_session" => Some(CallName::RequestExitSession),
         "begin_frame" => Some(CallName::BeginFrame),
         "begin_session" => Some(CallName::BeginSession),
-        "create_reference_space" => Some(CallName::CreateReferenceSpace),
-        "create_action_space" => Some(CallName::CreateActionSpace),
-        "destroy_space" => Some(CallName::DestroySpace),
-        "locate_space" => Some(CallName::LocateSpace),
-        "create_action_set" => Some(CallName::CreateActionSet),
-        "destroy_action_set" => Some(CallName::DestroyActionSet),
-        "create_action" => Some(CallName::CreateAction),
-        "destroy_action" => Some(CallName::DestroyAction),
-        "suggest_bindings" => Some(CallName::SuggestBindings),
-        "attach_sets" => Some(CallName::AttachSets),
-        "sync_actions" => Some(CallName::SyncActions),
-        "get_boolean" => Some(CallName::GetBoolean),
-        "get_float" => Some(CallName::GetFloat),
-        "get_vector" => Some(CallName::GetVector),
-        "get_pose_active" => Some(CallName::GetPoseActive),
-        "create_swapchain" => Some(CallName::CreateSwapchain),
-        "destroy_swapchain" => Some(CallName::DestroySwapchain),
-        "acquire_image" => Some(CallName::AcquireImage),
-        "release_image" => Some(CallName::ReleaseImage),
-        "wait_image" => Some(CallName::WaitImage),
-        "paint" => Some(CallName::Paint),
-        "wait_frame" => Some(CallName::WaitFrame),
-        "end_frame" => Some(CallName::EndFrame),
-        "mark" => Some(CallName::Mark),
-        "await" => Some(CallName::Await),
-        _ => None,
+        _ => input_op_named(text),
     }
 }
 

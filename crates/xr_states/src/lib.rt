@@ -5,8 +5,6 @@
 mod changes;
 mod session;
 mod table;
-#[cfg(test)]
-mod tests;
 
 pub use changes::Changes;
 pub use session::Session;

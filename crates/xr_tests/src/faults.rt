@@ -1,63 +1,163 @@
-// What is told of a text, as the tests write it.
+// Runs over files in memory whose opening, reading or writing fails.
 use std::alloc::{AllocError, Global};
-use std::process::Abort;
-use xr_scenario::{ScenarioFault, read};
-use xr_types::{CallName, Refusal, What};
+use std::test::Fail;
+use xr_drive::{exit_of, run_serial};
+use xr_io::{Failing, MemoryFile, MemoryOpener, MemorySink};
 
-/// What is told of a text: it is read, it is too long, it is no JSON value nested at most 127 deep, or its first wrong
-/// place, outside all known ops or in an op of this name.
-#[derive(Clone, Copy, Debug)]
-pub(crate) enum Told {
-    Read,
-    TooLong,
-    NoJson,
-    At(u32, u32, What),
-    In(u32, u32, CallName, What),
+/// What of a file fails.
+#[derive(Clone, Copy)]
+enum Fails {
+    Nothing,
+    Opening,
+    FirstRead,
+    SecondRead,
 }
 
-fn wrong(script: u32, op: u32, name: Option<CallName>, what: What) -> Option<ScenarioFault> {
-    Some(ScenarioFault::Refused(Refusal::BadShape {
-        script,
-        op,
-        name,
-        what,
-    }))
+/// The same as the calls that fail.
+fn failing(fails: Fails) -> Failing<'static> {
+    let (open, reads): (bool, &[u64]) = match fails {
+        Fails::Nothing => (false, &[]),
+        Fails::Opening => (true, &[]),
+        Fails::FirstRead => (false, &[0]),
+        Fails::SecondRead => (false, &[1]),
+    };
+    Failing { open, reads }
 }
 
-impl Told {
-    /// The fault that tells it, if there is one.
-    fn fault(self) -> Option<ScenarioFault> {
-        match self {
-            Told::Read => None,
-            Told::TooLong => Some(ScenarioFault::Refused(Refusal::TooLong)),
-            Told::NoJson => Some(ScenarioFault::Refused(Refusal::Json)),
-            Told::At(script, op, what) => wrong(script, op, None, what),
-            Told::In(script, op, name, what) => wrong(script, op, Some(name), what),
-        }
-    }
-}
-
-/// Fails unless this is told of a text.
-pub(crate) fn assert_told(rt: &impl Abort, alloc: Global, text: &[u8], told: Told) {
-    let fault = read(alloc, text).err();
-    if fault != told.fault() {
-        match std::str::from_utf8(text) {
-            Ok(text) => panic!(rt; "{fault:?} is not {told:?} of {text}"),
-            Err(_) => panic!(rt; "{fault:?} is not {told:?} of {text:?}"),
-        }
-    }
-}
-
-/// Fails unless this is told of a scenario with these scripts.
-pub(crate) fn assert_scripts_told(
-    rt: &impl Abort,
+/// The number that a run of a script with no op ends with, where this of the scenario and of the device fails.
+fn ended(
     alloc: Global,
-    scripts: &str,
-    told: Told,
-) -> Result<(), AllocError> {
-    let mut text = String::from_str(alloc, r#"{"version":1,"scripts":["#)?;
-    text.push_str(scripts)?;
-    text.push_str("]}")?;
-    assert_told(rt, alloc, text.as_bytes(), told);
+    scenario: Fails,
+    device: Fails,
+    text: &str,
+    sink: &mut MemorySink<'_>,
+) -> Result<u8, AllocError> {
+    let files = [
+        MemoryFile {
+            name: "scenario.json",
+            bytes: br#"{"version":1,"scripts":[[]]}"#,
+        },
+        MemoryFile {
+            name: "device.txt",
+            bytes: text.as_bytes(),
+        },
+    ];
+    let words = vec![in alloc;
+        "serial".to_string(alloc)?,
+        "scenario.json".to_string(alloc)?,
+        "--device".to_string(alloc)?,
+        "device.txt".to_string(alloc)?,
+    ]?;
+    let mut opener = MemoryOpener::new(&files, failing(scenario), failing(device));
+    let status = run_serial(alloc, words.as_slice(), &mut opener, sink);
+    Ok(exit_of(status))
+}
+
+/// What of the scenario and of the device fails, the device's text, the number of the status, and what stands in the
+/// report behind `LEFT`, where there is one.
+type Run = (Fails, Fails, &'static str, u8, &'static str);
+
+/// The report of a script with no op, up to the events of its device.
+const LEFT: &str = "xrsim report 1\nthread 1\n1 leave XR_SUCCESS\ncompositor\nended\ndevice\n";
+
+/// 255 bytes, which may be a line.
+const SHORT_LINE: &str =
+    "###############################################################################################################################################################################################################################################################";
+
+/// 256 bytes, which may not.
+const LONG_LINE: &str =
+    "################################################################################################################################################################################################################################################################";
+
+/// Runs whose files fail. Whole lines of a device come before its fault, a part of a line is none, and a wrong line is
+/// told though the next read would fail.
+const RUNS: &[Run] = &[
+    (Fails::Opening, Fails::Nothing, "", 2, ""),
+    (Fails::FirstRead, Fails::Nothing, "", 3, ""),
+    (Fails::SecondRead, Fails::Nothing, "", 3, ""),
+    (Fails::Nothing, Fails::Opening, "", 2, ""),
+    (Fails::SecondRead, Fails::FirstRead, "", 3, ""),
+    (
+        Fails::Nothing,
+        Fails::FirstRead,
+        "loss\n",
+        5,
+        "fault\nstatus 5\n",
+    ),
+    (
+        Fails::Nothing,
+        Fails::SecondRead,
+        "loss\n",
+        5,
+        "1 loss\nfault\nstatus 5\n",
+    ),
+    (
+        Fails::Nothing,
+        Fails::SecondRead,
+        "clock 1\nmark 2\n\nlost\nmark 4\nmark 5",
+        5,
+        "1 clock 1\n2 mark 2\n3 lost\n4 mark 4\nfault\nstatus 5\n",
+    ),
+    (
+        Fails::Nothing,
+        Fails::SecondRead,
+        "loss\nloss 1\nlost\n",
+        6,
+        "1 loss\ngarbled 2\nstatus 6\n",
+    ),
+    (
+        Fails::Nothing,
+        Fails::SecondRead,
+        SHORT_LINE,
+        5,
+        "fault\nstatus 5\n",
+    ),
+    (
+        Fails::Nothing,
+        Fails::SecondRead,
+        LONG_LINE,
+        6,
+        "garbled 1\nstatus 6\n",
+    ),
+];
+
+/// What is written behind `LEFT`, or all where that doesn't stand first.
+fn behind_left(written: &[u8]) -> &[u8] {
+    written.strip_prefix(LEFT.as_bytes()).unwrap_or(written)
+}
+
+/// Whether a run ends with its number and its report.
+fn ends_so(alloc: Global, run: &Run) -> Result<bool, AllocError> {
+    let (scenario, device, text, number, lines) = *run;
+    let mut sink = MemorySink::new(alloc, 1000, &[], &[])?;
+    let ended = ended(alloc, scenario, device, text, &mut sink)?;
+    Ok(ended == number && behind_left(sink.bytes()) == lines.as_bytes())
+}
+
+#[test]
+fn a_fault_of_a_file_is_told_by_its_status_and_the_report(rt: HostRuntime) -> Result<(), Fail> {
+    for run in RUNS {
+        assert!(rt; ends_so(rt.alloc(), run)?, "{} of {:?}", run.3, run.2);
+    }
+    Ok(())
+}
+
+/// Whether a run over this output ends with a fault of writing, and these bytes are written.
+fn writes(alloc: Global, sink: MemorySink<'_>, written: &[u8]) -> Result<bool, AllocError> {
+    let mut sink = sink;
+    let number = ended(alloc, Fails::Nothing, Fails::Nothing, "", &mut sink)?;
+    Ok(number == 8 && sink.bytes() == written)
+}
+
+#[test]
+fn a_fault_of_the_output_leaves_a_first_part(rt: HostRuntime) -> Result<(), Fail> {
+    let alloc = rt.alloc();
+    let fails = writes(alloc, MemorySink::new(alloc, 1000, &[0], &[])?, b"")?;
+    let takes_nothing = writes(alloc, MemorySink::new(alloc, 1000, &[], &[0])?, b"")?;
+    let is_short = writes(
+        alloc,
+        MemorySink::new(alloc, 15, &[], &[])?,
+        b"xrsim report 1\n",
+    )?;
+    assert!(rt; fails && takes_nothing && is_short);
     Ok(())
 }

@@ -7,7 +7,7 @@ use crate::{
 };
 
 /// Who makes a call: an application thread by its number from 1, the compositor, or the device.
-#[derive(Clone, Copy, Debug, PartialEq, Eq)]
+#[derive(Clone, Copy)]
 pub enum Actor {
     App(u8),
     Compositor,
@@ -16,7 +16,7 @@ pub enum Actor {
 
 /// A call of the runtime, with its texts and lists borrowed. A handle or an atom is any number; 0 names
 /// nothing. Times and timeouts are ns of device time.
-#[derive(Clone, Copy, Debug)]
+#[derive(Clone, Copy)]
 pub enum Call<'a> {
     /// Asks for an instance of this version of the API (OpenXR 1.0 section 4.2, xrCreateInstance).
     CreateInstance {
@@ -223,7 +223,7 @@ pub enum Call<'a> {
 }
 
 /// The values that a call gives beside its code.
-#[derive(Clone, Copy, Debug, PartialEq, Eq)]
+#[derive(Clone, Copy)]
 pub enum Gives {
     Nothing,
     /// A new handle. It is nonzero and was never given before.
@@ -248,7 +248,7 @@ pub enum Gives {
 
 /// What a call answers. `place` is the count of locked calls decided so far, this one included; for a
 /// getter it is the number of the publication that it read, and for `image_done` 0.
-#[derive(Clone, Copy, Debug, PartialEq, Eq)]
+#[derive(Clone, Copy)]
 pub struct Reply {
     pub code: Code,
     pub gives: Gives,
@@ -256,7 +256,7 @@ pub struct Reply {
 }
 
 /// A code and a number, as a part of the core answers. The number is 0 where the code has none.
-#[derive(Clone, Copy, Debug, PartialEq, Eq)]
+#[derive(Clone, Copy)]
 pub struct Answer {
     pub code: Code,
     pub number: u64,
@@ -282,7 +282,7 @@ impl Answer {
 }
 
 /// What the core answers to a call: its reply, or that the call has to wait.
-#[derive(Clone, Copy, Debug, PartialEq, Eq)]
+#[derive(Clone, Copy)]
 pub enum Step {
     Done(Reply),
     NotReady,

@@ -7,7 +7,7 @@ use crate::{Origin, Profile, User};
 use std::fmt;
 
 /// The state that the device wishes its session to be in. `Rest` is none.
-#[derive(Clone, Copy, Debug, PartialEq, Eq)]
+#[derive(Clone, Copy)]
 pub enum Wish {
     Rest,
     Ready,
@@ -39,7 +39,7 @@ impl fmt::Display for Wish {
 
 /// An event of the device. Times are in ns of device time, 0 to 2^62 - 1; a period is 1 to 1,000,000,000;
 /// a row of inputs is 1 to 40, its value -32768 to 32768; a pose is at least 1; a mark is 1 to 64.
-#[derive(Clone, Copy, Debug, PartialEq, Eq)]
+#[derive(Clone, Copy)]
 pub enum DeviceEvent {
     /// The clock shows at least this time.
     Clock(i64),

@@ -5,7 +5,7 @@ use arrayvec::ArrayVec;
 pub const MOST_LAYERS: usize = 16;
 
 /// How a frame is blended with what is around (chapter 10, XrEnvironmentBlendMode).
-#[derive(Clone, Copy, Debug, PartialEq, Eq)]
+#[derive(Clone, Copy)]
 pub enum Blend {
     Opaque,
     Additive,
@@ -13,7 +13,7 @@ pub enum Blend {
 }
 
 /// A part of a swapchain's image, in pixels (chapter 10, XrSwapchainSubImage).
-#[derive(Clone, Copy, Debug, Default, PartialEq, Eq)]
+#[derive(Clone, Copy, Default)]
 pub struct SubImage {
     pub chain: u64,
     pub x: i32,
@@ -24,7 +24,7 @@ pub struct SubImage {
 
 /// A layer of a frame (chapter 10): a projection into a space, of which the first `count` views
 /// count, or a quad with a pose in a space.
-#[derive(Clone, Copy, Debug, PartialEq, Eq)]
+#[derive(Clone, Copy)]
 pub enum Layer {
     Projection {
         space: u64,
@@ -49,7 +49,7 @@ impl Default for Layer {
 }
 
 /// A layer that the compositor shows, by the stamps of its images.
-#[derive(Clone, Copy, Debug, PartialEq, Eq)]
+#[derive(Clone, Copy)]
 pub enum ShownLayer {
     Projection(u64, u64),
     Quad(u64),
@@ -63,7 +63,7 @@ impl Default for ShownLayer {
 
 /// A frame that the compositor shows: its number from 1, its predicted time in ns of device time, and
 /// its layers.
-#[derive(Debug, Drop)]
+#[derive(Drop)]
 pub struct Shown {
     pub number: u64,
     pub time: i64,
@@ -71,14 +71,14 @@ pub struct Shown {
 }
 
 /// An image, by its chain's place from 0 and its index in the chain.
-#[derive(Clone, Copy, Debug, Default, PartialEq, Eq)]
+#[derive(Clone, Copy, Default)]
 pub struct Image {
     pub place: u8,
     pub index: u8,
 }
 
 /// A layer of a pending frame, by its images.
-#[derive(Clone, Copy, Debug, PartialEq, Eq)]
+#[derive(Clone, Copy)]
 pub enum FrameLayer {
     Projection(Image, Image),
     Quad(Image),
@@ -92,7 +92,7 @@ impl Default for FrameLayer {
 
 /// A frame that was ended: its number from 1, its time in ns of device time, its layers, and the
 /// distinct images that they use in the order of first use.
-#[derive(Debug, Drop)]
+#[derive(Drop)]
 pub struct Frame {
     pub number: u64,
     pub time: i64,

@@ -3,7 +3,7 @@
 
 /// What a handle names. An instance is the parent of sessions and action sets, a session of spaces and
 /// swapchains, an action set of actions.
-#[derive(Clone, Copy, Debug, PartialEq, Eq)]
+#[derive(Clone, Copy, PartialEq, Eq)]
 pub enum Kind {
     Instance,
     Session,
@@ -36,7 +36,7 @@ pub const MOST_HANDLES: usize = 165;
 
 /// A place for a handle of one kind: the handle that stands there, with its parent's, 0 for an instance. A
 /// free place has the handle 0.
-#[derive(Clone, Copy, Debug, PartialEq, Eq)]
+#[derive(Clone, Copy)]
 pub struct Slot {
     pub handle: u64,
     pub parent: u64,

@@ -6,7 +6,7 @@ use crate::Origin;
 use std::fmt;
 
 /// What an action gives (OpenXR 1.0 chapter 11, XrActionType).
-#[derive(Clone, Copy, Debug, PartialEq, Eq)]
+#[derive(Clone, Copy)]
 pub enum ActionType {
     Boolean,
     Float,
@@ -16,7 +16,7 @@ pub enum ActionType {
 }
 
 /// A top-level user path (section 6.3.1).
-#[derive(Clone, Copy, Debug, PartialEq, Eq)]
+#[derive(Clone, Copy)]
 pub enum User {
     Left,
     Right,
@@ -50,7 +50,7 @@ impl fmt::Display for User {
 
 /// An interaction profile (section 6.4): the simple controller of Khronos, and the controllers of
 /// Oculus Touch, HTC Vive and Microsoft Xbox.
-#[derive(Clone, Copy, Debug, PartialEq, Eq)]
+#[derive(Clone, Copy)]
 pub enum Profile {
     Simple,
     Touch,
@@ -82,7 +82,7 @@ impl fmt::Display for Profile {
 
 /// The state of a boolean action (chapter 11, XrActionStateBoolean). `time` is that of the last change, in
 /// ns of device time.
-#[derive(Clone, Copy, Debug, PartialEq, Eq)]
+#[derive(Clone, Copy)]
 pub struct BoolState {
     pub value: bool,
     pub changed: bool,
@@ -92,7 +92,7 @@ pub struct BoolState {
 
 /// The state of a float action (chapter 11, XrActionStateFloat), with a whole number from -32768 to 32768
 /// for -1 to 1.
-#[derive(Clone, Copy, Debug, PartialEq, Eq)]
+#[derive(Clone, Copy)]
 pub struct FloatState {
     pub value: i32,
     pub changed: bool,
@@ -101,7 +101,7 @@ pub struct FloatState {
 }
 
 /// The state of a vector action (chapter 11, XrActionStateVector2f), its components as those of a float.
-#[derive(Clone, Copy, Debug, PartialEq, Eq)]
+#[derive(Clone, Copy)]
 pub struct VectorState {
     pub x: i32,
     pub y: i32,
@@ -111,7 +111,7 @@ pub struct VectorState {
 }
 
 /// A suggestion of a call (chapter 11, XrActionSuggestedBinding): an action and the atom of a path.
-#[derive(Clone, Copy, Debug, Default, PartialEq, Eq)]
+#[derive(Clone, Copy, Default)]
 pub struct Binding {
     pub action: u64,
     pub path: u64,
@@ -119,7 +119,7 @@ pub struct Binding {
 
 /// An action set that a sync lists (chapter 11, XrActiveActionSet): the set, and the atom of a user
 /// path or 0 for all.
-#[derive(Clone, Copy, Debug, Default, PartialEq, Eq)]
+#[derive(Clone, Copy, Default)]
 pub struct ActiveSet {
     pub set: u64,
     pub sub: u64,
@@ -127,7 +127,7 @@ pub struct ActiveSet {
 
 /// Which rows of a controller's inputs a suggestion picks: a digital input, an analogue one, the two
 /// axes of a vector, a pose, or an output. Rows count from 1.
-#[derive(Clone, Copy, Debug, PartialEq, Eq)]
+#[derive(Clone, Copy)]
 pub enum Part {
     Digital(u8),
     Analogue(u8),
@@ -138,7 +138,7 @@ pub enum Part {
 
 /// What a suggested path picks: its user path, the place of its identifier among all identifiers and
 /// outputs, and the part of the controller.
-#[derive(Clone, Copy, Debug, PartialEq, Eq)]
+#[derive(Clone, Copy)]
 pub struct Pick {
     pub user: User,
     pub identifier: u8,
@@ -146,7 +146,7 @@ pub struct Pick {
 }
 
 /// A suggestion that was accepted: an action, and what its path picks.
-#[derive(Clone, Copy, Debug, PartialEq, Eq)]
+#[derive(Clone, Copy)]
 pub struct Bound {
     pub action: u64,
     pub pick: Pick,
@@ -154,7 +154,7 @@ pub struct Bound {
 
 /// What a sync found for an action at a user path: its value in `x`, and in `y` for a vector; when it
 /// changed, in ns of device time; and the origin of a pose.
-#[derive(Clone, Copy, Debug, PartialEq, Eq)]
+#[derive(Clone, Copy)]
 pub struct Column {
     pub x: i32,
     pub y: i32,

@@ -5,7 +5,7 @@ use std::alloc::{AllocError, Global};
 use std::marker::Model;
 
 /// Bytes, seen by contracts as the list of them.
-#[derive(Debug, Drop)]
+#[derive(Drop)]
 pub struct Bytes {
     kept: Vec<u8>,
 }
@@ -35,7 +35,7 @@ impl Bytes {
 }
 
 /// A list, seen by contracts as its items.
-#[derive(Debug, Drop)]
+#[derive(Drop)]
 pub struct Several<T> {
     items: Vec<T>,
 }

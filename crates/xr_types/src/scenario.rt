@@ -8,14 +8,14 @@ use crate::{ActionType, Blend, Bytes, CallName, Form, RefKind, Several, ViewConf
 pub const MOST_HANDLE_MARK: u8 = 32;
 
 /// A value of an op: a number, or what the op at this place of the script (from 1) gave to its name.
-#[derive(Clone, Copy, Debug, PartialEq, Eq)]
+#[derive(Clone, Copy)]
 pub enum Use {
     Number(i64),
     Of(u32),
 }
 
 /// What a name of a script stands for. A system and a predicted time are numbers.
-#[derive(Clone, Copy, Debug, PartialEq, Eq)]
+#[derive(Clone, Copy)]
 pub enum Sort {
     Handle,
     Atom,
@@ -23,33 +23,33 @@ pub enum Sort {
 }
 
 /// A handle in a list of an op.
-#[derive(Clone, Copy, Debug, PartialEq, Eq)]
+#[derive(Clone, Copy)]
 pub struct HandleUse {
     pub handle: Use,
 }
 
 /// An atom in a list of an op.
-#[derive(Clone, Copy, Debug, PartialEq, Eq)]
+#[derive(Clone, Copy)]
 pub struct AtomUse {
     pub atom: Use,
 }
 
 /// A suggestion of an op: an action and a path.
-#[derive(Clone, Copy, Debug, PartialEq, Eq)]
+#[derive(Clone, Copy)]
 pub struct BindingUse {
     pub action: Use,
     pub path: Use,
 }
 
 /// An action set that an op syncs, with a user path or 0.
-#[derive(Clone, Copy, Debug, PartialEq, Eq)]
+#[derive(Clone, Copy)]
 pub struct ActiveSetUse {
     pub set: Use,
     pub sub: Use,
 }
 
 /// A part of a chain's image, in pixels.
-#[derive(Clone, Copy, Debug, PartialEq, Eq)]
+#[derive(Clone, Copy)]
 pub struct SubImageUse {
     pub chain: Use,
     pub x: i32,
@@ -59,7 +59,7 @@ pub struct SubImageUse {
 }
 
 /// A layer of an op: a projection of up to four views, or a quad.
-#[derive(Debug, Drop)]
+#[derive(Drop)]
 pub enum LayerUse {
     Projection {
         space: Use,
@@ -75,7 +75,7 @@ pub enum LayerUse {
 /// One op of a script, with the fields of its row in the scenario format: `kind` is the field `type`,
 /// and `fixed` the field `static`. A name that the op gives is no field: the ops that use it hold this
 /// op's place.
-#[derive(Debug, Drop)]
+#[derive(Drop)]
 pub enum Op {
     CreateInstance {
         major: u32,
@@ -309,7 +309,7 @@ impl Op {
 pub type Script = Several<Op>;
 
 /// What a scenario text says: its format's version and a script for each application thread.
-#[derive(Debug, Drop)]
+#[derive(Drop)]
 pub struct Scenario {
     pub version: u8,
     pub scripts: Several<Script>,

@@ -5,7 +5,7 @@ ghost use Rattle.xr_types.specs.Printed.{state_name};
 use std::fmt;
 
 /// The state of a session (OpenXR 1.0 chapter 9, XrSessionState).
-#[derive(Clone, Copy, Debug, PartialEq, Eq)]
+#[derive(Clone, Copy, PartialEq, Eq)]
 pub enum SessionState {
     Idle,
     Ready,
@@ -44,7 +44,7 @@ impl fmt::Display for SessionState {
 }
 
 /// An event of an instance (chapter 2, xrPollEvent).
-#[derive(Clone, Copy, Debug, PartialEq, Eq)]
+#[derive(Clone, Copy)]
 pub enum Event {
     /// So many events were dropped since the queue was full (XrEventDataEventsLost).
     Lost(u64),
@@ -59,7 +59,7 @@ pub enum Event {
 
 /// What `wait_frame` gives (chapter 10, XrFrameState): the predicted display time and the period of
 /// frames, both in ns of device time, and whether the frame is worth rendering.
-#[derive(Clone, Copy, Debug, PartialEq, Eq)]
+#[derive(Clone, Copy)]
 pub struct FrameState {
     pub time: i64,
     pub period: i64,
@@ -67,14 +67,14 @@ pub struct FrameState {
 }
 
 /// The kind of device that a system stands for (chapter 5, XrFormFactor).
-#[derive(Clone, Copy, Debug, PartialEq, Eq)]
+#[derive(Clone, Copy)]
 pub enum Form {
     Head,
     Hand,
 }
 
 /// How many views a session is begun with (chapter 8, XrViewConfigurationType).
-#[derive(Clone, Copy, Debug, PartialEq, Eq)]
+#[derive(Clone, Copy)]
 pub enum ViewConfig {
     Mono,
     Stereo,

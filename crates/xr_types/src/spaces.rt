@@ -3,7 +3,7 @@
 use crate::User;
 
 /// A reference space (OpenXR 1.0 chapter 7, XrReferenceSpaceType).
-#[derive(Clone, Copy, Debug, PartialEq, Eq)]
+#[derive(Clone, Copy)]
 pub enum RefKind {
     View,
     Local,
@@ -11,7 +11,7 @@ pub enum RefKind {
 }
 
 /// What has a pose of its own: a reference space's origin, or the grip or aim of a hand (section 6.3.2).
-#[derive(Clone, Copy, Debug, PartialEq, Eq)]
+#[derive(Clone, Copy)]
 pub enum Origin {
     View,
     Local,
@@ -22,7 +22,7 @@ pub enum Origin {
 
 /// Where a space is in a base (chapter 7, xrLocateSpace): unknown, or a product of four factors, of
 /// which the first two stand for inverses.
-#[derive(Clone, Copy, Debug, PartialEq, Eq)]
+#[derive(Clone, Copy)]
 pub enum Location {
     Missing,
     Factors {

@@ -1,0 +1,126 @@
+-- A device text tells no garbled event: a line that is none ends what it tells.
+use Rattle.std.proofs.Common.{◌≡◌, ◌+◌, ℕ, pos, Bool, true, false, List, [], ◌∷◌, Option, Some, None, option_map, refl, sym, ap, subst, ◌∙◌}
+use Rattle.std.specs.Prelude.{◌||◌, ◌==◌, nat_lt, length, if◌then◌else◌, codes}
+use Rattle.std.specs.List.{list_any}
+use Rattle.std.proofs.lemmas.Option.{none-some, same_Some}
+use Rattle.xr_types.specs.declared.calls.Actor.TheVariants as actor
+use Rattle.xr_types.specs.declared.device.DeviceEvent.{DeviceEvent}
+use Rattle.xr_types.specs.declared.device.DeviceEvent.TheVariants as event
+use Rattle.xr_types.specs.declared.device.Wish.{Wish}
+use Rattle.xr_types.specs.declared.made.Lists.{Lists}
+use Rattle.xr_types.specs.declared.scenario.Op.{Op}
+use Rattle.xr_types.specs.declared.scenario.Scenario.{Scenario}
+use Rattle.xr_types.specs.Device.{checks}
+use Rattle.xr_model.specs.DeviceText.{Line, lines_in, size_of, is_word, most_line, most_text, Meaning, skipped, tells, no_line, event_or_none, meaning_of, words_of, number_of, wish_of, grid_by, event_by, if_checked, event_of, Ending, ends, garbled_at, Told, nothing_more, told_by, told_from, told_in}
+use Rattle.xr_model.specs.History.{calls_of}
+use Rattle.xr_model.specs.Lists.{events_in}
+use Rattle.xr_model.specs.Report.{is_garbled}
+use Rattle.xr_model.specs.Robin.{device_calls, last_event}
+use Rattle.xr_serial.specs.Ran.{Gave, Ran}
+use Rattle.xr_drive.specs.Top.{told_under}
+use Rattle.xr_drive.proofs.Status.{IsClean, clean_front, clean_both}
+
+-- ---- one line
+
+abbrev IsCleanIfSome : Option DeviceEvent → Type 0
+IsCleanIfSome None = Unit {0}
+IsCleanIfSome (Some e) = is_garbled e ≡ false
+
+grid_clean : (base period : Option ℕ) → IsCleanIfSome (grid_by base period)
+grid_clean None period = tt
+grid_clean (Some base) None = tt
+grid_clean (Some base) (Some period) = refl
+
+one_clean : (loss lost : Bool) → IsCleanIfSome (if loss then Some event.Loss else (if lost then Some event.Lost else None))
+one_clean true lost = refl
+one_clean false true = refl
+one_clean false false = tt
+
+two_clean : (clock wish mark await : Bool) (n : Option ℕ) (w : Option Wish)
+    → IsCleanIfSome (if clock then option_map (λ n. event.Clock (pos n)) n else (if wish then option_map (λ w. event.Wish w) w else (if mark then option_map (λ n. event.Mark n) n else (if await then option_map (λ n. event.Await n) n else None))))
+two_clean true wish mark await None w = tt
+two_clean true wish mark await (Some n) w = refl
+two_clean false true mark await n None = tt
+two_clean false true mark await n (Some w) = refl
+two_clean false false true await None w = tt
+two_clean false false true await (Some n) w = refl
+two_clean false false false true None w = tt
+two_clean false false false true (Some n) w = refl
+two_clean false false false false n w = tt
+
+three_clean : (grid : Bool) (base period : Option ℕ) → IsCleanIfSome (if grid then grid_by base period else None)
+three_clean true base period = grid_clean base period
+three_clean false base period = tt
+
+by_clean : (words : List (List ℕ)) → IsCleanIfSome (event_by words)
+by_clean [] = tt
+by_clean (word ∷ []) = one_clean (is_word word (codes "loss")) (is_word word (codes "lost"))
+by_clean (word ∷ a ∷ []) = two_clean (is_word word (codes "clock")) (is_word word (codes "wish")) (is_word word (codes "mark")) (is_word word (codes "await")) (number_of a) (wish_of a)
+by_clean (word ∷ a ∷ b ∷ []) = three_clean (is_word word (codes "grid")) (number_of a) (number_of b)
+by_clean (word ∷ a ∷ b ∷ c ∷ ws) = tt
+
+checked_clean : (o : Option DeviceEvent) → IsCleanIfSome o → IsCleanIfSome (if_checked o)
+checked_clean None h = tt
+checked_clean (Some e) h = by (checks e)
+  where
+    by : (checked : Bool) → IsCleanIfSome (if checked then Some e else None)
+    by true = h
+    by false = tt
+
+abbrev IsCleanMeaning : Meaning → Type 0
+IsCleanMeaning skipped = Unit {0}
+IsCleanMeaning (tells e) = is_garbled e ≡ false
+IsCleanMeaning no_line = Unit {0}
+
+or_none : (o : Option DeviceEvent) → IsCleanIfSome o → IsCleanMeaning (event_or_none o)
+or_none None h = tt
+or_none (Some e) h = h
+
+meaning_clean : (line : List ℕ) → IsCleanMeaning (meaning_of line)
+meaning_clean [] = tt
+meaning_clean (b ∷ bs) = by (b == 35)
+  where
+    by : (comment : Bool) → IsCleanMeaning (if comment then skipped else event_or_none (event_of (b ∷ bs)))
+    by true = tt
+    by false = or_none (event_of (b ∷ bs)) (checked_clean (event_by (words_of (b ∷ bs))) (by_clean (words_of (b ∷ bs))))
+
+-- ---- a text
+
+told_by_clean : (number : ℕ) (m : Meaning) (rest : Told) → IsCleanMeaning m → IsClean rest.events → IsClean (told_by number m rest).events
+told_by_clean number skipped rest h clean = clean
+told_by_clean number (tells e) rest h clean = rw h clean
+told_by_clean number no_line rest h clean = refl
+
+told_from_clean : (number used : ℕ) (ls : List Line) → IsClean (told_from number used ls).events
+told_from_clean number used [] = refl
+told_from_clean number used (l ∷ ls) =
+    by (nat_lt most_line (length l.bytes) || nat_lt most_text (used + size_of l)) (told_by_clean number (meaning_of l.bytes) (told_from (number + 1) (used + size_of l) ls) (meaning_clean l.bytes) (told_from_clean (number + 1) (used + size_of l) ls))
+  where
+    by : (bad : Bool) → IsClean (told_by number (meaning_of l.bytes) (told_from (number + 1) (used + size_of l) ls)).events
+        → IsClean (if bad then record { events = []; ending = garbled_at number } else told_by number (meaning_of l.bytes) (told_from (number + 1) (used + size_of l) ls)).events
+    by true clean = refl
+    by false clean = clean
+
+-- what a device is known to give has no garbled event
+pub told_clean : (bytes : List ℕ → Option (List ℕ)) (device : Option (List ℕ)) (told : Told) → told_under bytes device ≡ Some told → IsClean told.events
+told_clean bytes None told is = ap (λ (t : Told). list_any is_garbled t.events) (sym (same_Some nothing_more told is))
+told_clean bytes (Some name) told is = by (bytes name) is
+  where
+    by : (text : Option (List ℕ)) → option_map told_in text ≡ Some told → IsClean told.events
+    by None is = absurd (none-some told is)
+    by (Some text) is = subst (λ (t : Told). IsClean t.events) (same_Some (told_in text) told is) (told_from_clean 1 0 (lines_in text))
+
+-- ---- a run
+
+last_clean : (e : Ending) → ends ≡ e → IsClean (last_event (Some e))
+last_clean e is = subst (λ (e : Ending). IsClean (last_event (Some e))) is refl
+
+-- a device that is known to end at the end of its text does nothing that is garbled
+calls_clean : (told : Told) (events : List DeviceEvent) (ending : Option Ending) → IsClean told.events → told.ending ≡ ends → Gave (Some told) events ending → IsClean (device_calls events ending)
+calls_clean told events None clean end gave = clean_both events (event.Fault ∷ []) (clean_front events gave.0 (subst IsClean gave.1 clean)) refl
+calls_clean told events (Some e) clean end gave = clean_both events (last_event (Some e)) (subst IsClean gave.0 clean) (last_clean e (sym end ∙ gave.1))
+
+pub run_clean : (scenario : Scenario) (ops : List Op) (told : Told) (lists : Lists) → IsClean told.events → told.ending ≡ ends → Ran scenario ops (Some told) lists → IsClean lists.events
+run_clean scenario ops told lists clean end ran =
+    let calls = calls_clean told ran.events ran.ending clean end ran.gave in
+    rw ran.made (clean_front (events_in (calls_of 1 actor.Device ran.history)) ran.device.0 (subst IsClean ran.device.1 calls))

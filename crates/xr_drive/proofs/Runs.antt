@@ -1,0 +1,163 @@
+-- What a run over the bytes that were read says of the bytes that there were, and what its status means.
+use Rattle.std.proofs.Common.{◌≡◌, ◌<◌, ◌≤◌, ◌+◌, inl, inr, ℕ, Bool, true, false, List, length, take, nat_lt, Option, Some, None, IfSome, Result, Ok, Err, refl, sym, subst, ap, ◌∙◌, arith}
+use Rattle.std.specs.Prelude.{if◌then◌else◌}
+use Rattle.std.proofs.lemmas.Grind.{common_steps}
+use Rattle.std.proofs.lemmas.Bool.{ltb-true, ltb-false, lt-ltb}
+use Rattle.std.proofs.lemmas.Option.{none-some, same_Some}
+use Rattle.xr_io.specs.declared.Which.TheVariants as which
+use Rattle.xr_types.specs.declared.made.Lists.{Lists}
+use Rattle.xr_types.specs.declared.scenario.Scenario.{Scenario}
+use Rattle.xr_types.specs.declared.status.Status.{Status}
+use Rattle.xr_types.specs.declared.status.Status.TheVariants.{Done, Usage, OpenFault, ReadFault, ScenarioRefused, DeviceFailed, DeviceGarbled, Stuck, WriteFault, NoMemory}
+use Rattle.xr_types.specs.declared.status.Refusal.{Refusal}
+use Rattle.xr_types.specs.declared.status.Refusal.TheVariants.{TooLong, Unbuilt}
+use Rattle.xr_model.specs.Words.{Form, form_of}
+use Rattle.xr_model.specs.Scenario.{scenario_of}
+use Rattle.xr_model.specs.Built.{are_built, if_built, run_scenario_of}
+use Rattle.xr_model.specs.DeviceText.{Told, ends}
+use Rattle.xr_drive.specs.Run.{Run}
+use Rattle.xr_drive.specs.Status.{status_by}
+use Rattle.xr_drive.specs.Top.{told_under, RunsText, Means, MeansText, MeansRun, MeansWritten, RoseIfUnwritten, HasRunCause, Faults, NoneRose, HasItsCause, IsComplete}
+use Rattle.xr_drive.proofs.Clean.{told_clean, run_clean}
+use Rattle.xr_drive.proofs.Status.{fault_of_failed, never_garbled}
+
+long_take : (n : ℕ) (bytes : List ℕ) → n < length bytes → n < length (take (n + 1) bytes)
+long_take n bytes h = grind (arith, common_steps)
+
+whole_take : (n : ℕ) (bytes : List ℕ) → length bytes ≤ n → take (n + 1) bytes ≡ bytes
+whole_take n bytes h = grind (arith, common_steps)
+
+short_take : (n : ℕ) (bytes : List ℕ) → length (take (n + 1) bytes) ≤ n → bytes ≡ take (n + 1) bytes
+short_take n bytes h = grind (arith, common_steps)
+
+err_is_not : {T U : Type 0} (x : T) (y : U) → Err y ≡ Ok x → ⊥
+err_is_not x y e = cc
+
+-- one byte past the most that a scenario has is enough to refuse it
+scenario_of-take : (bytes : List ℕ) → scenario_of (take 1048577 bytes) ≡ scenario_of bytes
+scenario_of-take bytes = by (nat_lt 1048576 (length bytes)) refl
+  where
+    by : (b : Bool) → nat_lt 1048576 (length bytes) ≡ b → scenario_of (take 1048577 bytes) ≡ scenario_of bytes
+    by true e =
+        let long : 1048576 < length bytes = ltb-true 1048576 (length bytes) e in
+        let read : 1048576 < length (take 1048577 bytes) = long_take 1048576 bytes long in
+        rw (e, lt-ltb 1048576 (length (take 1048577 bytes)) read) refl
+    by false e =
+        let short : length bytes ≤ 1048576 = ltb-false 1048576 (length bytes) e in
+        let all : take 1048577 bytes ≡ bytes = whole_take 1048576 bytes short in
+        rw all refl
+
+-- what is run is a scenario
+abbrev accepted : Bool → Scenario → Result Scenario Refusal
+accepted b s = if b then Ok s else Err Unbuilt
+
+accept : (b : Bool) (scenario s : Scenario) → accepted b scenario ≡ accepted true s → accepted true scenario ≡ accepted true s
+accept true scenario s e = e
+accept false scenario s e = absurd (err_is_not s Unbuilt e)
+
+built_read : (r : Result Scenario Refusal) (s : Scenario) → if_built r ≡ Ok s → r ≡ Ok s
+built_read (Err why) s e = absurd (err_is_not s why e)
+built_read (Ok scenario) s e = accept (are_built scenario.scripts) scenario s e
+
+-- a scenario that is built is run, and one that isn't is refused
+pub run_if_built : (text : List ℕ) (s : Scenario) → scenario_of text ≡ Ok s → are_built s.scripts ≡ true → run_scenario_of text ≡ Ok s
+run_if_built text s reads built = ap if_built reads ∙ rw built refl
+
+-- a scenario isn't too long
+scenario_short : (text : List ℕ) (s : Scenario) → scenario_of text ≡ Ok s → length text ≤ 1048576
+scenario_short text s e = by (nat_lt 1048576 (length text)) refl
+  where
+    by : (b : Bool) → nat_lt 1048576 (length text) ≡ b → length text ≤ 1048576
+    by true h = absurd (err_is_not s TooLong (rw h at e))
+    by false h = ltb-false 1048576 (length text) h
+
+-- where what was read is a scenario, it is all that there was
+whole_of_read : (bytes text : List ℕ) (s : Scenario) → text ≡ take 1048577 bytes → run_scenario_of text ≡ Ok s → bytes ≡ text
+whole_of_read bytes text s e reads =
+    let short : length (take 1048577 bytes) ≤ 1048576 = subst (λ (t : List ℕ). length t ≤ 1048576) e (scenario_short text s (built_read (scenario_of text) s reads)) in
+    short_take 1048576 bytes short ∙ sym e
+
+runs_text : (all : Option (List ℕ)) (text : List ℕ) (told : Option Told) (lists : Lists) → IfSome all (λ bytes. text ≡ take 1048577 bytes) → Run text told lists → RunsText all told lists
+runs_text None text told lists read run = (text, tt, run)
+runs_text (Some bytes) text told lists read run = (text, whole_of_read bytes text run.scenario read run.reads, run)
+
+refused_if_told : (told : Option (List ℕ)) (text : List ℕ) (why : Refusal) → IfSome told (λ bytes. text ≡ take 1048577 bytes) → run_scenario_of text ≡ Err why → IfSome told (λ bytes. run_scenario_of bytes ≡ Err why)
+refused_if_told None text why read e = tt
+refused_if_told (Some bytes) text why read e = ap if_built (sym (scenario_of-take bytes)) ∙ rw (← read) e
+
+-- what holds of the bytes that were read holds of all that there were
+pub means_run : (all : Option (List ℕ)) (text : List ℕ) (told : Option Told) (result : Result Lists Status) → IfSome all (λ bytes. text ≡ take 1048577 bytes) → MeansText text told result → MeansRun all told result
+means_run all text told (Ok lists) read run = runs_text all text told lists read run
+means_run all text told (Err (ScenarioRefused why)) read e = refused_if_told all text why read e
+means_run all text told (Err NoMemory) read e = tt
+means_run all text told (Err Done) read e = absurd e
+means_run all text told (Err Usage) read e = absurd e
+means_run all text told (Err OpenFault) read e = absurd e
+means_run all text told (Err ReadFault) read e = absurd e
+means_run all text told (Err DeviceFailed) read e = absurd e
+means_run all text told (Err (DeviceGarbled line)) read e = absurd e
+means_run all text told (Err Stuck) read e = absurd e
+means_run all text told (Err WriteFault) read e = absurd e
+
+-- ---- what a status behind a report means
+pub means_written : (words : List (List ℕ)) (bytes : List ℕ → Option (List ℕ)) (before after : Option (List ℕ)) (form : Form) (lists : Lists) (status : Status) → form_of words ≡ Some form
+    → RunsText (bytes form.file) (told_under bytes form.device) lists → MeansWritten lists form.places before after status → Means words bytes before after status
+means_written words bytes before after form lists Done is run m = (form, is, (lists, run, m))
+means_written words bytes before after form lists DeviceFailed is run m = (form, is, (lists, run, m))
+means_written words bytes before after form lists (DeviceGarbled line) is run m = (form, is, (lists, run, m))
+means_written words bytes before after form lists Stuck is run m = (form, is, (lists, run, m))
+means_written words bytes before after form lists WriteFault is run m = (form, is, (lists, run, m))
+means_written words bytes before after form lists NoMemory is run m = m
+means_written words bytes before after form lists Usage is run m = absurd m
+means_written words bytes before after form lists OpenFault is run m = absurd m
+means_written words bytes before after form lists ReadFault is run m = absurd m
+means_written words bytes before after form lists (ScenarioRefused why) is run m = absurd m
+
+pub cause_written : (old new : Faults) (lists : Lists) (places : Bool) (before after : Option (List ℕ)) (status : Status) → MeansWritten lists places before after status
+    → HasRunCause old.opens old.reads new.opens new.reads (Ok lists) → RoseIfUnwritten old.writes new.writes status → HasItsCause old new status
+cause_written old new lists places before after DeviceFailed m cause rose = cause (fault_of_failed lists.events lists.next m.0)
+cause_written old new lists places before after WriteFault m cause rose = rose
+cause_written old new lists places before after Done m cause rose = tt
+cause_written old new lists places before after (DeviceGarbled line) m cause rose = tt
+cause_written old new lists places before after Stuck m cause rose = tt
+cause_written old new lists places before after NoMemory m cause rose = tt
+cause_written old new lists places before after Usage m cause rose = absurd m
+cause_written old new lists places before after OpenFault m cause rose = absurd m
+cause_written old new lists places before after ReadFault m cause rose = absurd m
+cause_written old new lists places before after (ScenarioRefused why) m cause rose = absurd m
+
+-- ---- completeness
+
+abbrev IsRefusedIfTold : Refusal → Option (List ℕ) → Type 0
+IsRefusedIfTold why told = IfSome told (λ bytes. run_scenario_of bytes ≡ Err why)
+
+no_opening : (old new : Faults) → NoneRose old new → HasItsCause old new OpenFault → ⊥
+no_opening old new none (inl rose) = none.opens which.Scenario rose
+no_opening old new none (inr rose) = none.opens which.Device rose
+
+-- a device that is known to end at the end of its text has no line that is none
+no_garbled : (bytes : List ℕ → Option (List ℕ)) (device : Option (List ℕ)) (all : Option (List ℕ)) (told : Told) (lists : Lists) (line : ℕ) → told_under bytes device ≡ Some told → told.ending ≡ ends
+    → RunsText all (told_under bytes device) lists → status_by lists.events lists.next ≡ DeviceGarbled line → ⊥
+no_garbled bytes device all told lists line is end runs status =
+    let run : Run runs.0 (Some told) lists = subst (λ (t : Option Told). Run runs.0 t lists) is runs.2 in
+    never_garbled lists.events lists.next line (run_clean run.scenario run.ops told lists (told_clean bytes device told is) end run.ran) status
+
+-- good words, a good text, a good device and no fault leave a run that is done or stuck, or want of memory
+pub complete : (words : List (List ℕ)) (bytes : List ℕ → Option (List ℕ)) (before after : Option (List ℕ)) (old new : Faults) (status : Status) → Means words bytes before after status → HasItsCause old new status
+    → IsComplete words bytes old new status
+complete words bytes before after old new Done means cause = λ form text scenario told is there good tells end none. inl refl
+complete words bytes before after old new Usage means cause = λ form text scenario told is there good tells end none. absurd (none-some form (sym means.0 ∙ is))
+complete words bytes before after old new OpenFault means cause = λ form text scenario told is there good tells end none. absurd (no_opening old new none cause)
+complete words bytes before after old new ReadFault means cause = λ form text scenario told is there good tells end none. absurd (none.reads which.Scenario cause)
+complete words bytes before after old new (ScenarioRefused why) means cause = λ form text scenario told is there good tells end none.
+    let same : means.0 ≡ form = same_Some means.0 form (sym means.1 ∙ is) in
+    let refused : IsRefusedIfTold why (Some text) = subst (IsRefusedIfTold why) (ap (λ (f : Form). bytes f.file) same ∙ there) means.2.0 in
+    absurd (err_is_not scenario why (sym refused ∙ good))
+complete words bytes before after old new DeviceFailed means cause = λ form text scenario told is there good tells end none. absurd (none.reads which.Device cause)
+complete words bytes before after old new (DeviceGarbled line) means cause = λ form text scenario told is there good tells end none.
+    let same : means.0 ≡ form = same_Some means.0 form (sym means.1 ∙ is) in
+    let known : told_under bytes means.0.device ≡ Some told = ap (λ (f : Form). told_under bytes f.device) same ∙ tells in
+    absurd (no_garbled bytes means.0.device (bytes means.0.file) told means.2.0 line known end means.2.1 means.2.2.0)
+complete words bytes before after old new Stuck means cause = λ form text scenario told is there good tells end none. inr (inl refl)
+complete words bytes before after old new WriteFault means cause = λ form text scenario told is there good tells end none. absurd (none.writes cause)
+complete words bytes before after old new NoMemory means cause = λ form text scenario told is there good tells end none. inr (inr refl)

@@ -1,0 +1,17 @@
+//! The top call, over any files and any output: from the words and the files' bytes to the bytes of the report, with
+//! the status of each way to end, its number, and the line that tells it. It knows the crates below by their public
+//! clauses alone. `serial` has the call; reading, writing and the choice of the scenarios that are run are private.
+//! A program gives it real files and standard output.
+#![tactic(auto)]
+
+mod built;
+mod ending;
+mod explanation;
+mod input;
+mod output;
+mod serial;
+
+pub use ending::exit_of;
+pub use explanation::{Explanation, explanation_of};
+pub use output::write_all;
+pub use serial::run_serial;

@@ -1,0 +1,216 @@
+// The top call of one thread.
+ghost use Rattle.std.specs.Prelude.{◌≡◌, ◌≤◌, ℕ, true, List, map, take, IfOk, IfErr, IfSome, Some, None, length, string_bytes, option_map};
+ghost use Rattle.std.specs.List.{list_any};
+ghost use Rattle.xr_io.specs.Outside.{Rose};
+ghost use Rattle.xr_io.specs.declared.Which.{Which};
+ghost use Rattle.xr_model.specs.DeviceText.{nothing_more};
+ghost use Rattle.xr_model.specs.Report.{is_fault};
+ghost use Rattle.xr_model.specs.Words.{form_of};
+ghost use Rattle.xr_drive.specs.Input.{status_of};
+ghost use Rattle.xr_drive.specs.Top.{Means, HasItsCause, IsComplete, IsAskedFor, IsDeviceAskedFor, device_of, faults, KeepsDevice, UnlessDevice, IsReadFault, MeansText, MeansRun, HasRunCause, MeansWritten, RoseIfUnwritten, status_in, told_under};
+
+use crate::built::built_script;
+use crate::ending::status_of;
+use crate::input::{Stop, read_all};
+use crate::output::write_all;
+use std::alloc::Global;
+use xr_command::{WordsFault, form_of};
+use xr_device::{Device, LineDevice, ListDevice};
+use xr_io::{Opener, Sink, Source, Which};
+use xr_report::report;
+use xr_scenario::{ScenarioFault, read};
+use xr_types::{Lists, Refusal, Status};
+
+fn stopped(stop: Stop) -> Status
+    ensures { result ≡ status_of stop }
+{
+    match stop {
+        Stop::Failed => Status::ReadFault,
+        Stop::NoMemory => Status::NoMemory,
+    }
+}
+
+/// The bytes of the scenario's opened file, or why there are none. The source is closed.
+fn read_text<O: Opener>(alloc: Global, opener: &mut O, source: O::S) -> Result<Vec<u8>, Status>
+    requires which { O.S.which source ≡ Which.Scenario }
+    requires sound { O.S.faults source ≡ 0 }
+    ensures bytes { IfOk result (λ text. IfSome (O.S.left source) (λ bytes. text.items ≡ take 1048577 bytes)) }
+    ensures cause { IfErr result (λ why. IsReadFault why (O.read_faults opener.old Which.Scenario) (O.read_faults opener.new Which.Scenario)) }
+    ensures asked { (which : Which) → O.asked opener.new which ≡ O.asked opener.old which }
+    ensures opens { (which : Which) → O.open_faults opener.new which ≡ O.open_faults opener.old which }
+    ensures reads { O.read_faults opener.new Which.Device ≡ O.read_faults opener.old Which.Device }
+    ensures same { (name : List ℕ) → O.bytes opener.new name ≡ O.bytes opener.old name }
+{
+    let mut source = source;
+    match read_all(alloc, &mut source) {
+        Ok(text) => {
+            opener.close(source);
+            Ok(text)
+        }
+        Err(stop) => {
+            opener.close(source);
+            Err(stopped(stop))
+        }
+    }
+}
+
+/// Runs a text beside a device, or says why it isn't run.
+fn run_text<D: Device>(alloc: Global, text: &[u8], device: &mut D) -> Result<Lists, Status>
+    requires fresh { D.bound device.old ≤ 16777216 }
+    ensures means { MeansText text.now (D.told device.old) result }
+    ensures fault { IfOk result (λ lists. list_any is_fault lists.events ≡ true → Rose (D.faults device.old) (D.faults device.new)) }
+    ensures which { D.which device.new ≡ D.which device.old }
+{
+    let scenario = match read(alloc, text) {
+        Ok(scenario) => scenario,
+        Err(ScenarioFault::Refused(why)) => return Err(Status::ScenarioRefused(why)),
+        Err(ScenarioFault::NoMemory) => return Err(Status::NoMemory),
+    };
+    let Some(ops) = built_script(scenario.scripts.as_slice()) else {
+        return Err(Status::ScenarioRefused(Refusal::Unbuilt));
+    };
+    match xr_serial::run(alloc, ops, device) {
+        Ok(lists) => Ok(lists),
+        Err(_) => Err(Status::NoMemory),
+    }
+}
+
+/// Runs the opened scenario beside a device of no events. The source is closed.
+fn run_alone<O: Opener>(alloc: Global, opener: &mut O, source: O::S) -> Result<Lists, Status>
+    requires which { O.S.which source ≡ Which.Scenario }
+    requires sound { O.S.faults source ≡ 0 }
+    ensures means { MeansRun (O.S.left source) (Some nothing_more) result }
+    ensures cause { HasRunCause (O.open_faults opener.old) (O.read_faults opener.old) (O.open_faults opener.new) (O.read_faults opener.new) result }
+    ensures asked { (which : Which) → O.asked opener.new which ≡ O.asked opener.old which }
+    ensures device { KeepsDevice O.asked O.open_faults O.read_faults opener.old opener.new }
+    ensures same { (name : List ℕ) → O.bytes opener.new name ≡ O.bytes opener.old name }
+{
+    let text = match read_text(alloc, opener, source) {
+        Ok(text) => text,
+        Err(status) => return Err(status),
+    };
+    let mut device = ListDevice::new(Vec::new(alloc));
+    run_text(alloc, text.as_slice(), &mut device)
+}
+
+/// Runs the opened scenario beside the device of this file. Both sources are closed.
+fn run_beside<O: Opener>(
+    alloc: Global,
+    opener: &mut O,
+    source: O::S,
+    name: &str,
+) -> Result<Lists, Status>
+    requires which { O.S.which source ≡ Which.Scenario }
+    requires sound { O.S.faults source ≡ 0 }
+    requires fresh { O.asked opener.old Which.Device ≡ None }
+    requires short { length name.now ≤ 4095 }
+    ensures means { MeansRun (O.S.left source) (told_under (O.bytes opener.old) (Some name.now)) result }
+    ensures cause { HasRunCause (O.open_faults opener.old) (O.read_faults opener.old) (O.open_faults opener.new) (O.read_faults opener.new) result }
+    ensures asked { O.asked opener.new Which.Scenario ≡ O.asked opener.old Which.Scenario }
+    ensures device { O.asked opener.new Which.Device ≡ Some name.now }
+    ensures same { (name : List ℕ) → O.bytes opener.new name ≡ O.bytes opener.old name }
+{
+    let Ok(events) = opener.open_file(Which::Device, name) else {
+        opener.close(source);
+        return Err(Status::OpenFault);
+    };
+    let text = match read_text(alloc, opener, source) {
+        Ok(text) => text,
+        Err(status) => {
+            opener.close(events);
+            return Err(status);
+        }
+    };
+    let mut device = LineDevice::new(events);
+    let lists = run_text(alloc, text.as_slice(), &mut device);
+    opener.close(device.into_source());
+    lists
+}
+
+/// Opens the scenario under a file and runs it, beside the device of a file where one is named. Every source that was
+/// opened is closed.
+fn run_files<O: Opener>(
+    alloc: Global,
+    opener: &mut O,
+    file: &str,
+    device: Option<&str>,
+) -> Result<Lists, Status>
+    requires fresh { (which : Which) → O.asked opener.old which ≡ None }
+    requires short { length file.now ≤ 4095 }
+    requires short_device { IfSome device (λ name. length name.now ≤ 4095) }
+    ensures means { MeansRun (O.bytes opener.old file.now) (told_under (O.bytes opener.old) (option_map (λ name. name.now) device.entry)) result }
+    ensures cause { HasRunCause (O.open_faults opener.old) (O.read_faults opener.old) (O.open_faults opener.new) (O.read_faults opener.new) result }
+    ensures asked { O.asked opener.new Which.Scenario ≡ Some file.now }
+    ensures device { IsDeviceAskedFor (option_map (λ name. name.now) device.entry) (O.asked opener.new Which.Device) (status_in result) }
+    ensures alone { UnlessDevice (option_map (λ name. name.now) device.entry) (KeepsDevice O.asked O.open_faults O.read_faults opener.old opener.new) }
+    ensures same { (name : List ℕ) → O.bytes opener.new name ≡ O.bytes opener.old name }
+{
+    let Ok(source) = opener.open_file(Which::Scenario, file) else {
+        return Err(Status::OpenFault);
+    };
+    match device {
+        None => run_alone(alloc, opener, source),
+        Some(name) => run_beside(alloc, opener, source, name),
+    }
+}
+
+/// Writes the report of what a run has made, with the places of replies or without, and says how the run ended.
+fn write_report<K: Sink>(alloc: Global, sink: &mut K, lists: &Lists, places: bool) -> Status
+    ensures means { MeansWritten lists.now places (K.written sink.old) (K.written sink.new) result }
+    ensures cause { RoseIfUnwritten (K.faults sink.old) (K.faults sink.new) result }
+{
+    let Ok(report) = report(alloc, lists, places) else {
+        return Status::NoMemory;
+    };
+    match write_all(sink, report.as_slice()) {
+        Ok(()) => status_of(lists),
+        Err(_) => Status::WriteFault,
+    }
+}
+
+/// Runs the words `serial FILE`, with `--device FILE` and `--places` where these are wanted: opens the scenario's file
+/// and the device's, reads the scenario, runs it on one thread beside the device, and writes its report. Every source
+/// that was opened is closed, whatever happens.
+///
+/// Under `Done`, `DeviceFailed`, `DeviceGarbled` and `Stuck` the whole report is written, and nothing else: it is that
+/// of a legal history of the written machine, the round robin's of this scenario and of this device's events.
+/// `DeviceFailed` comes where the device couldn't be read on, else `DeviceGarbled` with the first line of its text that
+/// is none, else `Stuck` where somebody waits for ever. `Usage` comes exactly where the words have no form; `OpenFault`,
+/// `ReadFault`, `DeviceFailed` and `WriteFault` only where that object's count of faults rose; `ScenarioRefused` exactly
+/// where the text is no scenario that is run, with the reason: `TooLong`, `Json`, `BadShape` with the first wrong place,
+/// or `Unbuilt` for a scenario of more scripts than one or of other ops than those that are built. `NoMemory` is free.
+/// Under the others nothing is written, but under `WriteFault` a first part of the report.
+pub fn run_serial<O: Opener, K: Sink>(
+    alloc: Global,
+    words: &[String],
+    opener: &mut O,
+    sink: &mut K,
+) -> Status
+    requires fresh { (which : Which) → O.asked opener.old which ≡ None }
+
+    // What the status says of the words, the files' bytes and what was written.
+    ensures means { Means (map string_bytes words.now) (O.bytes opener.old) (K.written sink.old) (K.written sink.new) result }
+
+    // Why a fault comes, and that good input is run where none does.
+    ensures causes { HasItsCause (faults (O.open_faults opener.old) (O.read_faults opener.old) (K.faults sink.old))
+        (faults (O.open_faults opener.new) (O.read_faults opener.new) (K.faults sink.new)) result }
+    ensures complete { IsComplete (map string_bytes words.now) (O.bytes opener.old)
+        (faults (O.open_faults opener.old) (O.read_faults opener.old) (K.faults sink.old))
+        (faults (O.open_faults opener.new) (O.read_faults opener.new) (K.faults sink.new)) result }
+
+    // The files that are asked for are those of the words, and without a device nothing of it changes.
+    ensures asked { IsAskedFor (form_of (map string_bytes words.now)) (O.asked opener.new Which.Scenario) result }
+    ensures device { IsDeviceAskedFor (device_of (form_of (map string_bytes words.now))) (O.asked opener.new Which.Device) result
+        × UnlessDevice (device_of (form_of (map string_bytes words.now))) (KeepsDevice O.asked O.open_faults O.read_faults opener.old opener.new) }
+    ensures same { (name : List ℕ) → O.bytes opener.new name ≡ O.bytes opener.old name }
+{
+    let form = match form_of(alloc, words) {
+        Ok(form) => form,
+        Err(WordsFault::Usage) => return Status::Usage,
+        Err(WordsFault::NoMemory) => return Status::NoMemory,
+    };
+    match run_files(alloc, opener, form.file, form.device) {
+        Ok(lists) => write_report(alloc, sink, &lists, form.places),
+        Err(status) => status,
+    }
+}
