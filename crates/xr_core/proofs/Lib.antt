@@ -1,5 +1,7 @@
 pub mod Start
 pub mod Answering
 pub mod Refusing
-pub mod Living
-pub mod Telling
+pub mod SessionCalls
+pub mod SessionEvents
+pub mod Listed
+pub mod Pairing

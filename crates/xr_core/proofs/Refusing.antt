@@ -13,7 +13,7 @@ use Rattle.xr_model.specs.Handles.{Handles, is_live, has_room, no_room}
 use Rattle.xr_model.specs.Paths.{is_path_text, intern_refusals, with_text, atom_of, may_want_memory, is_new, text_at, copy_refusals, copied, size_at, size_of}
 use Rattle.xr_model.specs.Refusals.{Refusal, when, first_of, unless, answer_by}
 use Rattle.xr_model.specs.Rules.{written_over}
-use Rattle.xr_model.specs.State.{State}
+use Rattle.xr_model.specs.State.{CoreState}
 use Rattle.xr_core.specs.Calls.{Makes, MakesOver}
 
 and_first : (a b : Bool) → (a && b) ≡ true → a ≡ true
@@ -46,7 +46,7 @@ gives_nothing atoms text short r e =
     first_gives_nothing (not (is_path_text text)) (is_new atoms text && nat_le 1024 (length atoms)) (is_new atoms text && short) PathFormatInvalid PathCountExceeded OutOfMemory r e
 
 -- a text that the atoms refuse is refused by the call, and nothing but the count has changed
-pub intern_refused : (s : State) (instance : ℕ) (text : List ℕ) (a : Answer) (atoms : List (List ℕ)) → is_live s.handles Instance instance ≡ true → (a.code ≡ Success → ⊥)
+pub intern_refused : (s : CoreState) (instance : ℕ) (text : List ℕ) (a : Answer) (atoms : List (List ℕ)) → is_live s.handles Instance instance ≡ true → (a.code ≡ Success → ⊥)
     → atoms ≡ unless (first_of (intern_refusals s.atoms text (is_out_of_memory a.code))) s.atoms (with_text s.atoms text)
     → a ≡ answer_by (first_of (intern_refusals s.atoms text (is_out_of_memory a.code))) (atom_of s.atoms text)
     → (is_out_of_memory a.code ≡ true → may_want_memory s.atoms text ≡ true)
@@ -61,19 +61,19 @@ intern_refused s instance text a atoms live failed kept answer memory = by (firs
         let code : a.code ≡ r.code = ap (λ (x : Answer). x.code) (rw e at answer) in
         let gives : r.gives ≡ Nothing = gives_nothing s.atoms text (is_out_of_memory a.code) r e in
         record {
-          allowed = λ who there. record {
+          allowed = λ who reads there. record {
             built = refl;
             handle = refl;
             memory = λ short. let may = wanted s.atoms text (memory short) in (may.0, rw (live, may.1) refl);
             present = there;
           };
-          leads = λ who. rw (live, e, same) refl;
-          replies = λ who. rw (live, e, gives, ← code) refl;
-          writes = λ who. rw (live, e) refl;
+          leads = λ who reads. rw (live, e, same) refl;
+          replies = λ who reads. rw (live, e, gives, ← code) refl;
+          writes = λ who reads. rw (live, e) refl;
         }
 
 -- an atom that isn't known is refused by the call, and the buffer stays
-pub copy_refused : (s : State) (instance path : ℕ) (a : Answer) (before after : List ℕ) → is_live s.handles Instance instance ≡ true → (a.code ≡ Success → ⊥) → (a.code ≡ SizeInsufficient → ⊥)
+pub copy_refused : (s : CoreState) (instance path : ℕ) (a : Answer) (before after : List ℕ) → is_live s.handles Instance instance ≡ true → (a.code ≡ Success → ⊥) → (a.code ≡ SizeInsufficient → ⊥)
     → a ≡ answer_by (first_of (copy_refusals (text_at s.atoms path) (length before))) (size_at (text_at s.atoms path))
     → after ≡ written_over (copied (text_at s.atoms path) (length before)) before
     → MakesOver s (path_to_string instance path (length before)) (record s { locked = s.locked + 1 }) (record { code = a.code; gives = Nothing; place = s.locked + 1 }) before after
@@ -89,10 +89,10 @@ copy_refused s instance path a before after live failed small answer written = b
         let code : a.code ≡ PathInvalid = ap (λ (x : Answer). x.code) (rw e at answer) in
         let kept : after ≡ before = rw e at written in
         record {
-          allowed = λ who there. record { built = refl; handle = refl; memory = λ short. absurd (true≢false (sym short ∙ rw code refl)); present = there };
-          leads = λ who. rw (live, e) refl;
-          replies = λ who. rw (live, e, code) refl;
-          writes = λ who. rw (live, e, kept) refl;
+          allowed = λ who reads there. record { built = refl; handle = refl; memory = λ short. absurd (true≢false (sym short ∙ rw code refl)); present = there };
+          leads = λ who reads. rw (live, e) refl;
+          replies = λ who reads. rw (live, e, code) refl;
+          writes = λ who reads. rw (live, e, kept) refl;
         }
     by (Some t) e = absurd (neither t _ refl (rw e at answer))
 
@@ -111,27 +111,27 @@ not_short : (c : Code) → c ≡ LimitReached → is_out_of_memory c ≡ true �
 not_short c e short = true≢false (sym short ∙ rw e refl)
 
 -- an instance that is one too many is refused by the call
-pub instance_refused : (s : State) (major minor : ℕ) (a : Answer) (handles taken : Handles) (n : ℕ) → (not (major == 1) || not (minor == 0)) ≡ false → (a.code ≡ Success → ⊥)
+pub instance_refused : (s : CoreState) (major minor : ℕ) (a : Answer) (handles taken : Handles) (n : ℕ) → (not (major == 1) || not (minor == 0)) ≡ false → (a.code ≡ Success → ⊥)
     → handles ≡ unless (first_of (no_room s.handles Instance ∷ [])) s.handles taken → a ≡ answer_by (first_of (no_room s.handles Instance ∷ [])) n
     → Makes s (create_instance major minor) (record s { handles = handles; locked = s.locked + 1 }) (record { code = a.code; gives = Nothing; place = s.locked + 1 }) []
 instance_refused s major minor a handles taken n good failed kept answer =
     let full = kind_is_full s.handles handles taken Instance a n failed kept answer in
     record {
-      allowed = λ who there. record { built = refl; handle = rw (good, full.0) refl; memory = λ short. absurd (not_short a.code full.2 short); present = there };
-      leads = λ who. rw (good, full.0, full.1) refl;
-      replies = λ who. rw (good, full.0, full.2) refl;
-      writes = λ who. rw (good, full.0) refl;
+      allowed = λ who reads there. record { built = refl; handle = rw (good, full.0) refl; memory = λ short. absurd (not_short a.code full.2 short); present = there };
+      leads = λ who reads. rw (good, full.0, full.1) refl;
+      replies = λ who reads. rw (good, full.0, full.2) refl;
+      writes = λ who reads. rw (good, full.0) refl;
     }
 
 -- a session that is one too many is refused by the call
-pub session_refused : (s : State) (instance system : ℕ) (a : Answer) (handles taken : Handles) (n : ℕ) → is_live s.handles Instance instance ≡ true → (system == 1) ≡ true → (a.code ≡ Success → ⊥)
+pub session_refused : (s : CoreState) (instance system : ℕ) (a : Answer) (handles taken : Handles) (n : ℕ) → is_live s.handles Instance instance ≡ true → (system == 1) ≡ true → (a.code ≡ Success → ⊥)
     → handles ≡ unless (first_of (no_room s.handles Session ∷ [])) s.handles taken → a ≡ answer_by (first_of (no_room s.handles Session ∷ [])) n
     → Makes s (create_session instance system) (record s { handles = handles; locked = s.locked + 1 }) (record { code = a.code; gives = Nothing; place = s.locked + 1 }) []
 session_refused s instance system a handles taken n live good failed kept answer =
     let full = kind_is_full s.handles handles taken Session a n failed kept answer in
     record {
-      allowed = λ who there. record { built = refl; handle = rw (live, good, full.0) refl; memory = λ short. absurd (not_short a.code full.2 short); present = there };
-      leads = λ who. rw (live, good, full.0, full.1) refl;
-      replies = λ who. rw (live, good, full.0, full.2) refl;
-      writes = λ who. rw (live, good, full.0) refl;
+      allowed = λ who reads there. record { built = refl; handle = rw (live, good, full.0) refl; memory = λ short. absurd (not_short a.code full.2 short); present = there };
+      leads = λ who reads. rw (live, good, full.0, full.1) refl;
+      replies = λ who reads. rw (live, good, full.0, full.2) refl;
+      writes = λ who reads. rw (live, good, full.0) refl;
     }

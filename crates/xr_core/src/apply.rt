@@ -1,20 +1,22 @@
 // One call of the machine: each call has its arm, and its method in `calls`.
 ghost use Rattle.std.specs.Prelude.{◌<◌, ◌^◌, length};
 ghost use Rattle.xr_model.specs.Request.{request_of};
-ghost use Rattle.xr_model.specs.Machine.{MayMake, Applies};
+ghost use Rattle.xr_model.specs.State.{CellReads};
+ghost use Rattle.xr_model.specs.Machine.{MayMake, CoreApplies};
 
 use crate::Core;
+use crate::sessions::LifeCall;
 use xr_types::{Actor, Call, Step};
 
 impl Core {
     /// Makes a call that is built, or says that it has to wait and leaves all as it was. `text` is the buffer that
     /// `path_to_string` is lent, of the call's `capacity`; for other calls it may have any size and stays.
-    /// The reply is the machine's to an allowed entry: it gives a handle exactly where a creation
+    /// Whatever the cells tell, the reply is the machine's to an allowed entry: it gives a handle exactly where a creation
     /// succeeds, and `OutOfMemory` comes only to a new path text that would else be interned.
     pub fn apply(&mut self, who: Actor, call: &Call<'_>, text: &mut [u8]) -> Step
         requires calls { self.old.locked < 2 ^ 44 }
         requires may { MayMake self.old who (request_of call.now) (length text.old) }
-        ensures { Applies self.old self.new who call.now text.old text.new result }
+        ensures { (reads : CellReads) → CoreApplies reads self.old self.new who call.now text.old text.new result }
     {
         match call {
             Call::CreateInstance { major, minor } => Step::Done(self.create_instance(
@@ -35,9 +37,15 @@ impl Core {
                 *instance, *system,
             )),
             Call::DestroySession { session } => Step::Done(self.destroy_session(*session)),
-            Call::BeginSession { session, view } => Step::Done(self.begin_session(*session, *view)),
-            Call::EndSession { session } => Step::Done(self.end_session(*session)),
-            Call::RequestExitSession { session } => Step::Done(self.request_exit_session(*session)),
+            Call::BeginSession { session, view } => Step::Done(self.change_life(
+                *session,
+                LifeCall::Begin(*view),
+            )),
+            Call::EndSession { session } => Step::Done(self.change_life(*session, LifeCall::End)),
+            Call::RequestExitSession { session } => Step::Done(self.change_life(
+                *session,
+                LifeCall::RequestExit,
+            )),
             Call::Mark { mark, value } => Step::Done(self.mark(*mark, *value)),
             Call::AwaitMark { mark } => match self.mark_value(*mark) {
                 Some(value) => Step::Done(self.await_mark(*mark, value)),
@@ -47,7 +55,7 @@ impl Core {
                 if self.is_waiting(*event) {
                     return Step::NotReady;
                 }
-                Step::Done(self.device(*event))
+                Step::Done(self.device_event(*event))
             }
             Call::Leave => match who {
                 Actor::App(app) => Step::Done(self.leave(app)),

@@ -1,10 +1,15 @@
-//! The whole state of the runtime, and one call at a time. It knows calls and parts, and no bytes of
-//! scenarios, devices or reports.
+//! The whole state of the runtime, and one call at a time: the core, and the core with plain cells as one value. It
+//! knows calls and parts, and no bytes of scenarios, devices or reports.
 #![tactic(auto)]
 
 mod apply;
 mod calls;
+mod device_values;
+mod plain_cells;
+mod plain_core;
 mod sessions;
 mod state;
 
+pub use plain_cells::PlainCells;
+pub use plain_core::PlainCore;
 pub use state::{Core, MOST_APPS};

@@ -1,43 +1,40 @@
 // The state, and how a call ends. It touches no part's inside.
 ghost use Rattle.std.specs.Prelude.{◌≡◌, ◌≤◌, ◌<◌, ◌^◌, ◌+◌, ◌↔◌, IfOk, IsTrue, length};
-ghost use Rattle.xr_model.specs.Handles.{without};
-ghost use Rattle.xr_model.specs.State.{opening};
+ghost use Rattle.xr_model.specs.Destroyed.{without_handle};
+ghost use Rattle.xr_model.specs.Sessions.{still_live};
+ghost use Rattle.xr_model.specs.Steps.Device.{with_changes};
+ghost use Rattle.xr_core.specs.Changes.{change_by};
+ghost use Rattle.xr_model.specs.State.{with_apps, opening_core};
 ghost use Rattle.xr_model.specs.Machine.{IsPresent};
 
-use crate::sessions::{LiveSession, free_places};
+use crate::device_values::DeviceValues;
+use crate::sessions::{Change, LiveSession, change_each};
 use arrayvec::ArrayVec;
 use std::alloc::Global;
 use std::marker::Model;
 use xr_events::Events;
 use xr_handles::Handles;
 use xr_paths::Paths;
-use xr_types::{Actor, Code, Gives, MOST_HANDLES, NoMemory, Reply, Wish};
+use xr_types::{Actor, Code, Gives, Kind, MOST_HANDLES, NoMemory, Reply, SESSIONS};
 
 /// How many marks there are.
 pub(crate) const MARKS: usize = 64;
 
-/// The period of frames until the device tells another, in ns.
-const FIRST_PERIOD: i64 = 11_111_111;
-
 /// How many applications a core may have.
 pub const MOST_APPS: usize = 8;
 
-/// The machine of one thread, seen by contracts as its state.
+/// What the machine of one thread keeps beside its cells, seen by contracts as the core's half of the state.
 #[derive(Drop)]
 pub struct Core {
     pub(crate) handles: Handles,
     pub(crate) paths: Paths,
     pub(crate) events: Events,
-    /// A session for each place of their handles.
-    pub(crate) sessions: Vec<LiveSession>,
+    /// The live sessions, in the order of their creation.
+    pub(crate) sessions: ArrayVec<LiveSession, SESSIONS>,
     /// How many sessions were created.
     pub(crate) created: u64,
-    /// The device's clock, in ns.
-    pub(crate) clock: i64,
-    /// The base and the period of frames, in ns.
-    pub(crate) base: i64,
-    pub(crate) period: i64,
-    pub(crate) wish: Wish,
+    /// What the device has told of itself.
+    pub(crate) device: DeviceValues,
     /// The value of each mark that is set, from mark 1 on.
     pub(crate) marks: [Option<u64>; MARKS],
     pub(crate) apps: u8,
@@ -46,26 +43,33 @@ pub struct Core {
 }
 
 impl Model for Core {
-    ghost use Rattle.std.specs.Prelude.{◌≡◌, ◌≤◌, take, length, map};
-    ghost use Rattle.xr_types.specs.declared.handles.TheConstants.{SESSIONS};
-    ghost use Rattle.xr_model.specs.State.{State};
+    ghost use Rattle.std.specs.Prelude.{◌≡◌, ◌≤◌, take, length};
+    ghost use Rattle.xr_model.specs.SessionLaws.{AreListed};
+    ghost use Rattle.xr_model.specs.State.{CoreState};
 
-    ghost Value = { State };
+    ghost Value = { CoreState };
 
     ghost view = { λ c. record {
       handles = c.handles;
       atoms = c.paths;
       events = c.events;
-      sessions = map (λ x. record { ordinal = x.ordinal; life = x.life }) c.sessions.items;
+      sessions = c.sessions.items;
       created = c.created;
-      device = record { clock = c.clock; base = c.base; period = c.period; wish = c.wish };
+      device = c.device;
       marks = c.marks;
       apps = c.apps;
       left = take c.apps c.left;
       locked = c.calls;
     } };
 
-    ghost invariant = { λ c. (length c.sessions.items ≡ SESSIONS) × (length c.handles.given ≤ c.calls) × (c.created ≤ c.calls) × (c.apps ≤ 8) };
+    ghost invariant = { λ c. AreListed c.handles c.sessions.items × (length c.handles.given ≤ c.calls) × (c.created ≤ c.calls) × (c.apps ≤ 8) };
+}
+
+/// Only the sessions whose handles are live are kept.
+fn keep_live(handles: &Handles, sessions: &mut ArrayVec<LiveSession, SESSIONS>)
+    ensures { sessions.new.items ≡ still_live handles.now sessions.old.items }
+{
+    sessions.retain(|session| handles.is_live(Kind::Session, session.handle()));
 }
 
 impl Core {
@@ -74,21 +78,17 @@ impl Core {
     pub fn start(alloc: Global, apps: u8) -> Result<Core, NoMemory>
         requires some { 1 ≤ apps }
         requires few { apps ≤ 8 }
-        ensures { IfOk result (λ core. core ≡ opening apps) }
+        ensures { IfOk result (λ core. core ≡ opening_core (with_apps apps)) }
     {
         let paths = Paths::start(alloc)?;
         let events = Events::start(alloc)?;
-        let sessions = free_places(alloc)?;
         Ok(Core {
             handles: Handles::start(),
             paths,
             events,
-            sessions,
+            sessions: ArrayVec::new(),
             created: 0,
-            clock: 0,
-            base: 0,
-            period: FIRST_PERIOD,
-            wish: Wish::Rest,
+            device: DeviceValues::start(),
             marks: [None; MARKS],
             apps,
             left: [false; MOST_APPS],
@@ -118,15 +118,23 @@ impl Core {
     pub fn clock(&self) -> i64
         ensures { result ≡ self.now.device.clock }
     {
-        self.clock
+        self.device.clock()
     }
 
     /// Takes a handle and all below it out of all parts.
     pub(crate) fn destroy(&mut self, handle: u64)
-        ensures { self.new ≡ record self.old { handles = without self.old.handles handle } }
+        ensures { self.new ≡ without_handle self.old handle }
     {
         let mut gone: ArrayVec<u64, MOST_HANDLES> = ArrayVec::new();
         self.handles.destroy(handle, &mut gone);
+        keep_live(&self.handles, &mut self.sessions);
+    }
+
+    /// Changes all live sessions, in the order of their creation.
+    pub(crate) fn change_all(&mut self, change: Change)
+        ensures { self.new ≡ with_changes self.old (change_by change) }
+    {
+        change_each(self.sessions.as_mut_slice(), change, &mut self.events);
     }
 
     /// Counts a call, and answers it.

@@ -4,7 +4,7 @@ use Rattle.xr_types.specs.declared.device.DeviceEvent.{DeviceEvent}
 use Rattle.xr_types.specs.declared.device.DeviceEvent.TheVariants as event
 use Rattle.xr_types.specs.Device.{checks}
 use Rattle.xr_model.specs.Device.{is_built_event}
-use Rattle.xr_model.specs.DeviceText.{Told, nothing_more, garbled_at}
+use Rattle.xr_model.specs.DeviceText.{DeviceStream, nothing_more, garbled_at}
 use Rattle.xr_device.specs.declared.Next.{Next}
 use Rattle.xr_device.specs.declared.Next.TheVariants as next
 
@@ -50,18 +50,18 @@ may_tell e = checks e && is_of_line e
 -- ---- what was to come, and what is still to come
 
 -- the line of this number is none
-abbrev pub garbled : ℕ → Told
+abbrev pub garbled : ℕ → DeviceStream
 garbled number = record { events = []; ending = garbled_at number }
 
 -- this event was the first to come, and the rest is still to come
-abbrev pub IsFirst : DeviceEvent → Told → Option Told → Type 0
+abbrev pub IsFirst : DeviceEvent → DeviceStream → Option DeviceStream → Type 0
 IsFirst e before None = ⊥
 IsFirst e before (Some rest) = before ≡ record { events = e ∷ rest.events; ending = rest.ending }
 
 -- An event is the first that was to come; the end and a garbled line come only where no event was left to come, and are
 -- the ending that was told. Nothing is said where nothing was told, and a device that couldn't be read on may have had
 -- anything to come.
-abbrev pub Tells : Option Told → Option Told → Next → Type 0
+abbrev pub Tells : Option DeviceStream → Option DeviceStream → Next → Type 0
 Tells None after answer = Unit {0}
 Tells (Some before) after (next.Event e) = IsFirst e before after
 Tells (Some before) after next.End = before ≡ nothing_more

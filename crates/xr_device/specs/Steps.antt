@@ -1,6 +1,6 @@
 -- What one step through a device text does.
 use Rattle.std.specs.Prelude.{Option}
-use Rattle.xr_model.specs.DeviceText.{Told}
+use Rattle.xr_model.specs.DeviceText.{DeviceStream}
 use Rattle.xr_device.specs.declared.Next.{Next}
 use Rattle.xr_device.specs.declared.text.Step.{Step}
 use Rattle.xr_device.specs.declared.text.Step.TheVariants as step
@@ -18,6 +18,6 @@ OnAnswer step.GoesOn P = Unit {0}
 OnAnswer (step.Answer answer) P = P answer
 
 -- What is told stays, or the answer tells of it.
-abbrev pub Steps : Option Told → Option Told → Step → Type 0
+abbrev pub Steps : Option DeviceStream → Option DeviceStream → Step → Type 0
 Steps before after step.GoesOn = KeepsTold before after
 Steps before after (step.Answer answer) = Tells before after answer

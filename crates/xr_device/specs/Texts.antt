@@ -1,18 +1,18 @@
 -- A device text of which some bytes are held and the rest may be told.
 use Rattle.std.specs.Prelude.{◌≡◌, ◌≤◌, ◌<◌, ℕ, ◌+◌, ◌-◌, if◌then◌else◌, Bool, true, false, List, [], ◌++◌, length, take, drop, Option, Some, None, option_map}
 use Rattle.std.specs.Io.KnownBytes.{IsAtEnd, prepend_known}
-use Rattle.xr_model.specs.DeviceText.{Told, told_from, told_by, lines_in, meaning_of, nothing_more}
+use Rattle.xr_model.specs.DeviceText.{DeviceStream, told_from, told_by, lines_in, meaning_of, nothing_more}
 use Rattle.xr_device.specs.Answers.{garbled}
 use Rattle.xr_device.specs.FirstByte.{is_free_of}
 use Rattle.xr_device.specs.declared.lines.Front.{Front}
 use Rattle.xr_device.specs.declared.lines.Front.TheVariants as front
 
 -- what is still to come from a line's number on, behind so many bytes
-abbrev pub told_at : ℕ → ℕ → List ℕ → Option (List ℕ) → Option Told
+abbrev pub told_at : ℕ → ℕ → List ℕ → Option (List ℕ) → Option DeviceStream
 told_at number used held left = option_map (λ text. told_from number used (lines_in text)) (prepend_known held left)
 
 -- what is told stays
-abbrev pub KeepsTold : Option Told → Option Told → Type 0
+abbrev pub KeepsTold : Option DeviceStream → Option DeviceStream → Type 0
 KeepsTold None after = Unit {0}
 KeepsTold (Some before) after = after ≡ Some before
 

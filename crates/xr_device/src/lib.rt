@@ -5,7 +5,7 @@
 ghost use Rattle.std.specs.Prelude.{◌≡◌, ◌≤◌, ◌<◌, ℕ, Bool, true, Option, Some};
 ghost use Rattle.xr_io.specs.declared.Which.{Which};
 ghost use Rattle.xr_io.specs.Outside.{Rose};
-ghost use Rattle.xr_model.specs.DeviceText.{Told, nothing_more};
+ghost use Rattle.xr_model.specs.DeviceText.{DeviceStream, nothing_more};
 ghost use Rattle.xr_device.specs.Answers.{Tells, IsTold, OnEvent, UnlessEvent, OnFailed};
 
 mod bytes;
@@ -37,7 +37,7 @@ pub enum Next {
 /// ever.
 pub trait Device {
     /// What is still to come, where it tells that.
-    ghost told: { Self → Option Told };
+    ghost told: { Self → Option DeviceStream };
 
     /// At most so many events are still to come.
     ghost bound: { Self → ℕ };

@@ -11,7 +11,8 @@ use Rattle.xr_types.specs.declared.made.Lists.{Lists}
 use Rattle.xr_types.specs.declared.scenario.Op.{Op}
 use Rattle.xr_types.specs.declared.scenario.Scenario.{Scenario}
 use Rattle.xr_types.specs.Device.{checks}
-use Rattle.xr_model.specs.DeviceText.{Line, lines_in, size_of, is_word, most_line, most_text, Meaning, skipped, tells, no_line, event_or_none, meaning_of, words_of, number_of, wish_of, grid_by, event_by, if_checked, event_of, Ending, ends, garbled_at, Told, nothing_more, told_by, told_from, told_in}
+use Rattle.xr_model.specs.DeviceText.{Line, lines_in, size_of, is_word, most_line, most_text, Meaning, skipped, tells, no_line, event_or_none, meaning_of, words_of, number_of, wish_of, grid_by, event_by, if_checked, event_of, Ending, ends, garbled_at, DeviceStream, nothing_more, told_by, told_from, told_in}
+use Rattle.xr_model.specs.State.{with_apps}
 use Rattle.xr_model.specs.History.{calls_of}
 use Rattle.xr_model.specs.Lists.{events_in}
 use Rattle.xr_model.specs.Report.{is_garbled}
@@ -86,7 +87,7 @@ meaning_clean (b ∷ bs) = by (b == 35)
 
 -- ---- a text
 
-told_by_clean : (number : ℕ) (m : Meaning) (rest : Told) → IsCleanMeaning m → IsClean rest.events → IsClean (told_by number m rest).events
+told_by_clean : (number : ℕ) (m : Meaning) (rest : DeviceStream) → IsCleanMeaning m → IsClean rest.events → IsClean (told_by number m rest).events
 told_by_clean number skipped rest h clean = clean
 told_by_clean number (tells e) rest h clean = rw h clean
 told_by_clean number no_line rest h clean = refl
@@ -102,13 +103,13 @@ told_from_clean number used (l ∷ ls) =
     by false clean = clean
 
 -- what a device is known to give has no garbled event
-pub told_clean : (bytes : List ℕ → Option (List ℕ)) (device : Option (List ℕ)) (told : Told) → told_under bytes device ≡ Some told → IsClean told.events
-told_clean bytes None told is = ap (λ (t : Told). list_any is_garbled t.events) (sym (same_Some nothing_more told is))
+pub told_clean : (bytes : List ℕ → Option (List ℕ)) (device : Option (List ℕ)) (told : DeviceStream) → told_under bytes device ≡ Some told → IsClean told.events
+told_clean bytes None told is = ap (λ (t : DeviceStream). list_any is_garbled t.events) (sym (same_Some nothing_more told is))
 told_clean bytes (Some name) told is = by (bytes name) is
   where
     by : (text : Option (List ℕ)) → option_map told_in text ≡ Some told → IsClean told.events
     by None is = absurd (none-some told is)
-    by (Some text) is = subst (λ (t : Told). IsClean t.events) (same_Some (told_in text) told is) (told_from_clean 1 0 (lines_in text))
+    by (Some text) is = subst (λ (t : DeviceStream). IsClean t.events) (same_Some (told_in text) told is) (told_from_clean 1 0 (lines_in text))
 
 -- ---- a run
 
@@ -116,11 +117,11 @@ last_clean : (e : Ending) → ends ≡ e → IsClean (last_event (Some e))
 last_clean e is = subst (λ (e : Ending). IsClean (last_event (Some e))) is refl
 
 -- a device that is known to end at the end of its text does nothing that is garbled
-calls_clean : (told : Told) (events : List DeviceEvent) (ending : Option Ending) → IsClean told.events → told.ending ≡ ends → Gave (Some told) events ending → IsClean (device_calls events ending)
+calls_clean : (told : DeviceStream) (events : List DeviceEvent) (ending : Option Ending) → IsClean told.events → told.ending ≡ ends → Gave (Some told) events ending → IsClean (device_calls events ending)
 calls_clean told events None clean end gave = clean_both events (event.Fault ∷ []) (clean_front events gave.0 (subst IsClean gave.1 clean)) refl
 calls_clean told events (Some e) clean end gave = clean_both events (last_event (Some e)) (subst IsClean gave.0 clean) (last_clean e (sym end ∙ gave.1))
 
-pub run_clean : (scenario : Scenario) (ops : List Op) (told : Told) (lists : Lists) → IsClean told.events → told.ending ≡ ends → Ran scenario ops (Some told) lists → IsClean lists.events
+pub run_clean : (scenario : Scenario) (ops : List Op) (told : DeviceStream) (lists : Lists) → IsClean told.events → told.ending ≡ ends → Ran scenario ops (Some told) lists → IsClean lists.events
 run_clean scenario ops told lists clean end ran =
     let calls = calls_clean told ran.events ran.ending clean end ran.gave in
-    rw ran.made (clean_front (events_in (calls_of 1 actor.Device ran.history)) ran.device.0 (subst IsClean ran.device.1 calls))
+    rw ran.made (clean_front (events_in (calls_of (with_apps 1) actor.Device ran.history)) ran.device.0 (subst IsClean ran.device.1 calls))

@@ -14,7 +14,7 @@ use Rattle.xr_types.specs.declared.status.Refusal.TheVariants.{TooLong, Unbuilt}
 use Rattle.xr_model.specs.Words.{Form, form_of}
 use Rattle.xr_model.specs.Scenario.{scenario_of}
 use Rattle.xr_model.specs.Built.{are_built, if_built, run_scenario_of}
-use Rattle.xr_model.specs.DeviceText.{Told, ends}
+use Rattle.xr_model.specs.DeviceText.{DeviceStream, ends}
 use Rattle.xr_drive.specs.Run.{Run}
 use Rattle.xr_drive.specs.Status.{status_by}
 use Rattle.xr_drive.specs.Top.{told_under, RunsText, Means, MeansText, MeansRun, MeansWritten, RoseIfUnwritten, HasRunCause, Faults, NoneRose, HasItsCause, IsComplete}
@@ -77,7 +77,7 @@ whole_of_read bytes text s e reads =
     let short : length (take 1048577 bytes) ≤ 1048576 = subst (λ (t : List ℕ). length t ≤ 1048576) e (scenario_short text s (built_read (scenario_of text) s reads)) in
     short_take 1048576 bytes short ∙ sym e
 
-runs_text : (all : Option (List ℕ)) (text : List ℕ) (told : Option Told) (lists : Lists) → IfSome all (λ bytes. text ≡ take 1048577 bytes) → Run text told lists → RunsText all told lists
+runs_text : (all : Option (List ℕ)) (text : List ℕ) (told : Option DeviceStream) (lists : Lists) → IfSome all (λ bytes. text ≡ take 1048577 bytes) → Run text told lists → RunsText all told lists
 runs_text None text told lists read run = (text, tt, run)
 runs_text (Some bytes) text told lists read run = (text, whole_of_read bytes text run.scenario read run.reads, run)
 
@@ -86,7 +86,7 @@ refused_if_told None text why read e = tt
 refused_if_told (Some bytes) text why read e = ap if_built (sym (scenario_of-take bytes)) ∙ rw (← read) e
 
 -- what holds of the bytes that were read holds of all that there were
-pub means_run : (all : Option (List ℕ)) (text : List ℕ) (told : Option Told) (result : Result Lists Status) → IfSome all (λ bytes. text ≡ take 1048577 bytes) → MeansText text told result → MeansRun all told result
+pub means_run : (all : Option (List ℕ)) (text : List ℕ) (told : Option DeviceStream) (result : Result Lists Status) → IfSome all (λ bytes. text ≡ take 1048577 bytes) → MeansText text told result → MeansRun all told result
 means_run all text told (Ok lists) read run = runs_text all text told lists read run
 means_run all text told (Err (ScenarioRefused why)) read e = refused_if_told all text why read e
 means_run all text told (Err NoMemory) read e = tt
@@ -136,10 +136,10 @@ no_opening old new none (inl rose) = none.opens which.Scenario rose
 no_opening old new none (inr rose) = none.opens which.Device rose
 
 -- a device that is known to end at the end of its text has no line that is none
-no_garbled : (bytes : List ℕ → Option (List ℕ)) (device : Option (List ℕ)) (all : Option (List ℕ)) (told : Told) (lists : Lists) (line : ℕ) → told_under bytes device ≡ Some told → told.ending ≡ ends
+no_garbled : (bytes : List ℕ → Option (List ℕ)) (device : Option (List ℕ)) (all : Option (List ℕ)) (told : DeviceStream) (lists : Lists) (line : ℕ) → told_under bytes device ≡ Some told → told.ending ≡ ends
     → RunsText all (told_under bytes device) lists → status_by lists.events lists.next ≡ DeviceGarbled line → ⊥
 no_garbled bytes device all told lists line is end runs status =
-    let run : Run runs.0 (Some told) lists = subst (λ (t : Option Told). Run runs.0 t lists) is runs.2 in
+    let run : Run runs.0 (Some told) lists = subst (λ (t : Option DeviceStream). Run runs.0 t lists) is runs.2 in
     never_garbled lists.events lists.next line (run_clean run.scenario run.ops told lists (told_clean bytes device told is) end run.ran) status
 
 -- good words, a good text, a good device and no fault leave a run that is done or stuck, or want of memory

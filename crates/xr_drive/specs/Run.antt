@@ -4,12 +4,12 @@ use Rattle.xr_types.specs.declared.made.Lists.{Lists}
 use Rattle.xr_types.specs.declared.scenario.Op.{Op}
 use Rattle.xr_types.specs.declared.scenario.Scenario.{Scenario}
 use Rattle.xr_model.specs.Built.{run_scenario_of}
-use Rattle.xr_model.specs.DeviceText.{Told}
+use Rattle.xr_model.specs.DeviceText.{DeviceStream}
 use Rattle.xr_serial.specs.Ran.{Ran}
 
 -- A run of a text beside a device that is known to give this: the text is a scenario that is run, and the lists are
 -- those of its history.
-pub record Run (text : List ℕ) (told : Option Told) (lists : Lists) : Type 0 where
+pub record Run (text : List ℕ) (told : Option DeviceStream) (lists : Lists) : Type 0 where
   pub scenario : Scenario
   pub ops : List Op
   pub reads : run_scenario_of text ≡ Ok scenario

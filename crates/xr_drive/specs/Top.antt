@@ -11,7 +11,7 @@ use Rattle.xr_types.specs.declared.status.Status.{Status}
 use Rattle.xr_types.specs.declared.status.Status.TheVariants.{Done, Usage, OpenFault, ReadFault, ScenarioRefused, DeviceFailed, DeviceGarbled, Stuck, WriteFault, NoMemory}
 use Rattle.xr_model.specs.Words.{Form, form_of}
 use Rattle.xr_model.specs.Built.{run_scenario_of}
-use Rattle.xr_model.specs.DeviceText.{Told, ends, nothing_more, told_in}
+use Rattle.xr_model.specs.DeviceText.{DeviceStream, ends, nothing_more, told_in}
 use Rattle.xr_model.specs.Report.{is_fault, report_of}
 use Rattle.xr_drive.specs.Run.{Run}
 use Rattle.xr_drive.specs.Status.{status_by}
@@ -21,12 +21,12 @@ abbrev pub OfForm : List (List ℕ) → (Form → Type 0) → Type 0
 OfForm words P = (form : Form) × (form_of words ≡ Some form) × P form
 
 -- what the device is known to give: nothing where there is none, else what its file's text tells, where that is told
-abbrev pub told_under : (List ℕ → Option (List ℕ)) → Option (List ℕ) → Option Told
+abbrev pub told_under : (List ℕ → Option (List ℕ)) → Option (List ℕ) → Option DeviceStream
 told_under bytes None = Some nothing_more
 told_under bytes (Some name) = option_map told_in (bytes name)
 
 -- Some text was run, and it is all that stands under the scenario's file, where that is told.
-abbrev pub RunsText : Option (List ℕ) → Option Told → Lists → Type 0
+abbrev pub RunsText : Option (List ℕ) → Option DeviceStream → Lists → Type 0
 RunsText all told lists = (text : List ℕ) × IfSome all (λ bytes. bytes ≡ text) × Run text told lists
 
 -- The form's files were run, and this is so of what the run has made.
@@ -80,7 +80,7 @@ pub record NoneRose (old new : Faults) : Type 0 where
 -- and it ends at the end of its text, and no count of faults rose, the run is done, or stuck, or memory was short.
 abbrev pub IsComplete : List (List ℕ) → (List ℕ → Option (List ℕ)) → Faults → Faults → Status → Type 0
 IsComplete words bytes old new status =
-    (form : Form) (text : List ℕ) (scenario : Scenario) (told : Told) → form_of words ≡ Some form → bytes form.file ≡ Some text → run_scenario_of text ≡ Ok scenario
+    (form : Form) (text : List ℕ) (scenario : Scenario) (told : DeviceStream) → form_of words ≡ Some form → bytes form.file ≡ Some text → run_scenario_of text ≡ Ok scenario
     → told_under bytes form.device ≡ Some told → told.ending ≡ ends → NoneRose old new → (status ≡ Done) ⊎ ((status ≡ Stuck) ⊎ (status ≡ NoMemory))
 
 -- ---- what was asked for
@@ -122,14 +122,14 @@ IsReadFault NoMemory before after = ⊤
 IsReadFault _ before after = ⊥
 
 -- the lists are those of a run of the text beside a device that is known to give this, and a status says why there are none
-abbrev pub MeansText : List ℕ → Option Told → Result Lists Status → Type 0
+abbrev pub MeansText : List ℕ → Option DeviceStream → Result Lists Status → Type 0
 MeansText text told (Ok lists) = Run text told lists
 MeansText text told (Err (ScenarioRefused why)) = run_scenario_of text ≡ Err why
 MeansText text told (Err NoMemory) = ⊤
 MeansText text told (Err _) = ⊥
 
 -- the same of a file of which these bytes are all, where they are told
-abbrev pub MeansRun : Option (List ℕ) → Option Told → Result Lists Status → Type 0
+abbrev pub MeansRun : Option (List ℕ) → Option DeviceStream → Result Lists Status → Type 0
 MeansRun all told (Ok lists) = RunsText all told lists
 MeansRun all told (Err OpenFault) = ⊤
 MeansRun all told (Err ReadFault) = ⊤

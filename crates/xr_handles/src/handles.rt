@@ -151,6 +151,7 @@ impl Handles {
     pub fn free_place(&self, kind: Kind) -> Option<usize>
         ensures place { result ≡ first_free (row_of self.now kind) }
         ensures within { IfSome result (λ place. place < limit_of kind) }
+        ensures row { length (row_of self.now kind) ≡ limit_of kind }
     {
         row::free_place(self.row(kind))
     }

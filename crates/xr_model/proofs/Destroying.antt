@@ -1,5 +1,5 @@
 -- A handle that was destroyed is never live again: it stands in no row, and no new handle was given before.
-use Rattle.std.proofs.Common.{◌≡◌, ℕ, ◌==◌, ◌&&◌, ◌||◌, not, Bool, true, false, List, [], ◌∷◌, ◌++◌, None, refl, sym, ap, ◌∙◌, subst, true≢false}
+use Rattle.std.proofs.Common.{◌≡◌, ℕ, ℤ, ◌==◌, ◌&&◌, ◌||◌, not, Bool, true, false, List, [], ◌∷◌, ◌++◌, None, refl, sym, ap, ◌∙◌, subst, true≢false}
 use Rattle.xr_types.specs.Code.{is_success}
 use Rattle.xr_types.specs.declared.code.Code.TheVariants.{HandleInvalid}
 use Rattle.xr_types.specs.declared.handles.Kind.{Kind}
@@ -9,23 +9,23 @@ use Rattle.xr_types.specs.declared.handles.TheConstants.{INSTANCES, SESSIONS, AC
 use Rattle.xr_model.specs.Request.{Entry, Request, destroy_instance, destroy_session}
 use Rattle.xr_model.specs.Handles.{Handles, has, is_live, kind_of, was_given, with_handle, gone_instances, gone_parents, without}
 use Rattle.xr_model.specs.Refusals.{when, first_of}
-use Rattle.xr_model.specs.State.{State, opening}
+use Rattle.xr_model.specs.State.{CoreState, Settings, State, opening}
 use Rattle.xr_model.specs.Rules.{Effect, unless_refused}
-use Rattle.xr_model.specs.Machine.{step, rule, IsGiven, IsAllowed}
-use Rattle.xr_model.specs.History.{after, IsLegalFrom}
+use Rattle.xr_model.specs.Machine.{step, rule, reads_of, IsGiven, IsAllowed}
+use Rattle.xr_model.specs.History.{after, opening_clocks, clocks_after, IsLegalFrom}
 use Rattle.xr_model.specs.HandleLaws.{destroys, DestroyedForGood}
 use Rattle.xr_model.proofs.Histories.{after_is_in_turn}
 use Rattle.xr_model.proofs.Rows.{same_key, both_of, neither_of, not_true, hasnt_put, hasnt_free, hasnt_cleared, cleared_away}
 use Rattle.xr_model.proofs.HandleSteps.{gives_handle, kept_by_step}
 
 -- the handle stands in no row
-record IsAbsent (h : Handles) (handle : ℕ) : Type 0 where
-  instances : has h.instances handle ≡ false
-  sessions : has h.sessions handle ≡ false
-  sets : has h.sets handle ≡ false
-  actions : has h.actions handle ≡ false
-  spaces : has h.spaces handle ≡ false
-  chains : has h.chains handle ≡ false
+pub record IsAbsent (h : Handles) (handle : ℕ) : Type 0 where
+  pub instances : has h.instances handle ≡ false
+  pub sessions : has h.sessions handle ≡ false
+  pub sets : has h.sets handle ≡ false
+  pub actions : has h.actions handle ≡ false
+  pub spaces : has h.spaces handle ≡ false
+  pub chains : has h.chains handle ≡ false
 
 and_false : (b : Bool) → b && false ≡ false
 and_false true = refl
@@ -71,25 +71,23 @@ module _ (h : Handles) (parent given handle : ℕ) (other : (given == handle) �
 
 -- ---- each live handle was given
 
-AreKnown : Handles → Type 0
+abbrev pub AreKnown : Handles → Type 0
 AreKnown h = (handle : ℕ) → (handle == 0) ≡ false → was_given h handle ≡ false → IsAbsent h handle
 
-known_step : (s : State) (e : Entry) → AreKnown s.handles → AreKnown (step s e).0.handles
-unfolding AreKnown
-known_step s e known = kept_by_step AreKnown s e (record {
+pub known_step : (s : State) (e : Entry) → AreKnown s.core.handles → AreKnown (step s e).0.core.handles
+known_step s e known = kept_by_step AreKnown s.core (reads_of s) e (record {
   same = known;
-  instance = λ gives handle nz new. let two = neither_of (e.given == handle) (was_given s.handles handle) new in absent_instance s.handles 0 e.given handle two.0 (known handle nz two.1);
-  session = λ gives instance live handle nz new. let two = neither_of (e.given == handle) (was_given s.handles handle) new in absent_session s.handles instance e.given handle two.0 (known handle nz two.1);
-  without = λ gone handle nz new. absent_without s.handles gone handle nz (known handle nz new);
+  instance = λ gives handle nz new. let two = neither_of (e.given == handle) (was_given s.core.handles handle) new in absent_instance s.core.handles 0 e.given handle two.0 (known handle nz two.1);
+  session = λ gives instance live handle nz new. let two = neither_of (e.given == handle) (was_given s.core.handles handle) new in absent_session s.core.handles instance e.given handle two.0 (known handle nz two.1);
+  without = λ gone handle nz new. absent_without s.core.handles gone handle nz (known handle nz new);
 })
 
-known_after : (s : State) (es : List Entry) → AreKnown s.handles → AreKnown (after s es).handles
+known_after : (s : State) (es : List Entry) → AreKnown s.core.handles → AreKnown (after s es).core.handles
 known_after s [] known = known
 known_after s (e ∷ es) known = known_after (step s e).0 es (known_step s e known)
 
-known_opening : (apps : ℕ) → AreKnown (opening apps).handles
-unfolding AreKnown
-known_opening apps handle nz new = record {
+pub known_opening : (settings : Settings) → AreKnown (opening settings).core.handles
+known_opening settings handle nz new = record {
   instances = hasnt_free INSTANCES handle nz;
   sessions = hasnt_free SESSIONS handle nz;
   sets = hasnt_free ACTION_SETS handle nz;
@@ -118,25 +116,24 @@ or_given : (b c : Bool) → c ≡ true → b || c ≡ true
 or_given true c e = refl
 or_given false c e = e
 
-over_step : (s : State) (e : Entry) (handle : ℕ) → IsAllowed s e → IsOver handle s.handles → IsOver handle (step s e).0.handles
-over_step s e handle allowed over = kept_by_step (IsOver handle) s e (record {
+over_step : (s : State) (e : Entry) (handle : ℕ) → IsAllowed s e → IsOver handle s.core.handles → IsOver handle (step s e).0.core.handles
+over_step s e handle allowed over = kept_by_step (IsOver handle) s.core (reads_of s) e (record {
   same = over;
-  instance = λ gives. let other = is_other s.handles handle e.given (gives_handle s e) over allowed.handle gives in
-      record { some = over.some; given = or_given (e.given == handle) (was_given s.handles handle) over.given; absent = absent_instance s.handles 0 e.given handle other over.absent };
-  session = λ gives instance live. let other = is_other s.handles handle e.given (gives_handle s e) over allowed.handle gives in
-      record { some = over.some; given = or_given (e.given == handle) (was_given s.handles handle) over.given; absent = absent_session s.handles instance e.given handle other over.absent };
-  without = λ gone. record { some = over.some; given = over.given; absent = absent_without s.handles gone handle over.some over.absent };
+  instance = λ gives. let other = is_other s.core.handles handle e.given (gives_handle s.core (reads_of s) e) over allowed.handle gives in
+      record { some = over.some; given = or_given (e.given == handle) (was_given s.core.handles handle) over.given; absent = absent_instance s.core.handles 0 e.given handle other over.absent };
+  session = λ gives instance live. let other = is_other s.core.handles handle e.given (gives_handle s.core (reads_of s) e) over allowed.handle gives in
+      record { some = over.some; given = or_given (e.given == handle) (was_given s.core.handles handle) over.given; absent = absent_session s.core.handles instance e.given handle other over.absent };
+  without = λ gone. record { some = over.some; given = over.given; absent = absent_without s.core.handles gone handle over.some over.absent };
 })
 
-over_after : (s : State) (es : List Entry) (handle : ℕ) → IsLegalFrom s es → IsOver handle s.handles → IsOver handle (after s es).handles
-over_after s [] handle legal over = over
-over_after s (e ∷ es) handle legal over = over_after (step s e).0 es handle legal.2 (over_step s e handle legal.0 over)
+over_after : (s : State) (clocks : List ℤ) (es : List Entry) (handle : ℕ) → IsLegalFrom s clocks es → IsOver handle s.core.handles → IsOver handle (after s es).core.handles
+over_after s clocks [] handle legal over = over
+over_after s clocks (e ∷ es) handle legal over = over_after (step s e).0 (clocks_after clocks e (step s e).0) es handle legal.3 (over_step s e handle legal.0 over)
 
 -- ---- a handle is destroyed
 
 -- one that was live is over
 over_without : (h : Handles) (kind : Kind) (handle : ℕ) → AreKnown h → is_live h kind handle ≡ true → (IsAbsent h handle → is_live h kind handle ≡ false) → IsOver handle (without h handle)
-unfolding AreKnown
 over_without h kind handle known live dead =
     let some = not_true (handle == 0) (both_of (not (handle == 0)) _ live).0 in
     record { some = some; given = by (was_given h handle) refl some; absent = absent_itself h handle some }
@@ -146,35 +143,42 @@ over_without h kind handle known live dead =
     by false e nz = absurd (true≢false (sym live ∙ dead (known handle nz e)))
 
 -- a destroying call that succeeds has its effect, and its handle is live
-destroyed : (P : Handles → Type 0) (s : State) (live : Bool) (x : Effect) → is_success (unless_refused s (first_of (when (not live) HandleInvalid ∷ [])) x).code ≡ true
+destroyed : (P : Handles → Type 0) (s : CoreState) (live : Bool) (x : Effect) → is_success (unless_refused s (first_of (when (not live) HandleInvalid ∷ [])) x).code ≡ true
     → (live ≡ true → P x.state.handles) → P (unless_refused s (first_of (when (not live) HandleInvalid ∷ [])) x).state.handles
 destroyed P s true x good done = done refl
 destroyed P s false x good done = absurd (true≢false (sym good))
 
-over_destroyed : (s : State) (e : Entry) (handle : ℕ) → AreKnown s.handles → destroys e.request handle ≡ true → is_success (step s e).1.reply.code ≡ true → IsOver handle (step s e).0.handles
+over_destroyed : (s : State) (e : Entry) (handle : ℕ) → AreKnown s.core.handles → destroys e.request handle ≡ true → is_success (step s e).1.reply.code ≡ true → IsOver handle (step s e).0.core.handles
 over_destroyed s e handle known = by e.request
   where
-    by : (r : Request) → destroys r handle ≡ true → is_success (step s (record e { request = r })).1.reply.code ≡ true → IsOver handle (step s (record e { request = r })).0.handles
+    by : (r : Request) → destroys r handle ≡ true → is_success (step s (record e { request = r })).1.reply.code ≡ true → IsOver handle (step s (record e { request = r })).0.core.handles
     by (destroy_instance instance) names good =
-        destroyed (IsOver handle) s (is_live s.handles Instance instance) (rule s (record e { request = destroy_instance instance })).effect good
-        (λ live. subst (λ (n : ℕ). IsOver n (without s.handles instance)) (same_key instance handle names)
-        (over_without s.handles Instance instance known live (λ a. rw a.instances (and_false (not (instance == 0))))))
+        destroyed (IsOver handle) s.core (is_live s.core.handles Instance instance) (rule s.core (reads_of s) (record e { request = destroy_instance instance })).effect good
+        (λ live. subst (λ (n : ℕ). IsOver n (without s.core.handles instance)) (same_key instance handle names)
+        (over_without s.core.handles Instance instance known live (λ a. rw a.instances (and_false (not (instance == 0))))))
     by (destroy_session session) names good =
-        destroyed (IsOver handle) s (is_live s.handles Session session) (rule s (record e { request = destroy_session session })).effect good
-        (λ live. subst (λ (n : ℕ). IsOver n (without s.handles session)) (same_key session handle names)
-        (over_without s.handles Session session known live (λ a. rw a.sessions (and_false (not (session == 0))))))
+        destroyed (IsOver handle) s.core (is_live s.core.handles Session session) (rule s.core (reads_of s) (record e { request = destroy_session session })).effect good
+        (λ live. subst (λ (n : ℕ). IsOver n (without s.core.handles session)) (same_key session handle names)
+        (over_without s.core.handles Session session known live (λ a. rw a.sessions (and_false (not (session == 0))))))
     by _ names good = absurd (true≢false (sym names))
 
 -- ---- the law
 
+-- the clocks after a history
+abbrev clocks_behind : State → List ℤ → List Entry → List ℤ
+clocks_behind s clocks [] = clocks
+clocks_behind s clocks (e ∷ es) = clocks_behind (step s e).0 (clocks_after clocks e (step s e).0) es
+
 -- the end of a legal history is legal from where its front leads
-legal_behind : (s : State) (es fs : List Entry) → IsLegalFrom s (es ++ fs) → IsLegalFrom (after s es) fs
-legal_behind s [] fs legal = legal
-legal_behind s (e ∷ es) fs legal = legal_behind (step s e).0 es fs legal.2
+legal_behind : (s : State) (clocks : List ℤ) (es fs : List Entry) → IsLegalFrom s clocks (es ++ fs) → IsLegalFrom (after s es) (clocks_behind s clocks es) fs
+legal_behind s clocks [] fs legal = legal
+legal_behind s clocks (e ∷ es) fs legal = legal_behind (step s e).0 (clocks_after clocks e (step s e).0) es fs legal.3
 
 pub destroyed_for_good : DestroyedForGood
-destroyed_for_good apps es fs e handle legal names good =
-    let known = known_after (opening apps) es (known_opening apps) in
-    let rest = legal_behind (opening apps) es (e ∷ fs) legal in
-    let over = over_after (step (after (opening apps) es) e).0 fs handle rest.2 (over_destroyed (after (opening apps) es) e handle known names good) in
-    ap (λ (t : State). kind_of t.handles handle) (after_is_in_turn (opening apps) es (e ∷ fs)) ∙ absent_kind (after (step (after (opening apps) es) e).0 fs).handles handle over.absent
+destroyed_for_good settings es fs e handle legal names good =
+    let known = known_after (opening settings) es (known_opening settings) in
+    let clocks = clocks_behind (opening settings) (opening_clocks settings) es in
+    let there = after (opening settings) es in
+    let rest = legal_behind (opening settings) (opening_clocks settings) es (e ∷ fs) legal in
+    let over = over_after (step there e).0 (clocks_after clocks e (step there e).0) fs handle rest.3 (over_destroyed (after (opening settings) es) e handle known names good) in
+    ap (λ (t : State). kind_of t.core.handles handle) (after_is_in_turn (opening settings) es (e ∷ fs)) ∙ absent_kind (after (step (after (opening settings) es) e).0 fs).core.handles handle over.absent

@@ -1,43 +1,42 @@
 -- What an entry does to the handles: it adds one, destroys one with all below it, or leaves them.
-use Rattle.std.proofs.Common.{◌≡◌, ℕ, ◌&&◌, not, Bool, true, false, List, ◌∷◌, Option, Some, None, zero, suc, ◌==◌, refl, sym, subst, if◌then◌else◌}
+use Rattle.std.proofs.Common.{◌≡◌, ℕ, ◌&&◌, not, Bool, true, false, List, ◌∷◌, Option, Some, None, refl}
 use Rattle.xr_types.specs.Code.{is_success}
 use Rattle.xr_types.specs.declared.code.Code.{Code}
 use Rattle.xr_types.specs.declared.code.Code.TheVariants.{HandleInvalid, CallOrderInvalid}
 use Rattle.xr_types.specs.declared.calls.Actor.{Actor}
 use Rattle.xr_types.specs.declared.calls.Actor.TheVariants.{App, Compositor, Device}
-use Rattle.xr_types.specs.declared.handles.Kind.TheVariants.{Instance, Session}
+use Rattle.xr_types.specs.declared.handles.Kind.TheVariants as kind
 use Rattle.xr_model.specs.Request.{Entry, Request, create_instance, destroy_instance, create_session, destroy_session, begin_session, end_session, request_exit_session, leave, device}
-use Rattle.xr_model.specs.Handles.{Handles, is_live, handle_in, place_among, with_handle, without}
+use Rattle.xr_model.specs.Handles.{Handles, is_live, with_handle, without}
 use Rattle.xr_model.specs.Refusals.{Refusal, when, first_of}
-use Rattle.xr_model.specs.State.{State}
+use Rattle.xr_model.specs.State.{CoreState, CellReads}
 use Rattle.xr_model.specs.Rules.{Effect, refusals, unless_refused}
 use Rattle.xr_types.specs.declared.device.DeviceEvent.{DeviceEvent}
 use Rattle.xr_types.specs.declared.device.DeviceEvent.TheVariants as event
 use Rattle.xr_model.specs.Steps.Own.{with_left}
-use Rattle.xr_types.specs.declared.handles.TheConstants.{SESSIONS}
-use Rattle.xr_model.specs.States.{Life, Changed, unchanged, settled, losing, lost}
-use Rattle.xr_model.specs.Sessions.{session_in}
-use Rattle.xr_model.specs.Steps.Session.{changed_at, with_change_in}
-use Rattle.xr_model.specs.Steps.Device.{behind_event, with_changes_to}
-use Rattle.xr_model.specs.Machine.{step, rule, is_creation}
+use Rattle.xr_model.specs.States.{Life, Changed}
+use Rattle.xr_model.specs.Sessions.{Session, session_at}
+use Rattle.xr_model.specs.Steps.Session.{with_change}
+use Rattle.xr_model.specs.Steps.Device.{behind_event}
+use Rattle.xr_model.specs.Machine.{core_step, rule, is_creation}
 
 -- the entry gives a new handle
-abbrev pub gives_handle : State → Entry → Bool
-gives_handle s e = is_creation e.request && is_success (step s e).1.reply.code
+abbrev pub gives_handle : CoreState → CellReads → Entry → Bool
+gives_handle s reads e = is_creation e.request && is_success (core_step s reads e).1.reply.code
 
 -- A property that the handles have before an entry, and that each thing that the entry may do to them keeps.
-pub record Keeps (P : Handles → Type 0) (s : State) (e : Entry) : Type 0 where
+pub record Keeps (P : Handles → Type 0) (s : CoreState) (reads : CellReads) (e : Entry) : Type 0 where
   pub same : P s.handles
-  pub instance : gives_handle s e ≡ true → P (with_handle s.handles Instance 0 e.given)
-  pub session : gives_handle s e ≡ true → (instance : ℕ) → is_live s.handles Instance instance ≡ true → P (with_handle s.handles Session instance e.given)
+  pub instance : gives_handle s reads e ≡ true → P (with_handle s.handles kind.Instance 0 e.given)
+  pub session : gives_handle s reads e ≡ true → (instance : ℕ) → is_live s.handles kind.Instance instance ≡ true → P (with_handle s.handles kind.Session instance e.given)
   pub without : (handle : ℕ) → P (without s.handles handle)
 
 -- a refused effect leaves the handles
-kept : (P : Handles → Type 0) (s : State) (o : Option Refusal) (x : Effect) → P s.handles → (o ≡ None → P x.state.handles) → P (unless_refused s o x).state.handles
+kept : (P : Handles → Type 0) (s : CoreState) (o : Option Refusal) (x : Effect) → P s.handles → (o ≡ None → P x.state.handles) → P (unless_refused s o x).state.handles
 kept P s None x same done = done refl
 kept P s (Some r) x same done = same
 
-succeeds : (s : State) (o : Option Refusal) (x : Effect) → is_success x.code ≡ true → o ≡ None → is_success (unless_refused s o x).code ≡ true
+succeeds : (s : CoreState) (o : Option Refusal) (x : Effect) → is_success x.code ≡ true → o ≡ None → is_success (unless_refused s o x).code ≡ true
 succeeds s None x good none = good
 succeeds s (Some r) x good none = cc
 
@@ -46,65 +45,48 @@ first_fails : (test : Bool) (code : Code) (rest : List Refusal) → first_of (wh
 first_fails true code rest none = refl
 first_fails false code rest none = cc
 
-left_alone : (P : Handles → Type 0) (s : State) (who : Actor) → P s.handles → P (with_left s who).handles
+left_alone : (P : Handles → Type 0) (s : CoreState) (who : Actor) → P s.handles → P (with_left s who).handles
 left_alone P s (App k) same = same
 left_alone P s Compositor same = same
 left_alone P s Device same = same
 
 -- no event of the device moves a handle
-changes_leave : (s : State) (f : Life → Changed) (n : ℕ) → (with_changes_to s f n).handles ≡ s.handles
-changes_leave s f zero = refl
-changes_leave s f (suc n) = by (with_changes_to s f n) (changes_leave s f n)
-  where
-    by : (t : State) → t.handles ≡ s.handles
-        → (if handle_in t.handles.sessions n == 0 then t else changed_at t n (handle_in t.handles.sessions n) (f (session_in t.sessions n).life)).handles ≡ s.handles
-    by t same = each (handle_in t.handles.sessions n == 0) t (changed_at t n (handle_in t.handles.sessions n) (f (session_in t.sessions n).life)) same same
-      where
-        each : (b : Bool) (t u : State) → t.handles ≡ s.handles → u.handles ≡ s.handles → (if b then t else u).handles ≡ s.handles
-        each true t u e k = e
-        each false t u e k = k
-
-events_leave : (P : Handles → Type 0) (s : State) (what : DeviceEvent) → P s.handles → P (behind_event s what).handles
+events_leave : (P : Handles → Type 0) (s : CoreState) (what : DeviceEvent) → P s.handles → P (behind_event s what).handles
 events_leave P s (event.Clock time) same = same
-events_leave P s (event.Wish wish) same = subst P (sym (changes_leave (record s { device = record s.device { wish = wish } }) (settled wish) SESSIONS)) same
-events_leave P s event.Loss same = subst P (sym (changes_leave s losing SESSIONS)) same
-events_leave P s event.Lost same = subst P (sym (changes_leave s (λ life. unchanged (lost life)) SESSIONS)) same
-events_leave P s event.Fault same = subst P (sym (changes_leave s (λ life. unchanged (lost life)) SESSIONS)) same
-events_leave P s (event.Garbled line) same = subst P (sym (changes_leave s (λ life. unchanged (lost life)) SESSIONS)) same
 events_leave P s _ same = same
 
 -- nor does a session's change
-change_leaves : (P : Handles → Type 0) (s : State) (place : Option ℕ) (handle : ℕ) (c : Changed) → P s.handles → P (with_change_in s place handle c).handles
-change_leaves P s None handle c same = same
-change_leaves P s (Some place) handle c same = same
+change_leaves : (P : Handles → Type 0) (s : CoreState) (x : Option Session) (f : Life → Changed) → P s.handles → P (with_change s x f).handles
+change_leaves P s None f same = same
+change_leaves P s (Some x) f same = same
 
 -- the property holds after the entry
-pub kept_by_step : (P : Handles → Type 0) (s : State) (e : Entry) → Keeps P s e → P (step s e).0.handles
-kept_by_step P s e = by e.request
+pub kept_by_step : (P : Handles → Type 0) (s : CoreState) (reads : CellReads) (e : Entry) → Keeps P s reads e → P (core_step s reads e).0.handles
+kept_by_step P s reads e = by e.request
   where
-    by : (r : Request) → Keeps P s (record e { request = r }) → P (step s (record e { request = r })).0.handles
+    by : (r : Request) → Keeps P s reads (record e { request = r }) → P (core_step s reads (record e { request = r })).0.handles
     by (create_instance major minor) k =
-        let f = rule s (record e { request = create_instance major minor }) in
+        let f = rule s reads (record e { request = create_instance major minor }) in
         kept P s (first_of (refusals f)) f.effect k.same (λ none. k.instance (succeeds s (first_of (refusals f)) f.effect refl none))
     by (create_session instance system) k =
-        let f = rule s (record e { request = create_session instance system }) in
+        let f = rule s reads (record e { request = create_session instance system }) in
         kept P s (first_of (refusals f)) f.effect k.same
-        (λ none. k.session (succeeds s (first_of (refusals f)) f.effect refl none) instance (first_fails (is_live s.handles Instance instance) HandleInvalid (when f.disorder CallOrderInvalid ∷ f.behind) none))
+        (λ none. k.session (succeeds s (first_of (refusals f)) f.effect refl none) instance (first_fails (is_live s.handles kind.Instance instance) HandleInvalid (when f.disorder CallOrderInvalid ∷ f.behind) none))
     by (destroy_instance instance) k =
-        let f = rule s (record e { request = destroy_instance instance }) in
+        let f = rule s reads (record e { request = destroy_instance instance }) in
         kept P s (first_of (refusals f)) f.effect k.same (λ none. k.without instance)
     by (destroy_session session) k =
-        let f = rule s (record e { request = destroy_session session }) in
+        let f = rule s reads (record e { request = destroy_session session }) in
         kept P s (first_of (refusals f)) f.effect k.same (λ none. k.without session)
     by (begin_session session view) k =
-        let f = rule s (record e { request = begin_session session view }) in
-        kept P s (first_of (refusals f)) f.effect k.same (λ none. change_leaves P s (place_among s.handles Session session) session _ k.same)
+        let f = rule s reads (record e { request = begin_session session view }) in
+        kept P s (first_of (refusals f)) f.effect k.same (λ none. change_leaves P s (session_at s.sessions session) _ k.same)
     by (end_session session) k =
-        let f = rule s (record e { request = end_session session }) in
-        kept P s (first_of (refusals f)) f.effect k.same (λ none. change_leaves P s (place_among s.handles Session session) session _ k.same)
+        let f = rule s reads (record e { request = end_session session }) in
+        kept P s (first_of (refusals f)) f.effect k.same (λ none. change_leaves P s (session_at s.sessions session) _ k.same)
     by (request_exit_session session) k =
-        let f = rule s (record e { request = request_exit_session session }) in
-        kept P s (first_of (refusals f)) f.effect k.same (λ none. change_leaves P s (place_among s.handles Session session) session _ k.same)
+        let f = rule s reads (record e { request = request_exit_session session }) in
+        kept P s (first_of (refusals f)) f.effect k.same (λ none. change_leaves P s (session_at s.sessions session) _ k.same)
     by leave k = left_alone P s e.actor k.same
     by (device what) k = events_leave P s what k.same
-    by r k = let f = rule s (record e { request = r }) in kept P s (first_of (refusals f)) f.effect k.same (λ none. k.same)
+    by r k = let f = rule s reads (record e { request = r }) in kept P s (first_of (refusals f)) f.effect k.same (λ none. k.same)

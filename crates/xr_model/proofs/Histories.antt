@@ -1,36 +1,44 @@
 -- Laws of histories, by induction over their entries.
-use Rattle.std.specs.Prelude.{if◌then◌else◌}
-use Rattle.std.proofs.Common.{◌≡◌, ◌+◌, Bool, zero, suc, true, false, [], ◌∷◌, Option, Some, None, refl, sym, ap, ◌∙◌, arith, true≢false}
+use Rattle.std.specs.Prelude.{if◌then◌else◌, cond, take}
+use Rattle.std.proofs.Common.{◌≡◌, ◌+◌, ℕ, List, Bool, zero, suc, true, false, [], ◌∷◌, Option, Some, None, refl, sym, ap, ◌∙◌, arith, true≢false}
 use Rattle.xr_types.specs.Code.{is_success}
-use Rattle.xr_types.specs.declared.code.Code.TheVariants.{Success, SessionLossPending}
+use Rattle.xr_types.specs.declared.code.Code.{Code}
+use Rattle.xr_types.specs.declared.code.Code.TheVariants.{Success, SessionLossPending, FrameDiscarded}
 use Rattle.xr_types.specs.declared.session.SessionState.TheVariants.{LossPending}
 use Rattle.xr_model.specs.States.{Life, is_state}
-use Rattle.xr_model.specs.Sessions.{success_in}
+use Rattle.xr_model.specs.SessionRule.{code_on}
 use Rattle.xr_model.specs.Steps.Session.{life_of}
-use Rattle.xr_model.specs.Request.{Entry, Request, create_instance, string_to_path, path_to_string, begin_session, end_session, request_exit_session, leave, next_frame}
+use Rattle.xr_model.specs.Request.{Entry, Outcome, is_locked, Request, create_instance, string_to_path, path_to_string, begin_session, end_session, request_exit_session, leave, next_frame}
 use Rattle.xr_model.specs.Refusals.{Refusal, first_of}
-use Rattle.xr_model.specs.State.{State}
-use Rattle.xr_model.specs.Rules.{Effect, refusals, unless_refused}
-use Rattle.xr_model.specs.Machine.{step, rule}
-use Rattle.xr_model.specs.History.{outcome_from}
-use Rattle.xr_model.specs.Laws.{RefusalsChangeNothing, AfterIsInTurn, EntriesAreCounted, PlacesCount, FrontsAreLegal, IsAtPlace}
+use Rattle.xr_model.specs.State.{CoreState, CellReads, State}
+use Rattle.xr_model.specs.Rules.{Effect, refusals, unless_refused, locked_after}
+use Rattle.xr_model.specs.Machine.{step, rule, reads_of}
+use Rattle.xr_model.specs.History.{outcome_from, clocks_after}
+use Rattle.xr_model.specs.Laws.{is_without_effect, RefusalsChangeNothing, AfterIsInTurn, count_locked, EntriesAreCounted, PlacesCount, FrontsAreLegal, HasPlace}
 
--- an effect that is a success is its own, and what is left where it is refused is the old state
-refused_or_done : (s : State) (o : Option Refusal) (e : Effect) → is_success e.code ≡ true → is_success (unless_refused s o e).code ≡ false → (unless_refused s o e).state ≡ s
-refused_or_done s None e good bad = absurd (true≢false (sym good ∙ bad))
+-- a success has an effect
+success_has_effect : (code : Code) → is_success code ≡ true → is_without_effect code ≡ true → ⊥
+success_has_effect Success good bad = true≢false (sym bad)
+success_has_effect SessionLossPending good bad = true≢false (sym bad)
+success_has_effect FrameDiscarded good bad = true≢false (sym bad)
+success_has_effect _ good bad = true≢false (sym good)
+
+-- what is left where an effect is a success and the call was answered without an effect is the old state
+refused_or_done : (s : CoreState) (o : Option Refusal) (e : Effect) → is_success e.code ≡ true → is_without_effect (unless_refused s o e).code ≡ true → (unless_refused s o e).state ≡ s
+refused_or_done s None e good bad = absurd (success_has_effect e.code good bad)
 refused_or_done s (Some r) e good bad = refl
 
-success_succeeds : (life : Life) → is_success (success_in life) ≡ true
+success_succeeds : (life : Life) → is_success (code_on life Success) ≡ true
 success_succeeds life = by (is_state life.state LossPending)
   where
     by : (pending : Bool) → is_success (if pending then SessionLossPending else Success) ≡ true
     by true = refl
     by false = refl
 
-effects_succeed : (s : State) (e : Entry) → is_success (rule s e).effect.code ≡ true
-effects_succeed s e = by e.request
+effects_succeed : (s : CoreState) (reads : CellReads) (e : Entry) → is_success (rule s reads e).effect.code ≡ true
+effects_succeed s reads e = by e.request
   where
-    by : (r : Request) → is_success (rule s (record e { request = r })).effect.code ≡ true
+    by : (r : Request) → is_success (rule s reads (record e { request = r })).effect.code ≡ true
     by (create_instance major minor) = refl
     by (string_to_path instance text) = refl
     by (path_to_string instance path capacity) = refl
@@ -42,25 +50,47 @@ effects_succeed s e = by e.request
     by _ = refl
 
 pub refusals_change_nothing : RefusalsChangeNothing
-refusals_change_nothing s e bad = ap (λ (t : State). record t { apps = s.apps; locked = s.locked + 1 }) (refused_or_done s (first_of (refusals (rule s e))) (rule s e).effect (effects_succeed s e) bad)
+refusals_change_nothing s e bad =
+    ap (λ (t : CoreState). record s { core = record t { apps = s.core.apps; locked = locked_after s.core e.request } })
+    (refused_or_done s.core (first_of (refusals (rule s.core (reads_of s) e))) (rule s.core (reads_of s) e).effect (effects_succeed s.core (reads_of s) e) bad)
 
 pub after_is_in_turn : AfterIsInTurn
 after_is_in_turn s [] fs = refl
 after_is_in_turn s (e ∷ es) fs = after_is_in_turn (step s e).0 es fs
 
+-- a locked call is counted
+counted : (b : Bool) (n : ℕ) → (if b then n + 1 else n) ≡ n + cond b 1 0
+counted true n = refl
+counted false n = omega arith
+
+step_counts : (s : State) (e : Entry) → (step s e).0.core.locked ≡ s.core.locked + cond (is_locked e.request) 1 0
+step_counts s e = counted (is_locked e.request) s.core.locked
+
+one_more : (e : Entry) (es : List Entry) → count_locked (e ∷ es) ≡ count_locked es + cond (is_locked e.request) 1 0
+one_more e es = counted (is_locked e.request) (count_locked es)
+
 pub entries_are_counted : EntriesAreCounted
 entries_are_counted s [] = omega arith
-entries_are_counted s (e ∷ es) = entries_are_counted (step s e).0 es ∙ omega arith
+entries_are_counted s (e ∷ es) =
+    let first = step_counts s e in
+    let all = one_more e es in
+    entries_are_counted (step s e).0 es ∙ omega arith
+
+only : (x y : Entry) → Some x ≡ Some y → x ≡ y
+only x y same = cc
 
 pub places_count : PlacesCount
-places_count s [] k = tt
-places_count s (e ∷ es) zero = omega arith
-places_count s (e ∷ es) (suc k) = by (outcome_from (step s e).0 es k) (places_count (step s e).0 es k)
+places_count s [] k e there locked = cc
+places_count s (x ∷ es) zero e there locked = rw (only x e there, locked) (omega arith)
+places_count s (x ∷ es) (suc k) e there locked = by (outcome_from (step s x).0 es k) (places_count (step s x).0 es k e there locked)
   where
-    by : (o : _) → IsAtPlace (s.locked + 1 + k + 1) o → IsAtPlace (s.locked + suc k + 1) o
-    by None h = tt
-    by (Some outcome) h = h ∙ omega arith
+    by : (o : Option Outcome) → HasPlace ((step s x).0.core.locked + count_locked (take (suc k) es)) o → HasPlace (s.core.locked + count_locked (take (suc (suc k)) (x ∷ es))) o
+    by None h = h
+    by (Some outcome) h =
+        let first = step_counts s x in
+        let all = one_more x (take (suc k) es) in
+        h ∙ omega arith
 
 pub fronts_are_legal : FrontsAreLegal
-fronts_are_legal s [] fs legal = tt
-fronts_are_legal s (e ∷ es) fs legal = (legal.0, legal.1, fronts_are_legal (step s e).0 es fs legal.2)
+fronts_are_legal s clocks [] fs legal = tt
+fronts_are_legal s clocks (e ∷ es) fs legal = (legal.0, legal.1, legal.2, fronts_are_legal (step s e).0 (clocks_after clocks e (step s e).0) es fs legal.3)

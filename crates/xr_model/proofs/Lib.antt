@@ -1,10 +1,13 @@
 pub mod Histories
 pub mod Formed
 pub mod InForm
-pub mod Told
+pub mod Exchanges
 pub mod Answering
 pub mod Rows
 pub mod HandleSteps
 pub mod Orphans
 pub mod Destroying
 pub mod Settling
+pub mod Listed
+pub mod SessionSteps
+pub mod LostSessions

@@ -5,7 +5,7 @@ use Rattle.xr_types.specs.declared.handles.Slot.{Slot}
 use Rattle.xr_model.specs.Request.{Entry}
 use Rattle.xr_model.specs.Handles.{Handles, is_live, has, with_handle, going, gone_instances, gone_parents, without}
 use Rattle.xr_model.specs.State.{State, opening}
-use Rattle.xr_model.specs.Machine.{step}
+use Rattle.xr_model.specs.Machine.{step, reads_of}
 use Rattle.xr_model.specs.History.{after}
 use Rattle.xr_model.specs.HandleLaws.{AreUnder, NoOrphans}
 use Rattle.xr_model.proofs.Rows.{both_of, or_true, in_none, has_put, under_put, under_more, cleared_under}
@@ -61,17 +61,17 @@ session_under h instance given live u =
     new : Slot
     new = record { handle = given; parent = instance }
 
-under_step : (s : State) (e : Entry) → AreUnder s.handles → AreUnder (step s e).0.handles
-under_step s e u = kept_by_step (λ h. AreUnder h) s e (record {
+under_step : (s : State) (e : Entry) → AreUnder s.core.handles → AreUnder (step s e).0.core.handles
+under_step s e u = kept_by_step (λ h. AreUnder h) s.core (reads_of s) e (record {
   same = u;
-  instance = λ gives. instance_under s.handles e.given u;
-  session = λ gives instance live. session_under s.handles instance e.given live u;
-  without = λ handle. without_under s.handles handle u;
+  instance = λ gives. instance_under s.core.handles e.given u;
+  session = λ gives instance live. session_under s.core.handles instance e.given live u;
+  without = λ handle. without_under s.core.handles handle u;
 })
 
-under_after : (s : State) (es : List Entry) → AreUnder s.handles → AreUnder (after s es).handles
+under_after : (s : State) (es : List Entry) → AreUnder s.core.handles → AreUnder (after s es).core.handles
 under_after s [] u = u
 under_after s (e ∷ es) u = under_after (step s e).0 es (under_step s e u)
 
 pub no_orphans : NoOrphans
-no_orphans apps es = under_after (opening apps) es (record { sessions = refl; sets = refl; actions = refl; spaces = refl; chains = refl })
+no_orphans settings es = under_after (opening settings) es (record { sessions = refl; sets = refl; actions = refl; spaces = refl; chains = refl })

@@ -1,5 +1,6 @@
 -- Rows of places: what stands in one after a handle was put into it, and after handles were cleared from it.
 use Rattle.std.proofs.Common.{◌≡◌, ◌+◌, ℕ, zero, suc, ◌==◌, ◌&&◌, ◌||◌, not, Bool, true, false, List, [], ◌∷◌, ◌++◌, replicate, Option, Some, None, option_map, refl, sym, ap, ◌∙◌, subst, arith, true≢false, if◌then◌else◌}
+use Rattle.std.specs.Prelude.{is_some}
 use Rattle.std.specs.List.{list_any, list_all, position_from}
 use Rattle.xr_types.specs.declared.handles.Slot.{Slot}
 use Rattle.xr_model.specs.Handles.{free, has, first_free, put_in, goes, going, cleared}
@@ -9,6 +10,9 @@ use Rattle.xr_model.specs.HandleLaws.{is_under}
 
 pub same_key : (a b : ℕ) → (a == b) ≡ true → a ≡ b
 same_key a b e = grind (arith, e)
+
+pub itself : (n : ℕ) → (n == n) ≡ true
+itself n = grind arith
 
 pub both_of : (a b : Bool) → a && b ≡ true → (a ≡ true) × (b ≡ true)
 both_of true b e = (refl, e)
@@ -42,7 +46,7 @@ put_first new [] = []
 put_first new (s ∷ ss) = if s.handle == 0 then new ∷ ss else s ∷ put_first new ss
 
 -- a search that starts to count one later ends one later
-one_later : (test : Slot → Bool) (i : ℕ) (row : List Slot) → position_from test (suc i) row ≡ option_map (λ n. suc n) (position_from test i row)
+pub one_later : {X : Type 0} (test : X → Bool) (i : ℕ) (row : List X) → position_from test (suc i) row ≡ option_map (λ n. suc n) (position_from test i row)
 one_later test i [] = refl
 one_later test i (s ∷ ss) = by (test s) (one_later test (i + 1) ss)
   where
@@ -64,6 +68,21 @@ put_is_first new (s ∷ ss) = by (s.handle == 0) (put_is_first new ss)
         → put_in (s ∷ ss) new (if b then Some 0 else position_from (λ x. x.handle == 0) 1 ss) ≡ (if b then new ∷ ss else s ∷ put_first new ss)
     by true more = refl
     by false more = ap (λ o. put_in (s ∷ ss) new o) (one_later (λ x. x.handle == 0) 0 ss) ∙ put_behind new s ss (first_free ss) ∙ ap (λ l. s ∷ l) more
+
+-- where a place is free the row has the new handle
+later_is_some : (o : Option ℕ) → is_some (option_map (λ n. suc n) o) ≡ is_some o
+later_is_some None = refl
+later_is_some (Some n) = refl
+
+has_first_new : (new : Slot) (row : List Slot) → is_some (first_free row) ≡ true → has (put_first new row) new.handle ≡ true
+unfolding put_first
+has_first_new new [] room = absurd (true≢false (sym room))
+has_first_new new (s ∷ ss) room = by (s.handle == 0) room (has_first_new new ss)
+  where
+    by : (b : Bool) → is_some (if b then Some 0 else position_from (λ x. x.handle == 0) 1 ss) ≡ true → (is_some (first_free ss) ≡ true → has (put_first new ss) new.handle ≡ true)
+        → has (if b then new ∷ ss else s ∷ put_first new ss) new.handle ≡ true
+    by true room more = rw (itself new.handle) refl
+    by false room more = rw (more (sym (later_is_some (first_free ss)) ∙ sym (ap is_some (one_later (λ x. x.handle == 0) 0 ss)) ∙ room)) (or_true (s.handle == new.handle))
 
 -- a test that holds of no slot and not of the new one holds of none afterwards
 none_put : (test : Slot → Bool) (new : Slot) (row : List Slot) → list_any test row ≡ false → test new ≡ false → list_any test (put_first new row) ≡ false
@@ -111,6 +130,9 @@ has_first new (s ∷ ss) p nz there = by (s.handle == 0) refl (s.handle == p) re
 module _ (new : Slot) (row : List Slot) where
   pub has_put : (p : ℕ) → (p == 0) ≡ false → has row p ≡ true → has (put_in row new (first_free row)) p ≡ true
   has_put p nz there = subst (λ l. has l p ≡ true) (sym (put_is_first new row)) (has_first new row p nz there)
+
+  pub has_new : is_some (first_free row) ≡ true → has (put_in row new (first_free row)) new.handle ≡ true
+  has_new room = subst (λ l. has l new.handle ≡ true) (sym (put_is_first new row)) (has_first_new new row room)
 
   pub hasnt_put : (p : ℕ) → has row p ≡ false → (new.handle == p) ≡ false → has (put_in row new (first_free row)) p ≡ false
   hasnt_put p none other = subst (λ l. has l p ≡ false) (sym (put_is_first new row)) (none_put (λ s. s.handle == p) new row none other)

@@ -1,6 +1,6 @@
 -- What the core answers in turn: calls that were answered one after another are a legal history, and the
 -- answers are the machine's.
-use Rattle.std.specs.Prelude.{◌≡◌, ℕ, false, List, [], ◌∷◌, ◌++◌}
+use Rattle.std.specs.Prelude.{◌≡◌, ℕ, ℤ, false, List, [], ◌∷◌, ◌++◌}
 use Rattle.xr_types.specs.declared.calls.Actor.{Actor}
 use Rattle.xr_types.specs.declared.calls.Call.{Call}
 use Rattle.xr_types.specs.declared.calls.Reply.{Reply}
@@ -10,7 +10,7 @@ use Rattle.xr_model.specs.Request.{Entry, entry_of, request_of}
 use Rattle.xr_model.specs.State.{State}
 use Rattle.xr_model.specs.Rules.{written_over}
 use Rattle.xr_model.specs.Machine.{step, ready, Applies}
-use Rattle.xr_model.specs.History.{after, IsLegalFrom}
+use Rattle.xr_model.specs.History.{after, clock_of, clocks_after, StartsAt, IsLegalFrom}
 
 -- a call that was asked of the core: by whom, over which bytes, which it left, and what was answered
 pub record Asked : Type 0 where
@@ -20,10 +20,18 @@ pub record Asked : Type 0 where
   pub behind : List ℕ
   pub answer : Step
 
--- the calls were answered one after another, each in the state to which the one before it led
-abbrev pub AnsweredFrom : State → List Asked → State → Type 0
-AnsweredFrom s [] t = t ≡ s
-AnsweredFrom s (a ∷ asked) t = (mid : State) × Applies s mid a.who a.call a.before a.behind a.answer × AnsweredFrom mid asked t
+-- the clocks behind a call; one that has to wait leaves them
+abbrev pub clocks_if : List ℤ → Actor → Call → Step → State → List ℤ
+clocks_if clocks who call (Done reply) s = clocks_after clocks (entry_of who (request_of call) reply) s
+clocks_if clocks who call NotReady s = clocks
+
+-- The calls were answered one after another, each in the state to which the one before it led. A wait for an image
+-- began at the clock after its application's last locked call.
+abbrev pub AnsweredFrom : State → List ℤ → List Asked → State → Type 0
+AnsweredFrom s clocks [] t = t ≡ s
+AnsweredFrom s clocks (a ∷ asked) t =
+    StartsAt (clock_of clocks a.who) (request_of a.call)
+    × (mid : State) × Applies s mid a.who a.call a.before a.behind a.answer × AnsweredFrom mid (clocks_if clocks a.who a.call a.answer mid) asked t
 
 -- the entry of an answered call; one that has to wait makes none
 abbrev pub entry_if : Actor → Call → Step → List Entry
@@ -60,11 +68,11 @@ LeaveInTurn s (a ∷ asked) = Leaves s a a.answer × LeaveInTurn (after s (entry
 
 -- Calls that are answered in turn are a legal history; what was answered and what was left in buffers is the
 -- machine's.
-pub record AreHistory (s : State) (asked : List Asked) (t : State) : Type 0 where
-  pub legal : IsLegalFrom s (entries_of asked)
+pub record AreHistory (s : State) (clocks : List ℤ) (asked : List Asked) (t : State) : Type 0 where
+  pub legal : IsLegalFrom s clocks (entries_of asked)
   pub leads : t ≡ after s (entries_of asked)
   pub replies : replies_of asked ≡ replies_from s (entries_of asked)
   pub leave : LeaveInTurn s asked
 
 abbrev pub AnswersAreAHistory : Type 0
-AnswersAreAHistory = (s t : State) (asked : List Asked) → AnsweredFrom s asked t → AreHistory s asked t
+AnswersAreAHistory = (s t : State) (clocks : List ℤ) (asked : List Asked) → AnsweredFrom s clocks asked t → AreHistory s clocks asked t

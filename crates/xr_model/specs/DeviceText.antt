@@ -118,11 +118,11 @@ pub data Ending : Type 0 where
   garbled_at : ℕ → Ending
 
 -- the events that a device gives, and how it ends
-pub record Told : Type 0 where
+pub record DeviceStream : Type 0 where
   pub events : List DeviceEvent
   pub ending : Ending
 
-abbrev pub nothing_more : Told
+abbrev pub nothing_more : DeviceStream
 nothing_more = record { events = []; ending = ends }
 
 -- how many bytes a line and a text have at most
@@ -132,18 +132,18 @@ most_line = 255
 abbrev pub most_text : ℕ
 most_text = 16777216
 
-abbrev pub told_by : ℕ → Meaning → Told → Told
+abbrev pub told_by : ℕ → Meaning → DeviceStream → DeviceStream
 told_by number skipped rest = rest
 told_by number (tells e) rest = record rest { events = e ∷ rest.events }
 told_by number no_line rest = record { events = []; ending = garbled_at number }
 
 -- from a line's number on, behind so many bytes
-abbrev pub told_from : ℕ → ℕ → List Line → Told
+abbrev pub told_from : ℕ → ℕ → List Line → DeviceStream
 told_from number used [] = nothing_more
 told_from number used (l ∷ ls) =
     if nat_lt most_line (length l.bytes) || nat_lt most_text (used + size_of l) then record { events = []; ending = garbled_at number }
     else told_by number (meaning_of l.bytes) (told_from (number + 1) (used + size_of l) ls)
 
 -- what a device's text tells; lines count from 1
-abbrev pub told_in : List ℕ → Told
+abbrev pub told_in : List ℕ → DeviceStream
 told_in text = told_from 1 0 (lines_in text)

@@ -6,7 +6,7 @@ use Rattle.xr_types.specs.Code.{is_success}
 use Rattle.xr_types.specs.declared.handles.Slot.{Slot}
 use Rattle.xr_model.specs.Request.{Request, destroy_instance, destroy_session, Entry}
 use Rattle.xr_model.specs.Handles.{Handles, has, kind_of}
-use Rattle.xr_model.specs.State.{opening}
+use Rattle.xr_model.specs.State.{Settings, opening}
 use Rattle.xr_model.specs.Machine.{step}
 use Rattle.xr_model.specs.History.{after, IsLegal}
 
@@ -24,7 +24,7 @@ pub record AreUnder (h : Handles) : Type 0 where
 
 -- so it is after every history
 abbrev pub NoOrphans : Type 0
-NoOrphans = (apps : ℕ) (es : List Entry) → AreUnder (after (opening apps) es).handles
+NoOrphans = (settings : Settings) (es : List Entry) → AreUnder (after (opening settings) es).core.handles
 
 -- the call asks for this handle's end
 abbrev pub destroys : Request → ℕ → Bool
@@ -35,5 +35,5 @@ destroys _ handle = false
 -- a handle that was destroyed is never live again
 abbrev pub DestroyedForGood : Type 0
 DestroyedForGood =
-    (apps : ℕ) (es fs : List Entry) (e : Entry) (handle : ℕ) → IsLegal apps (es ++ e ∷ fs) → destroys e.request handle ≡ true
-    → is_success (step (after (opening apps) es) e).1.reply.code ≡ true → kind_of (after (opening apps) (es ++ e ∷ fs)).handles handle ≡ None
+    (settings : Settings) (es fs : List Entry) (e : Entry) (handle : ℕ) → IsLegal settings (es ++ e ∷ fs) → destroys e.request handle ≡ true
+    → is_success (step (after (opening settings) es) e).1.reply.code ≡ true → kind_of (after (opening settings) (es ++ e ∷ fs)).core.handles handle ≡ None

@@ -8,7 +8,9 @@ pub mod Marks
 pub mod Device
 pub mod Paths
 pub mod State
+pub mod Destroyed
 pub mod Rules
+pub mod SessionRule
 pub mod Steps
 pub mod Machine
 pub mod History
@@ -35,5 +37,6 @@ pub mod Scenario
 pub mod Built
 pub mod Laws
 pub mod StateLaws
+pub mod SessionLaws
 pub mod AnswerLaws
 pub mod HandleLaws

@@ -9,9 +9,10 @@ use Rattle.xr_types.specs.declared.device.DeviceEvent.{DeviceEvent}
 use Rattle.xr_types.specs.declared.device.DeviceEvent.TheVariants as event
 use Rattle.xr_types.specs.declared.names.CallName.{CallName}
 use Rattle.xr_types.specs.declared.names.CallName.TheVariants as call
-use Rattle.xr_model.specs.Request.{Request, create_instance, destroy_instance, get_system, string_to_path, path_to_string, poll_event, create_session, destroy_session, begin_session, end_session, request_exit_session, create_reference_space, create_action_space, destroy_space, locate_space, create_action_set, destroy_action_set, create_action, destroy_action, suggest_bindings, attach_sets, sync_actions, get_boolean, get_float, get_vector, get_pose_active, create_swapchain, destroy_swapchain, acquire_image, wait_image, paint, release_image, wait_frame, begin_frame, end_frame, mark, await_mark, leave, device, next_frame, image_done, Entry, Told}
+use Rattle.xr_model.specs.Request.{Request, create_instance, destroy_instance, get_system, string_to_path, path_to_string, poll_event, create_session, destroy_session, begin_session, end_session, request_exit_session, create_reference_space, create_action_space, destroy_space, locate_space, create_action_set, destroy_action_set, create_action, destroy_action, suggest_bindings, attach_sets, sync_actions, get_boolean, get_float, get_vector, get_pose_active, create_swapchain, destroy_swapchain, acquire_image, wait_image, paint, release_image, wait_frame, begin_frame, end_frame, mark, await_mark, leave, device, next_frame, image_done, Entry, Exchange}
+use Rattle.xr_model.specs.State.{Settings}
 use Rattle.xr_model.specs.History.{calls_of}
-use Rattle.xr_model.specs.Robin.{Seat, script, events, compositor, next_call, in_round, is_ended}
+use Rattle.xr_model.specs.Robin.{Agenda, script, events, compositor, next_call, in_round, is_ended}
 
 abbrev pub name_of : Request → CallName
 name_of (create_instance major minor) = call.CreateInstance
@@ -67,21 +68,21 @@ start_of (wait_image chain timeout start) = start
 start_of _ = pos 0
 
 -- a call at its place in the script
-abbrev pub made_at : ℕ → Told → Made
+abbrev pub made_at : ℕ → Exchange → Made
 made_at place t = record { op = place; name = name_of t.request; mark = mark_of t.request; start = start_of t.request; reply = t.outcome.reply; text = t.outcome.text }
 
 -- calls, from a place on
-abbrev pub made_from : ℕ → List Told → List Made
+abbrev pub made_from : ℕ → List Exchange → List Made
 made_from place [] = []
 made_from place (t ∷ ts) = made_at place t ∷ made_from (place + 1) ts
 
 -- the calls of the applications from 1 to n
-abbrev pub lists_to : ℕ → ℕ → List Entry → List (List Made)
-lists_to apps zero history = []
-lists_to apps (suc n) history = lists_to apps n history ++ made_from 1 (calls_of apps (App (suc n)) history) ∷ []
+abbrev pub lists_to : Settings → ℕ → List Entry → List (List Made)
+lists_to settings zero history = []
+lists_to settings (suc n) history = lists_to settings n history ++ made_from 1 (calls_of settings (App (suc n)) history) ∷ []
 
 -- the reply that told the end
-abbrev pub end_of : List Told → Option Reply
+abbrev pub end_of : List Exchange → Option Reply
 end_of [] = None
 end_of (t ∷ ts) = if is_ended t.outcome.reply.gives then Some t.outcome.reply else end_of ts
 
@@ -90,7 +91,7 @@ abbrev pub event_in : Request → List DeviceEvent
 event_in (device what) = what ∷ []
 event_in _ = []
 
-abbrev pub events_in : List Told → List DeviceEvent
+abbrev pub events_in : List Exchange → List DeviceEvent
 events_in [] = []
 events_in (t ∷ ts) = event_in t.request ++ events_in ts
 
@@ -99,20 +100,20 @@ abbrev pub mark_awaited : DeviceEvent → ℕ
 mark_awaited (event.Await number) = number
 mark_awaited _ = 0
 
-abbrev pub waiting_of : Seat → Waiting
-waiting_of (script app place ops values) = record { actor = App app; op = place; name = name_of (next_call (script app place ops values)) }
+abbrev pub waiting_of : Agenda → Waiting
+waiting_of (script app place ops values clock) = record { actor = App app; op = place; name = name_of (next_call (script app place ops values clock)) }
 waiting_of (events e es) = record { actor = Device; op = mark_awaited e; name = call.Await }
 waiting_of compositor = record { actor = Compositor; op = 0; name = call.NextFrame }
 
 -- The lists of a history in which no frame is taken, and behind which these actors can't go on.
-abbrev pub lists_of : ℕ → List Entry → List Seat → Lists
-lists_of n history left = record {
-  apps = lists_to n n history;
-  device = made_from 1 (calls_of n Device history);
+abbrev pub lists_of : Settings → List Entry → List Agenda → Lists
+lists_of settings history left = record {
+  apps = lists_to settings settings.apps history;
+  device = made_from 1 (calls_of settings Device history);
   compositor = [];
-  ended = end_of (calls_of n Compositor history);
+  ended = end_of (calls_of settings Compositor history);
   shown = [];
   done = [];
-  events = events_in (calls_of n Device history);
-  next = map waiting_of (in_round n left);
+  events = events_in (calls_of settings Device history);
+  next = map waiting_of (in_round settings.apps left);
 }

@@ -1,5 +1,5 @@
 -- The machine of one thread: what an entry does, when a call is ready, and which entries are allowed.
-use Rattle.std.specs.Prelude.{◌≡◌, ◌≢◌, ◌≤◌, ◌-◌, ℕ, ◌&&◌, ◌||◌, Bool, true, false, not, List, is_some, slice_get, Some}
+use Rattle.std.specs.Prelude.{◌≡◌, ◌≢◌, ◌≤◌, ◌-◌, ℕ, [], ◌&&◌, ◌||◌, Bool, true, false, not, List, is_some, slice_get, Some}
 use Rattle.std.specs.List.{list_all}
 use Rattle.xr_types.specs.declared.code.Code.TheVariants.{Success}
 use Rattle.xr_types.specs.declared.calls.Actor.{Actor}
@@ -18,8 +18,8 @@ use Rattle.xr_model.specs.Paths.{is_new}
 use Rattle.xr_model.specs.Marks.{is_set}
 use Rattle.xr_model.specs.Device.{is_built_event}
 use Rattle.xr_model.specs.Refusals.{first_of}
-use Rattle.xr_model.specs.State.{State}
-use Rattle.xr_model.specs.Rules.{Rule, Effect, refusals, carried_out, placed, written_over}
+use Rattle.xr_model.specs.State.{CoreState, Cells, State, CellReads}
+use Rattle.xr_model.specs.Rules.{Rule, Effect, Did, refusals, carried_out, placed, written_over}
 use Rattle.xr_model.specs.Steps.Instance.{create_instance_rule, destroy_instance_rule, get_system_rule, poll_event_rule}
 use Rattle.xr_model.specs.Steps.Session.{create_session_rule, destroy_session_rule, begin_session_rule, end_session_rule, request_exit_session_rule}
 use Rattle.xr_model.specs.Steps.Device.{device_rule}
@@ -27,54 +27,69 @@ use Rattle.xr_model.specs.Steps.Paths.{string_to_path_rule, path_to_string_rule}
 use Rattle.xr_model.specs.Steps.Own.{leave_rule, mark_rule, await_mark_rule, next_frame_rule, unbuilt_rule}
 
 -- the rule of a call
-abbrev pub rule_of : State → Actor → ℕ → Bool → Request → Rule
-rule_of s who given short (create_instance major minor) = create_instance_rule s given major minor
-rule_of s who given short (destroy_instance instance) = destroy_instance_rule s instance
-rule_of s who given short (get_system instance form) = get_system_rule s instance form
-rule_of s who given short (string_to_path instance text) = string_to_path_rule s short instance text
-rule_of s who given short (path_to_string instance path capacity) = path_to_string_rule s instance path capacity
-rule_of s who given short (poll_event instance) = poll_event_rule s instance
-rule_of s who given short (create_session instance system) = create_session_rule s given instance system
-rule_of s who given short (destroy_session session) = destroy_session_rule s session
-rule_of s who given short (begin_session session view) = begin_session_rule s session view
-rule_of s who given short (end_session session) = end_session_rule s session
-rule_of s who given short (request_exit_session session) = request_exit_session_rule s session
-rule_of s who given short (mark number value) = mark_rule s number value
-rule_of s who given short (await_mark number) = await_mark_rule s number
-rule_of s who given short leave = leave_rule s who
-rule_of s who given short (device what) = device_rule s what
-rule_of s who given short next_frame = next_frame_rule s
-rule_of s who given short _ = unbuilt_rule s
+abbrev pub rule_of : CoreState → CellReads → Actor → ℕ → Bool → Request → Rule
+rule_of s reads who given short (create_instance major minor) = create_instance_rule s given major minor
+rule_of s reads who given short (destroy_instance instance) = destroy_instance_rule s instance
+rule_of s reads who given short (get_system instance form) = get_system_rule s instance form
+rule_of s reads who given short (string_to_path instance text) = string_to_path_rule s short instance text
+rule_of s reads who given short (path_to_string instance path capacity) = path_to_string_rule s instance path capacity
+rule_of s reads who given short (poll_event instance) = poll_event_rule s instance
+rule_of s reads who given short (create_session instance system) = create_session_rule s given instance system
+rule_of s reads who given short (destroy_session session) = destroy_session_rule s session
+rule_of s reads who given short (begin_session session view) = begin_session_rule s session view
+rule_of s reads who given short (end_session session) = end_session_rule s session
+rule_of s reads who given short (request_exit_session session) = request_exit_session_rule s session
+rule_of s reads who given short (mark number value) = mark_rule s number value
+rule_of s reads who given short (await_mark number) = await_mark_rule s number
+rule_of s reads who given short leave = leave_rule s who
+rule_of s reads who given short (device what) = device_rule s what
+rule_of s reads who given short next_frame = next_frame_rule s
+rule_of s reads who given short _ = unbuilt_rule s
 
-abbrev pub rule : State → Entry → Rule
-rule s e = rule_of s e.actor e.given e.short e.request
+abbrev pub rule : CoreState → CellReads → Entry → Rule
+rule s reads e = rule_of s reads e.actor e.given e.short e.request
 
--- what an entry does
-abbrev pub effect : State → Entry → Effect
-effect s e = carried_out s (rule s e)
+-- what an entry does, told so much of the cells
+abbrev pub effect : CoreState → CellReads → Entry → Effect
+effect s reads e = carried_out s (rule s reads e)
+
+-- what a core keeps after an entry, and the outcome
+abbrev pub core_step : CoreState → CellReads → Entry → CoreState × Outcome
+core_step s reads e = placed s e.request (effect s reads e)
+
+-- The cells after a call that did this. No call that is built takes an image or gives one back.
+abbrev pub cells_after : Cells → Did → Cells
+cells_after cells did = cells
+
+-- What the cells of a state tell a call. No image is acquired yet and no frame is pending.
+abbrev pub reads_of : State → CellReads
+reads_of s = record { unused = true; stamps = []; held = s.cells.held }
 
 -- the state after an entry, and its outcome
 abbrev pub step : State → Entry → State × Outcome
-step s e = placed s (effect s e)
+step s e = (record { core = (core_step s.core (reads_of s) e).0; cells = cells_after s.cells (effect s.core (reads_of s) e).did }, (core_step s.core (reads_of s) e).1)
 
 -- ---- readiness
 
 -- the device waits for a mark
-abbrev pub is_awaiting : State → DeviceEvent → Bool
+abbrev pub is_awaiting : CoreState → DeviceEvent → Bool
 is_awaiting s (Await number) = not (is_set s.marks number)
 is_awaiting s _ = false
 
 -- A call that would succeed has to wait: a script or the device until a mark is set, the compositor until
 -- every application has left.
-abbrev pub is_held_back : State → Request → Bool
-is_held_back s (await_mark number) = not (is_set s.marks number)
-is_held_back s (device what) = is_awaiting s what
-is_held_back s next_frame = not (list_all (λ gone. gone) s.left)
-is_held_back s _ = false
+abbrev pub is_held_back : CoreState → CellReads → Request → Bool
+is_held_back s reads (await_mark number) = not (is_set s.marks number)
+is_held_back s reads (device what) = is_awaiting s what
+is_held_back s reads next_frame = not (list_all (λ gone. gone) s.left)
+is_held_back s reads _ = false
 
 -- a call is ready where it isn't held back, or would be refused
+abbrev pub core_ready : CoreState → CellReads → Entry → Bool
+core_ready s reads e = not (is_held_back s reads e.request) || is_some (first_of (refusals (rule s reads e)))
+
 abbrev pub ready : State → Entry → Bool
-ready s e = not (is_held_back s e.request) || is_some (first_of (refusals (rule s e)))
+ready s e = core_ready s.core (reads_of s) e
 
 -- ---- allowed entries
 
@@ -105,7 +120,7 @@ is_creation (create_session instance system) = true
 is_creation _ = false
 
 -- the calls that take memory in this state
-abbrev pub takes_memory : State → Request → Bool
+abbrev pub takes_memory : CoreState → Request → Bool
 takes_memory s (string_to_path instance text) = is_new s.atoms text
 takes_memory s _ = false
 
@@ -115,7 +130,7 @@ IsGiven true handles given = (given ≢ 0) × (was_given handles given ≡ false
 IsGiven false handles given = given ≡ 0
 
 -- an application that there is and that hasn't left; the compositor and the device are always there
-abbrev pub IsPresent : State → Actor → Type 0
+abbrev pub IsPresent : CoreState → Actor → Type 0
 IsPresent s (App k) = (1 ≤ k) × (k ≤ s.apps) × (slice_get s.left (k - 1) ≡ Some false)
 IsPresent s Compositor = Unit {0}
 IsPresent s Device = Unit {0}
@@ -126,11 +141,14 @@ with_memory e = record e { short = false }
 
 -- An entry is allowed where its call is built, a new handle is given exactly by a successful creation,
 -- memory is short only where the call takes some and would else succeed, and its application hasn't left.
-pub record IsAllowed (s : State) (e : Entry) : Type 0 where
+pub record CoreAllows (s : CoreState) (reads : CellReads) (e : Entry) : Type 0 where
   pub built : is_built e.request ≡ true
-  pub handle : IsGiven (is_creation e.request && is_success (step s e).1.reply.code) s.handles e.given
-  pub memory : e.short ≡ true → (takes_memory s e.request ≡ true) × ((step s (with_memory e)).1.reply.code ≡ Success)
+  pub handle : IsGiven (is_creation e.request && is_success (core_step s reads e).1.reply.code) s.handles e.given
+  pub memory : e.short ≡ true → (takes_memory s e.request ≡ true) × ((core_step s reads (with_memory e)).1.reply.code ≡ Success)
   pub present : IsPresent s e.actor
+
+abbrev pub IsAllowed : State → Entry → Type 0
+IsAllowed s e = CoreAllows s.core (reads_of s) e
 
 -- ---- what the core is asked and answers
 
@@ -183,11 +201,35 @@ FitsBuffer _ size = Unit {0}
 
 -- What an actor may ask of the core: it is there, the call is its own, its numbers are in range, and the buffer
 -- has the size asked for.
-pub record MayMake (s : State) (who : Actor) (what : Request) (size : ℕ) : Type 0 where
+pub record MayMake (s : CoreState) (who : Actor) (what : Request) (size : ℕ) : Type 0 where
   pub present : IsPresent s who
   pub caller : IsCaller who what
   pub numbers : HasNumbers what
   pub buffer : FitsBuffer what size
+
+-- ---- what is kept and answered, where the cells tell so much
+
+-- A reply and the bytes over a buffer are the outcome of an allowed and ready entry, and new is what is kept
+-- after it.
+pub record CoreAnswers (reads : CellReads) (old : CoreState) (e : Entry) (new : CoreState) (answer : Reply) (before after : List ℕ) : Type 0 where
+  pub allowed : CoreAllows old reads e
+  pub is_ready : core_ready old reads e ≡ true
+  pub leads : new ≡ (core_step old reads e).0
+  pub replies : answer ≡ (core_step old reads e).1.reply
+  pub writes : after ≡ written_over (core_step old reads e).1.text before
+
+-- a call that isn't made leaves all as it was
+pub record CoreWaits (reads : CellReads) (old : CoreState) (e : Entry) (new : CoreState) (before after : List ℕ) : Type 0 where
+  pub not_ready : core_ready old reads e ≡ false
+  pub same : new ≡ old
+  pub unwritten : after ≡ before
+
+-- what is answered to a call
+abbrev pub CoreApplies : CellReads → CoreState → CoreState → Actor → Call → List ℕ → List ℕ → Step → Type 0
+CoreApplies reads old new who call before after (Done answer) = CoreAnswers reads old (entry_of who (request_of call) answer) new answer before after
+CoreApplies reads old new who call before after NotReady = (given : ℕ) (short : Bool) → CoreWaits reads old (record { actor = who; request = request_of call; given = given; short = short }) new before after
+
+-- ---- the same of whole states
 
 -- A reply and the bytes over a buffer are the outcome of an allowed and ready entry, and new is the
 -- state that it leads to.

@@ -19,8 +19,9 @@ mark_at marks mark = if mark == 0 then None else in_place (slice_get marks (mark
 abbrev pub is_set : List (Option ℕ) → ℕ → Bool
 is_set marks mark = is_some (mark_at marks mark)
 
+-- the marks once one is set; there is no mark 0
 abbrev pub with_mark : List (Option ℕ) → ℕ → ℕ → List (Option ℕ)
-with_mark marks mark value = slice_set marks (mark - 1) (Some value)
+with_mark marks mark value = if mark == 0 then marks else slice_set marks (mark - 1) (Some value)
 
 -- the value that is waited for
 abbrev pub value_at : List (Option ℕ) → ℕ → ℕ

@@ -1,5 +1,5 @@
 -- What a call asks, with its texts as lists of bytes, and the entry that a call makes in a history.
-use Rattle.std.specs.Prelude.{ℕ, ℤ, List, Bool, true, false, ◌==◌}
+use Rattle.std.specs.Prelude.{ℕ, ℤ, List, Option, Bool, true, false, ◌==◌}
 use Rattle.xr_types.specs.declared.calls.Actor.{Actor}
 use Rattle.xr_types.specs.declared.calls.Actor.TheVariants.{App, Compositor, Device}
 use Rattle.xr_types.specs.declared.calls.Call.{Call}
@@ -10,6 +10,7 @@ use Rattle.xr_types.specs.declared.calls.Reply.{Reply}
 use Rattle.xr_types.specs.declared.device.DeviceEvent.{DeviceEvent}
 use Rattle.xr_types.specs.declared.frames.Blend.{Blend}
 use Rattle.xr_types.specs.declared.frames.Layer.{Layer}
+use Rattle.xr_types.specs.declared.frames.ShownLayer.{ShownLayer}
 use Rattle.xr_types.specs.declared.input.ActionType.{ActionType}
 use Rattle.xr_types.specs.declared.input.ActiveSet.{ActiveSet}
 use Rattle.xr_types.specs.declared.input.Binding.{Binding}
@@ -19,43 +20,43 @@ use Rattle.xr_types.specs.declared.spaces.RefKind.{RefKind}
 use Rattle.xr_types.specs.Code.{is_out_of_memory}
 
 pub data Request : Type 0 where
-  create_instance : ℕ → ℕ → Request
-  destroy_instance : ℕ → Request
-  get_system : ℕ → Form → Request
-  string_to_path : ℕ → List ℕ → Request
-  path_to_string : ℕ → ℕ → ℕ → Request
-  poll_event : ℕ → Request
-  create_session : ℕ → ℕ → Request
-  destroy_session : ℕ → Request
-  begin_session : ℕ → ViewConfig → Request
-  end_session : ℕ → Request
-  request_exit_session : ℕ → Request
-  create_reference_space : ℕ → RefKind → ℕ → Request
-  create_action_space : ℕ → ℕ → ℕ → ℕ → Request
-  destroy_space : ℕ → Request
-  locate_space : ℕ → ℕ → ℤ → Request
-  create_action_set : ℕ → List ℕ → List ℕ → ℕ → Request
-  destroy_action_set : ℕ → Request
-  create_action : ℕ → List ℕ → ActionType → List ℕ → List ℕ → Request
-  destroy_action : ℕ → Request
-  suggest_bindings : ℕ → ℕ → List Binding → Request
-  attach_sets : ℕ → List ℕ → Request
-  sync_actions : ℕ → List ActiveSet → Request
-  get_boolean : ℕ → ℕ → ℕ → Request
-  get_float : ℕ → ℕ → ℕ → Request
-  get_vector : ℕ → ℕ → ℕ → Request
-  get_pose_active : ℕ → ℕ → ℕ → Request
-  create_swapchain : ℕ → ℕ → ℕ → ℕ → Bool → Request
-  destroy_swapchain : ℕ → Request
-  acquire_image : ℕ → Request
-  wait_image : ℕ → ℤ → ℤ → Request
-  paint : ℕ → ℕ → Request
-  release_image : ℕ → Request
-  wait_frame : ℕ → Request
-  begin_frame : ℕ → Request
-  end_frame : ℕ → ℤ → Blend → List Layer → Request
-  mark : ℕ → ℕ → Request
-  await_mark : ℕ → Request
+  create_instance : ℕ → ℕ → Request  -- major, minor
+  destroy_instance : ℕ → Request  -- instance
+  get_system : ℕ → Form → Request  -- instance, form
+  string_to_path : ℕ → List ℕ → Request  -- instance, text
+  path_to_string : ℕ → ℕ → ℕ → Request  -- instance, path, capacity
+  poll_event : ℕ → Request  -- instance
+  create_session : ℕ → ℕ → Request  -- instance, system
+  destroy_session : ℕ → Request  -- session
+  begin_session : ℕ → ViewConfig → Request  -- session, view
+  end_session : ℕ → Request  -- session
+  request_exit_session : ℕ → Request  -- session
+  create_reference_space : ℕ → RefKind → ℕ → Request  -- session, kind, offset
+  create_action_space : ℕ → ℕ → ℕ → ℕ → Request  -- session, action, sub, offset
+  destroy_space : ℕ → Request  -- space
+  locate_space : ℕ → ℕ → ℤ → Request  -- space, base, time
+  create_action_set : ℕ → List ℕ → List ℕ → ℕ → Request  -- instance, name, localized, priority
+  destroy_action_set : ℕ → Request  -- set
+  create_action : ℕ → List ℕ → ActionType → List ℕ → List ℕ → Request  -- set, name, kind, subs, localized
+  destroy_action : ℕ → Request  -- action
+  suggest_bindings : ℕ → ℕ → List Binding → Request  -- instance, profile, bindings
+  attach_sets : ℕ → List ℕ → Request  -- session, sets
+  sync_actions : ℕ → List ActiveSet → Request  -- session, active
+  get_boolean : ℕ → ℕ → ℕ → Request  -- session, action, sub
+  get_float : ℕ → ℕ → ℕ → Request  -- session, action, sub
+  get_vector : ℕ → ℕ → ℕ → Request  -- session, action, sub
+  get_pose_active : ℕ → ℕ → ℕ → Request  -- session, action, sub
+  create_swapchain : ℕ → ℕ → ℕ → ℕ → Bool → Request  -- session, format, width, height, fixed
+  destroy_swapchain : ℕ → Request  -- chain
+  acquire_image : ℕ → Request  -- chain
+  wait_image : ℕ → ℤ → ℤ → Request  -- chain, timeout, start
+  paint : ℕ → ℕ → Request  -- chain, stamp
+  release_image : ℕ → Request  -- chain
+  wait_frame : ℕ → Request  -- session
+  begin_frame : ℕ → Request  -- session
+  end_frame : ℕ → ℤ → Blend → List Layer → Request  -- session, time, blend, layers
+  mark : ℕ → ℕ → Request  -- mark, value
+  await_mark : ℕ → Request  -- mark
   leave : Request
   device : DeviceEvent → Request
   next_frame : Request
@@ -128,12 +129,29 @@ is_actor Compositor Compositor = true
 is_actor Device Device = true
 is_actor _ _ = false
 
--- What a call came to: its reply, and the bytes put into the buffer that it was lent.
+-- A frame that the compositor shows: its number from 1, its time in ns of device time, and its layers.
+pub record ShownFrame : Type 0 where
+  pub number : ℕ
+  pub time : ℤ
+  pub layers : List ShownLayer
+
+-- What a call came to: its reply, the bytes put into the buffer that it was lent, and the frame that it shows.
 pub record Outcome : Type 0 where
   pub reply : Reply
   pub text : List ℕ
+  pub shown : Option ShownFrame
 
 -- a call and what it came to
-pub record Told : Type 0 where
+pub record Exchange : Type 0 where
   pub request : Request
   pub outcome : Outcome
+
+-- Locked calls are counted, and a reply's place is that count. The getters answer from what was published last,
+-- and `image_done` gives back an image: neither is counted.
+abbrev pub is_locked : Request → Bool
+is_locked (get_boolean session action sub) = false
+is_locked (get_float session action sub) = false
+is_locked (get_vector session action sub) = false
+is_locked (get_pose_active session action sub) = false
+is_locked image_done = false
+is_locked _ = true

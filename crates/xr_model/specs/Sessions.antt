@@ -1,36 +1,43 @@
--- The live sessions (OpenXR 1.0 chapter 9, "Session"), in the places of their handles, and what their changes tell.
-use Rattle.std.specs.Prelude.{ℕ, false, List, [], ◌∷◌, replicate, slice_get, Option, Some, None, if◌then◌else◌}
-use Rattle.xr_types.specs.declared.code.Code.{Code}
-use Rattle.xr_types.specs.declared.code.Code.TheVariants.{Success, SessionLossPending}
-use Rattle.xr_types.specs.declared.handles.TheConstants.{SESSIONS}
+-- The live sessions (OpenXR 1.0 chapter 9, "Session"), in the order of their creation, and what their changes tell.
+use Rattle.std.specs.Prelude.{ℕ, ◌==◌, false, List, [], ◌∷◌, map, Option, Some, None, if◌then◌else◌}
+use Rattle.std.specs.List.{find, filter}
+use Rattle.xr_types.specs.declared.handles.Kind.TheVariants as kind
 use Rattle.xr_types.specs.declared.session.Event.TheVariants as event
 use Rattle.xr_types.specs.declared.session.SessionState.{SessionState}
-use Rattle.xr_types.specs.declared.session.SessionState.TheVariants.{Idle, LossPending}
+use Rattle.xr_types.specs.declared.session.SessionState.TheVariants.{Idle}
+use Rattle.xr_model.specs.Handles.{Handles, is_live}
 use Rattle.xr_model.specs.Events.{Queue, pushed}
-use Rattle.xr_model.specs.States.{Life, is_state}
+use Rattle.xr_model.specs.States.{Life, Changed}
 
--- Its ordinal is the count of sessions that were created in the run, itself included. A place without a live
--- handle keeps what stood there, and nothing reads it.
+-- Its handle; its ordinal, which is the count of sessions that were created in the run, itself included; and its life.
 pub record Session : Type 0 where
+  pub handle : ℕ
   pub ordinal : ℕ
   pub life : Life
 
+-- the session with this handle
+abbrev pub session_at : List Session → ℕ → Option Session
+session_at xs handle = find (λ x. x.handle == handle) xs
+
+-- its life; where there is none, that of a session that was never created, which nothing tells
 abbrev pub no_life : Life
 no_life = record { state = Idle; running = false; exit = false; lost = false }
 
-abbrev pub no_session : Session
-no_session = record { ordinal = 0; life = no_life }
+abbrev pub life_in : Option Session → Life
+life_in None = no_life
+life_in (Some x) = x.life
 
-abbrev pub no_sessions : List Session
-no_sessions = replicate SESSIONS no_session
+abbrev pub with_life : Life → Session → Session
+with_life life x = record x { life = life }
 
--- the session in a place
-abbrev pub or_none : Option Session → Session
-or_none None = no_session
-or_none (Some x) = x
+-- the sessions once that with this handle lives so
+abbrev pub with_life_at : ℕ → Life → List Session → List Session
+with_life_at handle life [] = []
+with_life_at handle life (x ∷ xs) = if x.handle == handle then with_life life x ∷ xs else x ∷ with_life_at handle life xs
 
-abbrev pub session_in : List Session → ℕ → Session
-session_in xs place = or_none (slice_get xs place)
+-- the sessions whose handles are live
+abbrev pub still_live : Handles → List Session → List Session
+still_live h xs = filter (λ x. is_live h kind.Session x.handle) xs
 
 -- ---- what is told of a session
 
@@ -39,6 +46,12 @@ abbrev pub told_states : Queue → ℕ → ℕ → List SessionState → Queue
 told_states q ordinal handle [] = q
 told_states q ordinal handle (state ∷ states) = told_states (pushed q (event.State ordinal handle state)) ordinal handle states
 
--- where a session's loss is pending, a call that would succeed says so
-abbrev pub success_in : Life → Code
-success_in life = if is_state life.state LossPending then SessionLossPending else Success
+-- ---- all sessions change
+
+abbrev pub each_changed : (Life → Changed) → List Session → List Session
+each_changed f xs = map (λ x. with_life (f x.life).life x) xs
+
+-- what is told of that, session by session
+abbrev pub told_changes : Queue → (Life → Changed) → List Session → Queue
+told_changes q f [] = q
+told_changes q f (x ∷ xs) = told_changes (told_states q x.ordinal x.handle (f x.life).through) f xs

@@ -119,36 +119,44 @@ entered w life to =
 abbrev pub started : Wish → Changed
 started w = entered w (record { state = Idle; running = false; exit = false; lost = false }) Idle
 
+-- a session whose device is lost
+abbrev pub is_lost : Life → Refusal
+is_lost life = when life.lost SessionLost
+
 -- xrBeginSession
-abbrev pub begin_refusals : Life → ViewConfig → List Refusal
-begin_refusals life view =
-    when life.lost SessionLost
-    ∷ when life.running SessionRunning
+abbrev pub begin_checks : Life → ViewConfig → List Refusal
+begin_checks life view =
+    when life.running SessionRunning
     ∷ when (not (is_state life.state Ready)) SessionNotReady
     ∷ when (is_mono view) ViewConfigurationTypeUnsupported
     ∷ []
+
+abbrev pub begin_refusals : Life → ViewConfig → List Refusal
+begin_refusals life view = is_lost life ∷ begin_checks life view
 
 -- a ready session has no row, so it stays where it is
 abbrev pub begun : Life → Life
 begun life = record life { running = true }
 
 -- xrEndSession
-abbrev pub end_refusals : Life → List Refusal
-end_refusals life =
-    when life.lost SessionLost
-    ∷ when (not life.running) SessionNotRunning
+abbrev pub end_checks : Life → List Refusal
+end_checks life =
+    when (not life.running) SessionNotRunning
     ∷ when (not (is_state life.state Stopping)) SessionNotStopping
     ∷ []
+
+abbrev pub end_refusals : Life → List Refusal
+end_refusals life = is_lost life ∷ end_checks life
 
 abbrev pub ended : Wish → Life → Changed
 ended w life = entered w (record life { running = false }) Idle
 
 -- xrRequestExitSession
+abbrev pub exit_checks : Life → List Refusal
+exit_checks life = when (not life.running) SessionNotRunning ∷ []
+
 abbrev pub exit_refusals : Life → List Refusal
-exit_refusals life =
-    when life.lost SessionLost
-    ∷ when (not life.running) SessionNotRunning
-    ∷ []
+exit_refusals life = is_lost life ∷ exit_checks life
 
 abbrev pub exiting : Wish → Life → Changed
 exiting w life = settled w (record life { exit = true })

@@ -4,10 +4,11 @@
 
 ghost use Rattle.xr_model.specs.AnswerLaws.{AnswersAreAHistory};
 ghost use Rattle.xr_model.specs.HandleLaws.{NoOrphans, DestroyedForGood};
-ghost use Rattle.xr_model.specs.Laws.{RefusalsChangeNothing, AfterIsInTurn, EntriesAreCounted, PlacesCount, FrontsAreLegal, ToldAtTheirPlaces};
+ghost use Rattle.xr_model.specs.Laws.{RefusalsChangeNothing, AfterIsInTurn, EntriesAreCounted, PlacesCount, FrontsAreLegal, ExchangesStand};
+ghost use Rattle.xr_model.specs.SessionLaws.{SessionsAreListed, LostSessions, PendingLosses};
 ghost use Rattle.xr_model.specs.StateLaws.{NoRowFits};
 
-/// A call that is no success changes nothing but the count of locked calls.
+/// A refusal, a timeout and the want of an event change nothing but the count of locked calls.
 #[tactic(auto, using(crate::proofs::Histories::refusals_change_nothing))]
 pub fn refusals_change_nothing()
     ensures { RefusalsChangeNothing }
@@ -19,13 +20,13 @@ pub fn after_is_in_turn()
     ensures { AfterIsInTurn }
 {}
 
-/// Each entry of a history raises the count of locked calls by one.
+/// Each locked call of a history raises the count of them by one, and no other entry does.
 #[tactic(auto, using(crate::proofs::Histories::entries_are_counted))]
 pub fn entries_are_counted()
     ensures { EntriesAreCounted }
 {}
 
-/// The place of a reply is the number of locked calls up to it.
+/// The place in the reply to a locked call is the number of locked calls up to it.
 #[tactic(auto, using(crate::proofs::Histories::places_count))]
 pub fn places_count()
     ensures { PlacesCount }
@@ -37,10 +38,10 @@ pub fn fronts_are_legal()
     ensures { FrontsAreLegal }
 {}
 
-/// Each call that is told of an actor came to what the history has at its reply's place.
-#[tactic(auto, using(crate::proofs::Told::told_at_their_places))]
-pub fn told_at_their_places()
-    ensures { ToldAtTheirPlaces }
+/// Each exchange of an actor is the call and the outcome at the position of that entry of the actor.
+#[tactic(auto, using(crate::proofs::Exchanges::exchanges_stand))]
+pub fn exchanges_stand()
+    ensures { ExchangesStand }
 {}
 
 /// Calls that were answered one after another are a legal history, and the answers are the machine's.
@@ -64,4 +65,23 @@ pub fn destroyed_for_good()
 #[tactic(auto, using(crate::proofs::Settling::no_row_fits))]
 pub fn no_row_fits()
     ensures { NoRowFits }
+{}
+
+/// After every legal history, the live handles of sessions are those of the listed sessions.
+#[tactic(auto, using(crate::proofs::LostSessions::sessions_are_listed))]
+pub fn sessions_are_listed()
+    ensures { SessionsAreListed }
+{}
+
+/// A call on a session is answered by its loss exactly where the session is live and the device was lost after its
+/// creation.
+#[tactic(auto, using(crate::proofs::LostSessions::lost_sessions))]
+pub fn lost_sessions()
+    ensures { LostSessions }
+{}
+
+/// A call on a session is answered by a pending loss exactly where nothing refuses it and the session is in that state.
+#[tactic(auto, using(crate::proofs::LostSessions::pending_losses))]
+pub fn pending_losses()
+    ensures { PendingLosses }
 {}

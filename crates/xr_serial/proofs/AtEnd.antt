@@ -1,5 +1,5 @@
 -- Where nobody can go on, what was made is a whole run, or one that is stuck.
-use Rattle.std.proofs.Common.{◌≡◌, ℕ, Bool, true, false, List, [], ◌∷◌, ◌++◌, map, Option, Some, None, refl, sym, ap, subst, ◌∙◌, append_assoc, append-nil}
+use Rattle.std.proofs.Common.{◌≡◌, ◌+◌, ℕ, ℤ, pos, Bool, true, false, List, [], ◌∷◌, ◌++◌, map, drop, Option, Some, None, refl, sym, ap, subst, ◌∙◌, append_assoc, append-nil}
 use Rattle.std.specs.List.{list_any}
 use Rattle.xr_types.specs.declared.calls.Actor.TheVariants.{App, Compositor, Device}
 use Rattle.xr_types.specs.declared.calls.Reply.{Reply}
@@ -10,15 +10,15 @@ use Rattle.xr_types.specs.declared.scenario.Op.{Op}
 use Rattle.xr_types.specs.declared.scenario.Scenario.{Scenario}
 use Rattle.xr_io.specs.Outside.{Rose}
 use Rattle.xr_model.specs.Request as request
-use Rattle.xr_model.specs.Request.{Entry}
-use Rattle.xr_model.specs.State.{State, opening}
+use Rattle.xr_model.specs.Request.{Request, wait_image, Entry}
+use Rattle.xr_model.specs.State.{with_apps, State, opening}
 use Rattle.xr_model.specs.History.{calls_of}
-use Rattle.xr_model.specs.Scripts.{FollowsSoFar}
-use Rattle.xr_model.specs.DeviceText.{Told}
-use Rattle.xr_model.specs.Robin.{Seat, device_calls, IsRobinFrom, seats_left, in_round}
+use Rattle.xr_model.specs.Scripts.{request_for, FollowsSoFar}
+use Rattle.xr_model.specs.DeviceText.{DeviceStream}
+use Rattle.xr_model.specs.Robin.{Agenda, script, with_start, device_calls, IsRobinFrom, agendas_left, in_round}
 use Rattle.xr_model.specs.Report.{is_fault}
-use Rattle.xr_model.specs.Lists.{end_of, events_in, lists_of, waiting_of}
-use Rattle.xr_serial.specs.Turns.{Parts, parts_of, compositor_part, pending_list, now_part, next_part, last_part, AreHeldBack}
+use Rattle.xr_model.specs.Lists.{name_of, end_of, events_in, lists_of, waiting_of}
+use Rattle.xr_serial.specs.Turns.{Parts, parts_of, device_part, compositor_part, pending_list, now_part, next_part, last_part, AreHeldBack}
 use Rattle.xr_serial.specs.Going.{first_three, IsRest}
 use Rattle.xr_serial.specs.Kept.{ScriptKept, EndKept, Kept}
 use Rattle.xr_serial.specs.Ran.{IsEnd, IsWhole, Ran}
@@ -32,28 +32,43 @@ filled w ws h = cc
 
 -- ---- the script
 
-follows_so_far : (gone : Bool) (ops : List Op) (made : ℕ) (names : List ℕ) (list : List Made) (app : List request.Told) → ScriptKept ops made names list gone app → FollowsSoFar ops app
+follows_so_far : (gone : Bool) (ops : List Op) (made : ℕ) (names : List ℕ) (list : List Made) (app : List request.Exchange) → ScriptKept ops made names list gone app → FollowsSoFar ops app
 follows_so_far true ops made names list app kept = kept.front refl
 follows_so_far false ops made names list app kept = subst (FollowsSoFar ops) (append-nil app) (kept.so_far [] refl tt)
 
 -- ---- the compositor
 
-ends_so : (ended : Option Reply) (comp : List request.Told) → EndKept ended comp → end_of comp ≡ ended
+ends_so : (ended : Option Reply) (comp : List request.Exchange) → EndKept ended comp → end_of comp ≡ ended
 ends_so None comp none = rw none refl
 ends_so (Some reply) comp end = rw (end.0, end.1) refl
 
-ends_once : (ended : Option Reply) (comp : List request.Told) → EndKept ended comp → map waiting_of (compositor_part ended) ≡ [] → IsEnd comp
+ends_once : (ended : Option Reply) (comp : List request.Exchange) → EndKept ended comp → map waiting_of (compositor_part ended) ≡ [] → IsEnd comp
 ends_once None comp none h = absurd (filled _ [] h)
 ends_once (Some reply) comp end none = rw end.0 (refl, end.1)
 
 -- ---- those left
 
+name_started : (clock : ℤ) (r : Request) → name_of (with_start clock r) ≡ name_of r
+name_started clock (wait_image chain timeout start) = refl
+name_started clock _ = refl
+
+-- the clock is not told
+same_script : (app place : ℕ) (ops : List Op) (values : List ℕ) (c d : ℤ) → waiting_of (script app place ops values c) ≡ waiting_of (script app place ops values d)
+same_script app place [] values c d = refl
+same_script app place (o ∷ os) values c d = rw (name_started c (request_for values o), name_started d (request_for values o)) refl
+
+same_clock : (ops : List Op) (made : ℕ) (names : List ℕ) (c d : ℤ) (gone : Bool) (pending : Option DeviceEvent) (ended : Option Reply) (rest : List DeviceEvent)
+    → map waiting_of (in_order (parts_of ops made names c gone pending ended rest)) ≡ map waiting_of (in_order (parts_of ops made names d gone pending ended rest))
+same_clock ops made names c d true pending ended rest = refl
+same_clock ops made names c d false pending ended rest =
+    ap (λ (w : Waiting). w ∷ map waiting_of (device_part pending rest ++ compositor_part ended)) (same_script 1 (made + 1) (drop made ops) names c d)
+
 -- what is still to come of a device is behind its next event
-same_waiting : (over : Bool) (ops : List Op) (made : ℕ) (names : List ℕ) (gone : Bool) (pending : Option DeviceEvent) (ended : Option Reply) (rest : List DeviceEvent) → IsRest over rest → (pending ≡ None → over ≡ true)
-    → map waiting_of (in_order (parts_of ops made names gone pending ended rest)) ≡ map waiting_of (in_order (parts_of ops made names gone pending ended []))
-same_waiting over ops made names gone None ended rest ok known = rw (ok (known refl)) refl
-same_waiting over ops made names true (Some e) ended rest ok known = refl
-same_waiting over ops made names false (Some e) ended rest ok known = refl
+same_waiting : (over : Bool) (ops : List Op) (made : ℕ) (names : List ℕ) (clock : ℤ) (gone : Bool) (pending : Option DeviceEvent) (ended : Option Reply) (rest : List DeviceEvent) → IsRest over rest → (pending ≡ None → over ≡ true)
+    → map waiting_of (in_order (parts_of ops made names clock gone pending ended rest)) ≡ map waiting_of (in_order (parts_of ops made names clock gone pending ended []))
+same_waiting over ops made names clock gone None ended rest ok known = rw (ok (known refl)) refl
+same_waiting over ops made names clock true (Some e) ended rest ok known = refl
+same_waiting over ops made names clock false (Some e) ended rest ok known = refl
 
 -- where nobody is left
 pub record NoneLeft (gone : Bool) (pending : Option DeviceEvent) (ended : Option Reply) : Type 0 where
@@ -61,14 +76,14 @@ pub record NoneLeft (gone : Bool) (pending : Option DeviceEvent) (ended : Option
   pub told : pending ≡ None
   pub end : map waiting_of (compositor_part ended) ≡ []
 
-none_left : (ops : List Op) (made : ℕ) (names : List ℕ) (gone : Bool) (pending : Option DeviceEvent) (ended : Option Reply) → map waiting_of (in_order (parts_of ops made names gone pending ended [])) ≡ [] → NoneLeft gone pending ended
-none_left ops made names true None ended none = record { left = refl; told = refl; end = none }
-none_left ops made names true (Some e) ended h = absurd (filled _ _ h)
-none_left ops made names false pending ended h = absurd (filled _ _ h)
+none_left : (ops : List Op) (made : ℕ) (names : List ℕ) (clock : ℤ) (gone : Bool) (pending : Option DeviceEvent) (ended : Option Reply) → map waiting_of (in_order (parts_of ops made names clock gone pending ended [])) ≡ [] → NoneLeft gone pending ended
+none_left ops made names clock true None ended none = record { left = refl; told = refl; end = none }
+none_left ops made names clock true (Some e) ended h = absurd (filled _ _ h)
+none_left ops made names clock false pending ended h = absurd (filled _ _ h)
 
 -- ---- the run
 
-module _ (ops : List Op) (t : Turn) (s : State) (made : ℕ) (names : List ℕ) (list : List Made) (gone : Bool) (pending : Option DeviceEvent) (over : Bool) (evs : List DeviceEvent) (dlist : List Made) (ended : Option Reply) (told now : Option Told) (before after bound : ℕ)
+module _ (ops : List Op) (t : Turn) (s : State) (made : ℕ) (names : List ℕ) (list : List Made) (gone : Bool) (pending : Option DeviceEvent) (over : Bool) (evs : List DeviceEvent) (dlist : List Made) (ended : Option Reply) (told now : Option DeviceStream) (before after bound : ℕ)
     (kept : Kept ops t 3 s made names list gone pending over evs dlist ended told now before after bound) where
   abbrev device : Gives told over pending kept.dev before after
   device = gives over pending evs dlist kept.dev told now before after kept.device
@@ -76,46 +91,49 @@ module _ (ops : List Op) (t : Turn) (s : State) (made : ℕ) (names : List ℕ) 
   abbrev history : List Entry
   history = kept.going.past ++ []
 
-  app_calls : calls_of 1 (App 1) history ≡ kept.app
+  app_calls : calls_of (with_apps 1) (App 1) history ≡ kept.app
   app_calls = kept.going.mine [] ∙ append-nil kept.app
 
-  device_made : calls_of 1 Device history ≡ kept.dev
+  device_made : calls_of (with_apps 1) Device history ≡ kept.dev
   device_made = kept.going.devices [] ∙ append-nil kept.dev
 
-  compositor_calls : calls_of 1 Compositor history ≡ kept.comp
+  compositor_calls : calls_of (with_apps 1) Compositor history ≡ kept.comp
   compositor_calls = kept.going.compositors [] ∙ append-nil kept.comp
 
   abbrev parts : List DeviceEvent → Parts
-  parts rest = parts_of ops made names gone pending ended rest
+  parts rest = parts_of ops made names kept.clock gone pending ended rest
 
-  abbrev seats : List Seat
-  seats = now_part t (parts device.rest) ++ next_part t (parts device.rest) ++ last_part t (parts device.rest)
+  abbrev told_parts : Parts
+  told_parts = parts_of ops made names (pos 0) gone pending ended []
+
+  abbrev agendas : List Agenda
+  agendas = now_part t (parts device.rest) ++ next_part t (parts device.rest) ++ last_part t (parts device.rest)
 
   abbrev calls : List DeviceEvent
   calls = device_calls device.events device.ending
 
-  stands : (kept.going.seats device.rest ≡ seats) × AreHeldBack s seats
+  stands : (kept.going.agendas device.rest ≡ agendas) × AreHeldBack s agendas
   stands = kept.going.stands device.rest device.none
 
   known : pending ≡ None → over ≡ true
   known none =
-      is_over t s ops made names gone over ended
-      (λ rest ok. subst (λ (next : Option DeviceEvent). AreHeldBack s (now_part t (parts_of ops made names gone next ended rest) ++ next_part t (parts_of ops made names gone next ended rest) ++ last_part t (parts_of ops made names gone next ended rest))) none (kept.going.stands rest ok).1)
+      is_over t s ops made names kept.clock gone over ended
+      (λ rest ok. subst (λ (next : Option DeviceEvent). AreHeldBack s (now_part t (parts_of ops made names kept.clock gone next ended rest) ++ next_part t (parts_of ops made names kept.clock gone next ended rest) ++ last_part t (parts_of ops made names kept.clock gone next ended rest))) none (kept.going.stands rest ok).1)
 
-  robin_three : IsRobinFrom (opening 1) (first_three ops calls) history
-  robin_three = subst (λ (c : List DeviceEvent). IsRobinFrom (opening 1) (first_three ops c) history) (sym device.calls) (kept.going.robin device.rest device.none [] (rw stands.0 (none_turn s [] seats stands.1)))
+  robin_three : IsRobinFrom (opening (with_apps 1)) (first_three ops calls) history
+  robin_three = subst (λ (c : List DeviceEvent). IsRobinFrom (opening (with_apps 1)) (first_three ops c) history) (sym device.calls) (kept.going.robin device.rest device.none [] (rw stands.0 (none_turn s [] agendas stands.1)))
 
-  left_three : seats_left (opening 1) (first_three ops calls) history ≡ seats
-  left_three = subst (λ (c : List DeviceEvent). seats_left (opening 1) (first_three ops c) history ≡ seats) (sym device.calls) (kept.going.left device.rest device.none [] ∙ stands.0)
+  left_three : agendas_left (opening (with_apps 1)) (first_three ops calls) history ≡ agendas
+  left_three = subst (λ (c : List DeviceEvent). agendas_left (opening (with_apps 1)) (first_three ops c) history ≡ agendas) (sym device.calls) (kept.going.left device.rest device.none [] ∙ stands.0)
 
-  next_three : map waiting_of (in_round 1 (seats_left (opening 1) (first_three ops calls) history)) ≡ map waiting_of (in_order (parts []))
-  next_three = ap (λ (l : List Seat). map waiting_of (in_round 1 l)) left_three ∙ ap (map waiting_of) (in_round_is t ops made names gone pending ended device.rest (parts device.rest) refl) ∙ same_waiting over ops made names gone pending ended device.rest device.none known
+  next_three : map waiting_of (in_round 1 (agendas_left (opening (with_apps 1)) (first_three ops calls) history)) ≡ map waiting_of (in_order told_parts)
+  next_three = ap (λ (l : List Agenda). map waiting_of (in_round 1 l)) left_three ∙ ap (map waiting_of) (in_round_is t ops made names kept.clock gone pending ended device.rest (parts device.rest) refl) ∙ same_waiting over ops made names kept.clock gone pending ended device.rest device.none known ∙ same_clock ops made names kept.clock (pos 0) gone pending ended []
 
-  lists_three : lists_at ops made names list gone pending evs dlist ended ≡ lists_of 1 history (seats_left (opening 1) (first_three ops calls) history)
+  lists_three : lists_at ops made names list gone pending evs dlist ended ≡ lists_of (with_apps 1) history (agendas_left (opening (with_apps 1)) (first_three ops calls) history)
   lists_three = rw (next_three, app_calls, device_made, compositor_calls, ← kept.script.list_is, ← kept.device.list_is, ← kept.device.events_are, ends_so ended kept.comp kept.end) refl
 
-  whole : map waiting_of (in_order (parts [])) ≡ [] → IsWhole ops device.events device.ending history
-  whole none = by (none_left ops made names gone pending ended none)
+  whole : map waiting_of (in_order told_parts) ≡ [] → IsWhole ops device.events device.ending history
+  whole none = by (none_left ops made names (pos 0) gone pending ended none)
     where
       by : NoneLeft gone pending ended → IsWhole ops device.events device.ending history
       by n = record {

@@ -1,26 +1,29 @@
 -- What the loop keeps holds at the start.
-use Rattle.std.proofs.Common.{◌≤◌, ℕ, false, List, [], length, Option, Some, None, refl, sym, arith, true≢false}
+use Rattle.std.proofs.Common.{◌≤◌, ℕ, pos, false, List, [], length, Option, Some, None, refl, sym, arith, true≢false}
 use Rattle.std.proofs.lemmas.Grind.{common_steps}
 use Rattle.xr_types.specs.declared.scenario.Op.{Op}
-use Rattle.xr_model.specs.State.{opening}
-use Rattle.xr_model.specs.DeviceText.{Told}
+use Rattle.xr_model.specs.State.{with_apps, opening}
+use Rattle.xr_model.specs.History.{opening_clocks}
+use Rattle.xr_model.specs.DeviceText.{DeviceStream}
 use Rattle.xr_model.specs.Values.{no_values}
 use Rattle.xr_serial.specs.Going.{first_three}
 use Rattle.xr_serial.specs.Kept.{GivesMore, Kept}
 use Rattle.xr_serial.specs.declared.turn.Turn.TheVariants as turn
 
-gives_all : (told : Option Told) → GivesMore told told []
+gives_all : (told : Option DeviceStream) → GivesMore told told []
 gives_all None = tt
 gives_all (Some t) = refl
 
-pub starts : (ops : List Op) (told : Option Told) (faults bound : ℕ) → bound ≤ 16777216 → Kept ops turn.Script 0 (opening 1) 0 (no_values (length ops)) [] false None false [] [] None told told faults faults bound
+pub starts : (ops : List Op) (told : Option DeviceStream) (faults bound : ℕ) → bound ≤ 16777216 → Kept ops turn.Script 0 (opening (with_apps 1)) 0 (no_values (length ops)) [] false None false [] [] None told told faults faults bound
 starts ops told faults bound few = record {
   app = [];
   dev = [];
   comp = [];
+  clock = pos 0;
   going = record {
     past = [];
-    seats = λ rest. first_three ops rest;
+    clocks = opening_clocks (with_apps 1);
+    agendas = λ rest. first_three ops rest;
     stands = λ rest ok. refl;
     legal = λ more h. h;
     robin = λ rest ok more h. h;

@@ -11,11 +11,12 @@ use Rattle.xr_types.specs.declared.scenario.Op.{Op}
 use Rattle.xr_model.specs.Request as request
 use Rattle.xr_model.specs.Request.{Request, leave, device, next_frame, entry_of}
 use Rattle.xr_model.specs.State.{State}
+use Rattle.xr_model.specs.Rules.{locked_after}
 use Rattle.xr_model.specs.Machine.{ready}
-use Rattle.xr_model.specs.DeviceText.{Told}
+use Rattle.xr_model.specs.DeviceText.{DeviceStream}
 use Rattle.xr_model.specs.Values.{value_given, learned}
 use Rattle.xr_model.specs.Scripts.{request_for}
-use Rattle.xr_model.specs.Robin.{script}
+use Rattle.xr_model.specs.Robin.{script, clock_behind}
 use Rattle.xr_model.specs.Lists.{made_at, made_from}
 use Rattle.xr_serial.specs.Made.{IsMade, asked}
 use Rattle.xr_serial.specs.Sides.{told_of, OpTurn, Leaves}
@@ -24,27 +25,27 @@ use Rattle.xr_serial.specs.Going.{Going}
 use Rattle.xr_serial.specs.Kept.{ScriptKept, Kept}
 use Rattle.xr_serial.specs.declared.turn.Turn.{Turn}
 use Rattle.xr_serial.specs.declared.turn.Turn.TheVariants as turn
-use Rattle.xr_serial.proofs.Ops.{same_request}
+use Rattle.xr_serial.proofs.Ops.{same_request, ready_started, built_unstarted, built_locked}
 use Rattle.xr_serial.proofs.Staying.{call_keeps, op_stays}
 use Rattle.xr_serial.proofs.Steps.{Goes, made_turn, passed_turn}
 
-pub made_snoc : (place : ℕ) (told : List request.Told) (t : request.Told) → made_from place (told ++ t ∷ []) ≡ made_from place told ++ made_at (place + length told) t ∷ []
+pub made_snoc : (place : ℕ) (told : List request.Exchange) (t : request.Exchange) → made_from place (told ++ t ∷ []) ≡ made_from place told ++ made_at (place + length told) t ∷ []
 made_snoc place [] t = let same : place ≡ place + 0 = omega arith in rw (← same) refl
 made_snoc place (u ∷ told) t = let same : place + suc (length told) ≡ place + 1 + length told = omega arith in rw same (ap (λ (ms : List Made). made_at place u ∷ ms) (made_snoc (place + 1) told t))
 
 -- nothing is told of the two that didn't call
-pub app_alone : (ops : List Op) (t : Turn) (k : ℕ) (s : State) (parts : List DeviceEvent → Parts) (over : Bool) (begun : List DeviceEvent) (app dev comp : List request.Told) → Going ops t k s parts over begun app (dev ++ []) (comp ++ []) → Going ops t k s parts over begun app dev comp
-app_alone ops t k s parts over begun app dev comp g = subst (λ (d : List request.Told). Going ops t k s parts over begun app d comp) (append-nil dev) (subst (λ (c : List request.Told). Going ops t k s parts over begun app (dev ++ []) c) (append-nil comp) g)
+pub app_alone : (ops : List Op) (t : Turn) (k : ℕ) (s : State) (parts : List DeviceEvent → Parts) (over : Bool) (begun : List DeviceEvent) (app dev comp : List request.Exchange) → Going ops t k s parts over begun app (dev ++ []) (comp ++ []) → Going ops t k s parts over begun app dev comp
+app_alone ops t k s parts over begun app dev comp g = subst (λ (d : List request.Exchange). Going ops t k s parts over begun app d comp) (append-nil dev) (subst (λ (c : List request.Exchange). Going ops t k s parts over begun app (dev ++ []) c) (append-nil comp) g)
 
 pub drop_all : (ops : List Op) → drop (length ops) ops ≡ []
 drop_all ops = grind (arith, common_steps)
 
 -- ---- one op more
 
-script_more : (ops : List Op) (made : ℕ) (names : List ℕ) (list : List Made) (app : List request.Told) (o : Op) (answer : Reply) (bytes : List ℕ) → made < length ops → drop made ops ≡ o ∷ drop (made + 1) ops → ScriptKept ops made names list false app
+script_more : (ops : List Op) (made : ℕ) (names : List ℕ) (list : List Made) (app : List request.Exchange) (o : Op) (answer : Reply) (bytes : List ℕ) → made < length ops → drop made ops ≡ o ∷ drop (made + 1) ops → ScriptKept ops made names list false app
     → ScriptKept ops (made + 1) (learned names (made + 1) o answer) (list ++ made_at (made + 1) (told_of (request_for names o) answer bytes) ∷ []) false (app ++ told_of (request_for names o) answer bytes ∷ [])
 script_more ops made names list app o answer bytes within here kept =
-    let t : request.Told = told_of (request_for names o) answer bytes in
+    let t : request.Exchange = told_of (request_for names o) answer bytes in
     let count : length app ≡ made + 0 = kept.count in
     let place : 1 + length app ≡ made + 1 = omega (arith, count) in
     record {
@@ -61,18 +62,18 @@ script_more ops made names list app o answer bytes within here kept =
 
 -- ---- the script's turn
 
-module _ (ops : List Op) (told now : Option Told) (before after bound : ℕ) (k : ℕ) (few : k < 3) (s new : State) where
+module _ (ops : List Op) (told now : Option DeviceStream) (before after bound : ℕ) (k : ℕ) (few : k < 3) (s new : State) where
   pub op_made : (made : ℕ) (names : List ℕ) (list : List Made) (pending : Option DeviceEvent) (over : Bool) (evs : List DeviceEvent) (dlist : List Made) (ended : Option Reply) (o : Op) (answer : Reply) (bytes : List ℕ) → made < length ops
       → drop made ops ≡ o ∷ drop (made + 1) ops → IsMade s new (App 1) (request_for names o) answer bytes
       → Kept ops turn.Script k s made names list false pending over evs dlist ended told now before after bound
       → Kept ops turn.Device 0 new (made + 1) (learned names (made + 1) o answer) (list ++ made_at (made + 1) (told_of (request_for names o) answer bytes) ∷ []) false pending over evs dlist ended told now before after bound
   op_made made names list pending over evs dlist ended o answer bytes within here call kept =
       let what : Request = request_for names o in
-      let t : request.Told = told_of what answer bytes in
-      let goes : Goes turn.Script (parts_of ops made names false pending ended) (parts_of ops (made + 1) (learned names (made + 1) o answer) false pending ended) s new (App 1) what answer bytes = record {
-        seat = λ rest. script 1 (made + 1) (drop made ops) names;
+      let t : request.Exchange = told_of what answer bytes in
+      let goes : Goes turn.Script (parts_of ops made names kept.clock false pending ended) (parts_of ops (made + 1) (learned names (made + 1) o answer) (clock_behind kept.clock what new) false pending ended) s new (App 1) what answer bytes = record {
+        agenda = λ rest. script 1 (made + 1) (drop made ops) names kept.clock;
         alone = λ rest. refl;
-        of = λ rest. record { actor = refl; call = rw here refl };
+        of = λ rest. record { actor = refl; call = rw here (built_unstarted kept.clock what call.allowed.built) };
         after = λ rest. rw here refl;
         next = λ rest. refl;
         last = λ rest. refl;
@@ -80,10 +81,12 @@ module _ (ops : List Op) (told now : Option Told) (before after bound : ℕ) (k 
       } in
       let work = kept.work in
       let counted = kept.counted in
+      let locks : locked_after s.core what ≡ s.core.locked + 1 = rw (built_locked what call.allowed.built) refl in
       record {
         app = kept.app ++ t ∷ [];
         dev = kept.dev;
         comp = kept.comp;
+        clock = clock_behind kept.clock what new;
         going = app_alone ops turn.Device 0 new _ over _ (kept.app ++ t ∷ []) kept.dev kept.comp (made_turn ops turn.Script k s new _ _ over _ kept.app kept.dev kept.comp (App 1) what answer bytes few goes kept.going);
         apps = rw call.leads kept.apps;
         left = rw call.leads (call_keeps s (entry_of (App 1) what answer) (op_stays names o) ∙ kept.left);
@@ -91,8 +94,8 @@ module _ (ops : List Op) (told now : Option Told) (before after bound : ℕ) (k 
         device = kept.device;
         end = kept.end;
         later = kept.later;
-        counted = rw call.leads (omega (arith, counted));
-        work = rw call.leads (omega (arith, work, within));
+        counted = rw call.leads (omega (arith, counted, locks));
+        work = rw call.leads (omega (arith, work, within, locks));
       }
 
   pub op_waits : (made : ℕ) (names : List ℕ) (list : List Made) (pending : Option DeviceEvent) (over : Bool) (evs : List DeviceEvent) (dlist : List Made) (ended : Option Reply) (o : Op) → drop made ops ≡ o ∷ drop (made + 1) ops → ready s (asked (App 1) (request_for names o)) ≡ false
@@ -101,7 +104,8 @@ module _ (ops : List Op) (told now : Option Told) (before after bound : ℕ) (k 
     app = kept.app;
     dev = kept.dev;
     comp = kept.comp;
-    going = passed_turn ops turn.Script k s _ over _ kept.app kept.dev kept.comp few (λ rest ok. (rw here waits, tt)) kept.going;
+    clock = kept.clock;
+    going = passed_turn ops turn.Script k s _ over _ kept.app kept.dev kept.comp few (λ rest ok. (rw here (ready_started s kept.clock (request_for names o) ∙ waits), tt)) kept.going;
     apps = kept.apps;
     left = kept.left;
     script = kept.script;
@@ -118,6 +122,7 @@ module _ (ops : List Op) (told now : Option Told) (before after bound : ℕ) (k 
     app = kept.app;
     dev = kept.dev;
     comp = kept.comp;
+    clock = kept.clock;
     going = passed_turn ops turn.Script k s _ over _ kept.app kept.dev kept.comp few (λ rest ok. tt) kept.going;
     apps = kept.apps;
     left = kept.left;
@@ -133,10 +138,10 @@ module _ (ops : List Op) (told now : Option Told) (before after bound : ℕ) (k 
       → Kept ops turn.Script k s (length ops) names list false pending over evs dlist ended told now before after bound
       → Kept ops turn.Device 0 new (length ops) names (list ++ made_at (length ops + 1) (told_of leave answer bytes) ∷ []) true pending over evs dlist ended told now before after bound
   script_leaves names list pending over evs dlist ended answer bytes call kept =
-      let t : request.Told = told_of leave answer bytes in
+      let t : request.Exchange = told_of leave answer bytes in
       let none : drop (length ops) ops ≡ [] = drop_all ops in
-      let goes : Goes turn.Script (parts_of ops (length ops) names false pending ended) (parts_of ops (length ops) names true pending ended) s new (App 1) leave answer bytes = record {
-        seat = λ rest. script 1 (length ops + 1) (drop (length ops) ops) names;
+      let goes : Goes turn.Script (parts_of ops (length ops) names kept.clock false pending ended) (parts_of ops (length ops) names kept.clock true pending ended) s new (App 1) leave answer bytes = record {
+        agenda = λ rest. script 1 (length ops + 1) (drop (length ops) ops) names kept.clock;
         alone = λ rest. refl;
         of = λ rest. record { actor = refl; call = rw none refl };
         after = λ rest. rw none refl;
@@ -152,6 +157,7 @@ module _ (ops : List Op) (told now : Option Told) (before after bound : ℕ) (k 
         app = kept.app ++ t ∷ [];
         dev = kept.dev;
         comp = kept.comp;
+        clock = kept.clock;
         going = app_alone ops turn.Device 0 new _ over _ (kept.app ++ t ∷ []) kept.dev kept.comp (made_turn ops turn.Script k s new _ _ over _ kept.app kept.dev kept.comp (App 1) leave answer bytes few goes kept.going);
         apps = rw call.leads kept.apps;
         left = rw (call.leads, kept.left) refl;
@@ -175,7 +181,7 @@ module _ (ops : List Op) (told now : Option Told) (before after bound : ℕ) (k 
 
 -- ---- by what the turn's function says
 
-module _ (ops : List Op) (k : ℕ) (few : k < 3) (s new : State) (pending : Option DeviceEvent) (over : Bool) (evs : List DeviceEvent) (dlist : List Made) (ended : Option Reply) (told now : Option Told) (before after bound : ℕ) where
+module _ (ops : List Op) (k : ℕ) (few : k < 3) (s new : State) (pending : Option DeviceEvent) (over : Bool) (evs : List DeviceEvent) (dlist : List Made) (ended : Option Reply) (told now : Option DeviceStream) (before after bound : ℕ) where
   pub op_turn : (made : ℕ) (names : List ℕ) (list : List Made) (made2 : ℕ) (names2 : List ℕ) (list2 : List Made) (gone2 : Bool) (went : Bool) → made < length ops → OpTurn ops made names list false made2 names2 list2 gone2 s new went
       → Kept ops turn.Script k s made names list false pending over evs dlist ended told now before after bound → Kept ops turn.Device (if went then 0 else k + 1) new made2 names2 list2 gone2 pending over evs dlist ended told now before after bound
   op_turn made names list made2 names2 list2 gone2 true within m kept =

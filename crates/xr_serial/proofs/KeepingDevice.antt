@@ -16,7 +16,7 @@ use Rattle.xr_model.specs.Request.{Outcome, device, next_frame, entry_of}
 use Rattle.xr_model.specs.State.{State}
 use Rattle.xr_model.specs.Machine.{ready}
 use Rattle.xr_model.specs.Device.{is_built_event}
-use Rattle.xr_model.specs.DeviceText.{Told, Ending, ends, garbled_at}
+use Rattle.xr_model.specs.DeviceText.{DeviceStream, Ending, ends, garbled_at}
 use Rattle.xr_model.specs.Report.{is_fault}
 use Rattle.xr_model.specs.Robin.{events, compositor, last_event}
 use Rattle.xr_model.specs.Lists.{made_at, made_from, events_in}
@@ -34,22 +34,22 @@ use Rattle.xr_serial.proofs.Staying.{call_keeps}
 use Rattle.xr_serial.proofs.Keeping.{made_snoc}
 use Rattle.xr_serial.proofs.Steps.{Goes, made_turn, passed_turn, device_tells, device_ends}
 
-events_snoc : (dev : List request.Told) (e : DeviceEvent) (answer : Reply) (bytes : List ℕ) → events_in (dev ++ told_of (device e) answer bytes ∷ []) ≡ events_in dev ++ e ∷ []
+events_snoc : (dev : List request.Exchange) (e : DeviceEvent) (answer : Reply) (bytes : List ℕ) → events_in (dev ++ told_of (device e) answer bytes ∷ []) ≡ events_in dev ++ e ∷ []
 events_snoc [] e answer bytes = refl
 events_snoc (t ∷ dev) e answer bytes = rw (events_snoc dev e answer bytes) (sym (append_assoc _ (events_in dev) (e ∷ [])))
 
-made_length : (place : ℕ) (told : List request.Told) → length (made_from place told) ≡ length told
+made_length : (place : ℕ) (told : List request.Exchange) → length (made_from place told) ≡ length told
 made_length place [] = refl
 made_length place (t ∷ told) = ap suc (made_length (place + 1) told)
 
-begun_again : (ops : List Op) (t : Turn) (k : ℕ) (s : State) (parts : List DeviceEvent → Parts) (over : Bool) (a b : List DeviceEvent) (app dev comp : List request.Told) → a ≡ b → Going ops t k s parts over a app dev comp → Going ops t k s parts over b app dev comp
+begun_again : (ops : List Op) (t : Turn) (k : ℕ) (s : State) (parts : List DeviceEvent → Parts) (over : Bool) (a b : List DeviceEvent) (app dev comp : List request.Exchange) → a ≡ b → Going ops t k s parts over a app dev comp → Going ops t k s parts over b app dev comp
 begun_again ops t k s parts over a b app dev comp same g = subst (λ (l : List DeviceEvent). Going ops t k s parts over l app dev comp) same g
 
-device_alone : (ops : List Op) (t : Turn) (k : ℕ) (s : State) (parts : List DeviceEvent → Parts) (over : Bool) (begun : List DeviceEvent) (app dev comp : List request.Told) → Going ops t k s parts over begun (app ++ []) dev (comp ++ []) → Going ops t k s parts over begun app dev comp
-device_alone ops t k s parts over begun app dev comp g = subst (λ (a : List request.Told). Going ops t k s parts over begun a dev comp) (append-nil app) (subst (λ (c : List request.Told). Going ops t k s parts over begun (app ++ []) dev c) (append-nil comp) g)
+device_alone : (ops : List Op) (t : Turn) (k : ℕ) (s : State) (parts : List DeviceEvent → Parts) (over : Bool) (begun : List DeviceEvent) (app dev comp : List request.Exchange) → Going ops t k s parts over begun (app ++ []) dev (comp ++ []) → Going ops t k s parts over begun app dev comp
+device_alone ops t k s parts over begun app dev comp g = subst (λ (a : List request.Exchange). Going ops t k s parts over begun a dev comp) (append-nil app) (subst (λ (c : List request.Exchange). Going ops t k s parts over begun (app ++ []) dev c) (append-nil comp) g)
 
-compositor_alone : (ops : List Op) (t : Turn) (k : ℕ) (s : State) (parts : List DeviceEvent → Parts) (over : Bool) (begun : List DeviceEvent) (app dev comp : List request.Told) → Going ops t k s parts over begun (app ++ []) (dev ++ []) comp → Going ops t k s parts over begun app dev comp
-compositor_alone ops t k s parts over begun app dev comp g = subst (λ (a : List request.Told). Going ops t k s parts over begun a dev comp) (append-nil app) (subst (λ (d : List request.Told). Going ops t k s parts over begun (app ++ []) d comp) (append-nil dev) g)
+compositor_alone : (ops : List Op) (t : Turn) (k : ℕ) (s : State) (parts : List DeviceEvent → Parts) (over : Bool) (begun : List DeviceEvent) (app dev comp : List request.Exchange) → Going ops t k s parts over begun (app ++ []) (dev ++ []) comp → Going ops t k s parts over begun app dev comp
+compositor_alone ops t k s parts over begun app dev comp g = subst (λ (a : List request.Exchange). Going ops t k s parts over begun a dev comp) (append-nil app) (subst (λ (d : List request.Exchange). Going ops t k s parts over begun (app ++ []) d comp) (append-nil dev) g)
 
 -- ---- events of lines
 
@@ -70,23 +70,23 @@ none_more given e none this = list_any-append is_fault given (e ∷ []) ∙ rw (
 
 -- ---- what the device has told
 
-gives_event : (told now now2 : Option Told) (given : List DeviceEvent) (e : DeviceEvent) → GivesMore told now given → Tells now now2 (next.Event e) → GivesMore told now2 (given ++ e ∷ [])
+gives_event : (told now now2 : Option DeviceStream) (given : List DeviceEvent) (e : DeviceEvent) → GivesMore told now given → Tells now now2 (next.Event e) → GivesMore told now2 (given ++ e ∷ [])
 gives_event None now now2 given e more tells = tt
 gives_event (Some t) None now2 given e more tells = absurd more
 gives_event (Some t) (Some before) None given e more tells = absurd tells
-gives_event (Some t) (Some before) (Some rest) given e more tells = more ∙ rw tells (ap (λ (l : List DeviceEvent). let told : Told = record { events = l; ending = rest.ending } in told) (sym (append_assoc given (e ∷ []) rest.events)))
+gives_event (Some t) (Some before) (Some rest) given e more tells = more ∙ rw tells (ap (λ (l : List DeviceEvent). let told : DeviceStream = record { events = l; ending = rest.ending } in told) (sym (append_assoc given (e ∷ []) rest.events)))
 
-gives_end : (told now now2 : Option Told) (given : List DeviceEvent) → GivesMore told now given → Tells now now2 next.End → Gave told given (Some ends)
+gives_end : (told now now2 : Option DeviceStream) (given : List DeviceEvent) → GivesMore told now given → Tells now now2 next.End → Gave told given (Some ends)
 gives_end None now now2 given more tells = tt
 gives_end (Some t) None now2 given more tells = absurd more
 gives_end (Some t) (Some before) now2 given more tells = rw (more, tells) (append-nil given, refl)
 
-gives_garbled : (told now now2 : Option Told) (given : List DeviceEvent) (line : ℕ) → GivesMore told now given → Tells now now2 (next.Garbled line) → Gave told given (Some (garbled_at line))
+gives_garbled : (told now now2 : Option DeviceStream) (given : List DeviceEvent) (line : ℕ) → GivesMore told now given → Tells now now2 (next.Garbled line) → Gave told given (Some (garbled_at line))
 gives_garbled None now now2 given line more tells = tt
 gives_garbled (Some t) None now2 given line more tells = absurd more
 gives_garbled (Some t) (Some before) now2 given line more tells = rw (more, tells) (append-nil given, refl)
 
-gives_front : (told now : Option Told) (given : List DeviceEvent) → GivesMore told now given → Gave told given None
+gives_front : (told now : Option DeviceStream) (given : List DeviceEvent) → GivesMore told now given → Gave told given None
 gives_front None now given more = tt
 gives_front (Some t) None given more = absurd more
 gives_front (Some t) (Some before) given more = (before.events, rw more refl)
@@ -96,14 +96,14 @@ rose_later a b c h r = grind (arith, h, r)
 
 -- ---- the device's turn
 
-module _ (ops : List Op) (told : Option Told) (before : ℕ) (k : ℕ) (few : k < 3) (s new : State) (made : ℕ) (names : List ℕ) (list : List Made) (gone : Bool) (evs : List DeviceEvent) (dlist : List Made) (ended : Option Reply) where
-  pub event_made : (now : Option Told) (after bound : ℕ) (over : Bool) (e : DeviceEvent) (answer : Reply) (bytes : List ℕ) → IsMade s new Device (device e) answer bytes
+module _ (ops : List Op) (told : Option DeviceStream) (before : ℕ) (k : ℕ) (few : k < 3) (s new : State) (made : ℕ) (names : List ℕ) (list : List Made) (gone : Bool) (evs : List DeviceEvent) (dlist : List Made) (ended : Option Reply) where
+  pub event_made : (now : Option DeviceStream) (after bound : ℕ) (over : Bool) (e : DeviceEvent) (answer : Reply) (bytes : List ℕ) → IsMade s new Device (device e) answer bytes
       → Kept ops turn.Device k s made names list gone (Some e) over evs dlist ended told now before after bound
       → Kept ops turn.Compositor 0 new made names list gone None over (evs ++ e ∷ []) (dlist ++ made_at (length dlist + 1) (told_of (device e) answer bytes) ∷ []) ended told now before after bound
   event_made now after bound over e answer bytes call kept =
-      let t : request.Told = told_of (device e) answer bytes in
-      let goes : Goes turn.Device (parts_of ops made names gone (Some e) ended) (parts_of ops made names gone None ended) s new Device (device e) answer bytes = record {
-        seat = λ rest. events e rest;
+      let t : request.Exchange = told_of (device e) answer bytes in
+      let goes : Goes turn.Device (parts_of ops made names kept.clock gone (Some e) ended) (parts_of ops made names kept.clock gone None ended) s new Device (device e) answer bytes = record {
+        agenda = λ rest. events e rest;
         alone = λ rest. refl;
         of = λ rest. record { actor = refl; call = refl };
         after = λ rest. refl;
@@ -122,6 +122,7 @@ module _ (ops : List Op) (told : Option Told) (before : ℕ) (k : ℕ) (few : k 
         app = kept.app;
         dev = kept.dev ++ t ∷ [];
         comp = kept.comp;
+        clock = kept.clock;
         going = begun_again ops turn.Compositor 0 new _ over _ _ kept.app (kept.dev ++ t ∷ []) kept.comp told_now
             (device_alone ops turn.Compositor 0 new _ over _ kept.app (kept.dev ++ t ∷ []) kept.comp (made_turn ops turn.Device k s new _ _ over _ kept.app kept.dev kept.comp Device (device e) answer bytes few goes kept.going));
         apps = rw call.leads kept.apps;
@@ -143,12 +144,13 @@ module _ (ops : List Op) (told : Option Told) (before : ℕ) (k : ℕ) (few : k 
         work = rw call.leads (omega (arith, work));
       }
 
-  pub event_waits : (now : Option Told) (after bound : ℕ) (over : Bool) (e : DeviceEvent) → ready s (asked Device (device e)) ≡ false
+  pub event_waits : (now : Option DeviceStream) (after bound : ℕ) (over : Bool) (e : DeviceEvent) → ready s (asked Device (device e)) ≡ false
       → Kept ops turn.Device k s made names list gone (Some e) over evs dlist ended told now before after bound → Kept ops turn.Compositor (k + 1) s made names list gone (Some e) over evs dlist ended told now before after bound
   event_waits now after bound over e waits kept = record {
     app = kept.app;
     dev = kept.dev;
     comp = kept.comp;
+    clock = kept.clock;
     going = passed_turn ops turn.Device k s _ over _ kept.app kept.dev kept.comp few (λ rest ok. (waits, tt)) kept.going;
     apps = kept.apps;
     left = kept.left;
@@ -160,11 +162,12 @@ module _ (ops : List Op) (told : Option Told) (before : ℕ) (k : ℕ) (few : k 
     work = kept.work;
   }
 
-  pub device_over : (now : Option Told) (after bound : ℕ) → Kept ops turn.Device k s made names list gone None true evs dlist ended told now before after bound → Kept ops turn.Compositor (k + 1) s made names list gone None true evs dlist ended told now before after bound
+  pub device_over : (now : Option DeviceStream) (after bound : ℕ) → Kept ops turn.Device k s made names list gone None true evs dlist ended told now before after bound → Kept ops turn.Compositor (k + 1) s made names list gone None true evs dlist ended told now before after bound
   device_over now after bound kept = record {
     app = kept.app;
     dev = kept.dev;
     comp = kept.comp;
+    clock = kept.clock;
     going = passed_turn ops turn.Device k s _ true _ kept.app kept.dev kept.comp few (λ rest ok. rw (ok refl) tt) kept.going;
     apps = kept.apps;
     left = kept.left;
@@ -176,19 +179,19 @@ module _ (ops : List Op) (told : Option Told) (before : ℕ) (k : ℕ) (few : k 
     work = kept.work;
   }
 
-  pub over_from : (now : Option Told) (after bound : ℕ) (pending : Option DeviceEvent) (over : Bool) → pending ≡ None → over ≡ true → Kept ops turn.Device k s made names list gone pending over evs dlist ended told now before after bound
+  pub over_from : (now : Option DeviceStream) (after bound : ℕ) (pending : Option DeviceEvent) (over : Bool) → pending ≡ None → over ≡ true → Kept ops turn.Device k s made names list gone pending over evs dlist ended told now before after bound
       → Kept ops turn.Compositor (k + 1) s made names list gone pending over evs dlist ended told now before after bound
   over_from now after bound pending over none all kept =
       rw (none, all) (device_over now after bound (subst (λ (p : Option DeviceEvent). Kept ops turn.Device k s made names list gone p true evs dlist ended told now before after bound) none (subst (λ (o : Bool). Kept ops turn.Device k s made names list gone pending o evs dlist ended told now before after bound) all kept)))
 
   -- the device was asked for more
-  begun_more : (dev : List request.Told) (e : DeviceEvent) → (events_in dev ++ []) ++ e ∷ [] ≡ events_in dev ++ e ∷ []
+  begun_more : (dev : List request.Exchange) (e : DeviceEvent) → (events_in dev ++ []) ++ e ∷ [] ≡ events_in dev ++ e ∷ []
   begun_more dev e = rw (append-nil (events_in dev)) refl
 
-  given_more : (given : List DeviceEvent) (dev : List request.Told) (e : DeviceEvent) → given ++ [] ≡ events_in dev ++ [] → given ++ e ∷ [] ≡ events_in dev ++ e ∷ []
+  given_more : (given : List DeviceEvent) (dev : List request.Exchange) (e : DeviceEvent) → given ++ [] ≡ events_in dev ++ [] → given ++ e ∷ [] ≡ events_in dev ++ e ∷ []
   given_more given dev e same = ap (λ (l : List DeviceEvent). l ++ e ∷ []) (sym (append-nil given) ∙ same ∙ append-nil (events_in dev))
 
-  pub event_told : (now now2 : Option Told) (after after2 bound bound2 : ℕ) (e : DeviceEvent) → Tells now now2 (next.Event e) → IsTold e → bound2 < bound → after ≤ after2
+  pub event_told : (now now2 : Option DeviceStream) (after after2 bound bound2 : ℕ) (e : DeviceEvent) → Tells now now2 (next.Event e) → IsTold e → bound2 < bound → after ≤ after2
       → Kept ops turn.Device k s made names list gone None false evs dlist ended told now before after bound → Kept ops turn.Device k s made names list gone (Some e) false evs dlist ended told now2 before after2 bound2
   event_told now now2 after after2 bound bound2 e tells sound fewer grew kept =
       let d = kept.device in
@@ -200,6 +203,7 @@ module _ (ops : List Op) (told : Option Told) (before : ℕ) (k : ℕ) (few : k 
         app = kept.app;
         dev = kept.dev;
         comp = kept.comp;
+        clock = kept.clock;
         going = begun_again ops turn.Device k s _ false _ _ kept.app kept.dev kept.comp (begun_more kept.dev e) (device_tells ops turn.Device k s _ false _ kept.app kept.dev kept.comp e kept.going);
         apps = kept.apps;
         left = kept.left;
@@ -220,7 +224,7 @@ module _ (ops : List Op) (told : Option Told) (before : ℕ) (k : ℕ) (few : k 
         work = omega (arith, work, fewer);
       }
 
-  pub end_told : (now now2 : Option Told) (after after2 bound bound2 : ℕ) → Tells now now2 next.End → after ≤ after2
+  pub end_told : (now now2 : Option DeviceStream) (after after2 bound bound2 : ℕ) → Tells now now2 next.End → after ≤ after2
       → Kept ops turn.Device k s made names list gone None false evs dlist ended told now before after bound → Kept ops turn.Device k s made names list gone None true evs dlist ended told now2 before after2 bound2
   end_told now now2 after after2 bound bound2 tells grew kept =
       let d = kept.device in
@@ -231,6 +235,7 @@ module _ (ops : List Op) (told : Option Told) (before : ℕ) (k : ℕ) (few : k 
         app = kept.app;
         dev = kept.dev;
         comp = kept.comp;
+        clock = kept.clock;
         going = device_ends ops turn.Device k s _ _ kept.app kept.dev kept.comp kept.going;
         apps = kept.apps;
         left = kept.left;
@@ -252,7 +257,7 @@ module _ (ops : List Op) (told : Option Told) (before : ℕ) (k : ℕ) (few : k 
       }
 
   -- the device has ended early, which is its last call
-  closes : (dev : List request.Told) (now now2 : Option Told) (after after2 : ℕ) (e : DeviceEvent) (ending : Option Ending) → IsDone e → (d : DeviceKept None false evs dlist dev told now before after) → d.closing ≡ []
+  closes : (dev : List request.Exchange) (now now2 : Option DeviceStream) (after after2 : ℕ) (e : DeviceEvent) (ending : Option Ending) → IsDone e → (d : DeviceKept None false evs dlist dev told now before after) → d.closing ≡ []
       → Gave told d.given ending → e ∷ [] ≡ last_event ending → (is_fault e || false ≡ true → Rose before after2) → DeviceKept (Some e) true evs dlist dev told now2 before after2
   closes dev now now2 after after2 e ending done d open_ gave last fault = record {
     given = d.given;
@@ -265,7 +270,7 @@ module _ (ops : List Op) (told : Option Told) (before : ℕ) (k : ℕ) (few : k 
     events_are = d.events_are;
   }
 
-  closed : (now now2 : Option Told) (after after2 bound bound2 : ℕ) (e : DeviceEvent) → after ≤ after2 → (kept : Kept ops turn.Device k s made names list gone None false evs dlist ended told now before after bound)
+  closed : (now now2 : Option DeviceStream) (after after2 bound bound2 : ℕ) (e : DeviceEvent) → after ≤ after2 → (kept : Kept ops turn.Device k s made names list gone None false evs dlist ended told now before after bound)
       → DeviceKept (Some e) true evs dlist kept.dev told now2 before after2 → Kept ops turn.Device k s made names list gone (Some e) true evs dlist ended told now2 before after2 bound2
   closed now now2 after after2 bound bound2 e grew kept d =
       let work = kept.work in
@@ -274,6 +279,7 @@ module _ (ops : List Op) (told : Option Told) (before : ℕ) (k : ℕ) (few : k 
         app = kept.app;
         dev = kept.dev;
         comp = kept.comp;
+        clock = kept.clock;
         going = begun_again ops turn.Device k s _ true _ _ kept.app kept.dev kept.comp (begun_more kept.dev e) (device_tells ops turn.Device k s _ true _ kept.app kept.dev kept.comp e kept.going);
         apps = kept.apps;
         left = kept.left;
@@ -285,14 +291,14 @@ module _ (ops : List Op) (told : Option Told) (before : ℕ) (k : ℕ) (few : k 
         work = omega (arith, work);
       }
 
-  pub garbled_told : (now now2 : Option Told) (after after2 bound bound2 : ℕ) (line : ℕ) → Tells now now2 (next.Garbled line) → after ≤ after2
+  pub garbled_told : (now now2 : Option DeviceStream) (after after2 bound bound2 : ℕ) (line : ℕ) → Tells now now2 (next.Garbled line) → after ≤ after2
       → Kept ops turn.Device k s made names list gone None false evs dlist ended told now before after bound → Kept ops turn.Device k s made names list gone (Some (event.Garbled line)) true evs dlist ended told now2 before after2 bound2
   garbled_told now now2 after after2 bound bound2 line tells grew kept =
       let d = kept.device in
       closed now now2 after after2 bound bound2 (event.Garbled line) grew kept
       (closes kept.dev now now2 after after2 (event.Garbled line) (Some (garbled_at line)) (record { checked = refl; built = refl }) d d.came.1 (gives_garbled told now now2 d.given line d.came.0 tells) refl (λ e. absurd (true≢false (sym e))))
 
-  pub fault_told : (now now2 : Option Told) (after after2 bound bound2 : ℕ) → Rose after after2 → after ≤ after2
+  pub fault_told : (now now2 : Option DeviceStream) (after after2 bound bound2 : ℕ) → Rose after after2 → after ≤ after2
       → Kept ops turn.Device k s made names list gone None false evs dlist ended told now before after bound → Kept ops turn.Device k s made names list gone (Some event.Fault) true evs dlist ended told now2 before after2 bound2
   fault_told now now2 after after2 bound bound2 rose grew kept =
       let d = kept.device in
@@ -300,20 +306,20 @@ module _ (ops : List Op) (told : Option Told) (before : ℕ) (k : ℕ) (few : k 
       (closes kept.dev now now2 after after2 event.Fault None (record { checked = refl; built = refl }) d d.came.1 (gives_front told now d.given d.came.0) refl (λ e. rose_later before after after2 kept.later rose))
 
   -- by what the function that makes the call says
-  pub event_turn : (now : Option Told) (after bound : ℕ) (over : Bool) (e : DeviceEvent) (list2 : List Made) (events2 : List DeviceEvent) (pending2 : Option DeviceEvent) (went : Bool) → EventTurn e dlist evs list2 events2 pending2 s new went
+  pub event_turn : (now : Option DeviceStream) (after bound : ℕ) (over : Bool) (e : DeviceEvent) (list2 : List Made) (events2 : List DeviceEvent) (pending2 : Option DeviceEvent) (went : Bool) → EventTurn e dlist evs list2 events2 pending2 s new went
       → Kept ops turn.Device k s made names list gone (Some e) over evs dlist ended told now before after bound
       → Kept ops turn.Compositor (if went then 0 else k + 1) new made names list gone pending2 over events2 list2 ended told now before after bound
   event_turn now after bound over e list2 events2 pending2 true m kept = rw (m.keeps, m.tells, m.next) (event_made now after bound over e m.answer m.bytes m.call kept)
   event_turn now after bound over e list2 events2 pending2 false m kept = rw (m.keeps, m.tells, m.next, m.state) (event_waits now after bound over e m.waits kept)
 
-  pub event_from : (now : Option Told) (after bound : ℕ) (over over2 : Bool) (pending : Option DeviceEvent) (e : DeviceEvent) (list2 : List Made) (events2 : List DeviceEvent) (pending2 : Option DeviceEvent) (went : Bool) → pending ≡ Some e → over2 ≡ over → EventTurn e dlist evs list2 events2 pending2 s new went
+  pub event_from : (now : Option DeviceStream) (after bound : ℕ) (over over2 : Bool) (pending : Option DeviceEvent) (e : DeviceEvent) (list2 : List Made) (events2 : List DeviceEvent) (pending2 : Option DeviceEvent) (went : Bool) → pending ≡ Some e → over2 ≡ over → EventTurn e dlist evs list2 events2 pending2 s new went
       → Kept ops turn.Device k s made names list gone pending over evs dlist ended told now before after bound
       → Kept ops turn.Compositor (if went then 0 else k + 1) new made names list gone pending2 over2 events2 list2 ended told now before after bound
   event_from now after bound over over2 pending e list2 events2 pending2 went this same m kept =
       rw same (event_turn now after bound over e list2 events2 pending2 went m (subst (λ (p : Option DeviceEvent). Kept ops turn.Device k s made names list gone p over evs dlist ended told now before after bound) this kept))
 
   -- by what the function that asks the device says
-  pub looked : (now now2 : Option Told) (after after2 bound bound2 : ℕ) (pending2 : Option DeviceEvent) (over2 : Bool) → Fetched now now2 after after2 bound bound2 pending2 over2 → after ≤ after2
+  pub looked : (now now2 : Option DeviceStream) (after after2 bound bound2 : ℕ) (pending2 : Option DeviceEvent) (over2 : Bool) → Fetched now now2 after after2 bound bound2 pending2 over2 → after ≤ after2
       → Kept ops turn.Device k s made names list gone None false evs dlist ended told now before after bound → Kept ops turn.Device k s made names list gone pending2 over2 evs dlist ended told now2 before after2 bound2
   looked now now2 after after2 bound bound2 (Some e) false f grew kept = event_told now now2 after after2 bound bound2 e f.0 f.1 f.2 grew kept
   looked now now2 after after2 bound bound2 None true f grew kept = end_told now now2 after after2 bound bound2 f.0 grew kept
@@ -321,7 +327,7 @@ module _ (ops : List Op) (told : Option Told) (before : ℕ) (k : ℕ) (few : k 
   looked now now2 after after2 bound bound2 (Some (event.Garbled line)) true f grew kept = garbled_told now now2 after after2 bound bound2 line f.0 grew kept
   looked now now2 after after2 bound bound2 _ _ f grew kept = absurd f
 
-  pub looked_from : (now now2 : Option Told) (after after2 bound bound2 : ℕ) (pending : Option DeviceEvent) (over : Bool) (pending2 : Option DeviceEvent) (over2 : Bool) → pending ≡ None → over ≡ false → Fetched now now2 after after2 bound bound2 pending2 over2 → after ≤ after2
+  pub looked_from : (now now2 : Option DeviceStream) (after after2 bound bound2 : ℕ) (pending : Option DeviceEvent) (over : Bool) (pending2 : Option DeviceEvent) (over2 : Bool) → pending ≡ None → over ≡ false → Fetched now now2 after after2 bound bound2 pending2 over2 → after ≤ after2
       → Kept ops turn.Device k s made names list gone pending over evs dlist ended told now before after bound → Kept ops turn.Device k s made names list gone pending2 over2 evs dlist ended told now2 before after2 bound2
   looked_from now now2 after after2 bound bound2 pending over pending2 over2 unknown open_ f grew kept =
       looked now now2 after after2 bound bound2 pending2 over2 f grew
@@ -332,14 +338,14 @@ module _ (ops : List Op) (told : Option Told) (before : ℕ) (k : ℕ) (few : k 
 end_gives : (s new : State) (answer : Reply) → IsMade s new Compositor next_frame answer [] → answer.gives ≡ Ended
 end_gives s new answer call = sym (ap (λ (o : Outcome). o.reply.gives) call.outcome)
 
-module _ (ops : List Op) (told now : Option Told) (before after bound : ℕ) (k : ℕ) (few : k < 3) (s new : State) (made : ℕ) (names : List ℕ) (list : List Made) (gone : Bool) (pending : Option DeviceEvent) (over : Bool) (evs : List DeviceEvent) (dlist : List Made) where
+module _ (ops : List Op) (told now : Option DeviceStream) (before after bound : ℕ) (k : ℕ) (few : k < 3) (s new : State) (made : ℕ) (names : List ℕ) (list : List Made) (gone : Bool) (pending : Option DeviceEvent) (over : Bool) (evs : List DeviceEvent) (dlist : List Made) where
   pub end_made : (answer : Reply) → IsMade s new Compositor next_frame answer [] → Kept ops turn.Compositor k s made names list gone pending over evs dlist None told now before after bound
       → Kept ops turn.Script 0 new made names list gone pending over evs dlist (Some answer) told now before after bound
   end_made answer call kept =
-      let t : request.Told = told_of next_frame answer [] in
+      let t : request.Exchange = told_of next_frame answer [] in
       let gives = end_gives s new answer call in
-      let goes : Goes turn.Compositor (parts_of ops made names gone pending None) (parts_of ops made names gone pending (Some answer)) s new Compositor next_frame answer [] = record {
-        seat = λ rest. compositor;
+      let goes : Goes turn.Compositor (parts_of ops made names kept.clock gone pending None) (parts_of ops made names kept.clock gone pending (Some answer)) s new Compositor next_frame answer [] = record {
+        agenda = λ rest. compositor;
         alone = λ rest. refl;
         of = λ rest. record { actor = refl; call = refl };
         after = λ rest. rw gives refl;
@@ -354,6 +360,7 @@ module _ (ops : List Op) (told now : Option Told) (before after bound : ℕ) (k 
         app = kept.app;
         dev = kept.dev;
         comp = kept.comp ++ t ∷ [];
+        clock = kept.clock;
         going = compositor_alone ops turn.Script 0 new _ over _ kept.app kept.dev (kept.comp ++ t ∷ []) (made_turn ops turn.Compositor k s new _ _ over _ kept.app kept.dev kept.comp Compositor next_frame answer [] few goes kept.going);
         apps = rw call.leads kept.apps;
         left = rw call.leads (call_keeps s (entry_of Compositor next_frame answer) tt ∙ kept.left);
@@ -371,6 +378,7 @@ module _ (ops : List Op) (told now : Option Told) (before after bound : ℕ) (k 
     app = kept.app;
     dev = kept.dev;
     comp = kept.comp;
+    clock = kept.clock;
     going = passed_turn ops turn.Compositor k s _ over _ kept.app kept.dev kept.comp few (λ rest ok. (waits, tt)) kept.going;
     apps = kept.apps;
     left = kept.left;
@@ -388,6 +396,7 @@ module _ (ops : List Op) (told now : Option Told) (before after bound : ℕ) (k 
     app = kept.app;
     dev = kept.dev;
     comp = kept.comp;
+    clock = kept.clock;
     going = passed_turn ops turn.Compositor k s _ over _ kept.app kept.dev kept.comp few (λ rest ok. tt) kept.going;
     apps = kept.apps;
     left = kept.left;

@@ -13,9 +13,9 @@ use Rattle.xr_model.specs.Events.{polled}
 use Rattle.xr_model.specs.Steps.Instance.{told_event}
 use Rattle.xr_model.specs.Paths.{text_at, copied, size_at, size_of}
 use Rattle.xr_model.specs.Refusals.{Refusal, first_of}
-use Rattle.xr_model.specs.State.{State}
+use Rattle.xr_model.specs.State.{CoreState, State}
 use Rattle.xr_model.specs.Rules.{Effect, refusals, unless_refused, written_over}
-use Rattle.xr_model.specs.Machine.{step, rule, ready, FitsBuffer, Answers}
+use Rattle.xr_model.specs.Machine.{reads_of, step, rule, ready, FitsBuffer, Answers}
 use Rattle.xr_serial.specs.Lent.{lent_size, written_size}
 use Rattle.xr_serial.specs.Made.{IsMade}
 
@@ -35,7 +35,7 @@ first_gives_none size (x ∷ rs) r none e = by x.holds refl e (λ later. first_g
 abbrev Fits : ℕ → Effect → Type 0
 Fits size e = length e.text ≡ written_size e.gives size
 
-carried_fits : (s : State) (size : ℕ) (rs : List Refusal) (e : Effect) → GiveNone size rs → Fits size e → Fits size (unless_refused s (first_of rs) e)
+carried_fits : (s : CoreState) (size : ℕ) (rs : List Refusal) (e : Effect) → GiveNone size rs → Fits size e → Fits size (unless_refused s (first_of rs) e)
 carried_fits s size rs e none fits = by (first_of rs) refl
   where
     by : (o : Option Refusal) → first_of rs ≡ o → Fits size (unless_refused s o e)
@@ -66,20 +66,20 @@ told_writes_none (Some event) = refl
 pub text_fits : (s : State) (e : Entry) → length (step s e).1.text ≡ written_size (step s e).1.reply.gives (lent_size e.request)
 text_fits s e = by e.request
   where
-    by : (r : Request) → Fits (lent_size r) (unless_refused s (first_of (refusals (rule s (record e { request = r })))) (rule s (record e { request = r })).effect)
-    by (create_instance major minor) = carried_fits s 0 (refusals (rule s (record e { request = create_instance major minor }))) (rule s (record e { request = create_instance major minor })).effect ((λ h. refl), ((λ h. refl), ((λ h. refl), tt))) refl
-    by (destroy_instance instance) = carried_fits s 0 (refusals (rule s (record e { request = destroy_instance instance }))) (rule s (record e { request = destroy_instance instance })).effect ((λ h. refl), ((λ h. refl), tt)) refl
-    by (get_system instance form) = carried_fits s 0 (refusals (rule s (record e { request = get_system instance form }))) (rule s (record e { request = get_system instance form })).effect ((λ h. refl), ((λ h. refl), ((λ h. refl), tt))) refl
-    by (string_to_path instance text) = carried_fits s 0 (refusals (rule s (record e { request = string_to_path instance text }))) (rule s (record e { request = string_to_path instance text })).effect ((λ h. refl), ((λ h. refl), ((λ h. refl), ((λ h. refl), ((λ h. refl), tt))))) refl
+    by : (r : Request) → Fits (lent_size r) (unless_refused s.core (first_of (refusals (rule s.core (reads_of s) (record e { request = r })))) (rule s.core (reads_of s) (record e { request = r })).effect)
+    by (create_instance major minor) = carried_fits s.core 0 (refusals (rule s.core (reads_of s) (record e { request = create_instance major minor }))) (rule s.core (reads_of s) (record e { request = create_instance major minor })).effect ((λ h. refl), ((λ h. refl), ((λ h. refl), tt))) refl
+    by (destroy_instance instance) = carried_fits s.core 0 (refusals (rule s.core (reads_of s) (record e { request = destroy_instance instance }))) (rule s.core (reads_of s) (record e { request = destroy_instance instance })).effect ((λ h. refl), ((λ h. refl), tt)) refl
+    by (get_system instance form) = carried_fits s.core 0 (refusals (rule s.core (reads_of s) (record e { request = get_system instance form }))) (rule s.core (reads_of s) (record e { request = get_system instance form })).effect ((λ h. refl), ((λ h. refl), ((λ h. refl), tt))) refl
+    by (string_to_path instance text) = carried_fits s.core 0 (refusals (rule s.core (reads_of s) (record e { request = string_to_path instance text }))) (rule s.core (reads_of s) (record e { request = string_to_path instance text })).effect ((λ h. refl), ((λ h. refl), ((λ h. refl), ((λ h. refl), ((λ h. refl), tt))))) refl
     by (path_to_string instance path capacity) =
-        carried_fits s capacity (refusals (rule s (record e { request = path_to_string instance path capacity }))) (rule s (record e { request = path_to_string instance path capacity })).effect
-        ((λ h. refl), ((λ h. refl), ((λ h. refl), (copy_gives_none (text_at s.atoms path) capacity, tt)))) (copied_fits (text_at s.atoms path) capacity)
-    by (poll_event instance) = carried_fits s 0 (refusals (rule s (record e { request = poll_event instance }))) (rule s (record e { request = poll_event instance })).effect ((λ h. refl), ((λ h. refl), ((λ h. refl), tt))) (told_writes_none (polled s.events))
-    by (create_session instance system) = carried_fits s 0 (refusals (rule s (record e { request = create_session instance system }))) (rule s (record e { request = create_session instance system })).effect ((λ h. refl), ((λ h. refl), ((λ h. refl), ((λ h. refl), tt)))) refl
-    by (destroy_session session) = carried_fits s 0 (refusals (rule s (record e { request = destroy_session session }))) (rule s (record e { request = destroy_session session })).effect ((λ h. refl), ((λ h. refl), tt)) refl
-    by (begin_session session view) = carried_fits s 0 (refusals (rule s (record e { request = begin_session session view }))) (rule s (record e { request = begin_session session view })).effect ((λ h. refl), ((λ h. refl), ((λ h. refl), ((λ h. refl), ((λ h. refl), ((λ h. refl), tt)))))) refl
-    by (end_session session) = carried_fits s 0 (refusals (rule s (record e { request = end_session session }))) (rule s (record e { request = end_session session })).effect ((λ h. refl), ((λ h. refl), ((λ h. refl), ((λ h. refl), ((λ h. refl), tt))))) refl
-    by (request_exit_session session) = carried_fits s 0 (refusals (rule s (record e { request = request_exit_session session }))) (rule s (record e { request = request_exit_session session })).effect ((λ h. refl), ((λ h. refl), ((λ h. refl), ((λ h. refl), tt)))) refl
+        carried_fits s.core capacity (refusals (rule s.core (reads_of s) (record e { request = path_to_string instance path capacity }))) (rule s.core (reads_of s) (record e { request = path_to_string instance path capacity })).effect
+        ((λ h. refl), ((λ h. refl), ((λ h. refl), (copy_gives_none (text_at s.core.atoms path) capacity, tt)))) (copied_fits (text_at s.core.atoms path) capacity)
+    by (poll_event instance) = carried_fits s.core 0 (refusals (rule s.core (reads_of s) (record e { request = poll_event instance }))) (rule s.core (reads_of s) (record e { request = poll_event instance })).effect ((λ h. refl), ((λ h. refl), ((λ h. refl), tt))) (told_writes_none (polled s.core.events))
+    by (create_session instance system) = carried_fits s.core 0 (refusals (rule s.core (reads_of s) (record e { request = create_session instance system }))) (rule s.core (reads_of s) (record e { request = create_session instance system })).effect ((λ h. refl), ((λ h. refl), ((λ h. refl), ((λ h. refl), tt)))) refl
+    by (destroy_session session) = carried_fits s.core 0 (refusals (rule s.core (reads_of s) (record e { request = destroy_session session }))) (rule s.core (reads_of s) (record e { request = destroy_session session })).effect ((λ h. refl), ((λ h. refl), tt)) refl
+    by (begin_session session view) = carried_fits s.core 0 (refusals (rule s.core (reads_of s) (record e { request = begin_session session view }))) (rule s.core (reads_of s) (record e { request = begin_session session view })).effect ((λ h. refl), ((λ h. refl), ((λ h. refl), ((λ h. refl), ((λ h. refl), ((λ h. refl), tt)))))) refl
+    by (end_session session) = carried_fits s.core 0 (refusals (rule s.core (reads_of s) (record e { request = end_session session }))) (rule s.core (reads_of s) (record e { request = end_session session })).effect ((λ h. refl), ((λ h. refl), ((λ h. refl), ((λ h. refl), ((λ h. refl), tt))))) refl
+    by (request_exit_session session) = carried_fits s.core 0 (refusals (rule s.core (reads_of s) (record e { request = request_exit_session session }))) (rule s.core (reads_of s) (record e { request = request_exit_session session })).effect ((λ h. refl), ((λ h. refl), ((λ h. refl), ((λ h. refl), tt)))) refl
     by leave = refl
     by next_frame = refl
     by _ = refl
@@ -102,8 +102,20 @@ lent_fits leave = tt
 lent_fits next_frame = tt
 lent_fits _ = tt
 
-same_outcome : (o : Outcome) (answer : Reply) (bytes : List ℕ) → answer ≡ o.reply → bytes ≡ o.text → o ≡ record { reply = answer; text = bytes }
-same_outcome o answer bytes e f = rw (e, f) refl
+-- no call that is built shows a frame
+carried_shows : (s : CoreState) (o : Option Refusal) (x : Effect) → x.shown ≡ None → (unless_refused s o x).shown ≡ None
+carried_shows s None x none = none
+carried_shows s (Some r) x none = refl
+
+shows_none : (s : State) (e : Entry) → (step s e).1.shown ≡ None
+shows_none s e = carried_shows s.core (first_of (refusals (rule s.core (reads_of s) e))) (rule s.core (reads_of s) e).effect (by e.request)
+  where
+    by : (r : Request) → (rule s.core (reads_of s) (record e { request = r })).effect.shown ≡ None
+    by (create_instance major minor) = refl
+    by _ = refl
+
+same_outcome : (o : Outcome) (answer : Reply) (bytes : List ℕ) → answer ≡ o.reply → bytes ≡ o.text → o.shown ≡ None → o ≡ record { reply = answer; text = bytes; shown = None }
+same_outcome o answer bytes e f g = rw (e, f, ← g) refl
 
 -- what the core answered is a call that was made, with the bytes at the front of its buffer
 pub made_of : (old new : State) (who : Actor) (what : Request) (answer : Reply) (before written bytes : List ℕ) (n : ℕ) → Answers old (entry_of who what answer) new answer before written
@@ -112,4 +124,4 @@ made_of old new who what answer before written bytes n a size front =
     let text : List ℕ = (step old (entry_of who what answer)).1.text in
     let fits : length text ≡ n = text_fits old (entry_of who what answer) ∙ ap (λ (r : Reply). written_size r.gives (lent_size what)) (sym a.replies) ∙ sym size in
     let same : bytes ≡ text = front ∙ rw a.writes (front_of-written text before n fits) in
-    record { allowed = a.allowed; is_ready = a.is_ready; leads = a.leads; outcome = same_outcome (step old (entry_of who what answer)).1 answer bytes a.replies same }
+    record { allowed = a.allowed; is_ready = a.is_ready; leads = a.leads; outcome = same_outcome (step old (entry_of who what answer)).1 answer bytes a.replies same (shows_none old (entry_of who what answer)) }

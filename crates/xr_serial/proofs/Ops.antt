@@ -1,5 +1,5 @@
 -- What is known of a script's op and of its call.
-use Rattle.std.proofs.Common.{◌≡◌, ◌<◌, ◌+◌, ℕ, pos, true, List, [], ◌∷◌, length, drop, get_or, refl, add-one, drop-cons, arith, zero, suc}
+use Rattle.std.proofs.Common.{◌≡◌, ◌<◌, ◌+◌, ℕ, ℤ, pos, true, true≢false, sym, List, [], ◌∷◌, length, drop, get_or, refl, add-one, drop-cons, arith, zero, suc}
 use Rattle.std.proofs.lemmas.Bool.Decides.{nat_tests}
 use Rattle.std.specs.List.{list_all}
 use Rattle.std.proofs.lemmas.Bool.{and_parts}
@@ -11,8 +11,14 @@ use Rattle.xr_model.specs.Built.{is_built_op}
 use Rattle.xr_model.specs.Formed.{IsMark}
 use Rattle.xr_model.specs.InForm.{IsInRange}
 use Rattle.xr_model.specs.Lists.{name_of, mark_of, start_of}
-use Rattle.xr_model.specs.Machine.{HasNumbers}
+use Rattle.xr_model.specs.Machine.{HasNumbers, ready, is_built}
 use Rattle.xr_model.specs.Scripts.{request_for, unstarted}
+use Rattle.xr_model.specs.Request.{Request, wait_image, get_boolean, get_float, get_vector, get_pose_active, image_done, is_locked}
+use Rattle.xr_model.specs.Robin.{with_start}
+use Rattle.xr_model.specs.State.{State}
+use Rattle.xr_model.specs.History.{StartsAt}
+use Rattle.xr_serial.specs.Made.{asked}
+use Rattle.xr_types.specs.declared.calls.Actor.TheVariants.{App}
 use Rattle.xr_serial.specs.Sides.{op_mark}
 
 pub built_at : (ops : List Op) (i : ℕ) (d : Op) → list_all is_built_op ops ≡ true → i < length ops → is_built_op (get_or ops i d) ≡ true
@@ -47,3 +53,28 @@ no_start values _ = refl
 pub same_request : (values : List ℕ) (o : Op) → unstarted (request_for values o) ≡ request_for values o
 same_request values (op.CreateInstance major minor) = refl
 same_request values _ = refl
+
+-- ---- a call and the clock at which a wait would begin
+
+-- whether a call is ready isn't decided by that clock yet
+pub ready_started : (s : State) (clock : ℤ) (r : Request) → ready s (asked (App 1) (with_start clock r)) ≡ ready s (asked (App 1) r)
+ready_started s clock (wait_image chain timeout start) = refl
+ready_started s clock _ = refl
+
+-- no wait for an image is built
+pub built_unstarted : (clock : ℤ) (r : Request) → is_built r ≡ true → with_start clock r ≡ r
+built_unstarted clock (wait_image chain timeout start) built = absurd (true≢false (sym built))
+built_unstarted clock _ built = refl
+
+pub built_starts : (clock : ℤ) (r : Request) → is_built r ≡ true → StartsAt clock r
+built_starts clock (wait_image chain timeout start) built = absurd (true≢false (sym built))
+built_starts clock _ built = tt
+
+-- each call that is built is a locked one
+pub built_locked : (r : Request) → is_built r ≡ true → is_locked r ≡ true
+built_locked (get_boolean session action sub) built = absurd (true≢false (sym built))
+built_locked (get_float session action sub) built = absurd (true≢false (sym built))
+built_locked (get_vector session action sub) built = absurd (true≢false (sym built))
+built_locked (get_pose_active session action sub) built = absurd (true≢false (sym built))
+built_locked image_done built = absurd (true≢false (sym built))
+built_locked _ built = refl

@@ -1,5 +1,5 @@
 -- What a run has made, where nobody can go on.
-use Rattle.std.specs.Prelude.{ℕ, Bool, List, [], ◌∷◌, ◌++◌, map, Option, Some, None}
+use Rattle.std.specs.Prelude.{ℕ, pos, Bool, List, [], ◌∷◌, ◌++◌, map, Option, Some, None}
 use Rattle.xr_types.specs.declared.calls.Reply.{Reply}
 use Rattle.xr_types.specs.declared.device.DeviceEvent.{DeviceEvent}
 use Rattle.xr_types.specs.declared.made.Lists.{Lists}
@@ -9,7 +9,7 @@ use Rattle.xr_types.specs.declared.names.CallName.{CallName}
 use Rattle.xr_types.specs.declared.names.CallName.TheVariants as call
 use Rattle.xr_types.specs.declared.scenario.Op.{Op}
 use Rattle.xr_types.specs.Op.{call_name}
-use Rattle.xr_model.specs.Robin.{Seat}
+use Rattle.xr_model.specs.Robin.{Agenda}
 use Rattle.xr_model.specs.Lists.{waiting_of}
 use Rattle.xr_serial.specs.Turns.{Parts, parts_of}
 
@@ -23,10 +23,11 @@ list_if None = []
 list_if (Some one) = one ∷ []
 
 -- in the order of a round
-abbrev pub in_order : Parts → List Seat
+abbrev pub in_order : Parts → List Agenda
 in_order p = p.script ++ p.device ++ p.compositor
 
--- the lists of one script, a device of which nothing more is known, and the compositor
+-- The lists of one script, a device of which nothing more is known, and the compositor. What is told of those that
+-- can't go on doesn't tell the clock.
 abbrev pub lists_at : List Op → ℕ → List ℕ → List Made → Bool → Option DeviceEvent → List DeviceEvent → List Made → Option Reply → Lists
 lists_at ops made names list gone pending events dlist ended = record {
   apps = list ∷ [];
@@ -36,5 +37,5 @@ lists_at ops made names list gone pending events dlist ended = record {
   shown = [];
   done = [];
   events = events;
-  next = map waiting_of (in_order (parts_of ops made names gone pending ended []));
+  next = map waiting_of (in_order (parts_of ops made names (pos 0) gone pending ended []));
 }

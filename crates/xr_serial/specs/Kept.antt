@@ -1,5 +1,5 @@
 -- What the loop of a run keeps from turn to turn.
-use Rattle.std.specs.Prelude.{◌≡◌, ◌≤◌, ℕ, ◌+◌, ◌-◌, Bool, true, false, List, [], ◌∷◌, ◌++◌, length, drop, Option, Some, None, IfSome, is_some, if◌then◌else◌}
+use Rattle.std.specs.Prelude.{◌≡◌, ◌≤◌, ℕ, ℤ, ◌+◌, ◌-◌, Bool, true, false, List, [], ◌∷◌, ◌++◌, length, drop, Option, Some, None, IfSome, is_some, if◌then◌else◌}
 use Rattle.std.specs.List.{list_any}
 use Rattle.xr_types.specs.declared.calls.Gives.TheVariants.{Ended}
 use Rattle.xr_types.specs.declared.calls.Reply.{Reply}
@@ -11,7 +11,7 @@ use Rattle.xr_model.specs.Request as request
 use Rattle.xr_model.specs.Request.{next_frame}
 use Rattle.xr_model.specs.State.{State}
 use Rattle.xr_model.specs.Scripts.{FollowsFrom, Follows, FollowsSoFarFrom, FollowsSoFar}
-use Rattle.xr_model.specs.DeviceText.{Told, Ending}
+use Rattle.xr_model.specs.DeviceText.{DeviceStream, Ending}
 use Rattle.xr_model.specs.Robin.{last_event}
 use Rattle.xr_model.specs.Report.{is_fault}
 use Rattle.xr_model.specs.Lists.{made_from, events_in}
@@ -25,38 +25,38 @@ use Rattle.xr_serial.specs.declared.turn.Turn.{Turn}
 -- ---- the script
 
 -- so many of its ops were made, with these calls, and gave these values
-pub record ScriptKept (ops : List Op) (made : ℕ) (names : List ℕ) (list : List Made) (gone : Bool) (app : List request.Told) : Type 0 where
+pub record ScriptKept (ops : List Op) (made : ℕ) (names : List ℕ) (list : List Made) (gone : Bool) (app : List request.Exchange) : Type 0 where
   pub within : made ≤ length ops
   pub named : length names ≡ length ops
   pub list_is : list ≡ made_from 1 app
   pub count : length app ≡ made + (if gone then 1 else 0)
   pub all : gone ≡ true → made ≡ length ops
-  pub follows : (more : List request.Told) → gone ≡ false → FollowsFrom (made + 1) names (drop made ops) more → Follows ops (app ++ more)
-  pub so_far : (more : List request.Told) → gone ≡ false → FollowsSoFarFrom (made + 1) names (drop made ops) more → FollowsSoFar ops (app ++ more)
+  pub follows : (more : List request.Exchange) → gone ≡ false → FollowsFrom (made + 1) names (drop made ops) more → Follows ops (app ++ more)
+  pub so_far : (more : List request.Exchange) → gone ≡ false → FollowsSoFarFrom (made + 1) names (drop made ops) more → FollowsSoFar ops (app ++ more)
   pub whole : gone ≡ true → Follows ops app
   pub front : gone ≡ true → FollowsSoFar ops app
 
 -- ---- the device
 
 -- The device has given these events so far, and more may come, as it told at the start.
-abbrev pub GivesMore : Option Told → Option Told → List DeviceEvent → Type 0
+abbrev pub GivesMore : Option DeviceStream → Option DeviceStream → List DeviceEvent → Type 0
 GivesMore None now given = Unit {0}
 GivesMore (Some t) None given = ⊥
 GivesMore (Some t) (Some rest) given = t ≡ record { events = given ++ rest.events; ending = rest.ending }
 
 -- Nothing more comes behind these events, but what it does last by its ending.
-pub record GaveAll (told : Option Told) (given closing : List DeviceEvent) (before now : ℕ) : Type 0 where
+pub record GaveAll (told : Option DeviceStream) (given closing : List DeviceEvent) (before now : ℕ) : Type 0 where
   pub ending : Option Ending
   pub gave : Gave told given ending
   pub last : closing ≡ last_event ending
   pub fault : list_any is_fault closing ≡ true → Rose before now
 
-abbrev pub Came : Option Told → Option Told → List DeviceEvent → List DeviceEvent → ℕ → ℕ → Bool → Type 0
+abbrev pub Came : Option DeviceStream → Option DeviceStream → List DeviceEvent → List DeviceEvent → ℕ → ℕ → Bool → Type 0
 Came told now given closing before after true = GaveAll told given closing before after
 Came told now given closing before after false = GivesMore told now given × (closing ≡ [])
 
 -- its calls, and what it has told of which the call isn't made yet
-pub record DeviceKept (pending : Option DeviceEvent) (over : Bool) (events : List DeviceEvent) (list : List Made) (dev : List request.Told) (told now : Option Told) (before after : ℕ) : Type 0 where
+pub record DeviceKept (pending : Option DeviceEvent) (over : Bool) (events : List DeviceEvent) (list : List Made) (dev : List request.Exchange) (told now : Option DeviceStream) (before after : ℕ) : Type 0 where
   pub given : List DeviceEvent
   pub closing : List DeviceEvent
   pub begun : given ++ closing ≡ events_in dev ++ pending_list pending
@@ -68,7 +68,7 @@ pub record DeviceKept (pending : Option DeviceEvent) (over : Bool) (events : Lis
 
 -- ---- the compositor
 
-abbrev pub EndKept : Option Reply → List request.Told → Type 0
+abbrev pub EndKept : Option Reply → List request.Exchange → Type 0
 EndKept None comp = comp ≡ []
 EndKept (Some reply) comp = (comp ≡ told_of next_frame reply [] ∷ []) × (reply.gives ≡ Ended)
 
@@ -80,21 +80,22 @@ work_left ops made gone pending over bound ended =
     (ops - made) + (if gone then 0 else 1) + (if is_some pending then 1 else 0) + (if over then 0 else bound + 1) + (if is_some ended then 0 else 1)
 
 pub record Kept (ops : List Op) (turn : Turn) (idle : ℕ) (s : State) (made : ℕ) (names : List ℕ) (list : List Made) (gone : Bool) (pending : Option DeviceEvent) (over : Bool) (events : List DeviceEvent) (dlist : List Made) (ended : Option Reply)
-    (told now : Option Told) (before after bound : ℕ) : Type 0 where
-  pub app : List request.Told
-  pub dev : List request.Told
-  pub comp : List request.Told
-  pub going : Going ops turn idle s (parts_of ops made names gone pending ended) over (events_in dev ++ pending_list pending) app dev comp
-  pub apps : s.apps ≡ 1
-  pub left : s.left ≡ gone ∷ []
+    (told now : Option DeviceStream) (before after bound : ℕ) : Type 0 where
+  pub app : List request.Exchange
+  pub dev : List request.Exchange
+  pub comp : List request.Exchange
+  pub clock : ℤ
+  pub going : Going ops turn idle s (parts_of ops made names clock gone pending ended) over (events_in dev ++ pending_list pending) app dev comp
+  pub apps : s.core.apps ≡ 1
+  pub left : s.core.left ≡ gone ∷ []
   pub script : ScriptKept ops made names list gone app
   pub device : DeviceKept pending over events dlist dev told now before after
   pub end : EndKept ended comp
   pub later : before ≤ after
-  pub counted : length dlist ≤ s.locked
-  pub work : s.locked + work_left (length ops) made gone pending over bound ended ≤ length ops + 16777216 + 3
+  pub counted : length dlist ≤ s.core.locked
+  pub work : s.core.locked + work_left (length ops) made gone pending over bound ended ≤ length ops + 16777216 + 3
 
 -- the same of a run on its way
-abbrev pub RunKept : List Op → Turn → ℕ → State → Run → Option Told → Option Told → ℕ → ℕ → ℕ → Type 0
+abbrev pub RunKept : List Op → Turn → ℕ → State → Run → Option DeviceStream → Option DeviceStream → ℕ → ℕ → ℕ → Type 0
 RunKept ops turn idle s run told now before after bound =
     Kept ops turn idle s run.script.made run.script.names run.script.list.items run.script.gone run.side.pending run.side.over run.side.events.items run.side.list.items run.ended told now before after bound

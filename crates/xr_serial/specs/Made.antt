@@ -13,7 +13,7 @@ pub record IsMade (old new : State) (who : Actor) (what : Request) (answer : Rep
   pub allowed : IsAllowed old (entry_of who what answer)
   pub is_ready : ready old (entry_of who what answer) ≡ true
   pub leads : new ≡ (step old (entry_of who what answer)).0
-  pub outcome : (step old (entry_of who what answer)).1 ≡ record { reply = answer; text = bytes }
+  pub outcome : (step old (entry_of who what answer)).1 ≡ record { reply = answer; text = bytes; shown = None }
 
 -- the call before it is answered
 abbrev pub asked : Actor → Request → Entry

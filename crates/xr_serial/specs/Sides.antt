@@ -13,7 +13,7 @@ use Rattle.xr_types.specs.declared.calls.Reply.{Reply}
 use Rattle.xr_types.specs.declared.made.Made.{Made}
 use Rattle.xr_types.specs.declared.scenario.Op.{Op}
 use Rattle.xr_types.specs.declared.scenario.Op.TheVariants as op
-use Rattle.xr_model.specs.Request.{Request, leave, device, next_frame, Told}
+use Rattle.xr_model.specs.Request.{Request, leave, device, next_frame, Exchange}
 use Rattle.xr_model.specs.State.{State}
 use Rattle.xr_model.specs.Machine.{ready}
 use Rattle.xr_model.specs.Values.{learned}
@@ -26,8 +26,8 @@ op_mark (op.Await number) = number
 op_mark _ = 0
 
 -- a call and what it came to
-abbrev pub told_of : Request → Reply → List ℕ → Told
-told_of what answer bytes = record { request = what; outcome = record { reply = answer; text = bytes } }
+abbrev pub told_of : Request → Reply → List ℕ → Exchange
+told_of what answer bytes = record { request = what; outcome = record { reply = answer; text = bytes; shown = None } }
 
 -- The call of the next op was made, and it is kept with what it gave.
 pub record OpMade (ops : List Op) (made : ℕ) (names : List ℕ) (list : List Made) (made2 : ℕ) (names2 : List ℕ) (list2 : List Made) (s new : State) : Type 0 where
@@ -72,7 +72,7 @@ pub record IsDone (e : DeviceEvent) : Type 0 where
   pub built : is_built_event e ≡ true
 
 -- What the device was asked for its next event came to: an event, its end, a line that is none, or a fault.
-abbrev pub Fetched : Option device_text.Told → Option device_text.Told → ℕ → ℕ → ℕ → ℕ → Option DeviceEvent → Bool → Type 0
+abbrev pub Fetched : Option device_text.DeviceStream → Option device_text.DeviceStream → ℕ → ℕ → ℕ → ℕ → Option DeviceEvent → Bool → Type 0
 Fetched before after faults faults2 bound bound2 (Some e) false = Tells before after (next.Event e) × IsTold e × (bound2 < bound)
 Fetched before after faults faults2 bound bound2 None true = Tells before after next.End × (bound2 ≤ bound)
 Fetched before after faults faults2 bound bound2 (Some event.Fault) true = Rose faults faults2 × (bound2 ≤ bound)

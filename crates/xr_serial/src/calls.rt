@@ -6,7 +6,7 @@ ghost use Rattle.xr_serial.specs.Made.{Comes};
 ghost use Rattle.xr_serial.specs.Lent.{lent_size, written_size};
 
 use std::alloc::Global;
-use xr_core::Core;
+use xr_core::PlainCore;
 use xr_types::{Actor, Bytes, Call, CallName, Gives, Made, NoMemory, Reply, Step};
 
 /// A reply, and the bytes put into the lent buffer.
@@ -44,15 +44,15 @@ fn written_size(gives: Gives, size: u64) -> u64
 /// Makes a call over a buffer of the size that it asks for, or says by nothing that it has to wait.
 fn make_over(
     alloc: Global,
-    core: &mut Core,
+    core: &mut PlainCore,
     who: Actor,
     call: &Call<'_>,
     buffer: &mut [u8],
 ) -> Result<Option<Answered>, NoMemory>
-    requires calls { core.old.locked < 2 ^ 44 }
+    requires calls { core.old.core.locked < 2 ^ 44 }
     requires caller { IsCaller who (request_of call.now) }
     requires numbers { HasNumbers (request_of call.now) }
-    requires present { IsPresent core.old who }
+    requires present { IsPresent core.old.core who }
     requires size { length buffer.old ≡ lent_size (request_of call.now) }
     ensures { IfOk result (λ answered. Comes core.old core.new who (request_of call.now) answered) }
 {
@@ -69,14 +69,14 @@ fn make_over(
 /// Makes a call, which is lent a buffer of the size that it asks for, or says by nothing that it has to wait.
 pub(crate) fn make(
     alloc: Global,
-    core: &mut Core,
+    core: &mut PlainCore,
     who: Actor,
     call: &Call<'_>,
 ) -> Result<Option<Answered>, NoMemory>
-    requires calls { core.old.locked < 2 ^ 44 }
+    requires calls { core.old.core.locked < 2 ^ 44 }
     requires caller { IsCaller who (request_of call.now) }
     requires numbers { HasNumbers (request_of call.now) }
-    requires present { IsPresent core.old who }
+    requires present { IsPresent core.old.core who }
     ensures { IfOk result (λ answered. Comes core.old core.new who (request_of call.now) answered) }
 {
     let size = lent_size(call) as usize;

@@ -22,7 +22,7 @@ mod turn;
 use crate::lists::lists;
 use crate::rounds::{go_on, start};
 use std::alloc::Global;
-use xr_core::Core;
+use xr_core::PlainCore;
 use xr_device::Device;
 use xr_types::{Lists, NoMemory, Op};
 
@@ -44,7 +44,7 @@ pub fn run<D: Device>(alloc: Global, ops: &[Op], device: &mut D) -> Result<Lists
     ensures later { D.faults device.old ≤ D.faults device.new }
     ensures which { D.which device.new ≡ D.which device.old }
 {
-    let mut core = Core::start(alloc, 1)?;
+    let mut core = PlainCore::start(alloc, 1)?;
     let mut run = start(alloc, ops)?;
     go_on(alloc, &mut core, ops, device, &mut run)?;
     let all = lists(alloc, ops, run)?;

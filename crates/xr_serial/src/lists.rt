@@ -1,5 +1,5 @@
 // What a run has made, as lists.
-ghost use Rattle.std.specs.Prelude.{◌≡◌, ◌<◌, ◌^◌, ◌++◌, [], IfOk, OnOk, map, drop};
+ghost use Rattle.std.specs.Prelude.{◌≡◌, ◌<◌, ◌^◌, ◌++◌, [], IfOk, OnOk, map, drop, pos};
 ghost use Rattle.xr_model.specs.Lists.{waiting_of, mark_awaited};
 ghost use Rattle.xr_serial.specs.Turns.{script_part, device_part, compositor_part, parts_of};
 ghost use Rattle.xr_serial.specs.AtEnd.{next_name, list_if, in_order, lists_at};
@@ -23,7 +23,7 @@ fn next_name(ops: &[Op], made: usize) -> CallName
 /// The script's next call, unless it has left.
 fn script_next(ops: &[Op], script: &Script) -> Option<Waiting>
     requires few { script.now.made < 2 ^ 20 }
-    ensures { list_if result ≡ map waiting_of (script_part ops.now script.now.made script.now.names script.now.gone) }
+    ensures { list_if result ≡ map waiting_of (script_part ops.now script.now.made script.now.names (pos 0) script.now.gone) }
 {
     if script.gone {
         return None;
@@ -87,7 +87,7 @@ fn add_next(list: &mut Vec<Waiting>, next: Option<Waiting>) -> Result<(), NoMemo
 /// The next calls of those that have not finished, in the order of a round.
 fn waiting(alloc: Global, ops: &[Op], run: &Run) -> Result<Vec<Waiting>, NoMemory>
     requires few { run.now.script.made < 2 ^ 20 }
-    ensures { IfOk result (λ next. next.items ≡ map waiting_of (in_order (parts_of ops.now run.now.script.made run.now.script.names run.now.script.gone run.now.side.pending run.now.ended []))) }
+    ensures { IfOk result (λ next. next.items ≡ map waiting_of (in_order (parts_of ops.now run.now.script.made run.now.script.names (pos 0) run.now.script.gone run.now.side.pending run.now.ended []))) }
 {
     let mut next = Vec::new(alloc);
     add_next(&mut next, script_next(ops, &run.script))?;

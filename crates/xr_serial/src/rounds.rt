@@ -4,8 +4,8 @@ ghost use Rattle.std.specs.List.{list_all};
 ghost use Rattle.xr_types.specs.declared.scenario.Op.{Op};
 ghost use Rattle.xr_model.specs.Built.{is_built_op};
 ghost use Rattle.xr_model.specs.InForm.{IsInForm};
-ghost use Rattle.xr_model.specs.DeviceText.{Told};
-ghost use Rattle.xr_model.specs.State.{opening};
+ghost use Rattle.xr_model.specs.DeviceText.{DeviceStream};
+ghost use Rattle.xr_model.specs.State.{with_apps, opening};
 ghost use Rattle.xr_serial.specs.Sides.{IsDone, EndTurn};
 ghost use Rattle.xr_serial.specs.Turns.{turn_behind};
 ghost use Rattle.xr_serial.specs.Kept.{RunKept};
@@ -16,7 +16,7 @@ use crate::side::{Side, look, make_event};
 use crate::turn::Turn;
 use std::alloc::Global;
 use xr_calls::{Names, Scratch};
-use xr_core::Core;
+use xr_core::PlainCore;
 use xr_device::Device;
 use xr_types::{Actor, Call, NoMemory, Op, Reply};
 
@@ -33,8 +33,8 @@ const ALL: u8 = 3;
 
 /// A run before its first call.
 pub(crate) fn start(alloc: Global, ops: &[Op]) -> Result<Run, NoMemory>
-    ensures { IfOk result (λ run. (told : Option Told) (faults bound : ℕ) → bound ≤ 16777216
-        → RunKept ops.now Turn.Script 0 (opening 1) run told told faults faults bound) }
+    ensures { IfOk result (λ run. (told : Option DeviceStream) (faults bound : ℕ) → bound ≤ 16777216
+        → RunKept ops.now Turn.Script 0 (opening (with_apps 1)) run told told faults faults bound) }
 {
     let names = Names::start(alloc, ops.len())?;
     let script = Script {
@@ -60,24 +60,24 @@ pub(crate) fn start(alloc: Global, ops: &[Op]) -> Result<Run, NoMemory>
 /// The script's turn; whether it made a call.
 fn script_turn(
     alloc: Global,
-    core: &mut Core,
+    core: &mut PlainCore,
     ops: &[Op],
     run: &mut Run,
     idle: u8,
 ) -> Result<bool, NoMemory>
-    requires calls { core.old.locked < 2 ^ 44 }
-    requires apps { core.old.apps ≡ 1 }
-    requires left { core.old.left ≡ run.old.script.gone ∷ [] }
+    requires calls { core.old.core.locked < 2 ^ 44 }
+    requires apps { core.old.core.apps ≡ 1 }
+    requires left { core.old.core.left ≡ run.old.script.gone ∷ [] }
     requires few { length ops.now < 2 ^ 20 }
     requires formed { IsInForm ops.now }
     requires built { list_all is_built_op ops.now ≡ true }
     requires within { run.old.script.made ≤ length ops.now }
     requires names { length run.old.script.names ≡ length ops.now }
     requires idle { idle < 3 }
-    ensures kept { IfOk result (λ went. (told now : Option Told) (before after bound : ℕ)
+    ensures kept { IfOk result (λ went. (told now : Option DeviceStream) (before after bound : ℕ)
         → RunKept ops.now Turn.Script idle core.old run.old told now before after bound
         → RunKept ops.now Turn.Device (if went then 0 else idle + 1) core.new run.new told now before after bound) }
-    ensures counts { IfOk result (λ went. core.new.locked ≡ core.old.locked + (if went then 1 else 0)) }
+    ensures counts { IfOk result (λ went. core.new.core.locked ≡ core.old.core.locked + (if went then 1 else 0)) }
 {
     if run.script.gone {
         return Ok(false);
@@ -93,20 +93,20 @@ fn script_turn(
 /// The device's turn; whether it made a call.
 fn device_turn<D: Device>(
     alloc: Global,
-    core: &mut Core,
+    core: &mut PlainCore,
     ops: &[Op],
     device: &mut D,
     run: &mut Run,
     idle: u8,
 ) -> Result<bool, NoMemory>
-    requires calls { core.old.locked < 2 ^ 44 }
+    requires calls { core.old.core.locked < 2 ^ 44 }
     requires done { IfSome run.old.side.pending IsDone }
     requires few { length run.old.side.list.items < 2 ^ 31 }
     requires idle { idle < 3 }
-    ensures kept { IfOk result (λ went. (told : Option Told) (before : ℕ)
+    ensures kept { IfOk result (λ went. (told : Option DeviceStream) (before : ℕ)
         → RunKept ops.now Turn.Device idle core.old run.old told (D.told device.old) before (D.faults device.old) (D.bound device.old)
         → RunKept ops.now Turn.Compositor (if went then 0 else idle + 1) core.new run.new told (D.told device.new) before (D.faults device.new) (D.bound device.new)) }
-    ensures counts { IfOk result (λ went. core.new.locked ≡ core.old.locked + (if went then 1 else 0)) }
+    ensures counts { IfOk result (λ went. core.new.core.locked ≡ core.old.core.locked + (if went then 1 else 0)) }
     ensures later { D.faults device.old ≤ D.faults device.new }
     ensures which { D.which device.new ≡ D.which device.old }
 {
@@ -119,8 +119,8 @@ fn device_turn<D: Device>(
 }
 
 /// The compositor asks for a frame and is told the end, unless it has to wait; whether it was told.
-fn end(alloc: Global, core: &mut Core, ended: &mut Option<Reply>) -> Result<bool, NoMemory>
-    requires calls { core.old.locked < 2 ^ 44 }
+fn end(alloc: Global, core: &mut PlainCore, ended: &mut Option<Reply>) -> Result<bool, NoMemory>
+    requires calls { core.old.core.locked < 2 ^ 44 }
     requires open { ended.old ≡ None }
     ensures { IfOk result (λ went. EndTurn ended.new core.old core.new went) }
 {
@@ -134,17 +134,17 @@ fn end(alloc: Global, core: &mut Core, ended: &mut Option<Reply>) -> Result<bool
 /// The compositor's turn; whether it made a call.
 fn compositor_turn(
     alloc: Global,
-    core: &mut Core,
+    core: &mut PlainCore,
     ops: &[Op],
     run: &mut Run,
     idle: u8,
 ) -> Result<bool, NoMemory>
-    requires calls { core.old.locked < 2 ^ 44 }
+    requires calls { core.old.core.locked < 2 ^ 44 }
     requires idle { idle < 3 }
-    ensures kept { IfOk result (λ went. (told now : Option Told) (before after bound : ℕ)
+    ensures kept { IfOk result (λ went. (told now : Option DeviceStream) (before after bound : ℕ)
         → RunKept ops.now Turn.Compositor idle core.old run.old told now before after bound
         → RunKept ops.now Turn.Script (if went then 0 else idle + 1) core.new run.new told now before after bound) }
-    ensures counts { IfOk result (λ went. core.new.locked ≡ core.old.locked + (if went then 1 else 0)) }
+    ensures counts { IfOk result (λ went. core.new.core.locked ≡ core.old.core.locked + (if went then 1 else 0)) }
 {
     if run.ended.is_some() {
         return Ok(false);
@@ -156,16 +156,16 @@ fn compositor_turn(
 /// One turn; whether a call was made.
 fn one_turn<D: Device>(
     alloc: Global,
-    core: &mut Core,
+    core: &mut PlainCore,
     ops: &[Op],
     device: &mut D,
     run: &mut Run,
     turn: Turn,
     idle: u8,
 ) -> Result<bool, NoMemory>
-    requires calls { core.old.locked < 2 ^ 44 }
-    requires apps { core.old.apps ≡ 1 }
-    requires left { core.old.left ≡ run.old.script.gone ∷ [] }
+    requires calls { core.old.core.locked < 2 ^ 44 }
+    requires apps { core.old.core.apps ≡ 1 }
+    requires left { core.old.core.left ≡ run.old.script.gone ∷ [] }
     requires few { length ops.now < 2 ^ 20 }
     requires formed { IsInForm ops.now }
     requires built { list_all is_built_op ops.now ≡ true }
@@ -174,10 +174,10 @@ fn one_turn<D: Device>(
     requires done { IfSome run.old.side.pending IsDone }
     requires fewer { length run.old.side.list.items < 2 ^ 31 }
     requires idle { idle < 3 }
-    ensures kept { IfOk result (λ went. (told : Option Told) (before : ℕ)
+    ensures kept { IfOk result (λ went. (told : Option DeviceStream) (before : ℕ)
         → RunKept ops.now turn idle core.old run.old told (D.told device.old) before (D.faults device.old) (D.bound device.old)
         → RunKept ops.now (turn_behind turn) (if went then 0 else idle + 1) core.new run.new told (D.told device.new) before (D.faults device.new) (D.bound device.new)) }
-    ensures counts { IfOk result (λ went. core.new.locked ≡ core.old.locked + (if went then 1 else 0)) }
+    ensures counts { IfOk result (λ went. core.new.core.locked ≡ core.old.core.locked + (if went then 1 else 0)) }
     ensures later { D.faults device.old ≤ D.faults device.new }
     ensures which { D.which device.new ≡ D.which device.old }
 {
@@ -191,7 +191,7 @@ fn one_turn<D: Device>(
 /// Goes on turn by turn, until no unfinished actor can make its call.
 pub(crate) fn go_on<D: Device>(
     alloc: Global,
-    core: &mut Core,
+    core: &mut PlainCore,
     ops: &[Op],
     device: &mut D,
     run: &mut Run,
@@ -199,8 +199,8 @@ pub(crate) fn go_on<D: Device>(
     requires few { length ops.now < 2 ^ 20 }
     requires formed { IsInForm ops.now }
     requires built { list_all is_built_op ops.now ≡ true }
-    requires kept { (told : Option Told) × (before : ℕ) × RunKept ops.now Turn.Script 0 core.old run.old told (D.told device.old) before (D.faults device.old) (D.bound device.old) }
-    ensures kept { OnOk result ((told : Option Told) (before : ℕ)
+    requires kept { (told : Option DeviceStream) × (before : ℕ) × RunKept ops.now Turn.Script 0 core.old run.old told (D.told device.old) before (D.faults device.old) (D.bound device.old) }
+    ensures kept { OnOk result ((told : Option DeviceStream) (before : ℕ)
         → RunKept ops.now Turn.Script 0 core.old run.old told (D.told device.old) before (D.faults device.old) (D.bound device.old)
         → (turn : Turn) × RunKept ops.now turn 3 core.new run.new told (D.told device.new) before (D.faults device.new) (D.bound device.new)) }
     ensures later { D.faults device.old ≤ D.faults device.new }

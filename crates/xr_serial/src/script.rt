@@ -10,7 +10,7 @@ ghost use Rattle.xr_serial.specs.Sides.{op_mark, OpTurn, Leaves};
 use crate::calls::{add, make};
 use std::alloc::Global;
 use xr_calls::{Names, Scratch, call_of};
-use xr_core::Core;
+use xr_core::PlainCore;
 use xr_types::{Actor, Call, CallName, Made, NoMemory, Op};
 
 /// A script on its way: how many of its ops were made, what they gave to its names, their calls, and whether it has
@@ -37,12 +37,12 @@ fn op_mark(op: &Op) -> u8
 /// Makes the call of the script's next op, unless it has to wait; whether it was made.
 pub(crate) fn make_op(
     alloc: Global,
-    core: &mut Core,
+    core: &mut PlainCore,
     ops: &[Op],
     script: &mut Script,
 ) -> Result<bool, NoMemory>
-    requires calls { core.old.locked < 2 ^ 44 }
-    requires present { IsPresent core.old (App 1) }
+    requires calls { core.old.core.locked < 2 ^ 44 }
+    requires present { IsPresent core.old.core (App 1) }
     requires few { length ops.now < 2 ^ 20 }
     requires formed { IsInForm ops.now }
     requires built { list_all is_built_op ops.now ≡ true }
@@ -64,9 +64,13 @@ pub(crate) fn make_op(
 }
 
 /// The script leaves, once all its ops are made.
-pub(crate) fn leave(alloc: Global, core: &mut Core, script: &mut Script) -> Result<(), NoMemory>
-    requires calls { core.old.locked < 2 ^ 44 }
-    requires present { IsPresent core.old (App 1) }
+pub(crate) fn leave(
+    alloc: Global,
+    core: &mut PlainCore,
+    script: &mut Script,
+) -> Result<(), NoMemory>
+    requires calls { core.old.core.locked < 2 ^ 44 }
+    requires present { IsPresent core.old.core (App 1) }
     requires few { script.old.made < 2 ^ 20 }
     ensures { OnOk result (Leaves script.old.made script.old.names script.old.list.items script.new.made script.new.names script.new.list.items script.new.gone core.old core.new) }
 {

@@ -4,14 +4,14 @@ ghost use Rattle.xr_types.specs.declared.calls.Reply.{Reply};
 ghost use Rattle.xr_types.specs.declared.made.Made.{Made};
 ghost use Rattle.xr_types.specs.declared.scenario.Op.{Op};
 ghost use Rattle.xr_model.specs.State.{State};
-ghost use Rattle.xr_model.specs.DeviceText.{Told};
+ghost use Rattle.xr_model.specs.DeviceText.{DeviceStream};
 ghost use Rattle.xr_serial.specs.Sides.{IsDone, Fetched, EventTurn};
 ghost use Rattle.xr_serial.specs.Kept.{Kept};
 
 use crate::calls::{add, make};
 use crate::turn::Turn;
 use std::alloc::Global;
-use xr_core::Core;
+use xr_core::PlainCore;
 use xr_device::{Device, Next};
 use xr_types::{Actor, Call, CallName, DeviceEvent, Made, NoMemory};
 
@@ -52,7 +52,7 @@ fn fetch<D: Device>(device: &mut D, side: &mut Side)
 /// Asks the device what comes next, where that isn't known and more may come.
 pub(crate) fn look<D: Device>(device: &mut D, side: &mut Side)
     requires done { IfSome side.old.pending IsDone }
-    ensures kept { (ops : List Op) (idle : ℕ) (s : State) (made : ℕ) (names : List ℕ) (list : List Made) (gone : Bool) (ended : Option Reply) (told : Option Told) (before : ℕ) → idle < 3
+    ensures kept { (ops : List Op) (idle : ℕ) (s : State) (made : ℕ) (names : List ℕ) (list : List Made) (gone : Bool) (ended : Option Reply) (told : Option DeviceStream) (before : ℕ) → idle < 3
         → Kept ops Turn.Device idle s made names list gone side.old.pending side.old.over side.old.events.items side.old.list.items ended told (D.told device.old) before (D.faults device.old) (D.bound device.old)
         → Kept ops Turn.Device idle s made names list gone side.new.pending side.new.over side.new.events.items side.new.list.items ended told (D.told device.new) before (D.faults device.new) (D.bound device.new) }
     ensures known { side.new.pending ≡ None → side.new.over ≡ true }
@@ -69,11 +69,11 @@ pub(crate) fn look<D: Device>(device: &mut D, side: &mut Side)
 /// Makes the call of the device's next event, unless it has to wait; whether it was made.
 pub(crate) fn make_event(
     alloc: Global,
-    core: &mut Core,
+    core: &mut PlainCore,
     side: &mut Side,
     event: DeviceEvent,
 ) -> Result<bool, NoMemory>
-    requires calls { core.old.locked < 2 ^ 44 }
+    requires calls { core.old.core.locked < 2 ^ 44 }
     requires next { side.old.pending ≡ Some event }
     requires done { IsDone event }
     requires few { length side.old.list.items < 2 ^ 31 }

@@ -13,7 +13,7 @@ use xr_types::{Code, SessionState, ViewConfig, Wish};
 /// A session, seen by contracts as its life: its state, whether it was begun and not ended, whether the
 /// application has asked for its end, and whether the device is lost. What changes a session tells each
 /// state that it goes through, and leaves it where no row of the table of states fits.
-#[derive(Drop)]
+#[derive(Default, Drop)]
 pub struct Session {
     state: SessionState,
     running: bool,

@@ -53,6 +53,16 @@ is_success SessionLossPending = true
 is_success FrameDiscarded = true
 is_success _ = false
 
+-- the call was refused: its result is one of those that the standard names XR_ERROR_..
+abbrev pub is_error : Code → Bool
+is_error Success = false
+is_error TimeoutExpired = false
+is_error SessionLossPending = false
+is_error EventUnavailable = false
+is_error SessionNotFocused = false
+is_error FrameDiscarded = false
+is_error _ = true
+
 -- memory was short
 abbrev pub is_out_of_memory : Code → Bool
 is_out_of_memory OutOfMemory = true

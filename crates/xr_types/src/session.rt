@@ -5,8 +5,9 @@ ghost use Rattle.xr_types.specs.Printed.{state_name};
 use std::fmt;
 
 /// The state of a session (OpenXR 1.0 chapter 9, XrSessionState).
-#[derive(Clone, Copy, PartialEq, Eq)]
+#[derive(Clone, Copy, Default, PartialEq, Eq)]
 pub enum SessionState {
+    #[default]
     Idle,
     Ready,
     Synchronized,

@@ -18,17 +18,10 @@ impl Core {
         ensures { self.new ≡ behind_event self.old event }
     {
         match event {
-            DeviceEvent::Clock(time) => {
-                if self.clock <= time {
-                    self.clock = time;
-                }
-            }
-            DeviceEvent::Grid { base, period } => {
-                self.base = base;
-                self.period = period;
-            }
+            DeviceEvent::Clock(time) => self.device.advance(time),
+            DeviceEvent::Grid { base, period } => self.device.set_grid(base, period),
             DeviceEvent::Wish(wish) => {
-                self.wish = wish;
+                self.device.set_wish(wish);
                 self.change_all(Change::Settle(wish));
             }
             DeviceEvent::Loss => self.change_all(Change::Loss),
@@ -50,7 +43,7 @@ impl Core {
         }
     }
 
-    pub(crate) fn device(&mut self, event: DeviceEvent) -> Reply
+    pub(crate) fn device_event(&mut self, event: DeviceEvent) -> Reply
         requires calls { self.old.locked < 2 ^ 44 }
         requires checks { checks event ≡ true }
         requires built { is_built_event event ≡ true }

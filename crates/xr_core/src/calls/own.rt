@@ -2,10 +2,11 @@
 ghost use Rattle.std.specs.Prelude.{◌≡◌, ◌<◌, ◌^◌, [], true, Some};
 ghost use Rattle.std.specs.List.{list_all};
 ghost use Rattle.xr_types.specs.Device.{is_mark};
+ghost use Rattle.xr_model.specs.State.{CellReads};
 ghost use Rattle.xr_model.specs.Marks.{mark_at, with_mark};
 ghost use Rattle.xr_model.specs.Request as request;
 ghost use Rattle.xr_model.specs.Request.{leave, next_frame};
-ghost use Rattle.xr_model.specs.Machine.{Answers, IsPresent};
+ghost use Rattle.xr_model.specs.Machine.{CoreAnswers, IsPresent};
 ghost use Rattle.xr_model.specs.Request.{entry_of};
 ghost use Rattle.xr_core.specs.Calls.{Makes};
 
@@ -17,7 +18,7 @@ impl Core {
     pub(crate) fn leave(&mut self, app: u8) -> Reply
         requires calls { self.old.locked < 2 ^ 44 }
         requires present { IsPresent self.old (Actor.App app) }
-        ensures { Answers self.old (entry_of (Actor.App app) leave result) self.new result [] [] }
+        ensures { (reads : CellReads) → CoreAnswers reads self.old (entry_of (Actor.App app) leave result) self.new result [] [] }
     {
         let place = app as usize - 1;
         self.left[place] = true;

@@ -1,11 +1,18 @@
 // The calls on sessions (OpenXR 1.0 chapter 9).
-ghost use Rattle.std.specs.Prelude.{◌<◌, ◌^◌, []};
-ghost use Rattle.xr_model.specs.Request.{create_session, destroy_session, begin_session, end_session, request_exit_session};
+ghost use Rattle.std.specs.Prelude.{◌≡◌, ◌≢◌, ◌<◌, ◌+◌, ◌^◌, [], length, true, false, Some};
+ghost use Rattle.xr_types.specs.declared.handles.TheConstants.{SESSIONS};
+ghost use Rattle.xr_model.specs.Handles.{has_room, was_given};
+ghost use Rattle.xr_model.specs.Request.{create_session, destroy_session, given_by};
+ghost use Rattle.xr_model.specs.SessionRule.{code_on};
+ghost use Rattle.xr_model.specs.States.{started};
+ghost use Rattle.xr_model.specs.Steps.Session.{life_of, with_session};
 ghost use Rattle.xr_core.specs.Calls.{Makes};
+ghost use Rattle.xr_core.specs.Changes.{place_at, life_request, changed_life, answer_to};
 
 use crate::Core;
 use crate::calls::instance::SYSTEM;
-use xr_types::{Code, Gives, Kind, Reply, ViewConfig};
+use crate::sessions::{LifeCall, LiveSession, change_life, place_of, success_of};
+use xr_types::{Code, Gives, Kind, Reply};
 
 impl Core {
     pub(crate) fn create_session(&mut self, instance: u64, system: u64) -> Reply
@@ -18,10 +25,10 @@ impl Core {
         if system != SYSTEM {
             return self.refused(Code::SystemInvalid);
         }
-        let Some(place) = self.handles.free_place(Kind::Session) else {
+        if self.handles.free_place(Kind::Session).is_none() {
             return self.refused(Code::LimitReached);
-        };
-        self.give_session(place, instance)
+        }
+        self.give_session(instance)
     }
 
     pub(crate) fn destroy_session(&mut self, session: u64) -> Reply
@@ -35,45 +42,60 @@ impl Core {
         self.answered(Code::Success, Gives::Nothing)
     }
 
-    pub(crate) fn begin_session(&mut self, session: u64, view: ViewConfig) -> Reply
-        requires { self.old.locked < 2 ^ 44 }
-        ensures { Makes self.old (begin_session session view) self.new result [] }
+    /// Gives the handle of a new session, where there is room for one.
+    fn give_session(&mut self, instance: u64) -> Reply
+        requires calls { self.old.locked < 2 ^ 44 }
+        requires room { has_room self.old.handles Kind.Session ≡ true }
+        requires row { length self.old.handles.sessions ≡ SESSIONS }
+        ensures kept { self.new ≡ record (with_session self.old instance (given_by result.gives) (started self.old.device.wish)) { locked = self.old.locked + 1 } }
+        ensures reply { result ≡ record { code = Code.Success; gives = Gives.Handle (given_by result.gives); place = self.old.locked + 1 } }
+        ensures fresh { (given_by result.gives ≢ 0) × (was_given self.old.handles (given_by result.gives) ≡ false) }
     {
-        let Some(place) = self.handles.place_among(Kind::Session, session) else {
-            return self.refused(Code::HandleInvalid);
-        };
-        let success = self.success_at(place);
-        let code = self.begin_at(place, session, view);
-        if code != Code::Success {
-            return self.refused(code);
+        let answer = self.handles.give(Kind::Session, instance);
+        self.created += 1;
+        let session = LiveSession::create(
+            answer.number,
+            self.created,
+            self.device.wish(),
+            &mut self.events,
+        );
+        self.sessions.push(session);
+        self.calls += 1;
+        Reply {
+            code: Code::Success,
+            gives: Gives::Handle(answer.number),
+            place: self.calls,
         }
-        self.answered(success, Gives::Nothing)
     }
 
-    pub(crate) fn end_session(&mut self, session: u64) -> Reply
-        requires { self.old.locked < 2 ^ 44 }
-        ensures { Makes self.old (end_session session) self.new result [] }
+    /// Makes the call of the session in a place.
+    fn change_life_at(&mut self, session: u64, place: usize, call: LifeCall) -> Code
+        requires found { place_at self.old.sessions session ≡ Some place }
+        requires within { place < length self.old.sessions }
+        ensures kept { self.new ≡ changed_life self.old session call }
+        ensures code { result ≡ answer_to call (life_of self.old session) }
+        ensures calls { self.new.locked ≡ self.old.locked }
     {
-        let Some(place) = self.handles.place_among(Kind::Session, session) else {
-            return self.refused(Code::HandleInvalid);
-        };
-        let success = self.success_at(place);
-        let code = self.end_at(place, session);
-        if code != Code::Success {
-            return self.refused(code);
-        }
-        self.answered(success, Gives::Nothing)
+        change_life(
+            &mut self.sessions,
+            session,
+            place,
+            call,
+            self.device.wish(),
+            &mut self.events,
+        )
     }
 
-    pub(crate) fn request_exit_session(&mut self, session: u64) -> Reply
+    /// Begins a session, ends it, or asks for its end.
+    pub(crate) fn change_life(&mut self, session: u64, call: LifeCall) -> Reply
         requires { self.old.locked < 2 ^ 44 }
-        ensures { Makes self.old (request_exit_session session) self.new result [] }
+        ensures { Makes self.old (life_request session call) self.new result [] }
     {
-        let Some(place) = self.handles.place_among(Kind::Session, session) else {
+        let Some(place) = place_of(self.sessions.as_slice(), session) else {
             return self.refused(Code::HandleInvalid);
         };
-        let success = self.success_at(place);
-        let code = self.request_exit_at(place, session);
+        let success = success_of(self.sessions.as_slice(), session, place);
+        let code = self.change_life_at(session, place, call);
         if code != Code::Success {
             return self.refused(code);
         }

@@ -1,38 +1,27 @@
 -- What happens at the device. Its events are this project's own and no statement about the standard.
-use Rattle.xr_types.specs.declared.handles.TheConstants.{SESSIONS}
-use Rattle.std.specs.Prelude.{zero, suc, ℕ, ℤ, ◌==◌, int_le, false, [], if◌then◌else◌}
+use Rattle.std.specs.Prelude.{ℤ, int_le, false, [], if◌then◌else◌}
 use Rattle.xr_types.specs.declared.device.DeviceEvent.{DeviceEvent}
 use Rattle.xr_types.specs.declared.device.DeviceEvent.TheVariants as event
 use Rattle.xr_types.specs.declared.calls.Gives.TheVariants.{Nothing}
 use Rattle.xr_model.specs.States.{Life, Changed, unchanged, settled, losing, lost}
-use Rattle.xr_model.specs.Handles.{handle_in}
-use Rattle.xr_model.specs.Sessions.{session_in}
-use Rattle.xr_model.specs.Steps.Session.{changed_at}
+use Rattle.xr_model.specs.Sessions.{each_changed, told_changes}
 use Rattle.xr_model.specs.Marks.{with_mark}
-use Rattle.xr_model.specs.State.{State}
+use Rattle.xr_model.specs.State.{CoreState}
 use Rattle.xr_model.specs.Rules.{Rule, done}
 
 abbrev pub later_of : ℤ → ℤ → ℤ
 later_of a b = if int_le a b then b else a
 
--- The live sessions of the first places change so, in the order of their places, and what they go through is
--- told.
-abbrev pub with_changes_to : State → (Life → Changed) → ℕ → State
-with_changes_to s f zero = s
-with_changes_to s f (suc n) =
-    let t = with_changes_to s f n in
-    if handle_in t.handles.sessions n == 0 then t else changed_at t n (handle_in t.handles.sessions n) (f (session_in t.sessions n).life)
-
--- all live sessions do
-abbrev pub with_changes : State → (Life → Changed) → State
-with_changes s f = with_changes_to s f SESSIONS
+-- the live sessions change so, in the order of their creation, and what they go through is told
+abbrev pub with_changes : CoreState → (Life → Changed) → CoreState
+with_changes s f = record s { sessions = each_changed f s.sessions; events = told_changes s.events f s.sessions }
 
 -- each live session answers its calls by the loss from now on; nothing is told
-abbrev pub with_lost : State → State
+abbrev pub with_lost : CoreState → CoreState
 with_lost s = with_changes s (λ life. unchanged (lost life))
 
 -- The state behind an event. A mark of the device has the value 0, and its waiting for one changes nothing.
-abbrev pub behind_event : State → DeviceEvent → State
+abbrev pub behind_event : CoreState → DeviceEvent → CoreState
 behind_event s (event.Clock time) = record s { device = record s.device { clock = later_of s.device.clock time } }
 behind_event s (event.Grid base period) = record s { device = record s.device { base = base; period = period } }
 behind_event s (event.Wish wish) = with_changes (record s { device = record s.device { wish = wish } }) (settled wish)
@@ -43,5 +32,5 @@ behind_event s event.Fault = with_lost s
 behind_event s (event.Garbled line) = with_lost s
 behind_event s _ = s
 
-abbrev pub device_rule : State → DeviceEvent → Rule
+abbrev pub device_rule : CoreState → DeviceEvent → Rule
 device_rule s what = record { before = []; disorder = false; behind = []; effect = done (behind_event s what) Nothing }

@@ -7,14 +7,15 @@ use Rattle.xr_types.specs.declared.handles.Kind.TheVariants.{Instance}
 use Rattle.xr_types.specs.declared.session.Event as event
 use Rattle.xr_types.specs.declared.session.Form.{Form}
 use Rattle.xr_types.specs.declared.session.Form.TheVariants.{Head, Hand}
-use Rattle.xr_model.specs.Handles.{no_handle, no_room, with_handle, without, gone}
+use Rattle.xr_model.specs.Handles.{no_handle, no_room, with_handle, gone}
 use Rattle.xr_model.specs.Events.{no_events, polled, behind_poll}
 use Rattle.xr_model.specs.Refusals.{when}
-use Rattle.xr_model.specs.State.{State}
+use Rattle.xr_model.specs.State.{CoreState}
+use Rattle.xr_model.specs.Destroyed.{without_handle}
 use Rattle.xr_model.specs.Rules.{Rule, done, destroying}
 
 -- xrCreateInstance (section 4.2): version 1.0 alone, and one instance at a time
-abbrev pub create_instance_rule : State → ℕ → ℕ → ℕ → Rule
+abbrev pub create_instance_rule : CoreState → ℕ → ℕ → ℕ → Rule
 create_instance_rule s given major minor = record {
   before = [];
   disorder = false;
@@ -24,12 +25,12 @@ create_instance_rule s given major minor = record {
 
 -- xrDestroyInstance (section 4.2): all below the instance goes, and its atoms, events and count of lost
 -- events with it
-abbrev pub destroy_instance_rule : State → ℕ → Rule
+abbrev pub destroy_instance_rule : CoreState → ℕ → Rule
 destroy_instance_rule s instance = record {
   before = no_handle s.handles Instance instance ∷ [];
   disorder = false;
   behind = [];
-  effect = destroying (record s { handles = without s.handles instance; atoms = []; events = no_events }) (gone s.handles instance);
+  effect = destroying (record (without_handle s instance) { atoms = []; events = no_events }) (gone s.handles instance);
 }
 
 -- the one system of a runtime
@@ -41,7 +42,7 @@ is_head Head = true
 is_head Hand = false
 
 -- xrGetSystem (chapter 5): there is a system for the head alone
-abbrev pub get_system_rule : State → ℕ → Form → Rule
+abbrev pub get_system_rule : CoreState → ℕ → Form → Rule
 get_system_rule s instance form = record {
   before = no_handle s.handles Instance instance ∷ [];
   disorder = false;
@@ -55,7 +56,7 @@ told_event None = Nothing
 told_event (Some e) = Event e
 
 -- xrPollEvent (chapter 2): no event is no success, and changes nothing
-abbrev pub poll_event_rule : State → ℕ → Rule
+abbrev pub poll_event_rule : CoreState → ℕ → Rule
 poll_event_rule s instance = record {
   before = no_handle s.handles Instance instance ∷ [];
   disorder = false;

@@ -4,11 +4,11 @@ use Rattle.xr_types.specs.declared.calls.Gives.TheVariants.{Number, Size}
 use Rattle.xr_types.specs.declared.handles.Kind.TheVariants.{Instance}
 use Rattle.xr_model.specs.Handles.{no_handle}
 use Rattle.xr_model.specs.Paths.{intern_refusals, with_text, atom_of, text_at, copy_refusals, copied, size_at}
-use Rattle.xr_model.specs.State.{State}
+use Rattle.xr_model.specs.State.{CoreState}
 use Rattle.xr_model.specs.Rules.{Rule, done, done_writing}
 
 -- xrStringToPath
-abbrev pub string_to_path_rule : State → Bool → ℕ → List ℕ → Rule
+abbrev pub string_to_path_rule : CoreState → Bool → ℕ → List ℕ → Rule
 string_to_path_rule s short instance text = record {
   before = no_handle s.handles Instance instance ∷ [];
   disorder = false;
@@ -17,7 +17,7 @@ string_to_path_rule s short instance text = record {
 }
 
 -- xrPathToString
-abbrev pub path_to_string_rule : State → ℕ → ℕ → ℕ → Rule
+abbrev pub path_to_string_rule : CoreState → ℕ → ℕ → ℕ → Rule
 path_to_string_rule s instance path capacity = record {
   before = no_handle s.handles Instance instance ∷ [];
   disorder = false;

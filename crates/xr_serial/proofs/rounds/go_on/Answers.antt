@@ -36,10 +36,10 @@ one_turn-requires-clause-fewer g c =
 pub loop-idle-smaller : goal.loop-idle-smaller
 loop-idle-smaller g c =
     let work = (c.in_ok-went.ensures.kept c.requires.kept.0 c.requires.kept.1 (c.loop-idle.invariant.kept c.requires.kept.0 c.requires.kept.1 c.requires.kept.2)).work in
-    let within : c.one_turn.new.core.locked ≤ length c.args.ops.now + 16777216 + 3 = omega (arith, work) in
+    let within : c.one_turn.new.core.core.locked ≤ length c.args.ops.now + 16777216 + 3 = omega (arith, work) in
     elim c.if-went.branch [
-      | then-went w ↦ made_less (length c.args.ops.now + 16777216 + 3) c.loop-idle.core.locked c.one_turn.new.core.locked c.loop-idle.idle c.if-went.idle (c.in_ok-went.ensures.counts ∙ rw w.if-went.true refl) within w.idle-is
-      | else-went w ↦ passed_less (length c.args.ops.now + 16777216 + 3) c.loop-idle.core.locked c.one_turn.new.core.locked c.loop-idle.idle c.if-went.idle (c.in_ok-went.ensures.counts ∙ rw w.if-went.false refl) w.idle-is c.loop-idle-test.true
+      | then-went w ↦ made_less (length c.args.ops.now + 16777216 + 3) c.loop-idle.core.core.locked c.one_turn.new.core.core.locked c.loop-idle.idle c.if-went.idle (c.in_ok-went.ensures.counts ∙ rw w.if-went.true refl) within w.idle-is
+      | else-went w ↦ passed_less (length c.args.ops.now + 16777216 + 3) c.loop-idle.core.core.locked c.one_turn.new.core.core.locked c.loop-idle.idle c.if-went.idle (c.in_ok-went.ensures.counts ∙ rw w.if-went.false refl) w.idle-is c.loop-idle-test.true
     ]
 
 pub loop-idle-preserved : goal.loop-idle-preserved

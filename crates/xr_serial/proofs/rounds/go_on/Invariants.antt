@@ -1,5 +1,5 @@
 use Rattle.std.proofs.Common.{◌-◌, ◌≡◌, ◌≤◌, ◌+◌, ◌*◌, ℕ, Option, length}
-use Rattle.xr_model.specs.DeviceText.{Told}
+use Rattle.xr_model.specs.DeviceText.{DeviceStream}
 use Rattle.xr_serial.specs.Kept.{RunKept}
 use Rattle.xr_serial.specs.declared.turn.Turn.TheVariants as turn
 use Rattle.xr_serial.proofs.rounds.go_on.Given as goal
@@ -7,7 +7,7 @@ use Rattle.xr_serial.proofs.rounds.go_on.Given as goal
 abbrev pub invariant-loop-idle : goal.invariant-loop-idle
 invariant-loop-idle g l = record {
   most : l.idle ≤ 3;
-  kept : (told : Option Told) (before : ℕ)
+  kept : (told : Option DeviceStream) (before : ℕ)
       → RunKept l.ops turn.Script 0 l.fn.core l.fn.run told (g.D.Device.told l.fn.device) before (g.D.Device.faults l.fn.device) (g.D.Device.bound l.fn.device)
       → RunKept l.ops l.turn l.idle l.core l.run told (g.D.Device.told l.device) before (g.D.Device.faults l.device) (g.D.Device.bound l.device);
   later : g.D.Device.faults l.fn.device ≤ g.D.Device.faults l.device;
@@ -16,4 +16,4 @@ invariant-loop-idle g l = record {
 
 -- a call that is made takes one of those that are to come; three turns at most behind it make none
 abbrev pub decreases-loop-idle : goal.decreases-loop-idle
-decreases-loop-idle g l = 4 * (length l.ops + 16777216 + 3 - l.core.locked) + (3 - l.idle)
+decreases-loop-idle g l = 4 * (length l.ops + 16777216 + 3 - l.core.core.locked) + (3 - l.idle)

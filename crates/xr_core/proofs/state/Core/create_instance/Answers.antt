@@ -1,7 +1,19 @@
-use Rattle.std.proofs.Common.{rules, ◌≡◌, ◌||◌, ◌==◌, not, false}
+use Rattle.std.proofs.Common.{rules, ◌≡◌, ◌||◌, ◌==◌, [], ◌∷◌, not, false}
 use Rattle.xr_types.specs.declared.code.Code.TheVariants.{Success}
+use Rattle.xr_types.specs.declared.handles.Kind.TheVariants as kind
+use Rattle.xr_model.specs.Handles.{no_room}
+use Rattle.xr_model.specs.Refusals.{first_of}
+use Rattle.xr_core.proofs.Listed.{listed_instance}
 use Rattle.xr_core.proofs.Refusing.{instance_refused}
 use Rattle.xr_core.proofs.state.Core.create_instance.Goals as goal
+
+pub invariant_of-self : goal.invariant_of-self
+invariant_of-self c = (
+  listed_instance c.self.inside.handles c.give-answer.new.self c.self.inside.sessions.items (first_of (no_room c.self.inside.handles kind.Instance ∷ [])) 0 c.give-answer.result.number c.give-answer.ensures.kept c.self.invariant.0,
+  search rules,
+  c.self.invariant.2,
+  c.self.invariant.3,
+)
 
 pub returns-then-ne : goal.returns-then-ne
 returns-then-ne c =

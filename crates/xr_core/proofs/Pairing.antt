@@ -1,0 +1,16 @@
+-- What a core answers whatever its cells tell is what the whole machine answers.
+use Rattle.std.proofs.Common.{ℕ, List, ap}
+use Rattle.xr_types.specs.declared.calls.Actor.{Actor}
+use Rattle.xr_types.specs.declared.calls.Call.{Call}
+use Rattle.xr_types.specs.declared.calls.Step.{Step}
+use Rattle.xr_types.specs.declared.calls.Step.TheVariants.{Done, NotReady}
+use Rattle.xr_model.specs.State.{CoreState, State, CellReads}
+use Rattle.xr_model.specs.Machine.{CoreApplies, Applies, reads_of}
+
+pub pairs : (s : State) (new : CoreState) (who : Actor) (call : Call) (before after : List ℕ) (answer : Step) → ((reads : CellReads) → CoreApplies reads s.core new who call before after answer)
+    → Applies s (record { core = new; cells = s.cells }) who call before after answer
+pairs s new who call before after (Done answer) made =
+    let m = made (reads_of s) in
+    record { allowed = m.allowed; is_ready = m.is_ready; leads = ap (λ (k : CoreState). record { core = k; cells = s.cells }) m.leads; replies = m.replies; writes = m.writes }
+pairs s new who call before after NotReady made = λ given short.
+    let m = made (reads_of s) given short in record { not_ready = m.not_ready; same = ap (λ (k : CoreState). record { core = k; cells = s.cells }) m.same; unwritten = m.unwritten }

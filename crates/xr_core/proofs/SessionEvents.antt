@@ -1,0 +1,90 @@
+-- A session that a call has changed or refused to change, once that is told.
+use Rattle.std.proofs.Common.{◌≡◌, ◌<◌, ◌+◌, ℕ, zero, suc, List, [], ◌∷◌, ◌++◌, length, take, drop, Option, Some, None, refl, sym, ap, ◌∙◌, add-one, arith}
+use Rattle.std.specs.Prelude.{slice_set, slice_index_or}
+use Rattle.xr_model.specs.Refusals.{Refusal, first_of, unless}
+use Rattle.xr_model.specs.States.{Life, Changed}
+use Rattle.xr_model.specs.Sessions.{Session, session_at, with_life, with_life_at, each_changed, told_states}
+use Rattle.xr_model.specs.Steps.Session.{life_of, with_change}
+use Rattle.xr_model.specs.State.{CoreState}
+use Rattle.xr_core.specs.Changes.{place_at, ordinal_in, refusals_of, change_of, life_after, told_after, changed_life}
+use Rattle.xr_core.specs.declared.sessions.LifeCall.{LifeCall}
+use Rattle.xr_core.proofs.Listed.{Stands, stands}
+
+-- putting back what stands in a place changes nothing
+put_back : (xs : List Session) (place : ℕ) (d : Session) → place < length xs → slice_set xs place (slice_index_or xs place d) ≡ xs
+put_back [] place d within = refl
+put_back (x ∷ xs) zero d within = refl
+put_back (x ∷ xs) (suc place) d within = ap (λ (ys : List Session). x ∷ ys) (put_back xs place d (omega (arith, within)))
+
+-- ---- one session changes
+
+-- a life that stays leaves the sessions as they were
+lives_on : (xs : List Session) (handle place : ℕ) (d : Session) → (there : Stands xs handle place d) → with_life_at handle (slice_index_or xs place d).life xs ≡ xs
+lives_on xs handle place d there = sym (there.replaces (slice_index_or xs place d).life) ∙ put_back xs place d there.within
+
+-- what the call made of the sessions and of the events is what it makes of the core
+pub changes_one : (s : CoreState) (session place : ℕ) (d : Session) (call : LifeCall) → place_at s.sessions session ≡ Some place
+    → record s {
+      sessions = with_life_at session (life_after s.device.wish call (life_of s session)) s.sessions;
+      events = told_states s.events (ordinal_in (session_at s.sessions session)) session (told_after s.device.wish call (life_of s session));
+    } ≡ changed_life s session call
+unfolding changed_life life_after told_after
+changes_one s session place d call found =
+    let there = stands s.sessions session place d found in
+    let x : Session = slice_index_or s.sessions place d in
+    rw there.found (by (first_of (refusals_of call x.life)) (change_of s.device.wish call x.life) there)
+  where
+    by : (o : Option Refusal) (c : Changed) (there : Stands s.sessions session place d)
+        → record s {
+          sessions = with_life_at session (unless o (slice_index_or s.sessions place d).life c.life) s.sessions;
+          events = told_states s.events (slice_index_or s.sessions place d).ordinal session (unless o [] c.through);
+        } ≡ unless o s (record s { sessions = with_life_at (slice_index_or s.sessions place d).handle c.life s.sessions; events = told_states s.events (slice_index_or s.sessions place d).ordinal (slice_index_or s.sessions place d).handle c.through })
+    by None c there = rw there.named refl
+    by (Some r) c there = ap (λ (xs : List Session). record s { sessions = xs }) (lives_on s.sessions session place d there)
+
+-- no call of a session is counted by what it changes
+pub uncounted : (s : CoreState) (session : ℕ) (call : LifeCall) → (changed_life s session call).locked ≡ s.locked
+unfolding changed_life
+uncounted s session call = by (first_of (refusals_of call (life_of s session))) (session_at s.sessions session)
+  where
+    by : (o : Option Refusal) (x : Option Session) → (unless o s (with_change s x (change_of s.device.wish call))).locked ≡ s.locked
+    by None None = refl
+    by None (Some x) = refl
+    by (Some r) x = refl
+
+-- ---- all sessions change
+
+-- the sessions where those before an index have changed
+abbrev pub front : (Life → Changed) → List Session → ℕ → List Session
+front f xs i = each_changed f (take i xs) ++ drop i xs
+
+pub front_item : (f : Life → Changed) (xs : List Session) (i : ℕ) (d : Session) → i < length xs → slice_index_or (front f xs i) i d ≡ slice_index_or xs i d
+front_item f [] i d within = let none : ⊥ = omega (arith, within) in absurd none
+front_item f (x ∷ xs) zero d within = refl
+front_item f (x ∷ xs) (suc i) d within = front_item f xs i d (omega (arith, within))
+
+front_next : (f : Life → Changed) (xs : List Session) (i : ℕ) (d : Session) → i < length xs
+    → slice_set (front f xs i) i (with_life (f (slice_index_or xs i d).life).life (slice_index_or xs i d)) ≡ front f xs (suc i)
+front_next f [] i d within = let none : ⊥ = omega (arith, within) in absurd none
+front_next f (x ∷ xs) zero d within = refl
+front_next f (x ∷ xs) (suc i) d within = ap (λ (ys : List Session). with_life (f x.life).life x ∷ ys) (front_next f xs i d (omega (arith, within)))
+
+pub front_more : (f : Life → Changed) (xs : List Session) (i : ℕ) (d : Session) → i < length xs
+    → slice_set (front f xs i) i (with_life (f (slice_index_or xs i d).life).life (slice_index_or xs i d)) ≡ front f xs (i + 1)
+front_more f xs i d within = front_next f xs i d within ∙ ap (λ (n : ℕ). front f xs n) (sym (add-one i))
+
+rest_next : (xs : List Session) (i : ℕ) (d : Session) → i < length xs → drop i xs ≡ slice_index_or xs i d ∷ drop (suc i) xs
+rest_next [] i d within = let none : ⊥ = omega (arith, within) in absurd none
+rest_next (x ∷ xs) zero d within = refl
+rest_next (x ∷ xs) (suc i) d within = rest_next xs i d (omega (arith, within))
+
+pub rest_of : (xs : List Session) (i : ℕ) (d : Session) → i < length xs → drop i xs ≡ slice_index_or xs i d ∷ drop (i + 1) xs
+rest_of xs i d within = rest_next xs i d within ∙ ap (λ (n : ℕ). slice_index_or xs i d ∷ drop n xs) (sym (add-one i))
+
+pub front_all : (f : Life → Changed) (xs : List Session) → front f xs (length xs) ≡ each_changed f xs
+front_all f [] = refl
+front_all f (x ∷ xs) = ap (λ (ys : List Session). with_life (f x.life).life x ∷ ys) (front_all f xs)
+
+pub rest_none : (xs : List Session) → drop (length xs) xs ≡ []
+rest_none [] = refl
+rest_none (x ∷ xs) = rest_none xs

@@ -1,0 +1,76 @@
+// What the device has told of itself.
+ghost use Rattle.std.specs.Prelude.{◌≡◌};
+ghost use Rattle.xr_model.specs.Device.{first_device};
+ghost use Rattle.xr_model.specs.Steps.Device.{later_of};
+
+use std::marker::Model;
+use xr_types::Wish;
+
+/// The period of frames until the device tells another, in ns.
+const FIRST_PERIOD: i64 = 11_111_111;
+
+/// The device's clock, the base and the period of frames, all in ns of device time, and the state that it wishes
+/// sessions to be in.
+#[derive(Drop)]
+pub(crate) struct DeviceValues {
+    clock: i64,
+    base: i64,
+    period: i64,
+    wish: Wish,
+}
+
+impl Model for DeviceValues {
+    ghost use Rattle.xr_model.specs.Device.{Device};
+
+    ghost Value = { Device };
+
+    ghost view = { λ d. record { clock = d.clock; base = d.base; period = d.period; wish = d.wish } };
+}
+
+impl DeviceValues {
+    /// What holds before the device tells anything.
+    pub(crate) fn start() -> DeviceValues
+        ensures { result ≡ first_device }
+    {
+        DeviceValues {
+            clock: 0,
+            base: 0,
+            period: FIRST_PERIOD,
+            wish: Wish::Rest,
+        }
+    }
+
+    pub(crate) fn clock(&self) -> i64
+        ensures { result ≡ self.now.clock }
+    {
+        self.clock
+    }
+
+    pub(crate) fn wish(&self) -> Wish
+        ensures { result ≡ self.now.wish }
+    {
+        self.wish
+    }
+
+    /// The clock goes on, and never back.
+    pub(crate) fn advance(&mut self, time: i64)
+        ensures { self.new ≡ record self.old { clock = later_of self.old.clock time } }
+    {
+        if self.clock <= time {
+            self.clock = time;
+        }
+    }
+
+    pub(crate) fn set_grid(&mut self, base: i64, period: i64)
+        ensures { self.new ≡ record self.old { base = base; period = period } }
+    {
+        self.base = base;
+        self.period = period;
+    }
+
+    pub(crate) fn set_wish(&mut self, wish: Wish)
+        ensures { self.new ≡ record self.old { wish = wish } }
+    {
+        self.wish = wish;
+    }
+}

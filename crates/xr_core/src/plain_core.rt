@@ -1,0 +1,73 @@
+// A core and plain cells as one value, seen as the whole state. It knows no call.
+ghost use Rattle.std.specs.Prelude.{◌≡◌, ◌≤◌, ◌<◌, ◌^◌, ◌↔◌, IfOk, IsTrue, length};
+ghost use Rattle.xr_model.specs.Request.{request_of};
+ghost use Rattle.xr_model.specs.State.{with_apps, opening};
+ghost use Rattle.xr_model.specs.Machine.{IsPresent, MayMake, Applies};
+
+use crate::{Core, PlainCells};
+use std::alloc::Global;
+use std::marker::Model;
+use xr_types::{Actor, Call, NoMemory, Step};
+
+/// The machine of one thread: a core over plain cells, seen by contracts as its state.
+#[derive(Drop)]
+pub struct PlainCore {
+    pub(crate) core: Core,
+    pub(crate) cells: PlainCells,
+}
+
+impl Model for PlainCore {
+    ghost use Rattle.xr_model.specs.State.{State};
+
+    ghost Value = { State };
+
+    ghost view = { λ p. record { core = p.core; cells = p.cells } };
+}
+
+impl PlainCore {
+    /// A machine of 1 to 8 applications before any call. Takes all memory but that of new path texts.
+    pub fn start(alloc: Global, apps: u8) -> Result<PlainCore, NoMemory>
+        requires some { 1 ≤ apps }
+        requires few { apps ≤ 8 }
+        ensures { IfOk result (λ plain. plain ≡ opening (with_apps apps)) }
+    {
+        let core = Core::start(alloc, apps)?;
+        Ok(PlainCore {
+            core,
+            cells: PlainCells::new(),
+        })
+    }
+
+    /// How many locked calls were answered.
+    pub fn calls(&self) -> u64
+        ensures { result ≡ self.now.core.locked }
+    {
+        self.core.calls()
+    }
+
+    /// Whether there is such an application, from 1, and it hasn't left: whether it may make calls.
+    pub fn is_present(&self, app: u8) -> bool
+        ensures { IsTrue result ↔ IsPresent self.now.core (Actor.App app) }
+    {
+        self.core.is_present(app)
+    }
+
+    /// The device's clock, in ns of device time.
+    pub fn clock(&self) -> i64
+        ensures { result ≡ self.now.core.device.clock }
+    {
+        self.core.clock()
+    }
+
+    /// Makes a call that is built, or says that it has to wait and leaves all as it was. `text` is the buffer that
+    /// `path_to_string` is lent, of the call's `capacity`; for other calls it may have any size and stays.
+    /// The reply is the machine's to an allowed entry: it gives a handle exactly where a creation
+    /// succeeds, and `OutOfMemory` comes only to a new path text that would else be interned.
+    pub fn apply(&mut self, who: Actor, call: &Call<'_>, text: &mut [u8]) -> Step
+        requires calls { self.old.core.locked < 2 ^ 44 }
+        requires may { MayMake self.old.core who (request_of call.now) (length text.old) }
+        ensures { Applies self.old self.new who call.now text.old text.new result }
+    {
+        self.core.apply(who, call, text)
+    }
+}

@@ -1,0 +1,345 @@
+-- Which sessions are listed, and which of them are lost, after every legal history.
+use Rattle.std.proofs.Common.{◌≡◌, ◌≢◌, ◌==◌, ◌&&◌, ◌||◌, ◌⊎◌, inl, inr, ℕ, ℤ, Bool, true, false, not, List, [], ◌∷◌, ◌++◌, Option, Some, None, refl, sym, ap, subst, ◌∙◌, true≢false}
+use Rattle.std.specs.Prelude.{◌↔◌, is_some, if◌then◌else◌}
+use Rattle.std.specs.List.{filter}
+use Rattle.xr_types.specs.declared.handles.Kind.TheVariants as kind
+use Rattle.xr_types.specs.Code.{is_success}
+use Rattle.xr_types.specs.declared.code.Code.{Code}
+use Rattle.xr_types.specs.declared.code.Code.TheVariants.{Success, SessionLost, SessionLossPending, HandleInvalid, CallOrderInvalid}
+use Rattle.xr_types.specs.declared.session.SessionState.TheVariants.{LossPending}
+use Rattle.xr_model.specs.Request.{Entry, Request, create_session, begin_session, end_session, request_exit_session}
+use Rattle.xr_model.specs.Handles.{Handles, is_live, was_given, without}
+use Rattle.xr_model.specs.Refusals.{Refusal, when, first_of}
+use Rattle.xr_model.specs.State.{CoreState, Settings, State, opening}
+use Rattle.xr_model.specs.Rules.{Effect, refusals, unless_refused, carried_out}
+use Rattle.xr_model.specs.SessionRule.{code_on}
+use Rattle.xr_model.specs.States.{Life, Changed, unchanged, started, begin_checks, begun, end_checks, ended, exit_checks, exiting, lost, is_state}
+use Rattle.xr_model.specs.Sessions.{Session, session_at, life_in, with_life, with_life_at, each_changed}
+use Rattle.xr_model.specs.Steps.Session.{new_session, life_of, changing_rule}
+use Rattle.xr_model.specs.Machine.{step, rule, reads_of, is_creation, IsAllowed, IsGiven}
+use Rattle.xr_model.specs.History.{after, opening_clocks, clocks_after, IsLegalFrom}
+use Rattle.xr_model.specs.SessionLaws.{AreListed, SessionsAreListed, session_of, is_device_lost, is_session_creation, creates_session, was_lost, LostSessions, PendingLosses}
+use Rattle.xr_model.proofs.Rows.{itself, same_key}
+use Rattle.xr_model.proofs.Listed.{listed_none, listed_lives, listed_each, listed_more, listed_left}
+use Rattle.xr_model.proofs.SessionSteps.{kept_by_step}
+use Rattle.xr_model.proofs.Destroying.{AreKnown, known_step, known_opening}
+
+-- ---- a session's handle is new
+
+is_false : (b : Bool) → (b ≡ true → ⊥) → b ≡ false
+is_false true never = absurd (never refl)
+is_false false never = refl
+
+nonzero : (n : ℕ) → n ≢ 0 → (n == 0) ≡ false
+nonzero n not_zero = is_false (n == 0) (λ e. not_zero (same_key n 0 e))
+
+given_to : (b : Bool) (h : Handles) (given : ℕ) → b ≡ true → IsGiven b h given → (given ≢ 0) × (was_given h given ≡ false)
+given_to true h given e is = is
+given_to false h given e is = absurd (true≢false (sym e))
+
+not_given_to : (b : Bool) (h : Handles) (given : ℕ) → b ≡ false → IsGiven b h given → given ≡ 0
+not_given_to true h given e is = absurd (true≢false e)
+not_given_to false h given e is = is
+
+creation_of_session : (r : Request) → is_session_creation r ≡ true → is_creation r ≡ true
+creation_of_session (create_session instance system) e = refl
+creation_of_session _ e = absurd (true≢false (sym e))
+
+and_true : (a b : Bool) → a ≡ true → b ≡ true → a && b ≡ true
+and_true a b e f = rw (e, f) refl
+
+-- what a legal creation of a session gives
+new_session_given : (s : State) (e : Entry) → IsAllowed s e → is_session_creation e.request ≡ true → is_success (step s e).1.reply.code ≡ true → (e.given ≢ 0) × (was_given s.core.handles e.given ≡ false)
+new_session_given s e allowed creates good =
+    given_to (is_creation e.request && is_success (step s e).1.reply.code) s.core.handles e.given
+    (and_true (is_creation e.request) (is_success (step s e).1.reply.code) (creation_of_session e.request creates) good) allowed.handle
+
+-- ---- listed
+
+listed_step : (s : State) (e : Entry) → IsAllowed s e → AreListed s.core.handles s.core.sessions → AreListed (step s e).0.core.handles (step s e).0.core.sessions
+listed_step s e allowed listed = kept_by_step (λ h xs. AreListed h xs) s.core (reads_of s) e (record {
+  same = λ d c. listed;
+  instance = λ d c. listed;
+  session = λ d c good room instance. let new = new_session_given s e allowed c good in listed_more s.core.handles s.core.sessions _ instance e.given listed refl (nonzero e.given new.0) room;
+  without = λ d c handle. listed_left s.core.handles handle s.core.sessions listed;
+  lives = λ d c session x found life same. listed_lives s.core.handles s.core.sessions x.handle life listed;
+  each = λ d c f keeps. listed_each s.core.handles f s.core.sessions listed;
+  lost = λ d c. listed_each s.core.handles (λ life. unchanged (lost life)) s.core.sessions listed;
+})
+
+listed_after : (s : State) (clocks : List ℤ) (es : List Entry) → IsLegalFrom s clocks es → AreListed s.core.handles s.core.sessions → AreListed (after s es).core.handles (after s es).core.sessions
+listed_after s clocks [] legal listed = listed
+listed_after s clocks (e ∷ es) legal listed = listed_after (step s e).0 (clocks_after clocks e (step s e).0) es legal.3 (listed_step s e legal.0 listed)
+
+pub sessions_are_listed : SessionsAreListed
+sessions_are_listed settings es legal = listed_after (opening settings) (opening_clocks settings) es legal listed_none
+
+-- ---- lost
+
+-- what is known of a lost device before an entry, and what after it
+abbrev after_entry : Entry → (ℕ → Bool) → ℕ → Bool
+after_entry e before session = not (creates_session e session) && (before session || is_device_lost e.request)
+
+abbrev AreLost : (ℕ → Bool) → List Session → Type 0
+AreLost known xs = (session : ℕ) (x : Session) → session_at xs session ≡ Some x → x.life.lost ≡ known session
+
+some_is : (x y : Session) → Some x ≡ Some y → x ≡ y
+some_is x y e = cc
+
+-- ---- what was found before
+
+found_lives : (xs : List Session) (handle : ℕ) (life : Life) (same : (y : Session) → session_at xs handle ≡ Some y → life.lost ≡ y.life.lost) (session : ℕ) (x : Session) → session_at (with_life_at handle life xs) session ≡ Some x
+    → (y : Session) × (session_at xs session ≡ Some y) × (x.life.lost ≡ y.life.lost)
+found_lives [] handle life same session x found = cc
+found_lives (z ∷ xs) handle life same session x found = by (z.handle == handle) refl (z.handle == session) refl found same (λ rest there. found_lives xs handle life rest session x there)
+  where
+    by : (b : Bool) → (z.handle == handle) ≡ b → (c : Bool) → (z.handle == session) ≡ c
+        → session_at (if b then with_life life z ∷ xs else z ∷ with_life_at handle life xs) session ≡ Some x
+        → ((y : Session) → (if b then Some z else session_at xs handle) ≡ Some y → life.lost ≡ y.life.lost)
+        → (((y : Session) → session_at xs handle ≡ Some y → life.lost ≡ y.life.lost) → session_at (with_life_at handle life xs) session ≡ Some x → (y : Session) × (session_at xs session ≡ Some y) × (x.life.lost ≡ y.life.lost))
+        → (y : Session) × ((if c then Some z else session_at xs session) ≡ Some y) × (x.life.lost ≡ y.life.lost)
+    by true eb true ec found same more = (z, refl, ap (λ (w : Session). w.life.lost) (sym (some_is (with_life life z) x (rw ec at found))) ∙ same z refl)
+    by true eb false ec found same more = (x, rw ec at found, refl)
+    by false eb true ec found same more = (z, refl, ap (λ (w : Session). w.life.lost) (sym (some_is z x (rw ec at found))))
+    by false eb false ec found same more = more same (rw ec at found)
+
+found_each : (f : Life → Changed) (xs : List Session) (session : ℕ) (x : Session) → session_at (each_changed f xs) session ≡ Some x → (y : Session) × (session_at xs session ≡ Some y) × (x.life ≡ (f y.life).life)
+found_each f [] session x found = cc
+found_each f (z ∷ xs) session x found = by (z.handle == session) found (λ there. found_each f xs session x there)
+  where
+    by : (c : Bool) → (if c then Some (with_life (f z.life).life z) else session_at (each_changed f xs) session) ≡ Some x
+        → (session_at (each_changed f xs) session ≡ Some x → (y : Session) × (session_at xs session ≡ Some y) × (x.life ≡ (f y.life).life))
+        → (y : Session) × ((if c then Some z else session_at xs session) ≡ Some y) × (x.life ≡ (f y.life).life)
+    by true found more = (z, refl, ap (λ (w : Session). w.life) (sym (some_is (with_life (f z.life).life z) x found)))
+    by false found more = more found
+
+handle_of : (xs : List Session) (handle : ℕ) (x : Session) → session_at xs handle ≡ Some x → x.handle ≡ handle
+handle_of [] handle x found = cc
+handle_of (z ∷ xs) handle x found = by (z.handle == handle) refl found (λ there. handle_of xs handle x there)
+  where
+    by : (c : Bool) → (z.handle == handle) ≡ c → (if c then Some z else session_at xs handle) ≡ Some x → (session_at xs handle ≡ Some x → x.handle ≡ handle) → x.handle ≡ handle
+    by true ec found more = ap (λ (w : Session). w.handle) (sym (some_is z x found)) ∙ same_key z.handle handle ec
+    by false ec found more = more found
+
+-- among the others, or the new one
+abbrev Found : List Session → Session → ℕ → Session → Type 0
+Found xs z session x = (session_at xs session ≡ Some x) ⊎ ((z.handle ≡ session) × (x ≡ z))
+
+found_more : (xs : List Session) (z : Session) (session : ℕ) (x : Session) → session_at (xs ++ z ∷ []) session ≡ Some x → Found xs z session x
+found_more [] z session x found = by (z.handle == session) refl found
+  where
+    by : (c : Bool) → (z.handle == session) ≡ c → (if c then Some z else None) ≡ Some x → Found [] z session x
+    by true ec found = inr (same_key z.handle session ec, sym (some_is z x found))
+    by false ec found = cc
+found_more (y ∷ ys) z session x found = by (y.handle == session) refl found (λ there. found_more ys z session x there)
+  where
+    by : (c : Bool) → (y.handle == session) ≡ c → (if c then Some y else session_at (ys ++ z ∷ []) session) ≡ Some x → (session_at (ys ++ z ∷ []) session ≡ Some x → Found ys z session x) → Found (y ∷ ys) z session x
+    by true ec found more = inl (rw ec found)
+    by false ec found more = next (more found)
+      where
+        next : Found ys z session x → Found (y ∷ ys) z session x
+        next (inl there) = inl (rw ec there)
+        next (inr new) = inr new
+
+found_left : (p : ℕ → Bool) (xs : List Session) (session : ℕ) (x : Session) → session_at (filter (λ y. p y.handle) xs) session ≡ Some x → session_at xs session ≡ Some x
+found_left p [] session x found = cc
+found_left p (z ∷ xs) session x found = by (p z.handle) refl (z.handle == session) refl found (λ there. found_left p xs session x there)
+  where
+    absent : (ys : List Session) → p session ≡ false → session_at (filter (λ y. p y.handle) ys) session ≡ Some x → ⊥
+    absent ys away there = gone ys there
+      where
+        gone : (ys : List Session) → session_at (filter (λ y. p y.handle) ys) session ≡ Some x → ⊥
+        gone [] there = cc
+        gone (y ∷ ys) there = one (p y.handle) refl (y.handle == session) refl there (λ later. gone ys later)
+          where
+            one : (b : Bool) → p y.handle ≡ b → (c : Bool) → (y.handle == session) ≡ c → session_at (if b then y ∷ filter (λ w. p w.handle) ys else filter (λ w. p w.handle) ys) session ≡ Some x → (session_at (filter (λ w. p w.handle) ys) session ≡ Some x → ⊥) → ⊥
+            one true eb true ec there more = true≢false (sym (subst (λ (n : ℕ). p n ≡ true) (same_key y.handle session ec) eb) ∙ away)
+            one true eb false ec there more = more (rw ec at there)
+            one false eb c ec there more = more there
+
+    by : (b : Bool) → p z.handle ≡ b → (c : Bool) → (z.handle == session) ≡ c → session_at (if b then z ∷ filter (λ y. p y.handle) xs else filter (λ y. p y.handle) xs) session ≡ Some x
+        → (session_at (filter (λ y. p y.handle) xs) session ≡ Some x → session_at xs session ≡ Some x) → (if c then Some z else session_at xs session) ≡ Some x
+    by true eb true ec found more = rw ec at found
+    by true eb false ec found more = more (rw ec at found)
+    by false eb true ec found more = absurd (absent xs (subst (λ (n : ℕ). p n ≡ false) (same_key z.handle session ec) eb) found)
+    by false eb false ec found more = more found
+
+-- ---- what an entry does to what is known
+
+or_false : (b : Bool) → b || false ≡ b
+or_false true = refl
+or_false false = refl
+
+or_true : (b : Bool) → b || true ≡ true
+or_true true = refl
+or_true false = refl
+
+module _ (s : State) (e : Entry) (allowed : IsAllowed s e) (known : AreKnown s.core.handles) (listed : AreListed s.core.handles s.core.sessions) (before : ℕ → Bool) (lost_before : AreLost before s.core.sessions) where
+  -- no listed session has the handle 0
+  never_zero : (session : ℕ) (x : Session) → session_at s.core.sessions session ≡ Some x → (session == 0) ≡ true → ⊥
+  never_zero session x found zero =
+      let live : is_some (session_at s.core.sessions session) ≡ true = rw found refl in
+      let dead : is_live s.core.handles kind.Session session ≡ false = rw zero refl in
+      true≢false (sym live ∙ listed session ∙ dead)
+
+  -- nor a handle that wasn't given
+  never_new : (session : ℕ) (x : Session) → session_at s.core.sessions session ≡ Some x → was_given s.core.handles session ≡ false → ⊥
+  never_new session x found fresh =
+      let live : is_some (session_at s.core.sessions session) ≡ true = rw found refl in
+      let nz : (session == 0) ≡ false = is_false (session == 0) (never_zero session x found) in
+      let dead : is_live s.core.handles kind.Session session ≡ false = rw (nz, (known session nz fresh).sessions) refl in
+      true≢false (sym live ∙ listed session ∙ dead)
+
+  -- a session that the entry doesn't create
+  as_before : (session : ℕ) → is_device_lost e.request ≡ false → creates_session e session ≡ false → before session ≡ after_entry e before session
+  as_before session d c = rw (c, d) (sym (or_false (before session)))
+
+  not_created : (session : ℕ) (x : Session) → session_at s.core.sessions session ≡ Some x → is_session_creation e.request && is_success (step s e).1.reply.code ≡ false → creates_session e session ≡ false
+  not_created session x found refused = by (is_session_creation e.request) refl
+    where
+      by : (b : Bool) → is_session_creation e.request ≡ b → is_session_creation e.request && (e.given == session) ≡ false
+      by false eb = rw eb refl
+      by true eb =
+          let failed : is_success (step s e).1.reply.code ≡ false = rw eb at refused in
+          let none : is_creation e.request && is_success (step s e).1.reply.code ≡ false = rw (creation_of_session e.request eb, failed) refl in
+          let zero = not_given_to (is_creation e.request && is_success (step s e).1.reply.code) s.core.handles e.given none allowed.handle in
+          rw eb (is_false (e.given == session) (λ same. never_zero session x found (subst (λ (n : ℕ). (n == 0) ≡ true) (sym zero ∙ same_key e.given session same) refl)))
+
+  uncreated : (session : ℕ) → is_session_creation e.request ≡ false → creates_session e session ≡ false
+  uncreated session c = rw c refl
+
+  lost_step : AreLost (after_entry e before) (step s e).0.core.sessions
+  lost_step = kept_by_step (λ h xs. AreLost (after_entry e before) xs) s.core (reads_of s) e (record {
+    same = λ d c session x found. lost_before session x found ∙ as_before session d (not_created session x found c);
+    instance = λ d c session x found. lost_before session x found ∙ as_before session d (uncreated session c);
+    session = λ d c good room instance session x found. created d c good session x (found_more s.core.sessions _ session x found);
+    without = λ d c handle session x found. let there = found_left (λ n. is_live (without s.core.handles handle) kind.Session n) s.core.sessions session x found in lost_before session x there ∙ as_before session d (uncreated session c);
+    lives = λ d c named y there life same session x found. let one = found_lives s.core.sessions y.handle life (λ z found_z. same ∙ ap (λ (w : Session). w.life.lost) (some_is y z (sym (at_own named y there) ∙ found_z))) session x found in one.2 ∙ lost_before session one.0 one.1 ∙ as_before session d (uncreated session c);
+    each = λ d c f keeps session x found. let one = found_each f s.core.sessions session x found in ap (λ (l : Life). l.lost) one.2 ∙ keeps one.0.life ∙ lost_before session one.0 one.1 ∙ as_before session d (uncreated session c);
+    lost = λ d c session x found. let one = found_each (λ life. unchanged (lost life)) s.core.sessions session x found in ap (λ (l : Life). l.lost) one.2 ∙ rw (uncreated session c, d) (sym (or_true (before session)));
+  })
+    where
+      -- a session is found under its own handle
+      at_own : (named : ℕ) (y : Session) → session_at s.core.sessions named ≡ Some y → session_at s.core.sessions y.handle ≡ Some y
+      at_own named y there = subst (λ (n : ℕ). session_at s.core.sessions n ≡ Some y) (sym (handle_of s.core.sessions named y there)) there
+
+      created : is_device_lost e.request ≡ false → is_session_creation e.request ≡ true → is_success (step s e).1.reply.code ≡ true → (session : ℕ) (x : Session) → Found s.core.sessions (new_session s.core e.given (started s.core.device.wish).life) session x → x.life.lost ≡ after_entry e before session
+      created d c good session x (inl there) =
+          let fresh = (new_session_given s e allowed c good).1 in
+          lost_before session x there ∙ as_before session d (rw c (is_false (e.given == session) (λ same. never_new session x there (subst (λ (n : ℕ). was_given s.core.handles n ≡ false) (same_key e.given session same) fresh))))
+      created d c good session x (inr new) = let itself_is : (e.given == session) ≡ true = subst (λ (n : ℕ). (e.given == n) ≡ true) new.0 (itself e.given) in rw (new.1, c, itself_is) refl
+
+-- ---- after a history
+
+lost_after : (s : State) (clocks : List ℤ) (es : List Entry) → IsLegalFrom s clocks es → AreKnown s.core.handles → AreListed s.core.handles s.core.sessions → (before : ℕ → Bool) → AreLost before s.core.sessions
+    → (session : ℕ) (x : Session) → session_at (after s es).core.sessions session ≡ Some x → x.life.lost ≡ was_lost session (before session) es
+lost_after s clocks [] legal known listed before lost_before session x found = lost_before session x found
+lost_after s clocks (e ∷ es) legal known listed before lost_before session x found =
+    lost_after (step s e).0 (clocks_after clocks e (step s e).0) es legal.3 (known_step s e known) (listed_step s e legal.0 listed) (after_entry e before) (lost_step s e legal.0 known listed before lost_before) session x found
+
+-- ---- the answers of calls on sessions
+
+abbrev NoneIs : Code → List Refusal → Type 0
+NoneIs code [] = Unit {0}
+NoneIs code (r ∷ rs) = (r.code ≡ code → ⊥) × NoneIs code rs
+
+first_is_not : (code : Code) (rs : List Refusal) (r : Refusal) → NoneIs code rs → first_of rs ≡ Some r → r.code ≡ code → ⊥
+first_is_not code [] r none found is = cc
+first_is_not code (x ∷ rs) r none found is = by x.holds found (λ later. first_is_not code rs r none.1 later is)
+  where
+    same : (a b : Refusal) → Some a ≡ Some b → a ≡ b
+    same a b e = cc
+
+    by : (b : Bool) → (if b then Some x else first_of rs) ≡ Some r → (first_of rs ≡ Some r → ⊥) → ⊥
+    by true found later = none.0 (ap (λ (y : Refusal). y.code) (same x r found) ∙ is)
+    by false found later = later found
+
+-- a refusal of others is no loss, nor is a success
+other_code : (s : CoreState) (code : Code) (rs : List Refusal) (x : Effect) → NoneIs code rs → (x.code ≡ code → ⊥) → (unless_refused s (first_of rs) x).code ≡ code → ⊥
+other_code s code rs x none success is = by (first_of rs) refl is
+  where
+    by : (o : Option Refusal) → first_of rs ≡ o → (unless_refused s o x).code ≡ code → ⊥
+    by None found is = success is
+    by (Some r) found is = first_is_not code rs r none found is
+
+success_is_not_lost : (life : Life) → code_on life Success ≡ SessionLost → ⊥
+success_is_not_lost life = by (is_state life.state LossPending)
+  where
+    by : (b : Bool) → (if b then SessionLossPending else Success) ≡ SessionLost → ⊥
+    by true e = cc
+    by false e = cc
+
+answered_lost : (s : CoreState) (session : ℕ) (checks : List Refusal) (f : Life → Changed) → NoneIs SessionLost (checks ++ when false CallOrderInvalid ∷ [])
+    → ((carried_out s (changing_rule s session checks f)).code ≡ SessionLost) ↔ ((is_live s.handles kind.Session session ≡ true) × ((life_of s session).lost ≡ true))
+answered_lost s session checks f others = by (is_live s.handles kind.Session session) refl (life_of s session).lost refl
+  where
+    by : (a : Bool) → is_live s.handles kind.Session session ≡ a → (b : Bool) → (life_of s session).lost ≡ b
+        → ((carried_out s (changing_rule s session checks f)).code ≡ SessionLost) ↔ ((is_live s.handles kind.Session session ≡ true) × ((life_of s session).lost ≡ true))
+    by false ea b eb = ((λ code. let no_loss : HandleInvalid ≡ SessionLost = rw ea at code in absurd (apart no_loss)), (λ both. absurd (true≢false (sym both.0 ∙ ea))))
+      where
+        apart : HandleInvalid ≡ SessionLost → ⊥
+        apart e = cc
+    by true ea true eb = ((λ code. (ea, eb)), (λ both. rw (ea, eb) refl))
+    by true ea false eb = ((λ code. absurd (other_code s SessionLost (checks ++ when false CallOrderInvalid ∷ []) (changing_rule s session checks f).effect others (success_is_not_lost (life_of s session)) (rw (ea, eb) at code))), (λ both. absurd (true≢false (sym both.1 ∙ eb))))
+
+is_the_life : (xs : List Session) (session : ℕ) (known : Bool) → is_some (session_at xs session) ≡ true → ((x : Session) → session_at xs session ≡ Some x → x.life.lost ≡ known) → (life_in (session_at xs session)).lost ≡ known
+is_the_life xs session known there lost = by (session_at xs session) there lost
+  where
+    by : (o : Option Session) → is_some o ≡ true → ((x : Session) → o ≡ Some x → x.life.lost ≡ known) → (life_in o).lost ≡ known
+    by None there lost = absurd (true≢false (sym there))
+    by (Some x) there lost = lost x refl
+
+known_loss : (settings : Settings) (es : List Entry) (session : ℕ) → IsLegalFrom (opening settings) (opening_clocks settings) es → is_live (after (opening settings) es).core.handles kind.Session session ≡ true
+    → (life_of (after (opening settings) es).core session).lost ≡ was_lost session false es
+known_loss settings es session legal live =
+    is_the_life (after (opening settings) es).core.sessions session (was_lost session false es) (sessions_are_listed settings es legal session ∙ live)
+    (λ x found. lost_after (opening settings) (opening_clocks settings) es legal (known_opening settings) listed_none (λ n. false) (λ n x none. nothing x none) session x found)
+  where
+    nothing : (x : Session) → None ≡ Some x → x.life.lost ≡ false
+    nothing x e = cc
+
+named_is : (a b : ℕ) → Some a ≡ Some b → a ≡ b
+named_is a b e = cc
+
+pub lost_sessions : LostSessions
+lost_sessions settings es e session legal named = by e.request named
+  where
+    joined : (code : Code) → ((code ≡ SessionLost) ↔ ((is_live (after (opening settings) es).core.handles kind.Session session ≡ true) × ((life_of (after (opening settings) es).core session).lost ≡ true)))
+        → (code ≡ SessionLost) ↔ ((is_live (after (opening settings) es).core.handles kind.Session session ≡ true) × (was_lost session false es ≡ true))
+    joined code both =
+        ((λ is. let two = both.0 is in (two.0, sym (known_loss settings es session legal two.0) ∙ two.1)), (λ two. both.1 (two.0, known_loss settings es session legal two.0 ∙ two.1)))
+
+    by : (r : Request) → session_of r ≡ Some session
+        → ((step (after (opening settings) es) (record e { request = r })).1.reply.code ≡ SessionLost) ↔ ((is_live (after (opening settings) es).core.handles kind.Session session ≡ true) × (was_lost session false es ≡ true))
+    by (begin_session other view) named = joined _ (subst (λ (n : ℕ). ((step (after (opening settings) es) (record e { request = begin_session other view })).1.reply.code ≡ SessionLost) ↔ ((is_live (after (opening settings) es).core.handles kind.Session n ≡ true) × ((life_of (after (opening settings) es).core n).lost ≡ true))) (named_is other session named) (answered_lost (after (opening settings) es).core other (begin_checks (life_of (after (opening settings) es).core other) view) (λ life. unchanged (begun life)) ((λ c. cc), ((λ c. cc), ((λ c. cc), ((λ c. cc), tt))))))
+    by (end_session other) named = joined _ (subst (λ (n : ℕ). ((step (after (opening settings) es) (record e { request = end_session other })).1.reply.code ≡ SessionLost) ↔ ((is_live (after (opening settings) es).core.handles kind.Session n ≡ true) × ((life_of (after (opening settings) es).core n).lost ≡ true))) (named_is other session named) (answered_lost (after (opening settings) es).core other (end_checks (life_of (after (opening settings) es).core other)) (ended (after (opening settings) es).core.device.wish) ((λ c. cc), ((λ c. cc), ((λ c. cc), tt)))))
+    by (request_exit_session other) named = joined _ (subst (λ (n : ℕ). ((step (after (opening settings) es) (record e { request = request_exit_session other })).1.reply.code ≡ SessionLost) ↔ ((is_live (after (opening settings) es).core.handles kind.Session n ≡ true) × ((life_of (after (opening settings) es).core n).lost ≡ true))) (named_is other session named) (answered_lost (after (opening settings) es).core other (exit_checks (life_of (after (opening settings) es).core other)) (exiting (after (opening settings) es).core.device.wish) ((λ c. cc), ((λ c. cc), tt))))
+    by _ named = cc
+
+-- ---- pending losses
+
+answered_pending : (s : CoreState) (session : ℕ) (checks : List Refusal) (f : Life → Changed) → NoneIs SessionLossPending (refusals (changing_rule s session checks f))
+    → ((carried_out s (changing_rule s session checks f)).code ≡ SessionLossPending) ↔ ((first_of (refusals (changing_rule s session checks f)) ≡ None) × (is_state (life_of s session).state LossPending ≡ true))
+answered_pending s session checks f others = by (first_of (refusals (changing_rule s session checks f))) refl (is_state (life_of s session).state LossPending) refl
+  where
+    by : (o : Option Refusal) → first_of (refusals (changing_rule s session checks f)) ≡ o → (b : Bool) → is_state (life_of s session).state LossPending ≡ b
+        → ((carried_out s (changing_rule s session checks f)).code ≡ SessionLossPending) ↔ ((first_of (refusals (changing_rule s session checks f)) ≡ None) × (is_state (life_of s session).state LossPending ≡ true))
+    by None eo true eb = ((λ code. (eo, eb)), (λ both. rw (eo, eb) refl))
+    by None eo false eb = ((λ code. let plain : Success ≡ SessionLossPending = rw (eo, eb) at code in absurd (apart plain)), (λ both. absurd (true≢false (sym both.1 ∙ eb))))
+      where
+        apart : Success ≡ SessionLossPending → ⊥
+        apart e = cc
+    by (Some r) eo b eb = ((λ code. absurd (first_is_not SessionLossPending (refusals (changing_rule s session checks f)) r others eo (rw eo at code))), (λ both. absurd (none_found (sym both.0 ∙ eo))))
+      where
+        none_found : None ≡ Some r → ⊥
+        none_found e = cc
+
+pub pending_losses : PendingLosses
+pending_losses s e session named = by e.request named
+  where
+    by : (r : Request) → session_of r ≡ Some session
+        → ((step s (record e { request = r })).1.reply.code ≡ SessionLossPending) ↔ ((first_of (refusals (rule s.core (reads_of s) (record e { request = r }))) ≡ None) × (is_state (life_of s.core session).state LossPending ≡ true))
+    by (begin_session other view) named = subst (λ (n : ℕ). ((step s (record e { request = begin_session other view })).1.reply.code ≡ SessionLossPending) ↔ ((first_of (refusals (rule s.core (reads_of s) (record e { request = begin_session other view }))) ≡ None) × (is_state (life_of s.core n).state LossPending ≡ true))) (named_is other session named) (answered_pending s.core other (begin_checks (life_of s.core other) view) (λ life. unchanged (begun life)) ((λ c. cc), ((λ c. cc), ((λ c. cc), ((λ c. cc), ((λ c. cc), ((λ c. cc), tt)))))))
+    by (end_session other) named = subst (λ (n : ℕ). ((step s (record e { request = end_session other })).1.reply.code ≡ SessionLossPending) ↔ ((first_of (refusals (rule s.core (reads_of s) (record e { request = end_session other }))) ≡ None) × (is_state (life_of s.core n).state LossPending ≡ true))) (named_is other session named) (answered_pending s.core other (end_checks (life_of s.core other)) (ended s.core.device.wish) ((λ c. cc), ((λ c. cc), ((λ c. cc), ((λ c. cc), ((λ c. cc), tt))))))
+    by (request_exit_session other) named = subst (λ (n : ℕ). ((step s (record e { request = request_exit_session other })).1.reply.code ≡ SessionLossPending) ↔ ((first_of (refusals (rule s.core (reads_of s) (record e { request = request_exit_session other }))) ≡ None) × (is_state (life_of s.core n).state LossPending ≡ true))) (named_is other session named) (answered_pending s.core other (exit_checks (life_of s.core other)) (exiting s.core.device.wish) ((λ c. cc), ((λ c. cc), ((λ c. cc), ((λ c. cc), tt)))))
+    by _ named = cc

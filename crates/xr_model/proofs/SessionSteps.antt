@@ -1,0 +1,112 @@
+-- What an entry does to the handles and to the listed sessions: the one case split for laws on both.
+use Rattle.std.proofs.Common.{◌≡◌, ◌==◌, ◌&&◌, ◌||◌, ℕ, Bool, true, false, List, [], ◌∷◌, ◌++◌, Option, Some, None, refl}
+use Rattle.std.specs.Prelude.{if◌then◌else◌}
+use Rattle.xr_types.specs.declared.calls.Actor.{Actor}
+use Rattle.xr_types.specs.declared.calls.Actor.TheVariants.{App, Compositor, Device}
+use Rattle.xr_types.specs.Code.{is_success}
+use Rattle.xr_types.specs.declared.device.DeviceEvent.{DeviceEvent}
+use Rattle.xr_types.specs.declared.device.DeviceEvent.TheVariants as event
+use Rattle.xr_types.specs.declared.handles.Kind.TheVariants as kind
+use Rattle.xr_model.specs.Request.{Entry, Request, create_instance, destroy_instance, create_session, destroy_session, begin_session, end_session, request_exit_session, leave, device}
+use Rattle.xr_model.specs.Handles.{Handles, is_live, has_room, with_handle, without}
+use Rattle.xr_model.specs.Refusals.{Refusal, first_of}
+use Rattle.xr_model.specs.State.{CoreState, CellReads}
+use Rattle.xr_model.specs.Rules.{Effect, refusals, unless_refused}
+use Rattle.xr_model.specs.Steps.Instance.{the_system}
+use Rattle.xr_model.specs.Steps.Own.{with_left}
+use Rattle.xr_model.specs.Steps.Device.{behind_event}
+use Rattle.xr_model.specs.Steps.Session.{new_session, with_change}
+use Rattle.xr_model.specs.States.{Life, Changed, unchanged, started, settled, begun, ended, exiting, losing, lost, is_state}
+use Rattle.xr_model.specs.Sessions.{Session, session_at, with_life_at, still_live, each_changed}
+use Rattle.xr_model.specs.SessionLaws.{is_device_lost, is_session_creation}
+use Rattle.xr_model.specs.Machine.{core_step, rule}
+use Rattle.xr_types.specs.declared.session.SessionState.TheVariants.{Exiting, LossPending}
+
+-- a property that the handles and the sessions have before an entry, and that each thing that it may do keeps
+pub record Keeps (P : Handles → List Session → Type 0) (s : CoreState) (reads : CellReads) (e : Entry) : Type 0 where
+  pub same : is_device_lost e.request ≡ false → is_session_creation e.request && is_success (core_step s reads e).1.reply.code ≡ false → P s.handles s.sessions
+  pub instance : is_device_lost e.request ≡ false → is_session_creation e.request ≡ false → P (with_handle s.handles kind.Instance 0 e.given) s.sessions
+  pub session : is_device_lost e.request ≡ false → is_session_creation e.request ≡ true → is_success (core_step s reads e).1.reply.code ≡ true → has_room s.handles kind.Session ≡ true
+      → (instance : ℕ) → P (with_handle s.handles kind.Session instance e.given) (s.sessions ++ new_session s e.given (started s.device.wish).life ∷ [])
+  pub without : is_device_lost e.request ≡ false → is_session_creation e.request ≡ false → (handle : ℕ) → P (without s.handles handle) (still_live (without s.handles handle) s.sessions)
+  pub lives : is_device_lost e.request ≡ false → is_session_creation e.request ≡ false → (session : ℕ) (x : Session) → session_at s.sessions session ≡ Some x → (life : Life) → life.lost ≡ x.life.lost → P s.handles (with_life_at x.handle life s.sessions)
+  pub each : is_device_lost e.request ≡ false → is_session_creation e.request ≡ false → (f : Life → Changed) → ((life : Life) → (f life).life.lost ≡ life.lost) → P s.handles (each_changed f s.sessions)
+  pub lost : is_device_lost e.request ≡ true → is_session_creation e.request ≡ false → P s.handles (each_changed (λ life. unchanged (lost life)) s.sessions)
+
+abbrev Has : (Handles → List Session → Type 0) → CoreState → Type 0
+Has P s = P s.handles s.sessions
+
+kept : (P : Handles → List Session → Type 0) (s : CoreState) (o : Option Refusal) (x : Effect) → Has P s → (o ≡ None → Has P x.state) → Has P (unless_refused s o x).state
+kept P s None x same done = done refl
+kept P s (Some r) x same done = same
+
+losing_keeps : (life : Life) → (losing life).life.lost ≡ life.lost
+losing_keeps life = by (is_state life.state Exiting) (is_state life.state LossPending)
+  where
+    by : (a b : Bool) → (if a || b then unchanged life else record { life = record life { state = LossPending }; through = LossPending ∷ [] }).life.lost ≡ life.lost
+    by true b = refl
+    by false true = refl
+    by false false = refl
+
+module _ (P : Handles → List Session → Type 0) (s : CoreState) (reads : CellReads) (e : Entry) where
+  changed : (session : ℕ) (f : Life → Changed) (o : Option Session) → session_at s.sessions session ≡ o → Has P s → ((x : Session) → session_at s.sessions session ≡ Some x → P s.handles (with_life_at x.handle (f x.life).life s.sessions)) → Has P (with_change s o f)
+  changed session f None found same lives = same
+  changed session f (Some x) found same lives = lives x found
+
+  events : (what : DeviceEvent) → Keeps P s reads (record e { request = device what }) → Has P (behind_event s what)
+  events (event.Clock time) k = k.same refl refl
+  events (event.Grid base period) k = k.same refl refl
+  events (event.Wish wish) k = k.each refl refl (settled wish) (λ life. refl)
+  events event.Loss k = k.each refl refl losing losing_keeps
+  events event.Lost k = k.lost refl refl
+  events (event.Mark mark) k = k.same refl refl
+  events event.Fault k = k.lost refl refl
+  events (event.Garbled line) k = k.lost refl refl
+  events (event.Await mark) k = k.same refl refl
+  events (event.Stage on) k = k.same refl refl
+  events (event.Profile user profile) k = k.same refl refl
+  events (event.Input user row value) k = k.same refl refl
+  events (event.Pose origin time pose) k = k.same refl refl
+
+  left_alone : (who : Actor) → Has P s → Has P (with_left s who)
+  left_alone (App k) same = same
+  left_alone Compositor same = same
+  left_alone Device same = same
+
+  -- the creation of a session, by what refuses it
+  created : (instance system : ℕ) → Keeps P s reads (record e { request = create_session instance system }) → Has P (core_step s reads (record e { request = create_session instance system })).0
+  created instance system k = by (is_live s.handles kind.Instance instance) refl (system == the_system) refl (has_room s.handles kind.Session) refl
+    where
+      by : (a : Bool) → is_live s.handles kind.Instance instance ≡ a → (b : Bool) → (system == the_system) ≡ b → (c : Bool) → has_room s.handles kind.Session ≡ c → Has P (core_step s reads (record e { request = create_session instance system })).0
+      by false ea b eb c ec = rw ea (k.same refl (rw ea refl))
+      by true ea false eb c ec = rw (ea, eb) (k.same refl (rw (ea, eb) refl))
+      by true ea true eb false ec = rw (ea, eb, ec) (k.same refl (rw (ea, eb, ec) refl))
+      by true ea true eb true ec = rw (ea, eb, ec) (k.session refl refl (rw (ea, eb, ec) refl) ec instance)
+
+-- the property holds after the entry
+pub kept_by_step : (P : Handles → List Session → Type 0) (s : CoreState) (reads : CellReads) (e : Entry) → Keeps P s reads e → Has P (core_step s reads e).0
+kept_by_step P s reads e = by e.request
+  where
+    by : (r : Request) → Keeps P s reads (record e { request = r }) → Has P (core_step s reads (record e { request = r })).0
+    by (create_instance major minor) k =
+        let f = rule s reads (record e { request = create_instance major minor }) in
+        kept P s (first_of (refusals f)) f.effect (k.same refl refl) (λ none. k.instance refl refl)
+    by (create_session instance system) k = created P s reads e instance system k
+    by (destroy_instance instance) k =
+        let f = rule s reads (record e { request = destroy_instance instance }) in
+        kept P s (first_of (refusals f)) f.effect (k.same refl refl) (λ none. k.without refl refl instance)
+    by (destroy_session session) k =
+        let f = rule s reads (record e { request = destroy_session session }) in
+        kept P s (first_of (refusals f)) f.effect (k.same refl refl) (λ none. k.without refl refl session)
+    by (begin_session session view) k =
+        let f = rule s reads (record e { request = begin_session session view }) in
+        kept P s (first_of (refusals f)) f.effect (k.same refl refl) (λ none. changed P s reads e session (λ life. unchanged (begun life)) (session_at s.sessions session) refl (k.same refl refl) (λ x found. k.lives refl refl session x found _ refl))
+    by (end_session session) k =
+        let f = rule s reads (record e { request = end_session session }) in
+        kept P s (first_of (refusals f)) f.effect (k.same refl refl) (λ none. changed P s reads e session (ended s.device.wish) (session_at s.sessions session) refl (k.same refl refl) (λ x found. k.lives refl refl session x found _ refl))
+    by (request_exit_session session) k =
+        let f = rule s reads (record e { request = request_exit_session session }) in
+        kept P s (first_of (refusals f)) f.effect (k.same refl refl) (λ none. changed P s reads e session (exiting s.device.wish) (session_at s.sessions session) refl (k.same refl refl) (λ x found. k.lives refl refl session x found _ refl))
+    by leave k = left_alone P s reads e e.actor (k.same refl refl)
+    by (device what) k = events P s reads e what k
+    by r k = let f = rule s reads (record e { request = r }) in kept P s (first_of (refusals f)) f.effect (k.same refl refl) (λ none. k.same refl refl)
