@@ -2,7 +2,7 @@
 ghost use Rattle.std.specs.Prelude.{◌≡◌, ◌<◌, ◌^◌, IsTrue};
 ghost use Rattle.xr_types.specs.declared.calls.Actor.TheVariants.{App};
 ghost use Rattle.xr_model.specs.Request.{request_of};
-ghost use Rattle.xr_model.specs.Machine.{IsCaller, HasNumbers, FitsBuffer};
+ghost use Rattle.xr_model.specs.CoreCalls.{IsCaller, HasNumbers, FitsBuffer};
 
 use xr_core::Core;
 use xr_types::{Actor, Call, Form, Gives, Step};

@@ -1,6 +1,6 @@
 -- What holds of each item holds of the one at a place.
 use Rattle.std.proofs.Common.{ℕ, zero, suc, ◌<◌, List, [], ◌∷◌, length, get_or, arith}
-use Rattle.xr_model.specs.Formed.{Each}
+use Rattle.xr_model.specs.InRange.{Each}
 
 pub each-item : {T : Type 0} (P : T → Type 0) (xs : List T) (i : ℕ) (d : T) → Each P xs → i < length xs → P (get_or xs i d)
 each-item P [] i d all h = let none : ⊥ = omega (arith, h) in absurd none

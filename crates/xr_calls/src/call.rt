@@ -1,6 +1,6 @@
 // The call that an op asks for.
 ghost use Rattle.std.specs.Prelude.{◌≡◌};
-ghost use Rattle.xr_model.specs.InForm.{IsInRange};
+ghost use Rattle.xr_model.specs.ScriptForm.{IsInRange};
 ghost use Rattle.xr_model.specs.Request.{request_of};
 ghost use Rattle.xr_model.specs.Scripts.{request_for};
 

@@ -1,8 +1,8 @@
 // The lists of a call, from those of its op. Each goes over what the list's room held before.
 ghost use Rattle.std.specs.Prelude.{◌≡◌, ◌≤◌, map, length, slice_get};
-ghost use Rattle.xr_model.specs.Formed.{Each, IsLayer};
-ghost use Rattle.xr_model.specs.InForm.{IsAnyPlace};
-ghost use Rattle.xr_model.specs.Values.{value_of, binding_for, active_set_for, sub_image_for, sub_image_by, four, layer_for};
+ghost use Rattle.xr_model.specs.InRange.{Each, IsLayer};
+ghost use Rattle.xr_model.specs.ScriptForm.{IsAnyPlace};
+ghost use Rattle.xr_model.specs.NameValues.{value_of, binding_for, active_set_for, sub_image_for, sub_image_by, four, layer_for};
 
 use crate::Names;
 use arrayvec::ArrayVec;

@@ -1,6 +1,6 @@
 // What the names of a running script stand for.
 ghost use Rattle.std.specs.Prelude.{◌≡◌, ◌≤◌, IfOk, length};
-ghost use Rattle.xr_model.specs.Values.{number_given, value_given, no_values, learned, value_at, value_of, time_of};
+ghost use Rattle.xr_model.specs.NameValues.{number_given, value_given, no_values, learned, value_at, value_of, time_of};
 
 use std::alloc::Global;
 use std::marker::Model;

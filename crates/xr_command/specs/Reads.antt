@@ -3,16 +3,16 @@ use Rattle.std.specs.Prelude.{◌≡◌, ℕ, true, false, List, Option, Some, N
 use Rattle.clap.specs.Words.{found_of, rows_of}
 use Rattle.clap.specs.declared.parser.matches.ArgMatches.{ArgMatches}
 use Rattle.xr_model.specs.Words as words
-use Rattle.xr_command.specs.declared.Form.{Form}
+use Rattle.xr_command.specs.declared.RunOptions.{RunOptions}
 use Rattle.xr_command.specs.declared.WordsFault.{WordsFault}
 use Rattle.xr_command.specs.declared.WordsFault.TheVariants.{Usage, NoMemory}
 
 -- the form as the definition has it
-abbrev pub shown : Form → words.Form
+abbrev pub shown : RunOptions → words.RunOptions
 shown form = record { file = form.file.now; device = option_map (λ name. name.now) form.device; places = form.places }
 
 -- The answer is the form of the words, they have none, or memory was short.
-abbrev pub ReadsForm : Result Form WordsFault → Option words.Form → Type 0
+abbrev pub ReadsForm : Result RunOptions WordsFault → Option words.RunOptions → Type 0
 ReadsForm (Ok form) meant = meant ≡ Some (shown form)
 ReadsForm (Err Usage) meant = meant ≡ None
 ReadsForm (Err NoMemory) meant = Unit {0}

@@ -3,7 +3,7 @@
 
 ghost use Rattle.std.specs.Prelude.{◌≡◌, ◌≤◌, IfOk, IfSome, false, length, map, option_map, string_bytes};
 ghost use Rattle.clap.specs.Words.{app_of, rule_of, first_of, found_of, rows_of};
-ghost use Rattle.xr_model.specs.Words.{run_app, file_rule, device_rule, places_rule, is_file, is_file_or_none, is_serial, form_in, form_of};
+ghost use Rattle.xr_model.specs.Words.{run_app, file_arg, device_arg, places_arg, is_file, is_file_or_none, is_serial, form_in, form_of};
 ghost use Rattle.xr_command.specs.Reads.{shown, ReadsForm, ReadsRows};
 
 use clap::error::ErrorKind;
@@ -15,7 +15,7 @@ const MOST_FILE: usize = 4095;
 /// What the words ask for: a run of the scenario under `file`, with the device under `device` where
 /// one is named, and with or without the places of replies in its report.
 #[derive(Clone, Copy)]
-pub struct Form<'a> {
+pub struct RunOptions<'a> {
     pub file: &'a str,
     pub device: Option<&'a str>,
     pub places: bool,
@@ -29,21 +29,21 @@ pub enum WordsFault {
 }
 
 fn file_arg<'a>(alloc: Global) -> Arg<'a>
-    ensures rule { rule_of result ≡ file_rule }
+    ensures rule { rule_of result ≡ file_arg }
     ensures local { result.global ≡ false }
 {
     Arg::new(alloc, "file").required(true)
 }
 
 fn device_arg<'a>(alloc: Global) -> Arg<'a>
-    ensures rule { rule_of result ≡ device_rule }
+    ensures rule { rule_of result ≡ device_arg }
     ensures local { result.global ≡ false }
 {
     Arg::new(alloc, "device").long("device")
 }
 
 fn places_arg<'a>(alloc: Global) -> Arg<'a>
-    ensures rule { rule_of result ≡ places_rule }
+    ensures rule { rule_of result ≡ places_arg }
     ensures local { result.global ≡ false }
 {
     Arg::new(alloc, "places")
@@ -110,7 +110,7 @@ fn text_of<'a>(matches: &ArgMatches<'a>, id: &str) -> Option<&'a str>
 }
 
 /// The form of what the command found.
-fn form_in<'a>(matches: &ArgMatches<'a>) -> Option<Form<'a>>
+fn form_in<'a>(matches: &ArgMatches<'a>) -> Option<RunOptions<'a>>
     ensures form { option_map shown result ≡ form_in (rows_of (found_of matches.now)) }
     ensures short { IfSome result (λ form. length form.file.now ≤ 4095) }
     ensures short_device { IfSome result (λ form. IfSome form.device (λ name. length name.now ≤ 4095)) }
@@ -123,7 +123,7 @@ fn form_in<'a>(matches: &ArgMatches<'a>) -> Option<Form<'a>>
         return None;
     }
     let places = text_of(matches, "places") == Some("true");
-    Some(Form {
+    Some(RunOptions {
         file,
         device,
         places,
@@ -132,7 +132,7 @@ fn form_in<'a>(matches: &ArgMatches<'a>) -> Option<Form<'a>>
 
 /// The form of the words: `serial FILE`, with `--device FILE` and `--places` where these are wanted.
 /// `Usage` comes exactly where they have no form, and `NoMemory` is free.
-pub fn form_of<'a>(alloc: Global, words: &'a [String]) -> Result<Form<'a>, WordsFault>
+pub fn form_of<'a>(alloc: Global, words: &'a [String]) -> Result<RunOptions<'a>, WordsFault>
     ensures form { ReadsForm result (form_of (map string_bytes words.entry.now)) }
     ensures short { IfOk result (λ form. length form.file.now ≤ 4095) }
     ensures short_device { IfOk result (λ form. IfSome form.device (λ name. length name.now ≤ 4095)) }

@@ -3,9 +3,11 @@ use Rattle.std.proofs.Common.{◌≡◌, ℕ, List, [], true, refl, subst}
 use Rattle.xr_types.specs.declared.calls.Actor.{Actor}
 use Rattle.xr_types.specs.declared.calls.Actor.TheVariants.{App}
 use Rattle.xr_types.specs.declared.calls.Reply.{Reply}
-use Rattle.xr_model.specs.Request.{Request, path_to_string, leave, entry_of}
+use Rattle.xr_model.specs.Request.{Request, path_to_string, leave}
+use Rattle.xr_model.specs.CoreCalls.{entry_of}
 use Rattle.xr_model.specs.State.{CoreState, CellReads}
-use Rattle.xr_model.specs.Machine.{MayMake, FitsBuffer, CoreAnswers, core_ready}
+use Rattle.xr_model.specs.Machine.{core_ready}
+use Rattle.xr_model.specs.CoreCalls.{MayMake, FitsBuffer, CoreAnswers}
 use Rattle.xr_core.specs.Calls.{Makes, MakesOver}
 
 -- a call that has its answer in the lent buffer

@@ -6,8 +6,8 @@ use Rattle.xr_types.specs.declared.handles.Kind.TheVariants as kind
 use Rattle.xr_types.specs.declared.handles.Slot.{Slot}
 use Rattle.xr_types.specs.declared.handles.TheConstants.{SESSIONS}
 use Rattle.xr_model.specs.Handles.{Handles, is_live, has_room, no_room, first_free, with_handle}
-use Rattle.xr_model.specs.Sessions.{Session, no_life, session_at, with_life, with_life_at}
-use Rattle.xr_model.specs.States.{Life}
+use Rattle.xr_model.specs.LiveSessions.{Session, no_life, session_at, with_life, with_life_at}
+use Rattle.xr_model.specs.SessionLife.{Life}
 use Rattle.xr_model.specs.Refusals.{Refusal, first_of, unless}
 use Rattle.xr_core.specs.Changes.{place_at}
 use Rattle.xr_model.specs.SessionLaws.{AreListed}

@@ -11,8 +11,9 @@ use Rattle.xr_types.specs.declared.handles.Kind.{Kind}
 use Rattle.xr_types.specs.declared.handles.Kind.TheVariants.{Instance, Session}
 use Rattle.xr_model.specs.Handles.{Handles, is_live, has_room, no_room}
 use Rattle.xr_model.specs.Paths.{is_path_text, intern_refusals, with_text, atom_of, may_want_memory, is_new, text_at, copy_refusals, copied, size_at, size_of}
-use Rattle.xr_model.specs.Refusals.{Refusal, when, first_of, unless, answer_by}
-use Rattle.xr_model.specs.Rules.{written_over}
+use Rattle.xr_model.specs.Refusals.{Refusal, when, first_of, unless}
+use Rattle.xr_model.specs.PartAnswers.{answer_by}
+use Rattle.xr_model.specs.CoreCalls.{written_over}
 use Rattle.xr_model.specs.State.{CoreState}
 use Rattle.xr_core.specs.Calls.{Makes, MakesOver}
 

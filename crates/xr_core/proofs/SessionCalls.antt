@@ -11,12 +11,12 @@ use Rattle.xr_types.specs.Code.{is_out_of_memory}
 use Rattle.xr_model.specs.Request.{Request, is_locked}
 use Rattle.xr_model.specs.Handles.{is_live}
 use Rattle.xr_model.specs.Refusals.{Refusal, when, first_of, unless}
-use Rattle.xr_model.specs.States.{Life, is_state}
-use Rattle.xr_model.specs.Sessions.{Session, session_at}
+use Rattle.xr_model.specs.SessionLife.{Life, is_state}
+use Rattle.xr_model.specs.LiveSessions.{Session, session_at}
 use Rattle.xr_model.specs.SessionRule.{code_on}
-use Rattle.xr_model.specs.Steps.Session.{life_of, with_change, changing_rule}
+use Rattle.xr_model.specs.Rules.Session.{life_of, with_change, changing_rule}
 use Rattle.xr_model.specs.State.{CoreState, CellReads}
-use Rattle.xr_model.specs.Rules.{Rule, refusals}
+use Rattle.xr_model.specs.Rule.{Rule, refusals}
 use Rattle.xr_model.specs.Machine.{rule_of, is_built, is_creation}
 use Rattle.xr_states.specs.Codes.{code_by}
 use Rattle.xr_core.specs.Calls.{Makes}

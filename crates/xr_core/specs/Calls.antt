@@ -2,9 +2,10 @@
 use Rattle.std.specs.Prelude.{◌≡◌, ℕ, List}
 use Rattle.xr_types.specs.declared.calls.Actor.{Actor}
 use Rattle.xr_types.specs.declared.calls.Reply.{Reply}
-use Rattle.xr_model.specs.Request.{Request, entry_of}
+use Rattle.xr_model.specs.Request.{Request}
+use Rattle.xr_model.specs.CoreCalls.{entry_of}
 use Rattle.xr_model.specs.State.{CoreState, CellReads}
-use Rattle.xr_model.specs.Rules.{written_over}
+use Rattle.xr_model.specs.CoreCalls.{written_over}
 use Rattle.xr_model.specs.Machine.{IsPresent, CoreAllows, core_step}
 
 -- The answer to a request, the state that is left and the bytes for the buffer are the machine's, and

@@ -6,11 +6,11 @@ use Rattle.xr_types.specs.declared.device.Wish.{Wish}
 use Rattle.xr_types.specs.declared.session.SessionState.{SessionState}
 use Rattle.xr_model.specs.Refusals.{Refusal, first_of, unless}
 use Rattle.xr_model.specs.Request.{Request, begin_session, end_session, request_exit_session}
-use Rattle.xr_model.specs.States.{Life, Changed, unchanged, settled, losing, lost, is_lost, begin_checks, begun, end_checks, ended, exit_checks, exiting}
+use Rattle.xr_model.specs.SessionLife.{Life, Changed, unchanged, settled, losing, lost, is_lost, begin_checks, begun, end_checks, ended, exit_checks, exiting}
 use Rattle.xr_states.specs.Codes.{code_by}
-use Rattle.xr_model.specs.Sessions.{Session, session_at}
+use Rattle.xr_model.specs.LiveSessions.{Session, session_at}
 use Rattle.xr_model.specs.State.{CoreState}
-use Rattle.xr_model.specs.Steps.Session.{life_of, with_change}
+use Rattle.xr_model.specs.Rules.Session.{life_of, with_change}
 use Rattle.xr_core.specs.declared.sessions.Change.{Change}
 use Rattle.xr_core.specs.declared.sessions.Change.TheVariants.{Settle, Loss, Lost}
 use Rattle.xr_core.specs.declared.sessions.LifeCall.{LifeCall}

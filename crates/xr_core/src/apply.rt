@@ -2,7 +2,7 @@
 ghost use Rattle.std.specs.Prelude.{◌<◌, ◌^◌, length};
 ghost use Rattle.xr_model.specs.Request.{request_of};
 ghost use Rattle.xr_model.specs.State.{CellReads};
-ghost use Rattle.xr_model.specs.Machine.{MayMake, CoreApplies};
+ghost use Rattle.xr_model.specs.CoreCalls.{MayMake, CoreApplies};
 
 use crate::Core;
 use crate::sessions::LifeCall;

@@ -1,7 +1,7 @@
 // What the device has told of itself.
 ghost use Rattle.std.specs.Prelude.{◌≡◌};
 ghost use Rattle.xr_model.specs.Device.{first_device};
-ghost use Rattle.xr_model.specs.Steps.Device.{later_of};
+ghost use Rattle.xr_model.specs.Rules.Device.{later_of};
 
 use std::marker::Model;
 use xr_types::Wish;

@@ -2,7 +2,8 @@
 ghost use Rattle.std.specs.Prelude.{◌≡◌, ◌≤◌, ◌<◌, ◌^◌, ◌↔◌, IfOk, IsTrue, length};
 ghost use Rattle.xr_model.specs.Request.{request_of};
 ghost use Rattle.xr_model.specs.State.{with_apps, opening};
-ghost use Rattle.xr_model.specs.Machine.{IsPresent, MayMake, Applies};
+ghost use Rattle.xr_model.specs.Machine.{IsPresent};
+ghost use Rattle.xr_model.specs.CoreCalls.{MayMake, Applies};
 
 use crate::{Core, PlainCells};
 use std::alloc::Global;

@@ -1,8 +1,8 @@
 // The live sessions, what changes them, and what is told of that.
 ghost use Rattle.std.specs.Prelude.{◌≡◌, ◌<◌, [], length, Some};
 ghost use Rattle.xr_types.specs.declared.code.Code.TheVariants.{Success};
-ghost use Rattle.xr_model.specs.States.{started};
-ghost use Rattle.xr_model.specs.Sessions.{session_at, life_in, with_life, with_life_at, each_changed, told_states, told_changes};
+ghost use Rattle.xr_model.specs.SessionLife.{started};
+ghost use Rattle.xr_model.specs.LiveSessions.{session_at, life_in, with_life, with_life_at, each_changed, told_states, told_changes};
 ghost use Rattle.xr_model.specs.SessionRule.{code_on};
 ghost use Rattle.xr_core.specs.Changes.{change_by, place_at, ordinal_in, life_after, told_after, answer_to};
 
@@ -22,7 +22,7 @@ pub(crate) struct LiveSession {
 }
 
 impl Model for LiveSession {
-    ghost use Rattle.xr_model.specs.Sessions as sessions;
+    ghost use Rattle.xr_model.specs.LiveSessions as sessions;
 
     ghost Value = { sessions.Session };
 

@@ -1,8 +1,8 @@
 // The state, and how a call ends. It touches no part's inside.
 ghost use Rattle.std.specs.Prelude.{◌≡◌, ◌≤◌, ◌<◌, ◌^◌, ◌+◌, ◌↔◌, IfOk, IsTrue, length};
 ghost use Rattle.xr_model.specs.Destroyed.{without_handle};
-ghost use Rattle.xr_model.specs.Sessions.{still_live};
-ghost use Rattle.xr_model.specs.Steps.Device.{with_changes};
+ghost use Rattle.xr_model.specs.LiveSessions.{still_live};
+ghost use Rattle.xr_model.specs.Rules.Device.{with_changes};
 ghost use Rattle.xr_core.specs.Changes.{change_by};
 ghost use Rattle.xr_model.specs.State.{with_apps, opening_core};
 ghost use Rattle.xr_model.specs.Machine.{IsPresent};

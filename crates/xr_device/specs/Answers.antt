@@ -3,7 +3,7 @@ use Rattle.std.specs.Prelude.{◌≡◌, ℕ, ◌&&◌, Bool, true, false, [], �
 use Rattle.xr_types.specs.declared.device.DeviceEvent.{DeviceEvent}
 use Rattle.xr_types.specs.declared.device.DeviceEvent.TheVariants as event
 use Rattle.xr_types.specs.Device.{checks}
-use Rattle.xr_model.specs.Device.{is_built_event}
+use Rattle.xr_model.specs.DeviceLaws.{is_of_line}
 use Rattle.xr_model.specs.DeviceText.{DeviceStream, nothing_more, garbled_at}
 use Rattle.xr_device.specs.declared.Next.{Next}
 use Rattle.xr_device.specs.declared.Next.TheVariants as next
@@ -32,12 +32,6 @@ OnFailed (next.Garbled line) P = Unit {0}
 OnFailed next.Failed P = P
 
 -- ---- events
-
--- whether a line tells it: it is none of the two ways in which a device ends early, and its part is built
-abbrev pub is_of_line : DeviceEvent → Bool
-is_of_line event.Fault = false
-is_of_line (event.Garbled line) = false
-is_of_line e = is_built_event e
 
 -- an event that a device may tell: its numbers are in range, and a line tells it
 pub record IsTold (e : DeviceEvent) : Type 0 where

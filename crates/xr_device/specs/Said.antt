@@ -1,6 +1,6 @@
 -- Numbers and words as they are read.
 use Rattle.std.specs.Prelude.{ℕ, ◌&&◌, nat_le, Option, Some, None, if◌then◌else◌}
-use Rattle.xr_model.specs.DeviceText.{Meaning, skipped, tells, no_line}
+use Rattle.xr_model.specs.DeviceText.{Meaning, skipped, tells, malformed}
 use Rattle.xr_device.specs.Answers.{IsTold}
 use Rattle.xr_device.specs.declared.words.Said.{Said}
 use Rattle.xr_device.specs.declared.words.Said.TheVariants as said
@@ -19,10 +19,10 @@ ranged least most (Some n) = if nat_le least n && nat_le n most then Some n else
 abbrev pub meaning : Said → Meaning
 meaning said.Nothing = skipped
 meaning (said.Event event) = tells event
-meaning said.NoLine = no_line
+meaning said.Malformed = malformed
 
 -- the event that a line gives is one that a device may tell
 abbrev pub IsSaidTold : Said → Type 0
 IsSaidTold said.Nothing = Unit {0}
 IsSaidTold (said.Event event) = IsTold event
-IsSaidTold said.NoLine = Unit {0}
+IsSaidTold said.Malformed = Unit {0}

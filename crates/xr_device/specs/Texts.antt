@@ -34,7 +34,7 @@ pub record IsUndecided (used : ℕ) (held : List ℕ) : Type 0 where
 -- What the held bytes begin with, whatever follows them; nothing does where the source has ended.
 abbrev pub Begins : ℕ → List ℕ → Bool → Front → Type 0
 Begins used held ended (front.Line bytes size) = IsFrontLine used held ended bytes size
-Begins used held ended front.NoLine = (number : ℕ) (rest : List ℕ) → (ended ≡ true → rest ≡ []) → told_from number used (lines_in (held ++ rest)) ≡ garbled number
+Begins used held ended front.Malformed = (number : ℕ) (rest : List ℕ) → (ended ≡ true → rest ≡ []) → told_from number used (lines_in (held ++ rest)) ≡ garbled number
 Begins used held ended front.End = (number : ℕ) (rest : List ℕ) → (ended ≡ true → rest ≡ []) → told_from number used (lines_in (held ++ rest)) ≡ nothing_more
 Begins used held ended front.Open = IsUndecided used held × (ended ≡ false)
 

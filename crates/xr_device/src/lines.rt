@@ -16,7 +16,7 @@ pub(crate) enum Front {
     /// A line of so many bytes, which takes so many with its line feed.
     Line { bytes: usize, size: usize },
     /// What is no line: it is too long, or it goes past the limit of the text.
-    NoLine,
+    Malformed,
     /// Nothing: the text has ended.
     End,
     /// What may go on in bytes that aren't held.
@@ -34,15 +34,15 @@ pub(crate) fn front_of(held: &[u8], used: usize, ended: bool) -> Front
     if let Some(bytes) = place_of(b'\n', seen) {
         let size = bytes + 1;
         if used + size > MOST_TEXT {
-            return Front::NoLine;
+            return Front::Malformed;
         }
         return Front::Line { bytes, size };
     }
     if seen.len() > MOST_LINE {
-        return Front::NoLine;
+        return Front::Malformed;
     }
     if used + seen.len() > MOST_TEXT {
-        return Front::NoLine;
+        return Front::Malformed;
     }
     if !ended {
         return Front::Open;

@@ -72,7 +72,7 @@ impl<S: Source> Text<S> {
     {
         match front_of(self.held.as_slice(), self.used, self.ended) {
             Front::Line { bytes, size } => self.use_line(bytes, size),
-            Front::NoLine => Step::Answer(Next::Garbled(self.number)),
+            Front::Malformed => Step::Answer(Next::Garbled(self.number)),
             Front::End => Step::Answer(Next::End),
             Front::Open => self.read_more(),
         }
@@ -101,7 +101,7 @@ impl<S: Source> Text<S> {
         match said {
             Said::Nothing => Step::GoesOn,
             Said::Event(event) => Step::Answer(Next::Event(event)),
-            Said::NoLine => Step::Answer(Next::Garbled(number)),
+            Said::Malformed => Step::Answer(Next::Garbled(number)),
         }
     }
 

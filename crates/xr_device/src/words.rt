@@ -1,7 +1,7 @@
 // What one line says: its words, its numbers and its event.
 ghost use Rattle.std.specs.Prelude.{◌≡◌, ◌≤◌, true, [], ◌∷◌, pos, MatchOption, IfSome, option_map};
 ghost use Rattle.xr_model.specs.DeviceText.{words_of, number_of, digits_behind, wish_of, grid_by, event_by, if_checked, event_of, meaning_of};
-ghost use Rattle.xr_device.specs.Answers.{is_of_line};
+ghost use Rattle.xr_model.specs.DeviceLaws.{is_of_line};
 ghost use Rattle.xr_device.specs.Said.{up_to, ranged, meaning, IsSaidTold};
 ghost use Rattle.xr_types.specs.declared.device.DeviceEvent.TheVariants as event;
 
@@ -15,7 +15,7 @@ pub(crate) enum Said {
     Nothing,
     Event(DeviceEvent),
     /// It is no line of a device text.
-    NoLine,
+    Malformed,
 }
 
 /// The latest time, in ns.
@@ -228,6 +228,6 @@ pub(crate) fn said_by(line: &[u8]) -> Said
     }
     match event_of(line) {
         Some(event) => Said::Event(event),
-        None => Said::NoLine,
+        None => Said::Malformed,
     }
 }

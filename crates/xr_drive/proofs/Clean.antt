@@ -11,7 +11,7 @@ use Rattle.xr_types.specs.declared.made.Lists.{Lists}
 use Rattle.xr_types.specs.declared.scenario.Op.{Op}
 use Rattle.xr_types.specs.declared.scenario.Scenario.{Scenario}
 use Rattle.xr_types.specs.Device.{checks}
-use Rattle.xr_model.specs.DeviceText.{Line, lines_in, size_of, is_word, most_line, most_text, Meaning, skipped, tells, no_line, event_or_none, meaning_of, words_of, number_of, wish_of, grid_by, event_by, if_checked, event_of, Ending, ends, garbled_at, DeviceStream, nothing_more, told_by, told_from, told_in}
+use Rattle.xr_model.specs.DeviceText.{Line, lines_in, size_of, is_word, most_line, most_text, Meaning, skipped, tells, malformed, event_or_none, meaning_of, words_of, number_of, wish_of, grid_by, event_by, if_checked, event_of, Ending, ends, garbled_at, DeviceStream, nothing_more, told_by, told_from, told_in}
 use Rattle.xr_model.specs.State.{with_apps}
 use Rattle.xr_model.specs.History.{calls_of}
 use Rattle.xr_model.specs.Lists.{events_in}
@@ -71,7 +71,7 @@ checked_clean (Some e) h = by (checks e)
 abbrev IsCleanMeaning : Meaning → Type 0
 IsCleanMeaning skipped = Unit {0}
 IsCleanMeaning (tells e) = is_garbled e ≡ false
-IsCleanMeaning no_line = Unit {0}
+IsCleanMeaning malformed = Unit {0}
 
 or_none : (o : Option DeviceEvent) → IsCleanIfSome o → IsCleanMeaning (event_or_none o)
 or_none None h = tt
@@ -90,7 +90,7 @@ meaning_clean (b ∷ bs) = by (b == 35)
 told_by_clean : (number : ℕ) (m : Meaning) (rest : DeviceStream) → IsCleanMeaning m → IsClean rest.events → IsClean (told_by number m rest).events
 told_by_clean number skipped rest h clean = clean
 told_by_clean number (tells e) rest h clean = rw h clean
-told_by_clean number no_line rest h clean = refl
+told_by_clean number malformed rest h clean = refl
 
 told_from_clean : (number used : ℕ) (ls : List Line) → IsClean (told_from number used ls).events
 told_from_clean number used [] = refl

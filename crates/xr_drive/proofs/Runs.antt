@@ -11,7 +11,7 @@ use Rattle.xr_types.specs.declared.status.Status.{Status}
 use Rattle.xr_types.specs.declared.status.Status.TheVariants.{Done, Usage, OpenFault, ReadFault, ScenarioRefused, DeviceFailed, DeviceGarbled, Stuck, WriteFault, NoMemory}
 use Rattle.xr_types.specs.declared.status.Refusal.{Refusal}
 use Rattle.xr_types.specs.declared.status.Refusal.TheVariants.{TooLong, Unbuilt}
-use Rattle.xr_model.specs.Words.{Form, form_of}
+use Rattle.xr_model.specs.Words.{RunOptions, form_of}
 use Rattle.xr_model.specs.Scenario.{scenario_of}
 use Rattle.xr_model.specs.Built.{are_built, if_built, run_scenario_of}
 use Rattle.xr_model.specs.DeviceText.{DeviceStream, ends}
@@ -100,7 +100,7 @@ means_run all text told (Err Stuck) read e = absurd e
 means_run all text told (Err WriteFault) read e = absurd e
 
 -- ---- what a status behind a report means
-pub means_written : (words : List (List ℕ)) (bytes : List ℕ → Option (List ℕ)) (before after : Option (List ℕ)) (form : Form) (lists : Lists) (status : Status) → form_of words ≡ Some form
+pub means_written : (words : List (List ℕ)) (bytes : List ℕ → Option (List ℕ)) (before after : Option (List ℕ)) (form : RunOptions) (lists : Lists) (status : Status) → form_of words ≡ Some form
     → RunsText (bytes form.file) (told_under bytes form.device) lists → MeansWritten lists form.places before after status → Means words bytes before after status
 means_written words bytes before after form lists Done is run m = (form, is, (lists, run, m))
 means_written words bytes before after form lists DeviceFailed is run m = (form, is, (lists, run, m))
@@ -151,12 +151,12 @@ complete words bytes before after old new OpenFault means cause = λ form text s
 complete words bytes before after old new ReadFault means cause = λ form text scenario told is there good tells end none. absurd (none.reads which.Scenario cause)
 complete words bytes before after old new (ScenarioRefused why) means cause = λ form text scenario told is there good tells end none.
     let same : means.0 ≡ form = same_Some means.0 form (sym means.1 ∙ is) in
-    let refused : IsRefusedIfTold why (Some text) = subst (IsRefusedIfTold why) (ap (λ (f : Form). bytes f.file) same ∙ there) means.2.0 in
+    let refused : IsRefusedIfTold why (Some text) = subst (IsRefusedIfTold why) (ap (λ (f : RunOptions). bytes f.file) same ∙ there) means.2.0 in
     absurd (err_is_not scenario why (sym refused ∙ good))
 complete words bytes before after old new DeviceFailed means cause = λ form text scenario told is there good tells end none. absurd (none.reads which.Device cause)
 complete words bytes before after old new (DeviceGarbled line) means cause = λ form text scenario told is there good tells end none.
     let same : means.0 ≡ form = same_Some means.0 form (sym means.1 ∙ is) in
-    let known : told_under bytes means.0.device ≡ Some told = ap (λ (f : Form). told_under bytes f.device) same ∙ tells in
+    let known : told_under bytes means.0.device ≡ Some told = ap (λ (f : RunOptions). told_under bytes f.device) same ∙ tells in
     absurd (no_garbled bytes means.0.device (bytes means.0.file) told means.2.0 line known end means.2.1 means.2.2.0)
 complete words bytes before after old new Stuck means cause = λ form text scenario told is there good tells end none. inr (inl refl)
 complete words bytes before after old new WriteFault means cause = λ form text scenario told is there good tells end none. absurd (none.writes cause)

@@ -9,7 +9,7 @@ use Rattle.xr_types.specs.declared.made.Lists.{Lists}
 use Rattle.xr_types.specs.declared.scenario.Scenario.{Scenario}
 use Rattle.xr_types.specs.declared.status.Status.{Status}
 use Rattle.xr_types.specs.declared.status.Status.TheVariants.{Done, Usage, OpenFault, ReadFault, ScenarioRefused, DeviceFailed, DeviceGarbled, Stuck, WriteFault, NoMemory}
-use Rattle.xr_model.specs.Words.{Form, form_of}
+use Rattle.xr_model.specs.Words.{RunOptions, form_of}
 use Rattle.xr_model.specs.Built.{run_scenario_of}
 use Rattle.xr_model.specs.DeviceText.{DeviceStream, ends, nothing_more, told_in}
 use Rattle.xr_model.specs.Report.{is_fault, report_of}
@@ -17,8 +17,8 @@ use Rattle.xr_drive.specs.Run.{Run}
 use Rattle.xr_drive.specs.Status.{status_by}
 
 -- The words have a form, and this is so of it.
-abbrev pub OfForm : List (List ℕ) → (Form → Type 0) → Type 0
-OfForm words P = (form : Form) × (form_of words ≡ Some form) × P form
+abbrev pub OfForm : List (List ℕ) → (RunOptions → Type 0) → Type 0
+OfForm words P = (form : RunOptions) × (form_of words ≡ Some form) × P form
 
 -- what the device is known to give: nothing where there is none, else what its file's text tells, where that is told
 abbrev pub told_under : (List ℕ → Option (List ℕ)) → Option (List ℕ) → Option DeviceStream
@@ -30,7 +30,7 @@ abbrev pub RunsText : Option (List ℕ) → Option DeviceStream → Lists → Ty
 RunsText all told lists = (text : List ℕ) × IfSome all (λ bytes. bytes ≡ text) × Run text told lists
 
 -- The form's files were run, and this is so of what the run has made.
-abbrev pub Reports : (List ℕ → Option (List ℕ)) → Form → (Lists → Type 0) → Type 0
+abbrev pub Reports : (List ℕ → Option (List ℕ)) → RunOptions → (Lists → Type 0) → Type 0
 Reports bytes form P = (lists : Lists) × RunsText (bytes form.file) (told_under bytes form.device) lists × P lists
 
 -- The run ended so, and its whole report was written.
@@ -80,19 +80,19 @@ pub record NoneRose (old new : Faults) : Type 0 where
 -- and it ends at the end of its text, and no count of faults rose, the run is done, or stuck, or memory was short.
 abbrev pub IsComplete : List (List ℕ) → (List ℕ → Option (List ℕ)) → Faults → Faults → Status → Type 0
 IsComplete words bytes old new status =
-    (form : Form) (text : List ℕ) (scenario : Scenario) (told : DeviceStream) → form_of words ≡ Some form → bytes form.file ≡ Some text → run_scenario_of text ≡ Ok scenario
+    (form : RunOptions) (text : List ℕ) (scenario : Scenario) (told : DeviceStream) → form_of words ≡ Some form → bytes form.file ≡ Some text → run_scenario_of text ≡ Ok scenario
     → told_under bytes form.device ≡ Some told → told.ending ≡ ends → NoneRose old new → (status ≡ Done) ⊎ ((status ≡ Stuck) ⊎ (status ≡ NoMemory))
 
 -- ---- what was asked for
 
 -- The scenario's file that was asked for is that of the words. Where memory was short it may not have
 -- been asked for yet.
-abbrev pub IsAskedFor : Option Form → Option (List ℕ) → Status → Type 0
+abbrev pub IsAskedFor : Option RunOptions → Option (List ℕ) → Status → Type 0
 IsAskedFor form asked NoMemory = (asked ≡ option_map (λ f. f.file) form) ⊎ (asked ≡ None)
 IsAskedFor form asked _ = asked ≡ option_map (λ f. f.file) form
 
 -- the device's file, where the words name one
-abbrev pub device_of : Option Form → Option (List ℕ)
+abbrev pub device_of : Option RunOptions → Option (List ℕ)
 device_of form = option_and_then (λ f. f.device) form
 
 -- The device's file that was asked for is this one, if there is one. Where a file couldn't be opened or memory was short it

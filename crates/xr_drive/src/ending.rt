@@ -16,7 +16,7 @@ fn has_fault(events: &[DeviceEvent]) -> bool
         .any(|event| matches!(event, DeviceEvent::Fault))
 }
 
-/// The first line of the device's text that is none.
+/// The first malformed line of the device's text.
 fn first_garbled(events: &[DeviceEvent]) -> Option<u64>
     ensures { result ≡ first_garbled events.now }
 {

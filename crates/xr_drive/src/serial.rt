@@ -174,8 +174,8 @@ fn write_report<K: Sink>(alloc: Global, sink: &mut K, lists: &Lists, places: boo
 ///
 /// Under `Done`, `DeviceFailed`, `DeviceGarbled` and `Stuck` the whole report is written, and nothing else: it is that
 /// of a legal history of the written machine, the round robin's of this scenario and of this device's events.
-/// `DeviceFailed` comes where the device couldn't be read on, else `DeviceGarbled` with the first line of its text that
-/// is none, else `Stuck` where somebody waits for ever. `Usage` comes exactly where the words have no form; `OpenFault`,
+/// `DeviceFailed` comes where the device couldn't be read on, else `DeviceGarbled` with the first malformed line of its
+/// text, else `Stuck` where somebody waits for ever. `Usage` comes exactly where the words have no form; `OpenFault`,
 /// `ReadFault`, `DeviceFailed` and `WriteFault` only where that object's count of faults rose; `ScenarioRefused` exactly
 /// where the text is no scenario that is run, with the reason: `TooLong`, `Json`, `BadShape` with the first wrong place,
 /// or `Unbuilt` for a scenario of more scripts than one or of other ops than those that are built. `NoMemory` is free.

@@ -4,8 +4,8 @@ use Rattle.std.specs.Prelude.{option_and_then}
 use Rattle.serde_json.specs.Data.{Data}
 use Rattle.serde_json.specs.View.{view, items_view}
 use Rattle.serde_json.specs.declared.value.Value.{Value}
-use Rattle.xr_model.specs.Formed.{Each}
-use Rattle.xr_model.specs.Parts.{all_of, count_items}
+use Rattle.xr_model.specs.InRange.{Each}
+use Rattle.xr_model.specs.ListItems.{all_of, count_items}
 
 -- these, and then the rest, where there is a rest
 abbrev pub prepend : {T : Type 0} → List T → Option (List T) → Option (List T)

@@ -9,7 +9,7 @@ use Rattle.std.specs.Borrow.{Bor}
 use Rattle.indexmap.specs.IndexMap.{insert_entry}
 use Rattle.xr_types.specs.declared.scenario.Sort.{Sort}
 use Rattle.xr_model.specs.Names.{Known, known, given, is_sort, if_sort, place_of, is_known}
-use Rattle.xr_model.specs.InForm.{IsKnownPlace}
+use Rattle.xr_model.specs.ScriptForm.{IsKnownPlace}
 use Rattle.xr_fields.specs.declared.givers.Giver.{Giver}
 use Rattle.xr_fields.specs.Given.{known_of, place_by}
 

@@ -1,6 +1,6 @@
 // The names that the ops of a script have given, each with the latest op that gave it.
 ghost use Rattle.std.specs.Prelude.{◌≡◌, [], OnOk, IfSome};
-ghost use Rattle.xr_model.specs.InForm.{IsKnownPlace};
+ghost use Rattle.xr_model.specs.ScriptForm.{IsKnownPlace};
 ghost use Rattle.xr_model.specs.Names.{given, place_of};
 ghost use Rattle.xr_fields.specs.Given.{place_by};
 

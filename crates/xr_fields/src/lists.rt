@@ -4,9 +4,9 @@ ghost use Rattle.serde_json.specs.Data.{Data};
 ghost use Rattle.serde_json.specs.View.{view, items_view};
 ghost use Rattle.xr_fields.specs.Reads.{Reads};
 ghost use Rattle.xr_model.specs.Fields.{field};
-ghost use Rattle.xr_model.specs.Formed.{Each, AreAtMost};
+ghost use Rattle.xr_model.specs.InRange.{Each, AreAtMost};
 ghost use Rattle.xr_model.specs.Names.{Known};
-ghost use Rattle.xr_model.specs.Parts.{all_of, list_in};
+ghost use Rattle.xr_model.specs.ListItems.{all_of, list_in};
 
 use crate::fault::{Fault, at};
 use crate::givers::Givers;

@@ -4,7 +4,7 @@ ghost use Rattle.serde_json.specs.View.{view};
 ghost use Rattle.serde_json.specs.Find.{as_bool};
 ghost use Rattle.xr_fields.specs.Reads.{IsWrong, Reads};
 ghost use Rattle.xr_model.specs.Fields.{field, most_u32, number_in, integer_in, mark_in, timeout_in};
-ghost use Rattle.xr_model.specs.Formed.{IsMark, IsTimeout};
+ghost use Rattle.xr_model.specs.InRange.{IsMark, IsTimeout};
 
 use crate::fault::{Fault, at};
 use serde_json::Value;

@@ -1,9 +1,9 @@
 // What the lists of an op may hold.
 ghost use Rattle.std.specs.Prelude.{◌≡◌, IfOk, IfSome};
 ghost use Rattle.serde_json.specs.View.{view};
-ghost use Rattle.xr_model.specs.Formed.{IsHandlePart, IsAtomPart, IsBinding, IsActiveSet, IsPixel, IsSubImage, IsLayer};
-ghost use Rattle.xr_model.specs.InForm.{IsKnownPlace};
-ghost use Rattle.xr_model.specs.Parts.{item_count, handle_part, atom_part, binding_part, active_set_part, pixel_at, sub_image_part, projection_in, quad_in, layer_part};
+ghost use Rattle.xr_model.specs.InRange.{IsHandlePart, IsAtomPart, IsBinding, IsActiveSet, IsPixel, IsSubImage, IsLayer};
+ghost use Rattle.xr_model.specs.ScriptForm.{IsKnownPlace};
+ghost use Rattle.xr_model.specs.ListItems.{item_count, handle_part, atom_part, binding_part, active_set_part, pixel_at, sub_image_part, projection_in, quad_in, layer_part};
 
 use crate::givers::Givers;
 use crate::keys::only_keys;

@@ -3,8 +3,8 @@ ghost use Rattle.std.specs.Prelude.{◌≡◌, IfOk, IfSome, pos, IfErr};
 ghost use Rattle.serde_json.specs.View.{view};
 ghost use Rattle.xr_fields.specs.Reads.{IsWrong, Reads};
 ghost use Rattle.xr_model.specs.Fields.{field, optional, use_in, handle_in, atom_in, system_in, time_in, value_in};
-ghost use Rattle.xr_model.specs.Formed.{IsUse, IsHandle, IsAtom, IsSystem, IsTime, IsValue};
-ghost use Rattle.xr_model.specs.InForm.{IsKnownPlace};
+ghost use Rattle.xr_model.specs.InRange.{IsUse, IsHandle, IsAtom, IsSystem, IsTime, IsValue};
+ghost use Rattle.xr_model.specs.ScriptForm.{IsKnownPlace};
 ghost use Rattle.xr_types.specs.declared.scenario.Use.TheVariants.{Number};
 
 use crate::fault::{Fault, at};

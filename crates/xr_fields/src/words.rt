@@ -3,7 +3,7 @@ ghost use Rattle.std.specs.Prelude.{◌≡◌, option_map, IfOk, IfSome, IfErr};
 ghost use Rattle.serde_json.specs.View.{view};
 ghost use Rattle.xr_fields.specs.Reads.{IsWrong, Reads};
 ghost use Rattle.xr_model.specs.Fields.{field, text_in, form_of, form_in, view_of, view_in, ref_kind_of, ref_kind_in, action_type_of, action_type_in, blend_of, blend_in};
-ghost use Rattle.xr_model.specs.Formed.{IsText};
+ghost use Rattle.xr_model.specs.InRange.{IsText};
 
 use crate::fault::{Fault, at};
 use serde_json::Value;

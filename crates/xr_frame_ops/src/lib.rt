@@ -5,8 +5,8 @@
 ghost use Rattle.std.specs.Prelude.{IfErr, IfOk};
 ghost use Rattle.serde_json.specs.View.{view};
 ghost use Rattle.xr_fields.specs.Reads.{IsWrong, ReadsLine};
-ghost use Rattle.xr_model.specs.Formed.{IsFormed};
-ghost use Rattle.xr_model.specs.InForm.{IsKnownPlace};
+ghost use Rattle.xr_model.specs.InRange.{IsFormed};
+ghost use Rattle.xr_model.specs.ScriptForm.{IsKnownPlace};
 ghost use Rattle.xr_model.specs.Ops.Frames.{begin_frame, create_reference_space, create_action_space, destroy_space, locate_space, create_swapchain, destroy_swapchain, acquire_image, release_image, wait_image, paint, wait_frame, end_frame};
 
 use serde_json::Value;

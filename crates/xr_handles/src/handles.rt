@@ -1,8 +1,11 @@
 // The rows of all kinds, and the calls on them.
 ghost use Rattle.std.specs.Prelude.{◌≡◌, ◌≢◌, ◌<◌, ◌^◌, [], ◌∷◌, false, length, is_some, IfSome};
 ghost use Rattle.xr_model.specs.Handles as model;
-ghost use Rattle.xr_model.specs.Handles.{no_handles, limit_of, row_of, is_live, kind_of, parent_of, place_of, place_among, handle_in, first_free, no_room, was_given, with_handle, without};
-ghost use Rattle.xr_model.specs.Refusals.{first_of, answer_by, unless};
+ghost use Rattle.xr_model.specs.Handles.{no_handles, row_of, is_live, first_free, no_room, was_given, with_handle, without};
+ghost use Rattle.xr_model.specs.HandlePlaces.{limit_of};
+ghost use Rattle.xr_model.specs.HandlePlaces.{kind_of, parent_of, place_of, place_among, handle_in};
+ghost use Rattle.xr_model.specs.Refusals.{first_of, unless};
+ghost use Rattle.xr_model.specs.PartAnswers.{answer_by};
 ghost use Rattle.xr_handles.specs.Numbers.{next_number};
 
 use crate::row;
@@ -126,7 +129,8 @@ impl Handles {
 
     /// The place of a live handle in the row of its kind, from 0.
     pub fn place_of(&self, handle: u64) -> Option<usize>
-        ensures { result ≡ place_of self.now handle }
+        ensures place { result ≡ place_of self.now handle }
+        ensures within { IfSome result (λ place. IfSome (kind_of self.now handle) (λ kind. place < limit_of kind)) }
     {
         match self.kind_of(handle) {
             Some(kind) => row::place_in(self.row(kind), handle),

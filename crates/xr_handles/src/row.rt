@@ -1,6 +1,7 @@
 // One row of places: what is found in it, put into it, and swept out of it.
 ghost use Rattle.std.specs.Prelude.{◌≡◌, ◌≤◌, ◌<◌, ◌+◌, ◌++◌, length, is_some, option_map, IfSome};
-ghost use Rattle.xr_model.specs.Handles.{first_free, put_in, has, place_in, slot_in, goes, going, cleared};
+ghost use Rattle.xr_model.specs.Handles.{first_free, put_in, has, goes, going, cleared};
+ghost use Rattle.xr_model.specs.HandlePlaces.{place_in, slot_in};
 
 use arrayvec::ArrayVec;
 use xr_types::{MOST_HANDLES, Slot};

@@ -5,8 +5,8 @@
 ghost use Rattle.std.specs.Prelude.{IfErr, IfOk};
 ghost use Rattle.serde_json.specs.View.{view};
 ghost use Rattle.xr_fields.specs.Reads.{IsWrong, ReadsLine};
-ghost use Rattle.xr_model.specs.Formed.{IsFormed};
-ghost use Rattle.xr_model.specs.InForm.{IsKnownPlace};
+ghost use Rattle.xr_model.specs.InRange.{IsFormed};
+ghost use Rattle.xr_model.specs.ScriptForm.{IsKnownPlace};
 ghost use Rattle.xr_model.specs.Ops.Input.{create_action_set, destroy_action_set, create_action, destroy_action, suggest_bindings, attach_sets, sync_actions, get_boolean, get_float, get_vector, get_pose_active};
 
 use serde_json::Value;

@@ -4,9 +4,11 @@ use Rattle.std.proofs.Common.{false, List, [], ◌∷◌, ap, ◌∙◌, refl, s
 use Rattle.xr_types.specs.declared.calls.Reply.{Reply}
 use Rattle.xr_types.specs.declared.calls.Step.{Step}
 use Rattle.xr_types.specs.declared.calls.Step.TheVariants.{Done, NotReady}
-use Rattle.xr_model.specs.Request.{entry_of, request_of}
+use Rattle.xr_model.specs.Request.{request_of}
+use Rattle.xr_model.specs.CoreCalls.{entry_of}
 use Rattle.xr_model.specs.State.{State}
-use Rattle.xr_model.specs.Machine.{step, Applies}
+use Rattle.xr_model.specs.Machine.{step}
+use Rattle.xr_model.specs.CoreCalls.{Applies}
 use Rattle.xr_model.specs.History.{clock_of, clocks_after, StartsAt}
 use Rattle.xr_model.specs.AnswerLaws.{Asked, clocks_if, AreHistory, AnswersAreAHistory, replies_of}
 

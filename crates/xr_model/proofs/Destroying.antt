@@ -7,10 +7,11 @@ use Rattle.xr_types.specs.declared.handles.Kind.TheVariants.{Instance, Session}
 use Rattle.xr_types.specs.declared.handles.Slot.{Slot}
 use Rattle.xr_types.specs.declared.handles.TheConstants.{INSTANCES, SESSIONS, ACTION_SETS, ACTIONS, SPACES, SWAPCHAINS}
 use Rattle.xr_model.specs.Request.{Entry, Request, destroy_instance, destroy_session}
-use Rattle.xr_model.specs.Handles.{Handles, has, is_live, kind_of, was_given, with_handle, gone_instances, gone_parents, without}
+use Rattle.xr_model.specs.Handles.{Handles, has, is_live, was_given, with_handle, gone_instances, gone_parents, without}
+use Rattle.xr_model.specs.HandlePlaces.{kind_of}
 use Rattle.xr_model.specs.Refusals.{when, first_of}
 use Rattle.xr_model.specs.State.{CoreState, Settings, State, opening}
-use Rattle.xr_model.specs.Rules.{Effect, unless_refused}
+use Rattle.xr_model.specs.Rule.{Effect, unless_refused}
 use Rattle.xr_model.specs.Machine.{step, rule, reads_of, IsGiven, IsAllowed}
 use Rattle.xr_model.specs.History.{after, opening_clocks, clocks_after, IsLegalFrom}
 use Rattle.xr_model.specs.HandleLaws.{destroys, DestroyedForGood}

@@ -5,7 +5,8 @@ use Rattle.xr_types.specs.declared.calls.Actor.{Actor}
 use Rattle.xr_model.specs.Request.{Entry, Exchange, is_actor}
 use Rattle.xr_model.specs.State.{State, opening}
 use Rattle.xr_model.specs.Machine.{step}
-use Rattle.xr_model.specs.History.{outcome_from, calls_from, positions_from}
+use Rattle.xr_model.specs.History.{calls_from}
+use Rattle.xr_model.specs.Positions.{outcome_from, positions_from}
 use Rattle.xr_model.specs.Laws.{ExchangesStand}
 
 -- the same of a history that stands behind n other entries

@@ -10,14 +10,14 @@ use Rattle.xr_model.specs.Request.{Entry, Request, create_instance, destroy_inst
 use Rattle.xr_model.specs.Handles.{Handles, is_live, with_handle, without}
 use Rattle.xr_model.specs.Refusals.{Refusal, when, first_of}
 use Rattle.xr_model.specs.State.{CoreState, CellReads}
-use Rattle.xr_model.specs.Rules.{Effect, refusals, unless_refused}
+use Rattle.xr_model.specs.Rule.{Effect, refusals, unless_refused}
 use Rattle.xr_types.specs.declared.device.DeviceEvent.{DeviceEvent}
 use Rattle.xr_types.specs.declared.device.DeviceEvent.TheVariants as event
-use Rattle.xr_model.specs.Steps.Own.{with_left}
-use Rattle.xr_model.specs.States.{Life, Changed}
-use Rattle.xr_model.specs.Sessions.{Session, session_at}
-use Rattle.xr_model.specs.Steps.Session.{with_change}
-use Rattle.xr_model.specs.Steps.Device.{behind_event}
+use Rattle.xr_model.specs.Rules.Own.{with_left}
+use Rattle.xr_model.specs.SessionLife.{Life, Changed}
+use Rattle.xr_model.specs.LiveSessions.{Session, session_at}
+use Rattle.xr_model.specs.Rules.Session.{with_change}
+use Rattle.xr_model.specs.Rules.Device.{behind_event}
 use Rattle.xr_model.specs.Machine.{core_step, rule, is_creation}
 
 -- the entry gives a new handle

@@ -1,6 +1,6 @@
 pub mod Histories
-pub mod Formed
-pub mod InForm
+pub mod InRange
+pub mod ScriptForm
 pub mod Exchanges
 pub mod Answering
 pub mod Rows
@@ -11,3 +11,4 @@ pub mod Settling
 pub mod Listed
 pub mod SessionSteps
 pub mod LostSessions
+pub mod DeviceLines

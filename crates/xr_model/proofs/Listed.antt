@@ -5,8 +5,8 @@ use Rattle.std.specs.List.{filter}
 use Rattle.xr_types.specs.declared.handles.Kind.TheVariants as kind
 use Rattle.xr_types.specs.declared.handles.TheConstants.{SESSIONS}
 use Rattle.xr_model.specs.Handles.{Handles, no_handles, is_live, has, has_room, with_handle, without, gone_instances}
-use Rattle.xr_model.specs.Sessions.{Session, session_at, with_life, with_life_at, still_live, each_changed}
-use Rattle.xr_model.specs.States.{Life, Changed}
+use Rattle.xr_model.specs.LiveSessions.{Session, session_at, with_life, with_life_at, still_live, each_changed}
+use Rattle.xr_model.specs.SessionLife.{Life, Changed}
 use Rattle.xr_model.specs.SessionLaws.{AreListed}
 use Rattle.xr_model.proofs.Rows.{or_true, same_key, has_put, has_new, hasnt_put, hasnt_free, hasnt_cleared}
 

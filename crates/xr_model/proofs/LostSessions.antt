@@ -11,11 +11,11 @@ use Rattle.xr_model.specs.Request.{Entry, Request, create_session, begin_session
 use Rattle.xr_model.specs.Handles.{Handles, is_live, was_given, without}
 use Rattle.xr_model.specs.Refusals.{Refusal, when, first_of}
 use Rattle.xr_model.specs.State.{CoreState, Settings, State, opening}
-use Rattle.xr_model.specs.Rules.{Effect, refusals, unless_refused, carried_out}
+use Rattle.xr_model.specs.Rule.{Effect, refusals, unless_refused, carried_out}
 use Rattle.xr_model.specs.SessionRule.{code_on}
-use Rattle.xr_model.specs.States.{Life, Changed, unchanged, started, begin_checks, begun, end_checks, ended, exit_checks, exiting, lost, is_state}
-use Rattle.xr_model.specs.Sessions.{Session, session_at, life_in, with_life, with_life_at, each_changed}
-use Rattle.xr_model.specs.Steps.Session.{new_session, life_of, changing_rule}
+use Rattle.xr_model.specs.SessionLife.{Life, Changed, unchanged, started, begin_checks, begun, end_checks, ended, exit_checks, exiting, lost, is_state}
+use Rattle.xr_model.specs.LiveSessions.{Session, session_at, life_in, with_life, with_life_at, each_changed}
+use Rattle.xr_model.specs.Rules.Session.{new_session, life_of, changing_rule}
 use Rattle.xr_model.specs.Machine.{step, rule, reads_of, is_creation, IsAllowed, IsGiven}
 use Rattle.xr_model.specs.History.{after, opening_clocks, clocks_after, IsLegalFrom}
 use Rattle.xr_model.specs.SessionLaws.{AreListed, SessionsAreListed, session_of, is_device_lost, is_session_creation, creates_session, was_lost, LostSessions, PendingLosses}

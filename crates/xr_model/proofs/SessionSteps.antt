@@ -11,13 +11,13 @@ use Rattle.xr_model.specs.Request.{Entry, Request, create_instance, destroy_inst
 use Rattle.xr_model.specs.Handles.{Handles, is_live, has_room, with_handle, without}
 use Rattle.xr_model.specs.Refusals.{Refusal, first_of}
 use Rattle.xr_model.specs.State.{CoreState, CellReads}
-use Rattle.xr_model.specs.Rules.{Effect, refusals, unless_refused}
-use Rattle.xr_model.specs.Steps.Instance.{the_system}
-use Rattle.xr_model.specs.Steps.Own.{with_left}
-use Rattle.xr_model.specs.Steps.Device.{behind_event}
-use Rattle.xr_model.specs.Steps.Session.{new_session, with_change}
-use Rattle.xr_model.specs.States.{Life, Changed, unchanged, started, settled, begun, ended, exiting, losing, lost, is_state}
-use Rattle.xr_model.specs.Sessions.{Session, session_at, with_life_at, still_live, each_changed}
+use Rattle.xr_model.specs.Rule.{Effect, refusals, unless_refused}
+use Rattle.xr_model.specs.Rules.Instance.{the_system}
+use Rattle.xr_model.specs.Rules.Own.{with_left}
+use Rattle.xr_model.specs.Rules.Device.{behind_event}
+use Rattle.xr_model.specs.Rules.Session.{new_session, with_change}
+use Rattle.xr_model.specs.SessionLife.{Life, Changed, unchanged, started, settled, begun, ended, exiting, losing, lost, is_state}
+use Rattle.xr_model.specs.LiveSessions.{Session, session_at, with_life_at, still_live, each_changed}
 use Rattle.xr_model.specs.SessionLaws.{is_device_lost, is_session_creation}
 use Rattle.xr_model.specs.Machine.{core_step, rule}
 use Rattle.xr_types.specs.declared.session.SessionState.TheVariants.{Exiting, LossPending}

@@ -4,7 +4,7 @@ use Rattle.xr_types.specs.declared.device.Wish.{Wish}
 use Rattle.xr_types.specs.declared.device.Wish.TheVariants as wish
 use Rattle.xr_types.specs.declared.session.SessionState.{SessionState}
 use Rattle.xr_types.specs.declared.session.SessionState.TheVariants.{Idle, Ready, Synchronized, Visible, Focused, Stopping, LossPending, Exiting}
-use Rattle.xr_model.specs.States.{next_state, changes, most_changes, last_of}
+use Rattle.xr_model.specs.SessionLife.{next_state, changes, most_changes, last_of}
 use Rattle.xr_model.specs.StateLaws.{NoRowFits}
 
 -- that many changes are enough

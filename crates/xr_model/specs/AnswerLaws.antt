@@ -6,10 +6,12 @@ use Rattle.xr_types.specs.declared.calls.Call.{Call}
 use Rattle.xr_types.specs.declared.calls.Reply.{Reply}
 use Rattle.xr_types.specs.declared.calls.Step.{Step}
 use Rattle.xr_types.specs.declared.calls.Step.TheVariants.{Done, NotReady}
-use Rattle.xr_model.specs.Request.{Entry, entry_of, request_of}
+use Rattle.xr_model.specs.Request.{Entry, request_of}
+use Rattle.xr_model.specs.CoreCalls.{entry_of}
 use Rattle.xr_model.specs.State.{State}
-use Rattle.xr_model.specs.Rules.{written_over}
-use Rattle.xr_model.specs.Machine.{step, ready, Applies}
+use Rattle.xr_model.specs.CoreCalls.{written_over}
+use Rattle.xr_model.specs.Machine.{step, ready}
+use Rattle.xr_model.specs.CoreCalls.{Applies}
 use Rattle.xr_model.specs.History.{after, clock_of, clocks_after, StartsAt, IsLegalFrom}
 
 -- a call that was asked of the core: by whom, over which bytes, which it left, and what was answered

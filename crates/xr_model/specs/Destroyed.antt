@@ -1,7 +1,7 @@
 -- What a core keeps once a handle was destroyed with all below it (OpenXR 1.0 chapter 2, "Handles").
 use Rattle.std.specs.Prelude.{ℕ}
 use Rattle.xr_model.specs.Handles.{without}
-use Rattle.xr_model.specs.Sessions.{still_live}
+use Rattle.xr_model.specs.LiveSessions.{still_live}
 use Rattle.xr_model.specs.State.{CoreState}
 
 abbrev pub without_handle : CoreState → ℕ → CoreState

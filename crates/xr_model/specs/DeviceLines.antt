@@ -7,7 +7,7 @@ use Rattle.xr_types.specs.declared.input.Profile.{Profile}
 use Rattle.xr_types.specs.declared.spaces.Origin.{Origin}
 use Rattle.xr_types.specs.declared.spaces.Origin.TheVariants as origin
 use Rattle.xr_types.specs.Printed.{wish_name, user_path, profile_name}
-use Rattle.xr_model.specs.Inputs.{input_name}
+use Rattle.xr_model.specs.InputNames.{input_name}
 
 abbrev pub connected : Option Profile → List ℕ
 connected None = codes "none"

@@ -102,11 +102,11 @@ event_of line = if_checked (event_by (words_of line))
 pub data Meaning : Type 0 where
   skipped : Meaning
   tells : DeviceEvent → Meaning
-  no_line : Meaning
+  malformed : Meaning
 
 abbrev pub event_or_none : Option DeviceEvent → Meaning
 event_or_none (Some e) = tells e
-event_or_none None = no_line
+event_or_none None = malformed
 
 abbrev pub meaning_of : List ℕ → Meaning
 meaning_of [] = skipped
@@ -135,7 +135,7 @@ most_text = 16777216
 abbrev pub told_by : ℕ → Meaning → DeviceStream → DeviceStream
 told_by number skipped rest = rest
 told_by number (tells e) rest = record rest { events = e ∷ rest.events }
-told_by number no_line rest = record { events = []; ending = garbled_at number }
+told_by number malformed rest = record { events = []; ending = garbled_at number }
 
 -- from a line's number on, behind so many bytes
 abbrev pub told_from : ℕ → ℕ → List Line → DeviceStream

@@ -23,9 +23,9 @@ use Rattle.xr_types.specs.declared.status.What.TheVariants.{Field, Extra}
 use Rattle.xr_model.specs.Names.{Known, place_of}
 
 -- first this, and then with its value the rest; what is wrong first is what is told
-abbrev pub after : {T U : Type 0} → Result T What → (T → Result U What) → Result U What
-after (Err wrong) rest = Err wrong
-after (Ok x) rest = rest x
+abbrev pub and_then : {T U : Type 0} → Result T What → (T → Result U What) → Result U What
+and_then (Err wrong) rest = Err wrong
+and_then (Ok x) rest = rest x
 
 -- the value of the field at a place of its row, from 1, or that field is wrong
 abbrev pub at : {T : Type 0} → ℕ → Option T → Result T What

@@ -5,7 +5,8 @@ use Rattle.std.specs.List.{list_all}
 use Rattle.xr_types.specs.Code.{is_success}
 use Rattle.xr_types.specs.declared.handles.Slot.{Slot}
 use Rattle.xr_model.specs.Request.{Request, destroy_instance, destroy_session, Entry}
-use Rattle.xr_model.specs.Handles.{Handles, has, kind_of}
+use Rattle.xr_model.specs.Handles.{Handles, has}
+use Rattle.xr_model.specs.HandlePlaces.{kind_of}
 use Rattle.xr_model.specs.State.{Settings, opening}
 use Rattle.xr_model.specs.Machine.{step}
 use Rattle.xr_model.specs.History.{after, IsLegal}

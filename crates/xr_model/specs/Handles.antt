@@ -1,7 +1,7 @@
 -- Handles (OpenXR 1.0 chapter 2, "Handles"): those that were given in the run, and the live ones, which
 -- stand in a row of places for each kind.
-use Rattle.std.specs.Prelude.{ℕ, ◌&&◌, ◌||◌, ◌==◌, Bool, not, List, [], ◌∷◌, ◌++◌, map, replicate, slice_set, slice_index_or, Option, Some, None, option_map, is_some, if◌then◌else◌}
-use Rattle.std.specs.List.{list_any, position_from, find}
+use Rattle.std.specs.Prelude.{ℕ, ◌&&◌, ◌||◌, ◌==◌, Bool, not, List, [], ◌∷◌, ◌++◌, map, replicate, slice_set, Option, Some, None, is_some, if◌then◌else◌}
+use Rattle.std.specs.List.{list_any, position_from}
 use Rattle.xr_types.specs.declared.code.Code.TheVariants.{HandleInvalid, LimitReached}
 use Rattle.xr_types.specs.declared.handles.Kind.{Kind}
 use Rattle.xr_types.specs.declared.handles.Kind.TheVariants.{Instance, Session, ActionSet, Action, Space, Swapchain}
@@ -34,15 +34,6 @@ no_handles = record {
   chains = replicate SWAPCHAINS free;
 }
 
--- how many handles of a kind are live at most
-abbrev pub limit_of : Kind → ℕ
-limit_of Instance = INSTANCES
-limit_of Session = SESSIONS
-limit_of ActionSet = ACTION_SETS
-limit_of Action = ACTIONS
-limit_of Space = SPACES
-limit_of Swapchain = SWAPCHAINS
-
 abbrev pub row_of : Handles → Kind → List Slot
 row_of h Instance = h.instances
 row_of h Session = h.sessions
@@ -68,48 +59,6 @@ has row handle = list_any (λ s. s.handle == handle) row
 -- a live handle of this kind; 0 is none
 abbrev pub is_live : Handles → Kind → ℕ → Bool
 is_live h kind handle = not (handle == 0) && has (row_of h kind) handle
-
--- the kind of a live handle
-abbrev pub kind_of : Handles → ℕ → Option Kind
-kind_of h handle =
-    if is_live h Instance handle then Some Instance
-    else (if is_live h Session handle then Some Session
-    else (if is_live h ActionSet handle then Some ActionSet
-    else (if is_live h Action handle then Some Action
-    else (if is_live h Space handle then Some Space
-    else (if is_live h Swapchain handle then Some Swapchain
-    else None)))))
-
--- where a handle stands in a row, and with which parent
-abbrev pub place_in : List Slot → ℕ → Option ℕ
-place_in row handle = position_from (λ s. s.handle == handle) 0 row
-
-abbrev pub slot_in : List Slot → ℕ → Option Slot
-slot_in row handle = find (λ s. s.handle == handle) row
-
-abbrev pub place_of_kind : Handles → Option Kind → ℕ → Option ℕ
-place_of_kind h None handle = None
-place_of_kind h (Some kind) handle = place_in (row_of h kind) handle
-
-abbrev pub parent_of_kind : Handles → Option Kind → ℕ → Option ℕ
-parent_of_kind h None handle = None
-parent_of_kind h (Some kind) handle = option_map (λ s. s.parent) (slot_in (row_of h kind) handle)
-
--- the place of a live handle in the row of its kind
-abbrev pub place_of : Handles → ℕ → Option ℕ
-place_of h handle = place_of_kind h (kind_of h handle) handle
-
--- the parent of a live handle, 0 for an instance
-abbrev pub parent_of : Handles → ℕ → Option ℕ
-parent_of h handle = parent_of_kind h (kind_of h handle) handle
-
--- the place of a handle of this kind, where it is live
-abbrev pub place_among : Handles → Kind → ℕ → Option ℕ
-place_among h kind handle = if is_live h kind handle then place_in (row_of h kind) handle else None
-
--- the handle that stands in a place of a row, 0 where none does
-abbrev pub handle_in : List Slot → ℕ → ℕ
-handle_in row place = (slice_index_or row place free).handle
 
 -- a call's own handle has to be live and of its kind
 abbrev pub no_handle : Handles → Kind → ℕ → Refusal

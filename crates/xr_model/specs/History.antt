@@ -1,8 +1,8 @@
 -- Histories: the state after one, legal ones, the outcomes of their entries, and each actor's calls.
-use Rattle.std.specs.Prelude.{◌≡◌, ◌+◌, ◌-◌, zero, suc, ℕ, ℤ, pos, IsTrue, List, [], ◌∷◌, replicate, slice_get, slice_set, unwrap_or, Option, Some, None, if◌then◌else◌}
+use Rattle.std.specs.Prelude.{◌≡◌, ◌-◌, ℤ, pos, IsTrue, List, [], ◌∷◌, replicate, slice_get, slice_set, unwrap_or, if◌then◌else◌}
 use Rattle.xr_types.specs.declared.calls.Actor.{Actor}
 use Rattle.xr_types.specs.declared.calls.Actor.TheVariants.{App, Compositor, Device}
-use Rattle.xr_model.specs.Request.{Request, wait_image, Entry, Outcome, Exchange, is_actor, is_locked}
+use Rattle.xr_model.specs.Request.{Request, wait_image, Entry, Exchange, is_actor, is_locked}
 use Rattle.xr_model.specs.State.{Settings, State, opening}
 use Rattle.xr_model.specs.Machine.{IsAllowed, ready, step}
 
@@ -47,15 +47,6 @@ IsLegal settings history = IsLegalFrom (opening settings) (opening_clocks settin
 
 -- ---- what was answered
 
--- the outcome of the entry at a position of a history, from 0
-abbrev pub outcome_from : State → List Entry → ℕ → Option Outcome
-outcome_from s [] k = None
-outcome_from s (e ∷ es) zero = Some (step s e).1
-outcome_from s (e ∷ es) (suc k) = outcome_from (step s e).0 es k
-
-abbrev pub outcome_at : Settings → List Entry → ℕ → Option Outcome
-outcome_at settings history k = outcome_from (opening settings) history k
-
 -- the calls that an actor makes in a history, each with what it came to
 abbrev pub calls_from : State → Actor → List Entry → List Exchange
 calls_from s who [] = []
@@ -65,11 +56,3 @@ calls_from s who (e ∷ es) =
 
 abbrev pub calls_of : Settings → Actor → List Entry → List Exchange
 calls_of settings who history = calls_from (opening settings) who history
-
--- the positions of an actor's entries, where the history stands behind so many others
-abbrev pub positions_from : ℕ → Actor → List Entry → List ℕ
-positions_from n who [] = []
-positions_from n who (e ∷ es) = if is_actor who e.actor then n ∷ positions_from (n + 1) who es else positions_from (n + 1) who es
-
-abbrev pub positions_of : Actor → List Entry → List ℕ
-positions_of who history = positions_from 0 who history

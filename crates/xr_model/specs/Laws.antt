@@ -6,9 +6,10 @@ use Rattle.xr_types.specs.declared.code.Code.TheVariants.{TimeoutExpired, EventU
 use Rattle.xr_types.specs.declared.calls.Actor.{Actor}
 use Rattle.xr_model.specs.Request.{Entry, Outcome, Exchange, is_locked}
 use Rattle.xr_model.specs.State.{Settings, State}
-use Rattle.xr_model.specs.Rules.{locked_after}
+use Rattle.xr_model.specs.Rule.{locked_after}
 use Rattle.xr_model.specs.Machine.{step}
-use Rattle.xr_model.specs.History.{after, outcome_from, outcome_at, calls_of, positions_of, IsLegalFrom}
+use Rattle.xr_model.specs.History.{after, calls_of, IsLegalFrom}
+use Rattle.xr_model.specs.Positions.{outcome_from, outcome_at, positions_of}
 
 -- ---- refusals
 

@@ -11,7 +11,7 @@ use Rattle.xr_types.specs.declared.status.What.TheVariants as what
 use Rattle.xr_types.specs.Op.{sort_of}
 use Rattle.xr_model.specs.Names.{Known, given}
 use Rattle.xr_model.specs.Line.{Line}
-use Rattle.xr_model.specs.Fields.{after}
+use Rattle.xr_model.specs.Fields.{and_then}
 use Rattle.xr_model.specs.Ops.Session.{create_instance, destroy_instance, poll_event, get_system, string_to_path, path_to_string, create_session, destroy_session, end_session, request_exit_session, begin_session, mark, await}
 use Rattle.xr_model.specs.Ops.Input.{create_action_set, destroy_action_set, create_action, destroy_action, suggest_bindings, attach_sets, sync_actions, get_boolean, get_float, get_vector, get_pose_active}
 use Rattle.xr_model.specs.Ops.Frames.{begin_frame, create_reference_space, create_action_space, destroy_space, locate_space, create_swapchain, destroy_swapchain, acquire_image, release_image, wait_image, paint, wait_frame, end_frame}
@@ -112,7 +112,7 @@ line_named names d _ = Err what.Op
 
 -- an op of a script, after ops that gave these names, or what of it is wrong first
 abbrev pub line_of : List Known → Data → Result Line What
-line_of names d = after (op_name d) (line_named names d)
+line_of names d = and_then (op_name d) (line_named names d)
 
 abbrev pub with_name_of : ℕ → Option Sort → Option (List ℕ) → List Known → List Known
 with_name_of place (Some sort) (Some name) names = given name place sort names

@@ -1,30 +1,25 @@
 -- The machine of one thread: what an entry does, when a call is ready, and which entries are allowed.
-use Rattle.std.specs.Prelude.{◌≡◌, ◌≢◌, ◌≤◌, ◌-◌, ℕ, [], ◌&&◌, ◌||◌, Bool, true, false, not, List, is_some, slice_get, Some}
+use Rattle.std.specs.Prelude.{◌≡◌, ◌≢◌, ◌≤◌, ◌-◌, ℕ, [], ◌&&◌, ◌||◌, Bool, true, false, not, is_some, slice_get, Some}
 use Rattle.std.specs.List.{list_all}
 use Rattle.xr_types.specs.declared.code.Code.TheVariants.{Success}
 use Rattle.xr_types.specs.declared.calls.Actor.{Actor}
 use Rattle.xr_types.specs.declared.calls.Actor.TheVariants.{App, Compositor, Device}
-use Rattle.xr_types.specs.declared.calls.Reply.{Reply}
-use Rattle.xr_types.specs.declared.calls.Call.{Call}
-use Rattle.xr_types.specs.declared.calls.Step.{Step}
-use Rattle.xr_types.specs.declared.calls.Step.TheVariants.{Done, NotReady}
 use Rattle.xr_types.specs.declared.device.DeviceEvent.{DeviceEvent}
 use Rattle.xr_types.specs.declared.device.DeviceEvent.TheVariants.{Await}
 use Rattle.xr_types.specs.Code.{is_success}
-use Rattle.xr_types.specs.Device.{is_mark, checks}
-use Rattle.xr_model.specs.Request.{Request, create_instance, destroy_instance, get_system, string_to_path, path_to_string, poll_event, create_session, destroy_session, begin_session, end_session, request_exit_session, mark, await_mark, leave, device, next_frame, Entry, entry_of, request_of, Outcome}
+use Rattle.xr_model.specs.Request.{Request, create_instance, destroy_instance, get_system, string_to_path, path_to_string, poll_event, create_session, destroy_session, begin_session, end_session, request_exit_session, mark, await_mark, leave, device, next_frame, Entry, Outcome}
 use Rattle.xr_model.specs.Handles.{Handles, was_given}
 use Rattle.xr_model.specs.Paths.{is_new}
 use Rattle.xr_model.specs.Marks.{is_set}
 use Rattle.xr_model.specs.Device.{is_built_event}
 use Rattle.xr_model.specs.Refusals.{first_of}
 use Rattle.xr_model.specs.State.{CoreState, Cells, State, CellReads}
-use Rattle.xr_model.specs.Rules.{Rule, Effect, Did, refusals, carried_out, placed, written_over}
-use Rattle.xr_model.specs.Steps.Instance.{create_instance_rule, destroy_instance_rule, get_system_rule, poll_event_rule}
-use Rattle.xr_model.specs.Steps.Session.{create_session_rule, destroy_session_rule, begin_session_rule, end_session_rule, request_exit_session_rule}
-use Rattle.xr_model.specs.Steps.Device.{device_rule}
-use Rattle.xr_model.specs.Steps.Paths.{string_to_path_rule, path_to_string_rule}
-use Rattle.xr_model.specs.Steps.Own.{leave_rule, mark_rule, await_mark_rule, next_frame_rule, unbuilt_rule}
+use Rattle.xr_model.specs.Rule.{Rule, Effect, Did, refusals, carried_out, placed}
+use Rattle.xr_model.specs.Rules.Instance.{create_instance_rule, destroy_instance_rule, get_system_rule, poll_event_rule}
+use Rattle.xr_model.specs.Rules.Session.{create_session_rule, destroy_session_rule, begin_session_rule, end_session_rule, request_exit_session_rule}
+use Rattle.xr_model.specs.Rules.Device.{device_rule}
+use Rattle.xr_model.specs.Rules.Paths.{string_to_path_rule, path_to_string_rule}
+use Rattle.xr_model.specs.Rules.Own.{leave_rule, mark_rule, await_mark_rule, next_frame_rule, unbuilt_rule}
 
 -- the rule of a call
 abbrev pub rule_of : CoreState → CellReads → Actor → ℕ → Bool → Request → Rule
@@ -149,104 +144,3 @@ pub record CoreAllows (s : CoreState) (reads : CellReads) (e : Entry) : Type 0 w
 
 abbrev pub IsAllowed : State → Entry → Type 0
 IsAllowed s e = CoreAllows s.core (reads_of s) e
-
--- ---- what the core is asked and answers
-
-abbrev pub IsApp : Actor → Type 0
-IsApp (App k) = Unit {0}
-IsApp Compositor = ⊥
-IsApp Device = ⊥
-
-abbrev pub IsCompositor : Actor → Type 0
-IsCompositor (App k) = ⊥
-IsCompositor Compositor = Unit {0}
-IsCompositor Device = ⊥
-
-abbrev pub IsDevice : Actor → Type 0
-IsDevice (App k) = ⊥
-IsDevice Compositor = ⊥
-IsDevice Device = Unit {0}
-
--- who makes which call; nobody makes one that isn't built
-abbrev pub IsCaller : Actor → Request → Type 0
-IsCaller who (create_instance major minor) = IsApp who
-IsCaller who (destroy_instance instance) = IsApp who
-IsCaller who (get_system instance form) = IsApp who
-IsCaller who (string_to_path instance text) = IsApp who
-IsCaller who (path_to_string instance path capacity) = IsApp who
-IsCaller who (poll_event instance) = IsApp who
-IsCaller who (create_session instance system) = IsApp who
-IsCaller who (destroy_session session) = IsApp who
-IsCaller who (begin_session session view) = IsApp who
-IsCaller who (end_session session) = IsApp who
-IsCaller who (request_exit_session session) = IsApp who
-IsCaller who (mark number value) = IsApp who
-IsCaller who (await_mark number) = IsApp who
-IsCaller who leave = IsApp who
-IsCaller who (device what) = IsDevice who × (is_built_event what ≡ true)
-IsCaller who next_frame = IsCompositor who
-IsCaller who _ = ⊥
-
--- which numbers a call may have: marks are 1 to 64, and a device's event checks
-abbrev pub HasNumbers : Request → Type 0
-HasNumbers (mark number value) = is_mark number ≡ true
-HasNumbers (await_mark number) = is_mark number ≡ true
-HasNumbers (device what) = checks what ≡ true
-HasNumbers _ = Unit {0}
-
--- how many bytes a call wants to be lent
-abbrev pub FitsBuffer : Request → ℕ → Type 0
-FitsBuffer (path_to_string instance path capacity) size = size ≡ capacity
-FitsBuffer _ size = Unit {0}
-
--- What an actor may ask of the core: it is there, the call is its own, its numbers are in range, and the buffer
--- has the size asked for.
-pub record MayMake (s : CoreState) (who : Actor) (what : Request) (size : ℕ) : Type 0 where
-  pub present : IsPresent s who
-  pub caller : IsCaller who what
-  pub numbers : HasNumbers what
-  pub buffer : FitsBuffer what size
-
--- ---- what is kept and answered, where the cells tell so much
-
--- A reply and the bytes over a buffer are the outcome of an allowed and ready entry, and new is what is kept
--- after it.
-pub record CoreAnswers (reads : CellReads) (old : CoreState) (e : Entry) (new : CoreState) (answer : Reply) (before after : List ℕ) : Type 0 where
-  pub allowed : CoreAllows old reads e
-  pub is_ready : core_ready old reads e ≡ true
-  pub leads : new ≡ (core_step old reads e).0
-  pub replies : answer ≡ (core_step old reads e).1.reply
-  pub writes : after ≡ written_over (core_step old reads e).1.text before
-
--- a call that isn't made leaves all as it was
-pub record CoreWaits (reads : CellReads) (old : CoreState) (e : Entry) (new : CoreState) (before after : List ℕ) : Type 0 where
-  pub not_ready : core_ready old reads e ≡ false
-  pub same : new ≡ old
-  pub unwritten : after ≡ before
-
--- what is answered to a call
-abbrev pub CoreApplies : CellReads → CoreState → CoreState → Actor → Call → List ℕ → List ℕ → Step → Type 0
-CoreApplies reads old new who call before after (Done answer) = CoreAnswers reads old (entry_of who (request_of call) answer) new answer before after
-CoreApplies reads old new who call before after NotReady = (given : ℕ) (short : Bool) → CoreWaits reads old (record { actor = who; request = request_of call; given = given; short = short }) new before after
-
--- ---- the same of whole states
-
--- A reply and the bytes over a buffer are the outcome of an allowed and ready entry, and new is the
--- state that it leads to.
-pub record Answers (old : State) (e : Entry) (new : State) (answer : Reply) (before after : List ℕ) : Type 0 where
-  pub allowed : IsAllowed old e
-  pub is_ready : ready old e ≡ true
-  pub leads : new ≡ (step old e).0
-  pub replies : answer ≡ (step old e).1.reply
-  pub writes : after ≡ written_over (step old e).1.text before
-
--- a call that isn't made leaves all as it was
-pub record Waits (old : State) (e : Entry) (new : State) (before after : List ℕ) : Type 0 where
-  pub not_ready : ready old e ≡ false
-  pub same : new ≡ old
-  pub unwritten : after ≡ before
-
--- what the core answers to a call, from old to new
-abbrev pub Applies : State → State → Actor → Call → List ℕ → List ℕ → Step → Type 0
-Applies old new who call before after (Done answer) = Answers old (entry_of who (request_of call) answer) new answer before after
-Applies old new who call before after NotReady = (given : ℕ) (short : Bool) → Waits old (record { actor = who; request = request_of call; given = given; short = short }) new before after

@@ -1,10 +1,8 @@
 -- Refusals in their order, and what a part of the core answers by them.
-use Rattle.std.specs.Prelude.{ℕ, Bool, List, [], ◌∷◌, Option, Some, None, if◌then◌else◌}
+use Rattle.std.specs.Prelude.{Bool, List, [], ◌∷◌, Option, Some, None, if◌then◌else◌}
 use Rattle.xr_types.specs.declared.code.Code.{Code}
-use Rattle.xr_types.specs.declared.code.Code.TheVariants.{Success}
 use Rattle.xr_types.specs.declared.calls.Gives.{Gives}
-use Rattle.xr_types.specs.declared.calls.Gives.TheVariants.{Nothing, Handle, Number, Size}
-use Rattle.xr_types.specs.declared.calls.Answer.{Answer}
+use Rattle.xr_types.specs.declared.calls.Gives.TheVariants.{Nothing}
 
 -- a condition, the code that is answered where it holds, and what is given all the same
 pub record Refusal : Type 0 where
@@ -27,15 +25,3 @@ first_of (r ∷ rs) = if r.holds then Some r else first_of rs
 abbrev pub unless : {T : Type 0} → Option Refusal → T → T → T
 unless None old new = new
 unless (Some r) old new = old
-
--- the number that is given, 0 where none is
-abbrev pub number_of : Gives → ℕ
-number_of (Handle n) = n
-number_of (Number n) = n
-number_of (Size n) = n
-number_of _ = 0
-
--- what a part answers: the number of its success, or the refusal
-abbrev pub answer_by : Option Refusal → ℕ → Answer
-answer_by None n = record { code = Success; number = n }
-answer_by (Some r) n = record { code = r.code; number = number_of r.gives }

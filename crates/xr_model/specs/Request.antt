@@ -4,8 +4,6 @@ use Rattle.xr_types.specs.declared.calls.Actor.{Actor}
 use Rattle.xr_types.specs.declared.calls.Actor.TheVariants.{App, Compositor, Device}
 use Rattle.xr_types.specs.declared.calls.Call.{Call}
 use Rattle.xr_types.specs.declared.calls.Call.TheVariants as call
-use Rattle.xr_types.specs.declared.calls.Gives.{Gives}
-use Rattle.xr_types.specs.declared.calls.Gives.TheVariants.{Handle}
 use Rattle.xr_types.specs.declared.calls.Reply.{Reply}
 use Rattle.xr_types.specs.declared.device.DeviceEvent.{DeviceEvent}
 use Rattle.xr_types.specs.declared.frames.Blend.{Blend}
@@ -17,7 +15,6 @@ use Rattle.xr_types.specs.declared.input.Binding.{Binding}
 use Rattle.xr_types.specs.declared.session.Form.{Form}
 use Rattle.xr_types.specs.declared.session.ViewConfig.{ViewConfig}
 use Rattle.xr_types.specs.declared.spaces.RefKind.{RefKind}
-use Rattle.xr_types.specs.Code.{is_out_of_memory}
 
 pub data Request : Type 0 where
   create_instance : ℕ → ℕ → Request  -- major, minor
@@ -113,15 +110,6 @@ pub record Entry : Type 0 where
   pub request : Request
   pub given : ℕ
   pub short : Bool
-
--- the handle that a reply gives, or 0
-abbrev pub given_by : Gives → ℕ
-given_by (Handle n) = n
-given_by _ = 0
-
--- the entry of a call that was answered so
-abbrev pub entry_of : Actor → Request → Reply → Entry
-entry_of who what answer = record { actor = who; request = what; given = given_by answer.gives; short = is_out_of_memory answer.code }
 
 abbrev pub is_actor : Actor → Actor → Bool
 is_actor (App j) (App k) = j == k

@@ -13,7 +13,7 @@ use Rattle.xr_model.specs.DeviceText.{Ending, ends, garbled_at}
 use Rattle.xr_model.specs.Request.{Request, wait_image, leave, device, next_frame, Entry, Outcome, is_actor, is_locked}
 use Rattle.xr_model.specs.State.{Settings, State, opening}
 use Rattle.xr_model.specs.Machine.{step, ready}
-use Rattle.xr_model.specs.Values.{no_values, learned}
+use Rattle.xr_model.specs.NameValues.{no_values, learned}
 use Rattle.xr_model.specs.Scripts.{request_for}
 
 -- An unfinished actor and what it has still to do: an application its ops from a place of its script on

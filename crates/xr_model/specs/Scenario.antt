@@ -13,7 +13,7 @@ use Rattle.xr_types.specs.declared.status.What.{What}
 use Rattle.xr_types.specs.declared.status.What.TheVariants as what
 use Rattle.xr_model.specs.Names.{Known}
 use Rattle.xr_model.specs.Fields.{only_keys}
-use Rattle.xr_model.specs.Parts.{count_items}
+use Rattle.xr_model.specs.ListItems.{count_items}
 use Rattle.xr_model.specs.Line.{Line}
 use Rattle.xr_model.specs.Lines.{op_of, line_of, with_name}
 

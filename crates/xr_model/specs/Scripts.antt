@@ -3,7 +3,7 @@ use Rattle.std.specs.Prelude.{◌≡◌, ℕ, ◌+◌, pos, map, List, [], ◌�
 use Rattle.xr_types.specs.declared.scenario.Op.{Op}
 use Rattle.xr_types.specs.declared.scenario.Op.TheVariants as op
 use Rattle.xr_model.specs.Request.{Request, create_instance, destroy_instance, poll_event, get_system, string_to_path, path_to_string, create_session, destroy_session, end_session, request_exit_session, begin_frame, begin_session, create_reference_space, create_action_space, destroy_space, locate_space, create_action_set, destroy_action_set, create_action, destroy_action, suggest_bindings, attach_sets, sync_actions, get_boolean, get_float, get_vector, get_pose_active, create_swapchain, destroy_swapchain, acquire_image, release_image, wait_image, paint, wait_frame, end_frame, mark, await_mark, leave, Exchange}
-use Rattle.xr_model.specs.Values.{value_of, time_of, binding_for, active_set_for, layer_for, no_values, learned}
+use Rattle.xr_model.specs.NameValues.{value_of, time_of, binding_for, active_set_for, layer_for, no_values, learned}
 
 -- What an op asks, with its names replaced by the values that earlier ops gave. The start of a wait for
 -- an image is not the script's to tell, and is 0 here.

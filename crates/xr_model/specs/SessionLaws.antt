@@ -7,11 +7,11 @@ use Rattle.xr_types.specs.declared.session.SessionState.TheVariants.{LossPending
 use Rattle.xr_model.specs.Request.{Request, create_session, begin_session, end_session, request_exit_session, device, Entry}
 use Rattle.xr_model.specs.Handles.{Handles, is_live}
 use Rattle.xr_model.specs.Refusals.{first_of}
-use Rattle.xr_model.specs.States.{is_state}
-use Rattle.xr_model.specs.Sessions.{Session, session_at}
-use Rattle.xr_model.specs.Steps.Session.{life_of}
+use Rattle.xr_model.specs.SessionLife.{is_state}
+use Rattle.xr_model.specs.LiveSessions.{Session, session_at}
+use Rattle.xr_model.specs.Rules.Session.{life_of}
 use Rattle.xr_model.specs.State.{Settings, State, opening}
-use Rattle.xr_model.specs.Rules.{refusals}
+use Rattle.xr_model.specs.Rule.{refusals}
 use Rattle.xr_model.specs.Machine.{reads_of, rule, step}
 use Rattle.xr_model.specs.History.{after, IsLegal}
 

@@ -5,8 +5,8 @@ use Rattle.xr_types.specs.declared.code.Code.{Code}
 use Rattle.xr_types.specs.declared.code.Code.TheVariants.{Success, SessionLossPending}
 use Rattle.xr_types.specs.declared.session.SessionState.TheVariants.{LossPending}
 use Rattle.xr_model.specs.Refusals.{Refusal}
-use Rattle.xr_model.specs.States.{Life, is_state, is_lost}
-use Rattle.xr_model.specs.Rules.{Rule}
+use Rattle.xr_model.specs.SessionLife.{Life, is_state, is_lost}
+use Rattle.xr_model.specs.Rule.{Rule}
 
 -- Where the session's loss is pending, a plain success says so. A timeout, a session that isn't focused and a
 -- discarded frame are told all the same.

@@ -4,7 +4,7 @@ use Rattle.xr_types.specs.declared.frames.Image.{Image}
 use Rattle.xr_types.specs.declared.handles.TheConstants.{SWAPCHAINS}
 use Rattle.xr_model.specs.Handles.{Handles, no_handles}
 use Rattle.xr_model.specs.Events.{Queue, no_events}
-use Rattle.xr_model.specs.Sessions.{Session}
+use Rattle.xr_model.specs.LiveSessions.{Session}
 use Rattle.xr_model.specs.Marks.{no_marks}
 use Rattle.xr_model.specs.Device.{Device, first_device}
 

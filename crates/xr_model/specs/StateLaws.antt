@@ -1,7 +1,7 @@
 -- What holds of the table of states.
 use Rattle.std.specs.Prelude.{◌≡◌, None}
 use Rattle.xr_types.specs.declared.device.Wish.{Wish}
-use Rattle.xr_model.specs.States.{Life, next_state, settled}
+use Rattle.xr_model.specs.SessionLife.{Life, next_state, settled}
 
 -- where a session has settled, no row fits
 abbrev pub NoRowFits : Type 0

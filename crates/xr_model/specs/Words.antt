@@ -9,19 +9,19 @@ use Rattle.clap.specs.declared.builder.action.ArgAction.TheVariants.{SetTrue}
 -- ---- the command that reads the words of a run
 
 -- the file, which is wanted
-abbrev pub file_rule : Rule
-file_rule = record (new_rule (codes "file")) { required = true }
+abbrev pub file_arg : Rule
+file_arg = record (new_rule (codes "file")) { required = true }
 
 -- the option `--device` with its file
-abbrev pub device_rule : Rule
-device_rule = record (new_rule (codes "device")) { long = Some (codes "device") }
+abbrev pub device_arg : Rule
+device_arg = record (new_rule (codes "device")) { long = Some (codes "device") }
 
 -- the flag `--places`
-abbrev pub places_rule : Rule
-places_rule = record (new_rule (codes "places")) { long = Some (codes "places"); action = Some SetTrue }
+abbrev pub places_arg : Rule
+places_arg = record (new_rule (codes "places")) { long = Some (codes "places"); action = Some SetTrue }
 
 abbrev pub run_app : App
-run_app = with_rule (with_rule (with_rule (new_app (codes "xrsim")) file_rule) device_rule) places_rule
+run_app = with_rule (with_rule (with_rule (new_app (codes "xrsim")) file_arg) device_arg) places_arg
 
 -- The command takes the words: by its statement it has no fault to find in them. The first word
 -- stands where a program's own name does, and isn't read. To ask for help is a fault too.
@@ -36,7 +36,7 @@ rows_in words = matches_of run_app words
 
 -- the files of the scenario and of the device, if there is one, and whether each line of the report ends in
 -- its reply's place
-pub record Form : Type 0 where
+pub record RunOptions : Type 0 where
   pub file : List ℕ
   pub device : Option (List ℕ)
   pub places : Bool
@@ -53,12 +53,12 @@ is_file_or_none (Some name) = is_file name
 abbrev pub is_set : Option (List ℕ) → Bool
 is_set value = unwrap_or (option_map (λ text. bytes_eq text (codes "true")) value) false
 
-abbrev pub form_with : List Row → List ℕ → Option Form
+abbrev pub form_with : List Row → List ℕ → Option RunOptions
 form_with rows name =
     if is_file name && is_file_or_none (first_of (codes "device") rows) then Some (record { file = name; device = first_of (codes "device") rows; places = is_set (first_of (codes "places") rows) })
     else None
 
-abbrev pub form_in : List Row → Option Form
+abbrev pub form_in : List Row → Option RunOptions
 form_in rows = option_and_then (form_with rows) (first_of (codes "file") rows)
 
 abbrev pub is_serial : List (List ℕ) → Bool
@@ -67,5 +67,5 @@ is_serial (first ∷ rest) = bytes_eq first (codes "serial")
 
 -- The form of the words, if they have one: `serial FILE`, with `--device FILE` and `--places` where these are
 -- wanted.
-abbrev pub form_of : List (List ℕ) → Option Form
+abbrev pub form_of : List (List ℕ) → Option RunOptions
 form_of words = if is_serial words && is_taken words then form_in (rows_in words) else None

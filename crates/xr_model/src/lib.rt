@@ -3,6 +3,7 @@
 #![tactic(auto)]
 
 ghost use Rattle.xr_model.specs.AnswerLaws.{AnswersAreAHistory};
+ghost use Rattle.xr_model.specs.DeviceLaws.{LinesReadBack};
 ghost use Rattle.xr_model.specs.HandleLaws.{NoOrphans, DestroyedForGood};
 ghost use Rattle.xr_model.specs.Laws.{RefusalsChangeNothing, AfterIsInTurn, EntriesAreCounted, PlacesCount, FrontsAreLegal, ExchangesStand};
 ghost use Rattle.xr_model.specs.SessionLaws.{SessionsAreListed, LostSessions, PendingLosses};
@@ -84,4 +85,10 @@ pub fn lost_sessions()
 #[tactic(auto, using(crate::proofs::LostSessions::pending_losses))]
 pub fn pending_losses()
     ensures { PendingLosses }
+{}
+
+/// The line that a report prints for an event of a device's text reads back as that event.
+#[tactic(auto, using(crate::proofs::DeviceLines::lines_read_back))]
+pub fn lines_read_back()
+    ensures { LinesReadBack }
 {}

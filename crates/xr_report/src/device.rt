@@ -1,6 +1,6 @@
 // The lines of a device text.
 ghost use Rattle.std.specs.Prelude.{◌≡◌, ◌++◌, OnOk};
-ghost use Rattle.xr_model.specs.Inputs.{input_name};
+ghost use Rattle.xr_model.specs.InputNames.{input_name};
 ghost use Rattle.xr_model.specs.DeviceLines.{connected, origin_name, line_of};
 
 use crate::push::{push_number, push_signed, push_text};

@@ -2,8 +2,8 @@
 use Rattle.std.proofs.Common.{List, Result, Ok, Err, IfOk}
 use Rattle.xr_fields.specs.declared.fault.Fault.{Fault}
 use Rattle.xr_fields.specs.declared.lines.ReadLine.{ReadLine}
-use Rattle.xr_model.specs.Formed.{IsFormed}
-use Rattle.xr_model.specs.InForm.{IsKnownPlace}
+use Rattle.xr_model.specs.InRange.{IsFormed}
+use Rattle.xr_model.specs.ScriptForm.{IsKnownPlace}
 use Rattle.xr_model.specs.Names.{Known}
 
 pub formed_at : (r : Result ReadLine Fault) (names : List Known) → IfOk r (λ l. (ns : List Known) → IsFormed (IsKnownPlace ns) l.op) → IfOk r (λ l. IsFormed (IsKnownPlace names) l.op)

@@ -8,10 +8,10 @@ use Rattle.xr_types.specs.declared.scenario.Sort.{Sort}
 use Rattle.xr_types.specs.declared.scenario.Sort.TheVariants.{Handle, Atom, Number}
 use Rattle.xr_types.specs.Op.{sort_of}
 use Rattle.xr_model.specs.Names.{Known, known, given, is_known, is_sort}
-use Rattle.xr_model.specs.Formed.{IsFormed}
-use Rattle.xr_model.specs.InForm.{HasSort, IsPlaceOf, AreInForm, IsInForm, AllInForm, IsKnownPlace}
+use Rattle.xr_model.specs.InRange.{IsFormed}
+use Rattle.xr_model.specs.ScriptForm.{HasSort, IsPlaceOf, AreInForm, IsInForm, AllInForm, IsKnownPlace}
 use Rattle.xr_model.specs.Lines.{with_name_of}
-use Rattle.xr_model.proofs.Formed.{formed-weaker}
+use Rattle.xr_model.proofs.InRange.{formed-weaker}
 
 -- ---- one more
 

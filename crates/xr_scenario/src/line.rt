@@ -2,8 +2,8 @@
 ghost use Rattle.std.specs.Prelude.{◌≡◌, IfOk};
 ghost use Rattle.serde_json.specs.View.{view};
 ghost use Rattle.xr_fields.specs.Reads.{Reads, ReadsLine};
-ghost use Rattle.xr_model.specs.Formed.{IsFormed};
-ghost use Rattle.xr_model.specs.InForm.{IsKnownPlace};
+ghost use Rattle.xr_model.specs.InRange.{IsFormed};
+ghost use Rattle.xr_model.specs.ScriptForm.{IsKnownPlace};
 ghost use Rattle.xr_model.specs.Lines.{op_named, op_of, op_name, line_of};
 ghost use Rattle.xr_scenario.specs.OpNames.{input_op_named, frame_op_named};
 

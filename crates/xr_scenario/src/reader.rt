@@ -3,7 +3,7 @@ ghost use Rattle.std.specs.Prelude.{◌≡◌, ◌≤◌, ◌<◌, ◌^◌, ◌+
 ghost use Rattle.serde_json.specs.View.{view, items_view};
 ghost use Rattle.serde_json.specs.Find.{as_array};
 ghost use Rattle.xr_types.specs.declared.status.Refusal.TheVariants.{BadShape};
-ghost use Rattle.xr_model.specs.InForm.{IsInForm, AllInForm};
+ghost use Rattle.xr_model.specs.ScriptForm.{IsInForm, AllInForm};
 ghost use Rattle.xr_model.specs.Lines.{with_name_of};
 ghost use Rattle.xr_model.specs.Scenario.{ops_from, script_of, scripts_from, scripts_by, has_version, scenario_in, json_of, scenario_of};
 ghost use Rattle.xr_scenario.specs.declared.fault.ScenarioFault.TheVariants.{Refused, NoMemory};

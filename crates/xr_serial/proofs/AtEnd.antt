@@ -19,12 +19,12 @@ use Rattle.xr_model.specs.Robin.{Agenda, script, with_start, device_calls, IsRob
 use Rattle.xr_model.specs.Report.{is_fault}
 use Rattle.xr_model.specs.Lists.{name_of, end_of, events_in, lists_of, waiting_of}
 use Rattle.xr_serial.specs.Turns.{Parts, parts_of, device_part, compositor_part, pending_list, now_part, next_part, last_part, AreHeldBack}
-use Rattle.xr_serial.specs.Going.{first_three, IsRest}
-use Rattle.xr_serial.specs.Kept.{ScriptKept, EndKept, Kept}
+use Rattle.xr_serial.specs.Continues.{first_three, IsRest}
+use Rattle.xr_serial.specs.RunInvariant.{ScriptKept, EndKept, RunInvariant}
 use Rattle.xr_serial.specs.Ran.{IsEnd, IsWhole, Ran}
 use Rattle.xr_serial.specs.AtEnd.{in_order, lists_at}
 use Rattle.xr_serial.specs.declared.turn.Turn.{Turn}
-use Rattle.xr_serial.proofs.Standing.{none_turn}
+use Rattle.xr_serial.proofs.TurnOrder.{none_turn}
 use Rattle.xr_serial.proofs.Ending.{Gives, gives, is_over, in_round_is}
 
 filled : (w : Waiting) (ws : List Waiting) → w ∷ ws ≡ [] → ⊥
@@ -84,7 +84,7 @@ none_left ops made names clock false pending ended h = absurd (filled _ _ h)
 -- ---- the run
 
 module _ (ops : List Op) (t : Turn) (s : State) (made : ℕ) (names : List ℕ) (list : List Made) (gone : Bool) (pending : Option DeviceEvent) (over : Bool) (evs : List DeviceEvent) (dlist : List Made) (ended : Option Reply) (told now : Option DeviceStream) (before after bound : ℕ)
-    (kept : Kept ops t 3 s made names list gone pending over evs dlist ended told now before after bound) where
+    (kept : RunInvariant ops t 3 s made names list gone pending over evs dlist ended told now before after bound) where
   abbrev device : Gives told over pending kept.dev before after
   device = gives over pending evs dlist kept.dev told now before after kept.device
 

@@ -5,16 +5,16 @@ use Rattle.xr_types.specs.declared.scenario.Op.{Op}
 use Rattle.xr_model.specs.State.{with_apps, opening}
 use Rattle.xr_model.specs.History.{opening_clocks}
 use Rattle.xr_model.specs.DeviceText.{DeviceStream}
-use Rattle.xr_model.specs.Values.{no_values}
-use Rattle.xr_serial.specs.Going.{first_three}
-use Rattle.xr_serial.specs.Kept.{GivesMore, Kept}
+use Rattle.xr_model.specs.NameValues.{no_values}
+use Rattle.xr_serial.specs.Continues.{first_three}
+use Rattle.xr_serial.specs.RunInvariant.{GivesMore, RunInvariant}
 use Rattle.xr_serial.specs.declared.turn.Turn.TheVariants as turn
 
 gives_all : (told : Option DeviceStream) → GivesMore told told []
 gives_all None = tt
 gives_all (Some t) = refl
 
-pub starts : (ops : List Op) (told : Option DeviceStream) (faults bound : ℕ) → bound ≤ 16777216 → Kept ops turn.Script 0 (opening (with_apps 1)) 0 (no_values (length ops)) [] false None false [] [] None told told faults faults bound
+pub starts : (ops : List Op) (told : Option DeviceStream) (faults bound : ℕ) → bound ≤ 16777216 → RunInvariant ops turn.Script 0 (opening (with_apps 1)) 0 (no_values (length ops)) [] false None false [] [] None told told faults faults bound
 starts ops told faults bound few = record {
   app = [];
   dev = [];

@@ -20,8 +20,8 @@ use Rattle.xr_model.specs.Report.{is_fault}
 use Rattle.xr_model.specs.Robin.{Agenda, actor_of, device_agendas, device_calls, last_event, agendas_of, in_round}
 use Rattle.xr_model.specs.Lists.{events_in}
 use Rattle.xr_serial.specs.Turns.{Parts, script_part, compositor_part, parts_of, pending_list, now_part, next_part, last_part, AreHeldBack}
-use Rattle.xr_serial.specs.Going.{IsRest}
-use Rattle.xr_serial.specs.Kept.{GivesMore, DeviceKept}
+use Rattle.xr_serial.specs.Continues.{IsRest}
+use Rattle.xr_serial.specs.RunInvariant.{GivesMore, DeviceKept}
 use Rattle.xr_serial.specs.Ran.{Gave}
 use Rattle.xr_serial.specs.AtEnd.{in_order}
 use Rattle.xr_serial.specs.declared.turn.Turn.{Turn}

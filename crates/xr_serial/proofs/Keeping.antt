@@ -9,20 +9,21 @@ use Rattle.xr_types.specs.declared.device.DeviceEvent.{DeviceEvent}
 use Rattle.xr_types.specs.declared.made.Made.{Made}
 use Rattle.xr_types.specs.declared.scenario.Op.{Op}
 use Rattle.xr_model.specs.Request as request
-use Rattle.xr_model.specs.Request.{Request, leave, device, next_frame, entry_of}
+use Rattle.xr_model.specs.Request.{Request, leave, device, next_frame}
+use Rattle.xr_model.specs.CoreCalls.{entry_of}
 use Rattle.xr_model.specs.State.{State}
-use Rattle.xr_model.specs.Rules.{locked_after}
+use Rattle.xr_model.specs.Rule.{locked_after}
 use Rattle.xr_model.specs.Machine.{ready}
 use Rattle.xr_model.specs.DeviceText.{DeviceStream}
-use Rattle.xr_model.specs.Values.{value_given, learned}
+use Rattle.xr_model.specs.NameValues.{value_given, learned}
 use Rattle.xr_model.specs.Scripts.{request_for}
 use Rattle.xr_model.specs.Robin.{script, clock_behind}
 use Rattle.xr_model.specs.Lists.{made_at, made_from}
-use Rattle.xr_serial.specs.Made.{IsMade, asked}
+use Rattle.xr_serial.specs.Made.{IsAnswered, asked}
 use Rattle.xr_serial.specs.Sides.{told_of, OpTurn, Leaves}
 use Rattle.xr_serial.specs.Turns.{Parts, parts_of}
-use Rattle.xr_serial.specs.Going.{Going}
-use Rattle.xr_serial.specs.Kept.{ScriptKept, Kept}
+use Rattle.xr_serial.specs.Continues.{Continues}
+use Rattle.xr_serial.specs.RunInvariant.{ScriptKept, RunInvariant}
 use Rattle.xr_serial.specs.declared.turn.Turn.{Turn}
 use Rattle.xr_serial.specs.declared.turn.Turn.TheVariants as turn
 use Rattle.xr_serial.proofs.Ops.{same_request, ready_started, built_unstarted, built_locked}
@@ -34,8 +35,8 @@ made_snoc place [] t = let same : place ≡ place + 0 = omega arith in rw (← s
 made_snoc place (u ∷ told) t = let same : place + suc (length told) ≡ place + 1 + length told = omega arith in rw same (ap (λ (ms : List Made). made_at place u ∷ ms) (made_snoc (place + 1) told t))
 
 -- nothing is told of the two that didn't call
-pub app_alone : (ops : List Op) (t : Turn) (k : ℕ) (s : State) (parts : List DeviceEvent → Parts) (over : Bool) (begun : List DeviceEvent) (app dev comp : List request.Exchange) → Going ops t k s parts over begun app (dev ++ []) (comp ++ []) → Going ops t k s parts over begun app dev comp
-app_alone ops t k s parts over begun app dev comp g = subst (λ (d : List request.Exchange). Going ops t k s parts over begun app d comp) (append-nil dev) (subst (λ (c : List request.Exchange). Going ops t k s parts over begun app (dev ++ []) c) (append-nil comp) g)
+pub app_alone : (ops : List Op) (t : Turn) (k : ℕ) (s : State) (parts : List DeviceEvent → Parts) (over : Bool) (begun : List DeviceEvent) (app dev comp : List request.Exchange) → Continues ops t k s parts over begun app (dev ++ []) (comp ++ []) → Continues ops t k s parts over begun app dev comp
+app_alone ops t k s parts over begun app dev comp g = subst (λ (d : List request.Exchange). Continues ops t k s parts over begun app d comp) (append-nil dev) (subst (λ (c : List request.Exchange). Continues ops t k s parts over begun app (dev ++ []) c) (append-nil comp) g)
 
 pub drop_all : (ops : List Op) → drop (length ops) ops ≡ []
 drop_all ops = grind (arith, common_steps)
@@ -64,9 +65,9 @@ script_more ops made names list app o answer bytes within here kept =
 
 module _ (ops : List Op) (told now : Option DeviceStream) (before after bound : ℕ) (k : ℕ) (few : k < 3) (s new : State) where
   pub op_made : (made : ℕ) (names : List ℕ) (list : List Made) (pending : Option DeviceEvent) (over : Bool) (evs : List DeviceEvent) (dlist : List Made) (ended : Option Reply) (o : Op) (answer : Reply) (bytes : List ℕ) → made < length ops
-      → drop made ops ≡ o ∷ drop (made + 1) ops → IsMade s new (App 1) (request_for names o) answer bytes
-      → Kept ops turn.Script k s made names list false pending over evs dlist ended told now before after bound
-      → Kept ops turn.Device 0 new (made + 1) (learned names (made + 1) o answer) (list ++ made_at (made + 1) (told_of (request_for names o) answer bytes) ∷ []) false pending over evs dlist ended told now before after bound
+      → drop made ops ≡ o ∷ drop (made + 1) ops → IsAnswered s new (App 1) (request_for names o) answer bytes
+      → RunInvariant ops turn.Script k s made names list false pending over evs dlist ended told now before after bound
+      → RunInvariant ops turn.Device 0 new (made + 1) (learned names (made + 1) o answer) (list ++ made_at (made + 1) (told_of (request_for names o) answer bytes) ∷ []) false pending over evs dlist ended told now before after bound
   op_made made names list pending over evs dlist ended o answer bytes within here call kept =
       let what : Request = request_for names o in
       let t : request.Exchange = told_of what answer bytes in
@@ -99,7 +100,7 @@ module _ (ops : List Op) (told now : Option DeviceStream) (before after bound : 
       }
 
   pub op_waits : (made : ℕ) (names : List ℕ) (list : List Made) (pending : Option DeviceEvent) (over : Bool) (evs : List DeviceEvent) (dlist : List Made) (ended : Option Reply) (o : Op) → drop made ops ≡ o ∷ drop (made + 1) ops → ready s (asked (App 1) (request_for names o)) ≡ false
-      → Kept ops turn.Script k s made names list false pending over evs dlist ended told now before after bound → Kept ops turn.Device (k + 1) s made names list false pending over evs dlist ended told now before after bound
+      → RunInvariant ops turn.Script k s made names list false pending over evs dlist ended told now before after bound → RunInvariant ops turn.Device (k + 1) s made names list false pending over evs dlist ended told now before after bound
   op_waits made names list pending over evs dlist ended o here waits kept = record {
     app = kept.app;
     dev = kept.dev;
@@ -117,7 +118,7 @@ module _ (ops : List Op) (told now : Option DeviceStream) (before after bound : 
   }
 
   pub script_gone : (made : ℕ) (names : List ℕ) (list : List Made) (pending : Option DeviceEvent) (over : Bool) (evs : List DeviceEvent) (dlist : List Made) (ended : Option Reply)
-      → Kept ops turn.Script k s made names list true pending over evs dlist ended told now before after bound → Kept ops turn.Device (k + 1) s made names list true pending over evs dlist ended told now before after bound
+      → RunInvariant ops turn.Script k s made names list true pending over evs dlist ended told now before after bound → RunInvariant ops turn.Device (k + 1) s made names list true pending over evs dlist ended told now before after bound
   script_gone made names list pending over evs dlist ended kept = record {
     app = kept.app;
     dev = kept.dev;
@@ -134,9 +135,9 @@ module _ (ops : List Op) (told now : Option DeviceStream) (before after bound : 
     work = kept.work;
   }
 
-  pub script_leaves : (names : List ℕ) (list : List Made) (pending : Option DeviceEvent) (over : Bool) (evs : List DeviceEvent) (dlist : List Made) (ended : Option Reply) (answer : Reply) (bytes : List ℕ) → IsMade s new (App 1) leave answer bytes
-      → Kept ops turn.Script k s (length ops) names list false pending over evs dlist ended told now before after bound
-      → Kept ops turn.Device 0 new (length ops) names (list ++ made_at (length ops + 1) (told_of leave answer bytes) ∷ []) true pending over evs dlist ended told now before after bound
+  pub script_leaves : (names : List ℕ) (list : List Made) (pending : Option DeviceEvent) (over : Bool) (evs : List DeviceEvent) (dlist : List Made) (ended : Option Reply) (answer : Reply) (bytes : List ℕ) → IsAnswered s new (App 1) leave answer bytes
+      → RunInvariant ops turn.Script k s (length ops) names list false pending over evs dlist ended told now before after bound
+      → RunInvariant ops turn.Device 0 new (length ops) names (list ++ made_at (length ops + 1) (told_of leave answer bytes) ∷ []) true pending over evs dlist ended told now before after bound
   script_leaves names list pending over evs dlist ended answer bytes call kept =
       let t : request.Exchange = told_of leave answer bytes in
       let none : drop (length ops) ops ≡ [] = drop_all ops in
@@ -183,14 +184,14 @@ module _ (ops : List Op) (told now : Option DeviceStream) (before after bound : 
 
 module _ (ops : List Op) (k : ℕ) (few : k < 3) (s new : State) (pending : Option DeviceEvent) (over : Bool) (evs : List DeviceEvent) (dlist : List Made) (ended : Option Reply) (told now : Option DeviceStream) (before after bound : ℕ) where
   pub op_turn : (made : ℕ) (names : List ℕ) (list : List Made) (made2 : ℕ) (names2 : List ℕ) (list2 : List Made) (gone2 : Bool) (went : Bool) → made < length ops → OpTurn ops made names list false made2 names2 list2 gone2 s new went
-      → Kept ops turn.Script k s made names list false pending over evs dlist ended told now before after bound → Kept ops turn.Device (if went then 0 else k + 1) new made2 names2 list2 gone2 pending over evs dlist ended told now before after bound
+      → RunInvariant ops turn.Script k s made names list false pending over evs dlist ended told now before after bound → RunInvariant ops turn.Device (if went then 0 else k + 1) new made2 names2 list2 gone2 pending over evs dlist ended told now before after bound
   op_turn made names list made2 names2 list2 gone2 true within m kept =
       rw (m.0.count, m.0.learns, m.0.keeps, m.1) (op_made ops told now before after bound k few s new made names list pending over evs dlist ended m.0.op m.0.answer m.0.bytes within m.0.here m.0.call kept)
   op_turn made names list made2 names2 list2 gone2 false within m kept =
       rw (m.0.count, m.0.learns, m.0.keeps, m.0.state, m.1) (op_waits ops told now before after bound k few s s made names list pending over evs dlist ended m.0.op m.0.here m.0.waits kept)
 
   pub leave_turn : (made : ℕ) (names : List ℕ) (list : List Made) (made2 : ℕ) (names2 : List ℕ) (list2 : List Made) (gone2 : Bool) → made ≡ length ops → Leaves made names list made2 names2 list2 gone2 s new
-      → Kept ops turn.Script k s made names list false pending over evs dlist ended told now before after bound → Kept ops turn.Device 0 new made2 names2 list2 gone2 pending over evs dlist ended told now before after bound
+      → RunInvariant ops turn.Script k s made names list false pending over evs dlist ended told now before after bound → RunInvariant ops turn.Device 0 new made2 names2 list2 gone2 pending over evs dlist ended told now before after bound
   leave_turn made names list made2 names2 list2 gone2 all m kept =
-      rw (m.count, m.learns, m.keeps, m.gone, all)
-      (script_leaves ops told now before after bound k few s new names list pending over evs dlist ended m.answer m.bytes m.call (subst (λ (n : ℕ). Kept ops turn.Script k s n names list false pending over evs dlist ended told now before after bound) all kept))
+      rw (m.count, m.learns, m.keeps, m.has_left, all)
+      (script_leaves ops told now before after bound k few s new names list pending over evs dlist ended m.answer m.bytes m.call (subst (λ (n : ℕ). RunInvariant ops turn.Script k s n names list false pending over evs dlist ended told now before after bound) all kept))

@@ -7,17 +7,20 @@ use Rattle.std.proofs.lemmas.Option.{same_Some}
 use Rattle.xr_types.specs.declared.calls.Actor.{Actor}
 use Rattle.xr_types.specs.declared.calls.Gives.TheVariants.{Size}
 use Rattle.xr_types.specs.declared.calls.Reply.{Reply}
-use Rattle.xr_model.specs.Request.{Request, create_instance, destroy_instance, get_system, string_to_path, path_to_string, poll_event, create_session, destroy_session, begin_session, end_session, request_exit_session, leave, next_frame, Entry, Outcome, entry_of}
+use Rattle.xr_model.specs.Request.{Request, create_instance, destroy_instance, get_system, string_to_path, path_to_string, poll_event, create_session, destroy_session, begin_session, end_session, request_exit_session, leave, next_frame, Entry, Outcome}
+use Rattle.xr_model.specs.CoreCalls.{entry_of}
 use Rattle.xr_types.specs.declared.session.Event.{Event}
 use Rattle.xr_model.specs.Events.{polled}
-use Rattle.xr_model.specs.Steps.Instance.{told_event}
+use Rattle.xr_model.specs.Rules.Instance.{told_event}
 use Rattle.xr_model.specs.Paths.{text_at, copied, size_at, size_of}
 use Rattle.xr_model.specs.Refusals.{Refusal, first_of}
 use Rattle.xr_model.specs.State.{CoreState, State}
-use Rattle.xr_model.specs.Rules.{Effect, refusals, unless_refused, written_over}
-use Rattle.xr_model.specs.Machine.{reads_of, step, rule, ready, FitsBuffer, Answers}
+use Rattle.xr_model.specs.Rule.{Effect, refusals, unless_refused}
+use Rattle.xr_model.specs.CoreCalls.{written_over}
+use Rattle.xr_model.specs.Machine.{reads_of, step, rule, ready}
+use Rattle.xr_model.specs.CoreCalls.{FitsBuffer, Answers}
 use Rattle.xr_serial.specs.Lent.{lent_size, written_size}
-use Rattle.xr_serial.specs.Made.{IsMade}
+use Rattle.xr_serial.specs.Made.{IsAnswered}
 
 -- a refusal that holds gives nothing that fits the buffer
 abbrev GiveNone : ℕ → List Refusal → Type 0
@@ -119,7 +122,7 @@ same_outcome o answer bytes e f g = rw (e, f, ← g) refl
 
 -- what the core answered is a call that was made, with the bytes at the front of its buffer
 pub made_of : (old new : State) (who : Actor) (what : Request) (answer : Reply) (before written bytes : List ℕ) (n : ℕ) → Answers old (entry_of who what answer) new answer before written
-    → n ≡ written_size answer.gives (lent_size what) → bytes ≡ take n written → IsMade old new who what answer bytes
+    → n ≡ written_size answer.gives (lent_size what) → bytes ≡ take n written → IsAnswered old new who what answer bytes
 made_of old new who what answer before written bytes n a size front =
     let text : List ℕ = (step old (entry_of who what answer)).1.text in
     let fits : length text ≡ n = text_fits old (entry_of who what answer) ∙ ap (λ (r : Reply). written_size r.gives (lent_size what)) (sym a.replies) ∙ sym size in

@@ -1,5 +1,5 @@
 pub mod Lending
-pub mod Standing
+pub mod TurnOrder
 pub mod Ops
 pub mod Steps
 pub mod Staying

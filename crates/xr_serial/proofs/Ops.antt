@@ -1,5 +1,5 @@
 -- What is known of a script's op and of its call.
-use Rattle.std.proofs.Common.{◌≡◌, ◌<◌, ◌+◌, ℕ, ℤ, pos, true, true≢false, sym, List, [], ◌∷◌, length, drop, get_or, refl, add-one, drop-cons, arith, zero, suc}
+use Rattle.std.proofs.Common.{◌≡◌, ◌<◌, ◌≤◌, ◌+◌, ℕ, ℤ, pos, true, true≢false, sym, List, [], ◌∷◌, length, drop, get_or, refl, add-one, drop-cons, arith, zero, suc}
 use Rattle.std.proofs.lemmas.Bool.Decides.{nat_tests}
 use Rattle.std.specs.List.{list_all}
 use Rattle.std.proofs.lemmas.Bool.{and_parts}
@@ -8,10 +8,11 @@ use Rattle.xr_types.specs.declared.scenario.Op.TheVariants as op
 use Rattle.xr_types.specs.Device.{is_mark}
 use Rattle.xr_types.specs.Op.{call_name}
 use Rattle.xr_model.specs.Built.{is_built_op}
-use Rattle.xr_model.specs.Formed.{IsMark}
-use Rattle.xr_model.specs.InForm.{IsInRange}
+use Rattle.xr_model.specs.InRange.{IsMark}
+use Rattle.xr_model.specs.ScriptForm.{IsInRange}
 use Rattle.xr_model.specs.Lists.{name_of, mark_of, start_of}
-use Rattle.xr_model.specs.Machine.{HasNumbers, ready, is_built}
+use Rattle.xr_model.specs.Machine.{ready, is_built}
+use Rattle.xr_model.specs.CoreCalls.{HasNumbers}
 use Rattle.xr_model.specs.Scripts.{request_for, unstarted}
 use Rattle.xr_model.specs.Request.{Request, wait_image, get_boolean, get_float, get_vector, get_pose_active, image_done, is_locked}
 use Rattle.xr_model.specs.Robin.{with_start}
@@ -19,6 +20,7 @@ use Rattle.xr_model.specs.State.{State}
 use Rattle.xr_model.specs.History.{StartsAt}
 use Rattle.xr_serial.specs.Made.{asked}
 use Rattle.xr_types.specs.declared.calls.Actor.TheVariants.{App}
+use Rattle.xr_serial.specs.Lent.{lent_size}
 use Rattle.xr_serial.specs.Sides.{op_mark}
 
 pub built_at : (ops : List Op) (i : ℕ) (d : Op) → list_all is_built_op ops ≡ true → i < length ops → is_built_op (get_or ops i d) ≡ true
@@ -37,6 +39,11 @@ op_numbers values (op.CreateInstance major minor) r = tt
 op_numbers values (op.Mark number value) r = mark_in_range number r.0
 op_numbers values (op.Await number) r = mark_in_range number r
 op_numbers values _ r = tt
+
+-- what a call of an op in range is lent
+pub op_lent : (values : List ℕ) (o : Op) → IsInRange o → lent_size (request_for values o) ≤ 1024
+op_lent values (op.PathToString instance path capacity) r = r.2
+op_lent values _ r = omega arith
 
 pub name_is : (values : List ℕ) (o : Op) → name_of (request_for values o) ≡ call_name o
 name_is values (op.CreateInstance major minor) = refl

@@ -6,13 +6,13 @@ use Rattle.xr_types.specs.declared.scenario.Op.{Op}
 use Rattle.xr_types.specs.declared.scenario.Op.TheVariants as op
 use Rattle.xr_model.specs.Refusals.{Refusal, first_of}
 use Rattle.xr_model.specs.Request.{Request, Entry, begin_session, end_session, request_exit_session, leave, device}
-use Rattle.xr_model.specs.Rules.{Effect, refusals, unless_refused}
+use Rattle.xr_model.specs.Rule.{Effect, refusals, unless_refused}
 use Rattle.xr_model.specs.Scripts.{request_for}
-use Rattle.xr_model.specs.Sessions.{Session, session_at}
+use Rattle.xr_model.specs.LiveSessions.{Session, session_at}
 use Rattle.xr_model.specs.State.{CoreState, State}
-use Rattle.xr_model.specs.States.{Life, Changed}
-use Rattle.xr_model.specs.Steps.Device.{behind_event}
-use Rattle.xr_model.specs.Steps.Session.{with_change}
+use Rattle.xr_model.specs.SessionLife.{Life, Changed}
+use Rattle.xr_model.specs.Rules.Device.{behind_event}
+use Rattle.xr_model.specs.Rules.Session.{with_change}
 use Rattle.xr_model.specs.Machine.{rule, step, reads_of}
 
 abbrev KeepsLeft : CoreState → Effect → Type 0

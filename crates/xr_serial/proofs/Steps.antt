@@ -6,23 +6,24 @@ use Rattle.xr_types.specs.declared.calls.Actor.TheVariants.{App, Compositor, Dev
 use Rattle.xr_types.specs.declared.calls.Reply.{Reply}
 use Rattle.xr_types.specs.declared.device.DeviceEvent.{DeviceEvent}
 use Rattle.xr_types.specs.declared.scenario.Op.{Op}
-use Rattle.xr_model.specs.Request.{Request, Entry, Outcome, Exchange, entry_of, is_actor}
+use Rattle.xr_model.specs.Request.{Request, Entry, Outcome, Exchange, is_actor}
+use Rattle.xr_model.specs.CoreCalls.{entry_of}
 use Rattle.xr_model.specs.State.{State}
 use Rattle.xr_model.specs.History.{clock_of, clocks_after, IsLegalFrom, calls_from}
 use Rattle.xr_model.specs.Robin.{Agenda, actor_of, next_call, agenda_after, is_next_ready, IsRobinFrom, agendas_left}
-use Rattle.xr_serial.specs.Made.{IsMade}
+use Rattle.xr_serial.specs.Made.{IsAnswered}
 use Rattle.xr_serial.specs.Sides.{told_of}
-use Rattle.xr_serial.specs.Turns.{Parts, now_part, next_part, last_part, turn_behind, AreHeldBack, Standing}
-use Rattle.xr_serial.specs.Going.{IsRest, told_if, Going}
+use Rattle.xr_serial.specs.Turns.{Parts, now_part, next_part, last_part, turn_behind, AreHeldBack, IsTurnOrder}
+use Rattle.xr_serial.specs.Continues.{IsRest, told_if, Continues}
 use Rattle.xr_serial.specs.declared.turn.Turn.{Turn}
 use Rattle.xr_serial.specs.declared.turn.Turn.TheVariants as turn
 use Rattle.xr_serial.proofs.Lending.{ready_any}
 use Rattle.xr_serial.proofs.Ops.{built_starts}
-use Rattle.xr_serial.proofs.Standing.{passed_over, takes_turn, Takes}
+use Rattle.xr_serial.proofs.TurnOrder.{passed_over, takes_turn, Takes}
 
 -- ---- one call more in front of a history
 
-calls_more : (s new : State) (who by : Actor) (what : Request) (answer : Reply) (bytes : List ℕ) (more : List Entry) → IsMade s new by what answer bytes
+calls_more : (s new : State) (who by : Actor) (what : Request) (answer : Reply) (bytes : List ℕ) (more : List Entry) → IsAnswered s new by what answer bytes
     → calls_from s who (entry_of by what answer ∷ more) ≡ told_if who by (told_of what answer bytes) ++ calls_from new who more
 calls_more s new who by what answer bytes more made = each (is_actor who by) refl
   where
@@ -35,18 +36,18 @@ pub record IsAgendaOf (who : Actor) (what : Request) (x : Agenda) : Type 0 where
   pub actor : actor_of x ≡ who
   pub call : next_call x ≡ what
 
-is_ready : (s new : State) (who : Actor) (what : Request) (answer : Reply) (bytes : List ℕ) (x : Agenda) → IsAgendaOf who what x → IsMade s new who what answer bytes → is_next_ready s x ≡ true
+is_ready : (s new : State) (who : Actor) (what : Request) (answer : Reply) (bytes : List ℕ) (x : Agenda) → IsAgendaOf who what x → IsAnswered s new who what answer bytes → is_next_ready s x ≡ true
 is_ready s new who what answer bytes x of made = rw (of.actor, of.call) (ready_any s who what 0 _ false _ ∙ made.is_ready)
 
 abbrev pub outcome_of : Reply → List ℕ → Outcome
 outcome_of answer bytes = record { reply = answer; text = bytes; shown = None }
 
-robin_more : (s new : State) (who : Actor) (what : Request) (answer : Reply) (bytes : List ℕ) (x : Agenda) (y z agendas : List Agenda) (more : List Entry) → IsAgendaOf who what x → IsMade s new who what answer bytes → Takes s x y z agendas
+robin_more : (s new : State) (who : Actor) (what : Request) (answer : Reply) (bytes : List ℕ) (x : Agenda) (y z agendas : List Agenda) (more : List Entry) → IsAgendaOf who what x → IsAnswered s new who what answer bytes → Takes s x y z agendas
     → IsRobinFrom new ((y ++ z) ++ agenda_after x new (outcome_of answer bytes)) more → IsRobinFrom s agendas (entry_of who what answer ∷ more)
 robin_more s new who what answer bytes x y z agendas more of made t goes =
     rw (t.found, made.outcome, t.others, t.agenda) ((sym of.actor, sym of.call), subst (λ (n : State). IsRobinFrom n ((y ++ z) ++ agenda_after x n (outcome_of answer bytes)) more) made.leads goes)
 
-left_more : (s new : State) (who : Actor) (what : Request) (answer : Reply) (bytes : List ℕ) (x : Agenda) (y z agendas : List Agenda) (more : List Entry) → IsMade s new who what answer bytes → Takes s x y z agendas
+left_more : (s new : State) (who : Actor) (what : Request) (answer : Reply) (bytes : List ℕ) (x : Agenda) (y z agendas : List Agenda) (more : List Entry) → IsAnswered s new who what answer bytes → Takes s x y z agendas
     → agendas_left s agendas (entry_of who what answer ∷ more) ≡ agendas_left new ((y ++ z) ++ agenda_after x new (outcome_of answer bytes)) more
 left_more s new who what answer bytes x y z agendas more made t =
     rw (t.found, made.outcome, t.others, t.agenda) (ap (λ (n : State). agendas_left n ((y ++ z) ++ agenda_after x n (outcome_of answer bytes)) more) (sym made.leads))
@@ -78,11 +79,11 @@ pub record Goes (t : Turn) (parts later : List DeviceEvent → Parts) (s new : S
   pub after : (rest : List DeviceEvent) → now_part t (later rest) ≡ agenda_after (agenda rest) new (outcome_of answer bytes)
   pub next : (rest : List DeviceEvent) → next_part t (later rest) ≡ next_part t (parts rest)
   pub last : (rest : List DeviceEvent) → last_part t (later rest) ≡ last_part t (parts rest)
-  pub made : IsMade s new who what answer bytes
+  pub made : IsAnswered s new who what answer bytes
 
 pub made_turn : (ops : List Op) (t : Turn) (k : ℕ) (s new : State) (parts later : List DeviceEvent → Parts) (over : Bool) (begun : List DeviceEvent) (app dev comp : List Exchange) (who : Actor) (what : Request) (answer : Reply) (bytes : List ℕ) → k < 3
-    → Goes t parts later s new who what answer bytes → Going ops t k s parts over begun app dev comp
-    → Going ops (turn_behind t) 0 new later over begun (app ++ told_if (App 1) who (told_of what answer bytes)) (dev ++ told_if Device who (told_of what answer bytes)) (comp ++ told_if Compositor who (told_of what answer bytes))
+    → Goes t parts later s new who what answer bytes → Continues ops t k s parts over begun app dev comp
+    → Continues ops (turn_behind t) 0 new later over begun (app ++ told_if (App 1) who (told_of what answer bytes)) (dev ++ told_if Device who (told_of what answer bytes)) (comp ++ told_if Compositor who (told_of what answer bytes))
 made_turn ops t k s new parts later over begun app dev comp who what answer bytes few goes g = record {
   past = g.past ++ e ∷ [];
   clocks = clocks_after g.clocks e new;
@@ -102,12 +103,12 @@ made_turn ops t k s new parts later over begun app dev comp who what answer byte
     takes : (rest : List DeviceEvent) → IsRest over rest → Takes s (goes.agenda rest) (next_part t (parts rest)) (last_part t (parts rest)) (g.agendas rest)
     takes rest ok =
         takes_turn k s (goes.agenda rest) (next_part t (parts rest)) (last_part t (parts rest)) (g.agendas rest) few
-        (subst (λ (now : List Agenda). Standing k s now (next_part t (parts rest)) (last_part t (parts rest)) (g.agendas rest)) (goes.alone rest) (g.stands rest ok))
+        (subst (λ (now : List Agenda). IsTurnOrder k s now (next_part t (parts rest)) (last_part t (parts rest)) (g.agendas rest)) (goes.alone rest) (g.stands rest ok))
         (is_ready s new who what answer bytes (goes.agenda rest) (goes.of rest) goes.made)
 
 -- it has nothing left, or can't make its call
 pub passed_turn : (ops : List Op) (t : Turn) (k : ℕ) (s : State) (parts : List DeviceEvent → Parts) (over : Bool) (begun : List DeviceEvent) (app dev comp : List Exchange) → k < 3
-    → ((rest : List DeviceEvent) → IsRest over rest → AreHeldBack s (now_part t (parts rest))) → Going ops t k s parts over begun app dev comp → Going ops (turn_behind t) (k + 1) s parts over begun app dev comp
+    → ((rest : List DeviceEvent) → IsRest over rest → AreHeldBack s (now_part t (parts rest))) → Continues ops t k s parts over begun app dev comp → Continues ops (turn_behind t) (k + 1) s parts over begun app dev comp
 passed_turn ops t k s parts over begun app dev comp few held g = record {
   past = g.past;
   clocks = g.clocks;
@@ -125,8 +126,8 @@ not_over : (rest : List DeviceEvent) → IsRest false rest
 not_over rest e = absurd (true≢false (sym e))
 
 -- the device tells its next event, or how it ends, and nothing more may come then
-pub device_tells : (ops : List Op) (t : Turn) (k : ℕ) (s : State) (parts : List DeviceEvent → Parts) (over : Bool) (begun : List DeviceEvent) (app dev comp : List Exchange) (event : DeviceEvent) → Going ops t k s parts false begun app dev comp
-    → Going ops t k s (λ rest. parts (event ∷ rest)) over (begun ++ event ∷ []) app dev comp
+pub device_tells : (ops : List Op) (t : Turn) (k : ℕ) (s : State) (parts : List DeviceEvent → Parts) (over : Bool) (begun : List DeviceEvent) (app dev comp : List Exchange) (event : DeviceEvent) → Continues ops t k s parts false begun app dev comp
+    → Continues ops t k s (λ rest. parts (event ∷ rest)) over (begun ++ event ∷ []) app dev comp
 device_tells ops t k s parts over begun app dev comp event g = record {
   past = g.past;
   clocks = g.clocks;
@@ -140,7 +141,7 @@ device_tells ops t k s parts over begun app dev comp event g = record {
   compositors = g.compositors;
 }
 
-pub device_ends : (ops : List Op) (t : Turn) (k : ℕ) (s : State) (parts : List DeviceEvent → Parts) (begun : List DeviceEvent) (app dev comp : List Exchange) → Going ops t k s parts false begun app dev comp → Going ops t k s parts true begun app dev comp
+pub device_ends : (ops : List Op) (t : Turn) (k : ℕ) (s : State) (parts : List DeviceEvent → Parts) (begun : List DeviceEvent) (app dev comp : List Exchange) → Continues ops t k s parts false begun app dev comp → Continues ops t k s parts true begun app dev comp
 device_ends ops t k s parts begun app dev comp g = record {
   past = g.past;
   clocks = g.clocks;

@@ -1,8 +1,8 @@
 pub mod Lent
 pub mod Made
 pub mod Turns
-pub mod Going
+pub mod Continues
 pub mod Sides
 pub mod Ran
-pub mod Kept
+pub mod RunInvariant
 pub mod AtEnd

@@ -16,10 +16,10 @@ use Rattle.xr_types.specs.declared.scenario.Op.TheVariants as op
 use Rattle.xr_model.specs.Request.{Request, leave, device, next_frame, Exchange}
 use Rattle.xr_model.specs.State.{State}
 use Rattle.xr_model.specs.Machine.{ready}
-use Rattle.xr_model.specs.Values.{learned}
+use Rattle.xr_model.specs.NameValues.{learned}
 use Rattle.xr_model.specs.Scripts.{request_for}
 use Rattle.xr_model.specs.Lists.{made_at}
-use Rattle.xr_serial.specs.Made.{IsMade, asked}
+use Rattle.xr_serial.specs.Made.{IsAnswered, asked}
 
 abbrev pub op_mark : Op → ℕ
 op_mark (op.Await number) = number
@@ -35,7 +35,7 @@ pub record OpMade (ops : List Op) (made : ℕ) (names : List ℕ) (list : List M
   pub answer : Reply
   pub bytes : List ℕ
   pub here : drop made ops ≡ op ∷ drop (made + 1) ops
-  pub call : IsMade s new (App 1) (request_for names op) answer bytes
+  pub call : IsAnswered s new (App 1) (request_for names op) answer bytes
   pub count : made2 ≡ made + 1
   pub learns : names2 ≡ learned names (made + 1) op answer
   pub keeps : list2 ≡ list ++ made_at (made + 1) (told_of (request_for names op) answer bytes) ∷ []
@@ -58,11 +58,11 @@ OpTurn ops made names list gone made2 names2 list2 gone2 s new false = OpWaits o
 pub record Leaves (made : ℕ) (names : List ℕ) (list : List Made) (made2 : ℕ) (names2 : List ℕ) (list2 : List Made) (gone2 : Bool) (s new : State) : Type 0 where
   pub answer : Reply
   pub bytes : List ℕ
-  pub call : IsMade s new (App 1) leave answer bytes
+  pub call : IsAnswered s new (App 1) leave answer bytes
   pub count : made2 ≡ made
   pub learns : names2 ≡ names
   pub keeps : list2 ≡ list ++ made_at (made + 1) (told_of leave answer bytes) ∷ []
-  pub gone : gone2 ≡ true
+  pub has_left : gone2 ≡ true
 
 -- ---- the device
 
@@ -83,7 +83,7 @@ Fetched before after faults faults2 bound bound2 _ _ = ⊥
 pub record EventMade (event : DeviceEvent) (list : List Made) (events : List DeviceEvent) (list2 : List Made) (events2 : List DeviceEvent) (pending2 : Option DeviceEvent) (s new : State) : Type 0 where
   pub answer : Reply
   pub bytes : List ℕ
-  pub call : IsMade s new Device (device event) answer bytes
+  pub call : IsAnswered s new Device (device event) answer bytes
   pub keeps : list2 ≡ list ++ made_at (length list + 1) (told_of (device event) answer bytes) ∷ []
   pub tells : events2 ≡ events ++ event ∷ []
   pub next : pending2 ≡ None
@@ -104,5 +104,5 @@ EventTurn event list events list2 events2 pending2 s new false = EventWaits even
 
 -- it was told the end, or has to wait
 abbrev pub EndTurn : Option Reply → State → State → Bool → Type 0
-EndTurn ended2 s new true = (answer : Reply) × IsMade s new Compositor next_frame answer [] × (ended2 ≡ Some answer)
+EndTurn ended2 s new true = (answer : Reply) × IsAnswered s new Compositor next_frame answer [] × (ended2 ≡ Some answer)
 EndTurn ended2 s new false = (ready s (asked Compositor next_frame) ≡ false) × (new ≡ s) × (ended2 ≡ None)

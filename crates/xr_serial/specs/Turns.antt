@@ -66,8 +66,8 @@ AreHeldBack s [] = Unit {0}
 AreHeldBack s (x ∷ xs) = (is_next_ready s x ≡ false) × AreHeldBack s xs
 
 -- How the agendas stand in a turn, where so many turns before it made no call. Where three made none, nobody can.
-abbrev pub Standing : ℕ → State → List Agenda → List Agenda → List Agenda → List Agenda → Type 0
-Standing zero s now next last agendas = agendas ≡ now ++ next ++ last
-Standing (suc zero) s now next last agendas = (agendas ≡ last ++ now ++ next) × AreHeldBack s last
-Standing (suc (suc zero)) s now next last agendas = (agendas ≡ next ++ last ++ now) × AreHeldBack s (next ++ last)
-Standing (suc (suc (suc n))) s now next last agendas = (agendas ≡ now ++ next ++ last) × AreHeldBack s (now ++ next ++ last)
+abbrev pub IsTurnOrder : ℕ → State → List Agenda → List Agenda → List Agenda → List Agenda → Type 0
+IsTurnOrder zero s now next last agendas = agendas ≡ now ++ next ++ last
+IsTurnOrder (suc zero) s now next last agendas = (agendas ≡ last ++ now ++ next) × AreHeldBack s last
+IsTurnOrder (suc (suc zero)) s now next last agendas = (agendas ≡ next ++ last ++ now) × AreHeldBack s (next ++ last)
+IsTurnOrder (suc (suc (suc n))) s now next last agendas = (agendas ≡ now ++ next ++ last) × AreHeldBack s (now ++ next ++ last)

@@ -1,8 +1,9 @@
 // A call of an actor, and what it came to.
 ghost use Rattle.std.specs.Prelude.{◌≡◌, ◌≤◌, ◌<◌, ◌^◌, ◌++◌, ◌∷◌, [], pos, IfOk, OnOk, length};
 ghost use Rattle.xr_model.specs.Request.{request_of};
-ghost use Rattle.xr_model.specs.Machine.{IsCaller, IsPresent, HasNumbers};
-ghost use Rattle.xr_serial.specs.Made.{Comes};
+ghost use Rattle.xr_model.specs.Machine.{IsPresent};
+ghost use Rattle.xr_model.specs.CoreCalls.{IsCaller, HasNumbers};
+ghost use Rattle.xr_serial.specs.Made.{AnsweredOrWaits};
 ghost use Rattle.xr_serial.specs.Lent.{lent_size, written_size};
 
 use std::alloc::Global;
@@ -16,20 +17,6 @@ pub(crate) struct Answered {
     pub(crate) text: Bytes,
 }
 
-/// How many bytes a call is lent.
-fn lent_size(call: &Call<'_>) -> u64
-    ensures { result ≡ lent_size (request_of call.now) }
-{
-    match call {
-        Call::PathToString {
-            instance: _,
-            path: _,
-            capacity,
-        } => *capacity,
-        _ => 0,
-    }
-}
-
 /// How many bytes of a lent buffer were written.
 fn written_size(gives: Gives, size: u64) -> u64
     ensures written { result ≡ written_size gives size }
@@ -41,8 +28,8 @@ fn written_size(gives: Gives, size: u64) -> u64
     }
 }
 
-/// Makes a call over a buffer of the size that it asks for, or says by nothing that it has to wait.
-fn make_over(
+/// Makes a call, which is lent a buffer of the size that it asks for, or says by nothing that it has to wait.
+pub(crate) fn make(
     alloc: Global,
     core: &mut PlainCore,
     who: Actor,
@@ -54,7 +41,7 @@ fn make_over(
     requires numbers { HasNumbers (request_of call.now) }
     requires present { IsPresent core.old.core who }
     requires size { length buffer.old ≡ lent_size (request_of call.now) }
-    ensures { IfOk result (λ answered. Comes core.old core.new who (request_of call.now) answered) }
+    ensures { IfOk result (λ answered. AnsweredOrWaits core.old core.new who (request_of call.now) answered) }
 {
     let Step::Done(reply) = core.apply(who, call, buffer) else {
         return Ok(None);
@@ -64,26 +51,6 @@ fn make_over(
         Ok(text) => Ok(Some(Answered { reply, text })),
         Err(_) => Err(NoMemory),
     }
-}
-
-/// Makes a call, which is lent a buffer of the size that it asks for, or says by nothing that it has to wait.
-pub(crate) fn make(
-    alloc: Global,
-    core: &mut PlainCore,
-    who: Actor,
-    call: &Call<'_>,
-) -> Result<Option<Answered>, NoMemory>
-    requires calls { core.old.core.locked < 2 ^ 44 }
-    requires caller { IsCaller who (request_of call.now) }
-    requires numbers { HasNumbers (request_of call.now) }
-    requires present { IsPresent core.old.core who }
-    ensures { IfOk result (λ answered. Comes core.old core.new who (request_of call.now) answered) }
-{
-    let size = lent_size(call) as usize;
-    let Ok(mut buffer) = vec![in alloc; 0u8; size] else {
-        return Err(NoMemory);
-    };
-    make_over(alloc, core, who, call, &mut buffer)
 }
 
 /// Keeps a call that was made, at its place.

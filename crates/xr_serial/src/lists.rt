@@ -23,9 +23,9 @@ fn next_name(ops: &[Op], made: usize) -> CallName
 /// The script's next call, unless it has left.
 fn script_next(ops: &[Op], script: &Script) -> Option<Waiting>
     requires few { script.now.made < 2 ^ 20 }
-    ensures { list_if result ≡ map waiting_of (script_part ops.now script.now.made script.now.names (pos 0) script.now.gone) }
+    ensures { list_if result ≡ map waiting_of (script_part ops.now script.now.made script.now.names (pos 0) script.now.has_left) }
 {
-    if script.gone {
+    if script.has_left {
         return None;
     }
     Some(Waiting {
@@ -87,7 +87,7 @@ fn add_next(list: &mut Vec<Waiting>, next: Option<Waiting>) -> Result<(), NoMemo
 /// The next calls of those that have not finished, in the order of a round.
 fn waiting(alloc: Global, ops: &[Op], run: &Run) -> Result<Vec<Waiting>, NoMemory>
     requires few { run.now.script.made < 2 ^ 20 }
-    ensures { IfOk result (λ next. next.items ≡ map waiting_of (in_order (parts_of ops.now run.now.script.made run.now.script.names (pos 0) run.now.script.gone run.now.side.pending run.now.ended []))) }
+    ensures { IfOk result (λ next. next.items ≡ map waiting_of (in_order (parts_of ops.now run.now.script.made run.now.script.names (pos 0) run.now.script.has_left run.now.side.pending run.now.ended []))) }
 {
     let mut next = Vec::new(alloc);
     add_next(&mut next, script_next(ops, &run.script))?;
@@ -99,7 +99,7 @@ fn waiting(alloc: Global, ops: &[Op], run: &Run) -> Result<Vec<Waiting>, NoMemor
 /// What a run has made, where nobody can go on.
 pub(crate) fn lists(alloc: Global, ops: &[Op], run: Run) -> Result<Lists, NoMemory>
     requires few { run.script.made < 2 ^ 20 }
-    ensures { IfOk result (λ lists. lists ≡ lists_at ops.now run.script.made run.script.names run.script.list.items run.script.gone run.side.pending run.side.events.items run.side.list.items run.ended) }
+    ensures { IfOk result (λ lists. lists ≡ lists_at ops.now run.script.made run.script.names run.script.list.items run.script.has_left run.side.pending run.side.events.items run.side.list.items run.ended) }
 {
     let next = waiting(alloc, ops, &run)?;
     let Run {

@@ -3,16 +3,16 @@ ghost use Rattle.std.specs.Prelude.{◌≡◌, ◌≤◌, ◌<◌, ◌^◌, ◌+
 ghost use Rattle.std.specs.List.{list_all};
 ghost use Rattle.xr_types.specs.declared.scenario.Op.{Op};
 ghost use Rattle.xr_model.specs.Built.{is_built_op};
-ghost use Rattle.xr_model.specs.InForm.{IsInForm};
+ghost use Rattle.xr_model.specs.ScriptForm.{IsInForm};
 ghost use Rattle.xr_model.specs.DeviceText.{DeviceStream};
 ghost use Rattle.xr_model.specs.State.{with_apps, opening};
 ghost use Rattle.xr_serial.specs.Sides.{IsDone, EndTurn};
 ghost use Rattle.xr_serial.specs.Turns.{turn_behind};
-ghost use Rattle.xr_serial.specs.Kept.{RunKept};
+ghost use Rattle.xr_serial.specs.RunInvariant.{RunKeeps};
 
 use crate::calls::make;
-use crate::script::{Script, leave, make_op};
-use crate::side::{Side, look, make_event};
+use crate::script::{MOST_LENT, Script, leave, make_op};
+use crate::side::{DeviceSide, look, make_event};
 use crate::turn::Turn;
 use std::alloc::Global;
 use xr_calls::{Names, Scratch};
@@ -24,7 +24,7 @@ use xr_types::{Actor, Call, NoMemory, Op, Reply};
 #[derive(Drop)]
 pub(crate) struct Run {
     pub(crate) script: Script,
-    pub(crate) side: Side,
+    pub(crate) side: DeviceSide,
     pub(crate) ended: Option<Reply>,
 }
 
@@ -34,17 +34,18 @@ const ALL: u8 = 3;
 /// A run before its first call.
 pub(crate) fn start(alloc: Global, ops: &[Op]) -> Result<Run, NoMemory>
     ensures { IfOk result (λ run. (told : Option DeviceStream) (faults bound : ℕ) → bound ≤ 16777216
-        → RunKept ops.now Turn.Script 0 (opening (with_apps 1)) run told told faults faults bound) }
+        → RunKeeps ops.now Turn.Script 0 (opening (with_apps 1)) run told told faults faults bound) }
 {
     let names = Names::start(alloc, ops.len())?;
     let script = Script {
         made: 0,
         names,
         list: Vec::new(alloc),
-        gone: false,
+        has_left: false,
         scratch: Scratch::new(),
+        buffer: [0; MOST_LENT],
     };
-    let side = Side {
+    let side = DeviceSide {
         pending: None,
         over: false,
         events: Vec::new(alloc),
@@ -67,7 +68,7 @@ fn script_turn(
 ) -> Result<bool, NoMemory>
     requires calls { core.old.core.locked < 2 ^ 44 }
     requires apps { core.old.core.apps ≡ 1 }
-    requires left { core.old.core.left ≡ run.old.script.gone ∷ [] }
+    requires left { core.old.core.left ≡ run.old.script.has_left ∷ [] }
     requires few { length ops.now < 2 ^ 20 }
     requires formed { IsInForm ops.now }
     requires built { list_all is_built_op ops.now ≡ true }
@@ -75,11 +76,11 @@ fn script_turn(
     requires names { length run.old.script.names ≡ length ops.now }
     requires idle { idle < 3 }
     ensures kept { IfOk result (λ went. (told now : Option DeviceStream) (before after bound : ℕ)
-        → RunKept ops.now Turn.Script idle core.old run.old told now before after bound
-        → RunKept ops.now Turn.Device (if went then 0 else idle + 1) core.new run.new told now before after bound) }
+        → RunKeeps ops.now Turn.Script idle core.old run.old told now before after bound
+        → RunKeeps ops.now Turn.Device (if went then 0 else idle + 1) core.new run.new told now before after bound) }
     ensures counts { IfOk result (λ went. core.new.core.locked ≡ core.old.core.locked + (if went then 1 else 0)) }
 {
-    if run.script.gone {
+    if run.script.has_left {
         return Ok(false);
     }
     if run.script.made < ops.len() {
@@ -104,8 +105,8 @@ fn device_turn<D: Device>(
     requires few { length run.old.side.list.items < 2 ^ 31 }
     requires idle { idle < 3 }
     ensures kept { IfOk result (λ went. (told : Option DeviceStream) (before : ℕ)
-        → RunKept ops.now Turn.Device idle core.old run.old told (D.told device.old) before (D.faults device.old) (D.bound device.old)
-        → RunKept ops.now Turn.Compositor (if went then 0 else idle + 1) core.new run.new told (D.told device.new) before (D.faults device.new) (D.bound device.new)) }
+        → RunKeeps ops.now Turn.Device idle core.old run.old told (D.told device.old) before (D.faults device.old) (D.bound device.old)
+        → RunKeeps ops.now Turn.Compositor (if went then 0 else idle + 1) core.new run.new told (D.told device.new) before (D.faults device.new) (D.bound device.new)) }
     ensures counts { IfOk result (λ went. core.new.core.locked ≡ core.old.core.locked + (if went then 1 else 0)) }
     ensures later { D.faults device.old ≤ D.faults device.new }
     ensures which { D.which device.new ≡ D.which device.old }
@@ -124,7 +125,7 @@ fn end(alloc: Global, core: &mut PlainCore, ended: &mut Option<Reply>) -> Result
     requires open { ended.old ≡ None }
     ensures { IfOk result (λ went. EndTurn ended.new core.old core.new went) }
 {
-    let Some(answered) = make(alloc, core, Actor::Compositor, &Call::NextFrame)? else {
+    let Some(answered) = make(alloc, core, Actor::Compositor, &Call::NextFrame, &mut [])? else {
         return Ok(false);
     };
     *ended = Some(answered.reply);
@@ -142,8 +143,8 @@ fn compositor_turn(
     requires calls { core.old.core.locked < 2 ^ 44 }
     requires idle { idle < 3 }
     ensures kept { IfOk result (λ went. (told now : Option DeviceStream) (before after bound : ℕ)
-        → RunKept ops.now Turn.Compositor idle core.old run.old told now before after bound
-        → RunKept ops.now Turn.Script (if went then 0 else idle + 1) core.new run.new told now before after bound) }
+        → RunKeeps ops.now Turn.Compositor idle core.old run.old told now before after bound
+        → RunKeeps ops.now Turn.Script (if went then 0 else idle + 1) core.new run.new told now before after bound) }
     ensures counts { IfOk result (λ went. core.new.core.locked ≡ core.old.core.locked + (if went then 1 else 0)) }
 {
     if run.ended.is_some() {
@@ -165,7 +166,7 @@ fn one_turn<D: Device>(
 ) -> Result<bool, NoMemory>
     requires calls { core.old.core.locked < 2 ^ 44 }
     requires apps { core.old.core.apps ≡ 1 }
-    requires left { core.old.core.left ≡ run.old.script.gone ∷ [] }
+    requires left { core.old.core.left ≡ run.old.script.has_left ∷ [] }
     requires few { length ops.now < 2 ^ 20 }
     requires formed { IsInForm ops.now }
     requires built { list_all is_built_op ops.now ≡ true }
@@ -175,8 +176,8 @@ fn one_turn<D: Device>(
     requires fewer { length run.old.side.list.items < 2 ^ 31 }
     requires idle { idle < 3 }
     ensures kept { IfOk result (λ went. (told : Option DeviceStream) (before : ℕ)
-        → RunKept ops.now turn idle core.old run.old told (D.told device.old) before (D.faults device.old) (D.bound device.old)
-        → RunKept ops.now (turn_behind turn) (if went then 0 else idle + 1) core.new run.new told (D.told device.new) before (D.faults device.new) (D.bound device.new)) }
+        → RunKeeps ops.now turn idle core.old run.old told (D.told device.old) before (D.faults device.old) (D.bound device.old)
+        → RunKeeps ops.now (turn_behind turn) (if went then 0 else idle + 1) core.new run.new told (D.told device.new) before (D.faults device.new) (D.bound device.new)) }
     ensures counts { IfOk result (λ went. core.new.core.locked ≡ core.old.core.locked + (if went then 1 else 0)) }
     ensures later { D.faults device.old ≤ D.faults device.new }
     ensures which { D.which device.new ≡ D.which device.old }
@@ -199,10 +200,10 @@ pub(crate) fn go_on<D: Device>(
     requires few { length ops.now < 2 ^ 20 }
     requires formed { IsInForm ops.now }
     requires built { list_all is_built_op ops.now ≡ true }
-    requires kept { (told : Option DeviceStream) × (before : ℕ) × RunKept ops.now Turn.Script 0 core.old run.old told (D.told device.old) before (D.faults device.old) (D.bound device.old) }
+    requires kept { (told : Option DeviceStream) × (before : ℕ) × RunKeeps ops.now Turn.Script 0 core.old run.old told (D.told device.old) before (D.faults device.old) (D.bound device.old) }
     ensures kept { OnOk result ((told : Option DeviceStream) (before : ℕ)
-        → RunKept ops.now Turn.Script 0 core.old run.old told (D.told device.old) before (D.faults device.old) (D.bound device.old)
-        → (turn : Turn) × RunKept ops.now turn 3 core.new run.new told (D.told device.new) before (D.faults device.new) (D.bound device.new)) }
+        → RunKeeps ops.now Turn.Script 0 core.old run.old told (D.told device.old) before (D.faults device.old) (D.bound device.old)
+        → (turn : Turn) × RunKeeps ops.now turn 3 core.new run.new told (D.told device.new) before (D.faults device.new) (D.bound device.new)) }
     ensures later { D.faults device.old ≤ D.faults device.new }
     ensures which { D.which device.new ≡ D.which device.old }
 {

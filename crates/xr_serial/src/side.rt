@@ -6,7 +6,7 @@ ghost use Rattle.xr_types.specs.declared.scenario.Op.{Op};
 ghost use Rattle.xr_model.specs.State.{State};
 ghost use Rattle.xr_model.specs.DeviceText.{DeviceStream};
 ghost use Rattle.xr_serial.specs.Sides.{IsDone, Fetched, EventTurn};
-ghost use Rattle.xr_serial.specs.Kept.{Kept};
+ghost use Rattle.xr_serial.specs.RunInvariant.{RunInvariant};
 
 use crate::calls::{add, make};
 use crate::turn::Turn;
@@ -18,7 +18,7 @@ use xr_types::{Actor, Call, CallName, DeviceEvent, Made, NoMemory};
 /// A device on its way: its next event, where that is known, whether nothing more will come behind it, and the events
 /// whose calls were made, with these.
 #[derive(Drop)]
-pub(crate) struct Side {
+pub(crate) struct DeviceSide {
     pub(crate) pending: Option<DeviceEvent>,
     pub(crate) over: bool,
     pub(crate) events: Vec<DeviceEvent>,
@@ -26,7 +26,7 @@ pub(crate) struct Side {
 }
 
 /// Asks the device what comes next.
-fn fetch<D: Device>(device: &mut D, side: &mut Side)
+fn fetch<D: Device>(device: &mut D, side: &mut DeviceSide)
     requires unknown { side.old.pending ≡ None }
     requires going { side.old.over ≡ false }
     ensures fetched { Fetched (D.told device.old) (D.told device.new) (D.faults device.old) (D.faults device.new) (D.bound device.old) (D.bound device.new) side.new.pending side.new.over }
@@ -50,11 +50,11 @@ fn fetch<D: Device>(device: &mut D, side: &mut Side)
 }
 
 /// Asks the device what comes next, where that isn't known and more may come.
-pub(crate) fn look<D: Device>(device: &mut D, side: &mut Side)
+pub(crate) fn look<D: Device>(device: &mut D, side: &mut DeviceSide)
     requires done { IfSome side.old.pending IsDone }
     ensures kept { (ops : List Op) (idle : ℕ) (s : State) (made : ℕ) (names : List ℕ) (list : List Made) (gone : Bool) (ended : Option Reply) (told : Option DeviceStream) (before : ℕ) → idle < 3
-        → Kept ops Turn.Device idle s made names list gone side.old.pending side.old.over side.old.events.items side.old.list.items ended told (D.told device.old) before (D.faults device.old) (D.bound device.old)
-        → Kept ops Turn.Device idle s made names list gone side.new.pending side.new.over side.new.events.items side.new.list.items ended told (D.told device.new) before (D.faults device.new) (D.bound device.new) }
+        → RunInvariant ops Turn.Device idle s made names list gone side.old.pending side.old.over side.old.events.items side.old.list.items ended told (D.told device.old) before (D.faults device.old) (D.bound device.old)
+        → RunInvariant ops Turn.Device idle s made names list gone side.new.pending side.new.over side.new.events.items side.new.list.items ended told (D.told device.new) before (D.faults device.new) (D.bound device.new) }
     ensures known { side.new.pending ≡ None → side.new.over ≡ true }
     ensures done { IfSome side.new.pending IsDone }
     ensures list { side.new.list ≡ side.old.list }
@@ -70,7 +70,7 @@ pub(crate) fn look<D: Device>(device: &mut D, side: &mut Side)
 pub(crate) fn make_event(
     alloc: Global,
     core: &mut PlainCore,
-    side: &mut Side,
+    side: &mut DeviceSide,
     event: DeviceEvent,
 ) -> Result<bool, NoMemory>
     requires calls { core.old.core.locked < 2 ^ 44 }
@@ -80,7 +80,7 @@ pub(crate) fn make_event(
     ensures turn { IfOk result (λ went. EventTurn event side.old.list.items side.old.events.items side.new.list.items side.new.events.items side.new.pending core.old core.new went) }
     ensures over { side.new.over ≡ side.old.over }
 {
-    let Some(answered) = make(alloc, core, Actor::Device, &Call::Device(event))? else {
+    let Some(answered) = make(alloc, core, Actor::Device, &Call::Device(event), &mut [])? else {
         return Ok(false);
     };
     let place = side.list.len() as u32 + 1;

@@ -5,8 +5,8 @@
 ghost use Rattle.std.specs.Prelude.{IfErr, IfOk, List};
 ghost use Rattle.serde_json.specs.View.{view};
 ghost use Rattle.xr_fields.specs.Reads.{IsWrong, ReadsLine};
-ghost use Rattle.xr_model.specs.Formed.{IsFormed};
-ghost use Rattle.xr_model.specs.InForm.{IsKnownPlace};
+ghost use Rattle.xr_model.specs.InRange.{IsFormed};
+ghost use Rattle.xr_model.specs.ScriptForm.{IsKnownPlace};
 ghost use Rattle.xr_model.specs.Names.{Known};
 ghost use Rattle.xr_model.specs.Ops.Session.{create_instance, destroy_instance, poll_event, get_system, string_to_path, path_to_string, create_session, destroy_session, end_session, request_exit_session, begin_session, mark, await};
 

@@ -2,7 +2,7 @@
 use Rattle.std.proofs.Common.{◌≡◌, ◌<◌, ◌≤◌, ◌+◌, ◌-◌, ℕ, zero, suc, Bool, List, [], ◌∷◌, ◌++◌, Some, None, refl, sym, ap, ◌∙◌, arith, append_assoc, append-nil, length, length-append}
 use Rattle.xr_types.specs.declared.device.Wish.{Wish}
 use Rattle.xr_types.specs.declared.session.SessionState.{SessionState}
-use Rattle.xr_model.specs.States.{next_state, changes, most_changes, last_of}
+use Rattle.xr_model.specs.SessionLife.{next_state, changes, most_changes, last_of}
 
 -- After so many changes a session is in one state and these are told: with the changes that are left,
 -- they are what was told before and all changes from the first state.

@@ -1,7 +1,7 @@
 // A session's life, and what changes it.
 ghost use Rattle.std.specs.Prelude.{◌≡◌, []};
-ghost use Rattle.xr_model.specs.States as model;
-ghost use Rattle.xr_model.specs.States.{started, begin_refusals, begun, end_refusals, ended, exit_refusals, exiting, settled, losing};
+ghost use Rattle.xr_model.specs.SessionLife as model;
+ghost use Rattle.xr_model.specs.SessionLife.{started, begin_refusals, begun, end_refusals, ended, exit_refusals, exiting, settled, losing};
 ghost use Rattle.xr_model.specs.Refusals.{first_of, unless};
 ghost use Rattle.xr_states.specs.Codes.{code_by};
 
@@ -22,7 +22,7 @@ pub struct Session {
 }
 
 impl Model for Session {
-    ghost use Rattle.xr_model.specs.States.{Life};
+    ghost use Rattle.xr_model.specs.SessionLife.{Life};
 
     ghost Value = { Life };
 

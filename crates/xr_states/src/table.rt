@@ -12,7 +12,7 @@
 // No row is of READY, which the first frame leaves, of STOPPING, which xrEndSession leaves, or of EXITING and
 // LOSS_PENDING, which nothing leaves. A loss takes a session from any state but these two to LOSS_PENDING.
 ghost use Rattle.std.specs.Prelude.{◌≡◌, ◌≤◌, [], ◌∷◌, ◌++◌, length};
-ghost use Rattle.xr_model.specs.States.{next_state, changes, most_changes, last_of};
+ghost use Rattle.xr_model.specs.SessionLife.{next_state, changes, most_changes, last_of};
 
 use crate::Changes;
 use xr_types::{SessionState, Wish};

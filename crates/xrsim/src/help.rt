@@ -10,11 +10,11 @@ usage:
   xrsim --help      print this
   xrsim --version   print the version
 
-A FILE has 1 to 4095 bytes; write '--' before one that begins with '-'. The scenario's holds a JSON object of
-at most 1,048,576 bytes: a version, 1, and scripts of ops, which docs/scenario.schema.json describes. One
-script of these ops is run: create_instance, destroy_instance, get_system, string_to_path, path_to_string,
-poll_event, create_session, destroy_session, begin_session, end_session, request_exit_session, mark and
-await. What is more isn't built yet.
+A FILE has 1 to 4095 bytes; one that begins with '-' is given as ./-x, and a device's as --device=-x too. The
+scenario's holds a JSON object of at most 1,048,576 bytes: a version, 1, and scripts of ops, which
+docs/scenario.schema.json describes. One script of these ops is run: create_instance, destroy_instance,
+get_system, string_to_path, path_to_string, poll_event, create_session, destroy_session, begin_session,
+end_session, request_exit_session, mark and await. What is more isn't built yet.
 With --device the events of the device are read from a text, one on a line; without it there are none.
 With --places each line of a call ends in '@' and its reply's place, the count of calls up to it.
 
@@ -30,7 +30,7 @@ exit status, with one line on standard error for each but 0:
   3  the scenario couldn't be read
   4  the text is no scenario that is run; the line tells the script, the op and the field
   5  the device couldn't be read on; the report is whole
-  6  a line of the device's text is none; the report is whole
+  6  a line of the device's text is malformed; the report is whole
   7  the run can't go on; the report tells the next calls
   8  the report couldn't be written whole
   9  memory was short; nothing was written

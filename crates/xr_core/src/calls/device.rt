@@ -4,7 +4,7 @@ ghost use Rattle.xr_types.specs.Device.{checks};
 ghost use Rattle.xr_model.specs.Request as request;
 ghost use Rattle.xr_model.specs.Device.{is_built_event};
 ghost use Rattle.xr_model.specs.Machine.{is_awaiting};
-ghost use Rattle.xr_model.specs.Steps.Device.{behind_event};
+ghost use Rattle.xr_model.specs.Rules.Device.{behind_event};
 ghost use Rattle.xr_core.specs.Calls.{Makes};
 
 use crate::Core;

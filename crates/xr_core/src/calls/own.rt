@@ -6,8 +6,9 @@ ghost use Rattle.xr_model.specs.State.{CellReads};
 ghost use Rattle.xr_model.specs.Marks.{mark_at, with_mark};
 ghost use Rattle.xr_model.specs.Request as request;
 ghost use Rattle.xr_model.specs.Request.{leave, next_frame};
-ghost use Rattle.xr_model.specs.Machine.{CoreAnswers, IsPresent};
-ghost use Rattle.xr_model.specs.Request.{entry_of};
+ghost use Rattle.xr_model.specs.Machine.{IsPresent};
+ghost use Rattle.xr_model.specs.CoreCalls.{CoreAnswers};
+ghost use Rattle.xr_model.specs.CoreCalls.{entry_of};
 ghost use Rattle.xr_core.specs.Calls.{Makes};
 
 use crate::Core;

@@ -2,10 +2,11 @@
 ghost use Rattle.std.specs.Prelude.{◌≡◌, ◌≢◌, ◌<◌, ◌+◌, ◌^◌, [], length, true, false, Some};
 ghost use Rattle.xr_types.specs.declared.handles.TheConstants.{SESSIONS};
 ghost use Rattle.xr_model.specs.Handles.{has_room, was_given};
-ghost use Rattle.xr_model.specs.Request.{create_session, destroy_session, given_by};
+ghost use Rattle.xr_model.specs.Request.{create_session, destroy_session};
+ghost use Rattle.xr_model.specs.CoreCalls.{given_by};
 ghost use Rattle.xr_model.specs.SessionRule.{code_on};
-ghost use Rattle.xr_model.specs.States.{started};
-ghost use Rattle.xr_model.specs.Steps.Session.{life_of, with_session};
+ghost use Rattle.xr_model.specs.SessionLife.{started};
+ghost use Rattle.xr_model.specs.Rules.Session.{life_of, with_session};
 ghost use Rattle.xr_core.specs.Calls.{Makes};
 ghost use Rattle.xr_core.specs.Changes.{place_at, life_request, changed_life, answer_to};
 

@@ -25,7 +25,7 @@ returns-clause-ran g c =
     let run = c.go_on.new.run in
     let rests = c.in_ok-go_on.ensures.kept told faults (rw c.in_ok-core.ensures (c.in_ok-run.ensures told faults (g.D.Device.bound c.args.device.now) c.requires.fresh)) in
     λ scenario one. rw c.in_ok-all.ensures
-    (ran c.args.ops.now rests.0 c.go_on.new.core run.script.made run.script.names run.script.list.items run.script.gone run.side.pending run.side.over run.side.events.items run.side.list.items run.ended told (g.D.Device.told c.go_on.new.device) faults (g.D.Device.faults c.go_on.new.device) (g.D.Device.bound c.go_on.new.device) rests.1 scenario one)
+    (ran c.args.ops.now rests.0 c.go_on.new.core run.script.made run.script.names run.script.list.items run.script.has_left run.side.pending run.side.over run.side.events.items run.side.list.items run.ended told (g.D.Device.told c.go_on.new.device) faults (g.D.Device.faults c.go_on.new.device) (g.D.Device.bound c.go_on.new.device) rests.1 scenario one)
 
 pub returns-clause-fault : goal.returns-clause-fault
 returns-clause-fault g c =
@@ -34,4 +34,4 @@ returns-clause-fault g c =
     let run = c.go_on.new.run in
     let rests = c.in_ok-go_on.ensures.kept told faults (rw c.in_ok-core.ensures (c.in_ok-run.ensures told faults (g.D.Device.bound c.args.device.now) c.requires.fresh)) in
     rw c.in_ok-all.ensures
-    (fault c.args.ops.now rests.0 c.go_on.new.core run.script.made run.script.names run.script.list.items run.script.gone run.side.pending run.side.over run.side.events.items run.side.list.items run.ended told (g.D.Device.told c.go_on.new.device) faults (g.D.Device.faults c.go_on.new.device) (g.D.Device.bound c.go_on.new.device) rests.1)
+    (fault c.args.ops.now rests.0 c.go_on.new.core run.script.made run.script.names run.script.list.items run.script.has_left run.side.pending run.side.over run.side.events.items run.side.list.items run.ended told (g.D.Device.told c.go_on.new.device) faults (g.D.Device.faults c.go_on.new.device) (g.D.Device.bound c.go_on.new.device) rests.1)

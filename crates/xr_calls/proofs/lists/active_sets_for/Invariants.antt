@@ -1,5 +1,5 @@
 use Rattle.std.proofs.Common.{◌≡◌, ◌++◌, map, length, drop}
-use Rattle.xr_model.specs.Values.{active_set_for}
+use Rattle.xr_model.specs.NameValues.{active_set_for}
 use Rattle.xr_calls.proofs.lists.active_sets_for.Given as goal
 
 abbrev pub invariant-loop-used : goal.invariant-loop-used

@@ -1,5 +1,5 @@
 use Rattle.std.proofs.Common.{◌≡◌, ◌++◌, map, length, drop}
-use Rattle.xr_model.specs.Values.{value_of}
+use Rattle.xr_model.specs.NameValues.{value_of}
 use Rattle.xr_calls.proofs.lists.atoms_for.Given as goal
 
 abbrev pub invariant-loop-used : goal.invariant-loop-used

@@ -1,5 +1,5 @@
 use Rattle.std.proofs.Common.{◌≡◌, ◌++◌, map, length, drop}
-use Rattle.xr_model.specs.Values.{layer_for}
+use Rattle.xr_model.specs.NameValues.{layer_for}
 use Rattle.xr_calls.proofs.lists.layers_for.Given as goal
 
 abbrev pub invariant-loop-used : goal.invariant-loop-used

@@ -1,5 +1,5 @@
 use Rattle.std.proofs.Common.{◌≡◌, drop}
-use Rattle.xr_model.specs.Sessions.{told_changes}
+use Rattle.xr_model.specs.LiveSessions.{told_changes}
 use Rattle.xr_core.specs.Changes.{change_by}
 use Rattle.xr_core.proofs.SessionEvents.{front}
 use Rattle.xr_core.proofs.sessions.change_each.Given as goal

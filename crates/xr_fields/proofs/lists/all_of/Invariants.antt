@@ -1,7 +1,7 @@
 use Rattle.std.proofs.Common.{◌≡◌, length, drop}
 use Rattle.serde_json.specs.View.{items_view}
-use Rattle.xr_model.specs.Formed.{Each}
-use Rattle.xr_model.specs.Parts.{all_of}
+use Rattle.xr_model.specs.InRange.{Each}
+use Rattle.xr_model.specs.ListItems.{all_of}
 use Rattle.xr_fields.proofs.Items.{prepend}
 use Rattle.xr_fields.proofs.lists.all_of.Given as goal
 

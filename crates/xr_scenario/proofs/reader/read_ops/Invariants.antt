@@ -1,6 +1,6 @@
 use Rattle.std.proofs.Common.{◌≡◌, ◌+◌, [], drop, length}
 use Rattle.serde_json.specs.View.{items_view}
-use Rattle.xr_model.specs.InForm.{IsInForm}
+use Rattle.xr_model.specs.ScriptForm.{IsInForm}
 use Rattle.xr_model.specs.Scenario.{ops_from}
 use Rattle.xr_scenario.proofs.InForm.{AreOf}
 use Rattle.xr_scenario.proofs.Lines.{prepend}

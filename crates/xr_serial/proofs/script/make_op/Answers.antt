@@ -2,25 +2,20 @@ use Rattle.std.proofs.Common.{◌≡◌, ◌∙◌, ◌++◌, ◌∷◌, [], ◌
 use Rattle.xr_types.specs.declared.calls.Actor.TheVariants.{App}
 use Rattle.xr_types.specs.declared.made.Made.{Made}
 use Rattle.xr_types.specs.Op.{call_name}
-use Rattle.xr_model.specs.InForm.{IsInRange}
+use Rattle.xr_model.specs.ScriptForm.{IsInRange}
 use Rattle.xr_model.specs.Lists.{made_at}
-use Rattle.xr_model.specs.Machine.{HasNumbers}
+use Rattle.xr_model.specs.CoreCalls.{HasNumbers}
 use Rattle.xr_model.specs.Request.{Request, request_of}
 use Rattle.xr_model.specs.Scripts.{request_for}
-use Rattle.xr_model.proofs.InForm.{in_range-item}
-use Rattle.xr_serial.specs.Made.{IsMade, Comes}
+use Rattle.xr_model.proofs.ScriptForm.{in_range-item}
+use Rattle.xr_serial.specs.Made.{IsAnswered, AnsweredOrWaits}
 use Rattle.xr_serial.specs.Sides.{told_of, op_mark}
 use Rattle.xr_serial.specs.declared.calls.Answered.{Answered}
 use Rattle.xr_serial.proofs.Ops.{here_at, op_numbers, name_is, mark_is, no_start}
 use Rattle.xr_serial.proofs.script.make_op.Goals as goal
 
-pub call_of-call-requires : goal.call_of-call-requires
-call_of-call-requires c = subst IsInRange (sym c.index-ops-script.is) (in_range-item c.args.ops.now c.args.script.now.made c.index-ops-script.result c.requires.formed c.requires.within)
-
-pub make-requires-clause-numbers : goal.make-requires-clause-numbers
-make-requires-clause-numbers c =
-    let ranged : IsInRange c.index-ops-script.result = subst IsInRange (sym c.index-ops-script.is) (in_range-item c.args.ops.now c.args.script.now.made c.index-ops-script.result c.requires.formed c.requires.within) in
-    subst (λ (r : Request). HasNumbers r) (sym c.call_of-call.ensures) (op_numbers c.args.script.now.names c.index-ops-script.result ranged)
+pub ask-requires-clause-ranged : goal.ask-requires-clause-ranged
+ask-requires-clause-ranged c = subst IsInRange (sym c.index-ops-script.is) (in_range-item c.args.ops.now c.args.script.now.made c.index-ops-script.result c.requires.formed c.requires.within)
 
 pub returns : goal.returns
 returns c =
@@ -28,7 +23,7 @@ returns c =
     let names = c.args.script.now.names in
     let answer = c.in-Some.answered.reply in
     let bytes = c.in-Some.answered.text in
-    let comes = subst (λ (a : Option Answered). Comes c.args.core.now c.make.new.core (App 1) (request_of c.call_of-call.result) a) c.in-Some.is c.in_ok-answered.ensures in
+    let comes = subst (λ (a : Option Answered). AnsweredOrWaits c.args.core.now c.ask.new.core (App 1) (request_for names o) a) c.in-Some.is c.in_ok-answered.ensures in
     let kept : made_at (c.args.script.now.made + 1) (told_of (request_for names o) answer bytes) ≡ record { op = c.args.script.now.made + 1; name = call_name o; mark = op_mark o; start = pos 0; reply = answer; text = bytes } =
     rw (name_is names o, mark_is names o, no_start names o) refl in (
       record {
@@ -36,7 +31,7 @@ returns c =
         answer = answer;
         bytes = bytes;
         here = here_at c.args.ops.now c.args.script.now.made o c.requires.within c.index-ops-script.is;
-        call = subst (λ (r : Request). IsMade c.args.core.now c.make.new.core (App 1) r answer bytes) c.call_of-call.ensures comes;
+        call = comes;
         count = refl;
         learns = c.learn.ensures;
         keeps = c.in_ok-add.ensures ∙ rw (c.name.ensures, c.op_mark.ensures) (ap (λ (m : Made). c.args.script.now.list.items ++ m ∷ []) (sym kept));

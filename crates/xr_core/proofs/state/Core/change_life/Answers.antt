@@ -2,10 +2,10 @@ use Rattle.std.proofs.Common.{rules, ◌≡◌, false, Some, None, sym, ap, ◌�
 use Rattle.xr_types.specs.declared.code.Code.TheVariants.{Success}
 use Rattle.xr_types.specs.declared.handles.Kind.TheVariants as kind
 use Rattle.xr_model.specs.Handles.{is_live}
-use Rattle.xr_model.specs.Sessions.{session_at}
+use Rattle.xr_model.specs.LiveSessions.{session_at}
 use Rattle.xr_model.specs.SessionRule.{code_on}
 use Rattle.xr_model.specs.State.{CoreState}
-use Rattle.xr_model.specs.Steps.Session.{life_of}
+use Rattle.xr_model.specs.Rules.Session.{life_of}
 use Rattle.xr_core.specs.Changes.{place_at}
 use Rattle.xr_core.proofs.Listed.{stands_within, found_at, live_at, stands_nowhere}
 use Rattle.xr_core.proofs.SessionCalls.{no_session, life_refused, life_done}

@@ -1,7 +1,7 @@
 use Rattle.std.proofs.Common.{ap}
 use Rattle.xr_model.specs.State.{CoreState}
-use Rattle.xr_model.specs.States.{settled}
-use Rattle.xr_model.specs.Steps.Device.{with_changes}
+use Rattle.xr_model.specs.SessionLife.{settled}
+use Rattle.xr_model.specs.Rules.Device.{with_changes}
 use Rattle.xr_core.proofs.state.Core.happen.Goals as goal
 
 pub returns-in-Wish : goal.returns-in-Wish

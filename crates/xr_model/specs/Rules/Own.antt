@@ -5,7 +5,7 @@ use Rattle.xr_types.specs.declared.calls.Actor.TheVariants.{App, Compositor, Dev
 use Rattle.xr_types.specs.declared.calls.Gives.TheVariants.{Nothing, Number, Ended}
 use Rattle.xr_model.specs.Marks.{with_mark, value_at}
 use Rattle.xr_model.specs.State.{CoreState}
-use Rattle.xr_model.specs.Rules.{Rule, done}
+use Rattle.xr_model.specs.Rule.{Rule, done}
 
 -- an application is gone; nobody else leaves
 abbrev pub with_left : CoreState → Actor → CoreState

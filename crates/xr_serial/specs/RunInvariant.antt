@@ -17,7 +17,7 @@ use Rattle.xr_model.specs.Report.{is_fault}
 use Rattle.xr_model.specs.Lists.{made_from, events_in}
 use Rattle.xr_serial.specs.Sides.{IsDone, told_of}
 use Rattle.xr_serial.specs.Turns.{parts_of, pending_list}
-use Rattle.xr_serial.specs.Going.{Going}
+use Rattle.xr_serial.specs.Continues.{Continues}
 use Rattle.xr_serial.specs.Ran.{Gave}
 use Rattle.xr_serial.specs.declared.rounds.Run.{Run}
 use Rattle.xr_serial.specs.declared.turn.Turn.{Turn}
@@ -79,13 +79,13 @@ abbrev pub work_left : ℕ → ℕ → Bool → Option DeviceEvent → Bool → 
 work_left ops made gone pending over bound ended =
     (ops - made) + (if gone then 0 else 1) + (if is_some pending then 1 else 0) + (if over then 0 else bound + 1) + (if is_some ended then 0 else 1)
 
-pub record Kept (ops : List Op) (turn : Turn) (idle : ℕ) (s : State) (made : ℕ) (names : List ℕ) (list : List Made) (gone : Bool) (pending : Option DeviceEvent) (over : Bool) (events : List DeviceEvent) (dlist : List Made) (ended : Option Reply)
+pub record RunInvariant (ops : List Op) (turn : Turn) (idle : ℕ) (s : State) (made : ℕ) (names : List ℕ) (list : List Made) (gone : Bool) (pending : Option DeviceEvent) (over : Bool) (events : List DeviceEvent) (dlist : List Made) (ended : Option Reply)
     (told now : Option DeviceStream) (before after bound : ℕ) : Type 0 where
   pub app : List request.Exchange
   pub dev : List request.Exchange
   pub comp : List request.Exchange
   pub clock : ℤ
-  pub going : Going ops turn idle s (parts_of ops made names clock gone pending ended) over (events_in dev ++ pending_list pending) app dev comp
+  pub going : Continues ops turn idle s (parts_of ops made names clock gone pending ended) over (events_in dev ++ pending_list pending) app dev comp
   pub apps : s.core.apps ≡ 1
   pub left : s.core.left ≡ gone ∷ []
   pub script : ScriptKept ops made names list gone app
@@ -96,6 +96,6 @@ pub record Kept (ops : List Op) (turn : Turn) (idle : ℕ) (s : State) (made : �
   pub work : s.core.locked + work_left (length ops) made gone pending over bound ended ≤ length ops + 16777216 + 3
 
 -- the same of a run on its way
-abbrev pub RunKept : List Op → Turn → ℕ → State → Run → Option DeviceStream → Option DeviceStream → ℕ → ℕ → ℕ → Type 0
-RunKept ops turn idle s run told now before after bound =
-    Kept ops turn idle s run.script.made run.script.names run.script.list.items run.script.gone run.side.pending run.side.over run.side.events.items run.side.list.items run.ended told now before after bound
+abbrev pub RunKeeps : List Op → Turn → ℕ → State → Run → Option DeviceStream → Option DeviceStream → ℕ → ℕ → ℕ → Type 0
+RunKeeps ops turn idle s run told now before after bound =
+    RunInvariant ops turn idle s run.script.made run.script.names run.script.list.items run.script.has_left run.side.pending run.side.over run.side.events.items run.side.list.items run.ended told now before after bound

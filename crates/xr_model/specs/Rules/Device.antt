@@ -3,11 +3,11 @@ use Rattle.std.specs.Prelude.{ℤ, int_le, false, [], if◌then◌else◌}
 use Rattle.xr_types.specs.declared.device.DeviceEvent.{DeviceEvent}
 use Rattle.xr_types.specs.declared.device.DeviceEvent.TheVariants as event
 use Rattle.xr_types.specs.declared.calls.Gives.TheVariants.{Nothing}
-use Rattle.xr_model.specs.States.{Life, Changed, unchanged, settled, losing, lost}
-use Rattle.xr_model.specs.Sessions.{each_changed, told_changes}
+use Rattle.xr_model.specs.SessionLife.{Life, Changed, unchanged, settled, losing, lost}
+use Rattle.xr_model.specs.LiveSessions.{each_changed, told_changes}
 use Rattle.xr_model.specs.Marks.{with_mark}
 use Rattle.xr_model.specs.State.{CoreState}
-use Rattle.xr_model.specs.Rules.{Rule, done}
+use Rattle.xr_model.specs.Rule.{Rule, done}
 
 abbrev pub later_of : ℤ → ℤ → ℤ
 later_of a b = if int_le a b then b else a

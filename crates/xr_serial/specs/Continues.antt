@@ -7,9 +7,9 @@ use Rattle.xr_types.specs.declared.scenario.Op.{Op}
 use Rattle.xr_model.specs.Request.{Entry, Exchange, is_actor}
 use Rattle.xr_model.specs.State.{with_apps, State, opening}
 use Rattle.xr_model.specs.History.{opening_clocks, IsLegalFrom, calls_from}
-use Rattle.xr_model.specs.Values.{no_values}
+use Rattle.xr_model.specs.NameValues.{no_values}
 use Rattle.xr_model.specs.Robin.{Agenda, script, compositor, device_agendas, IsRobinFrom, agendas_left}
-use Rattle.xr_serial.specs.Turns.{Parts, now_part, next_part, last_part, Standing}
+use Rattle.xr_serial.specs.Turns.{Parts, now_part, next_part, last_part, IsTurnOrder}
 use Rattle.xr_serial.specs.declared.turn.Turn.{Turn}
 
 -- the actors at the start: one script, a device of these events, the compositor
@@ -27,11 +27,11 @@ told_if who by t = if is_actor who by then t ∷ [] else []
 -- In this turn, after so many turns without a call, in this state, the unfinished actors have these parts left by what
 -- may still come of the device, which has told these events so far. Whatever legal, round-robin calls come next, they
 -- continue a past that was both, and in which the three made these calls.
-pub record Going (ops : List Op) (turn : Turn) (idle : ℕ) (s : State) (parts : List DeviceEvent → Parts) (over : Bool) (begun : List DeviceEvent) (app dev comp : List Exchange) : Type 0 where
+pub record Continues (ops : List Op) (turn : Turn) (idle : ℕ) (s : State) (parts : List DeviceEvent → Parts) (over : Bool) (begun : List DeviceEvent) (app dev comp : List Exchange) : Type 0 where
   pub past : List Entry
   pub clocks : List ℤ
   pub agendas : List DeviceEvent → List Agenda
-  pub stands : (rest : List DeviceEvent) → IsRest over rest → Standing idle s (now_part turn (parts rest)) (next_part turn (parts rest)) (last_part turn (parts rest)) (agendas rest)
+  pub stands : (rest : List DeviceEvent) → IsRest over rest → IsTurnOrder idle s (now_part turn (parts rest)) (next_part turn (parts rest)) (last_part turn (parts rest)) (agendas rest)
   pub legal : (more : List Entry) → IsLegalFrom s clocks more → IsLegalFrom (opening (with_apps 1)) (opening_clocks (with_apps 1)) (past ++ more)
   pub robin : (rest : List DeviceEvent) → IsRest over rest → (more : List Entry) → IsRobinFrom s (agendas rest) more → IsRobinFrom (opening (with_apps 1)) (first_three ops (begun ++ rest)) (past ++ more)
   pub left : (rest : List DeviceEvent) → IsRest over rest → (more : List Entry) → agendas_left (opening (with_apps 1)) (first_three ops (begun ++ rest)) (past ++ more) ≡ agendas_left s (agendas rest) more

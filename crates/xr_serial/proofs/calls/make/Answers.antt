@@ -2,7 +2,7 @@ use Rattle.std.proofs.Common.{rules, ◌∙◌, ap, false, ◌≡◌, length}
 use Rattle.xr_model.specs.Request.{request_of}
 use Rattle.xr_serial.specs.Lent.{lent_size, written_size}
 use Rattle.xr_serial.proofs.Lending.{made_of}
-use Rattle.xr_serial.proofs.calls.make_over.Goals as goal
+use Rattle.xr_serial.proofs.calls.make.Goals as goal
 
 pub returns-in_default : goal.returns-in_default
 returns-in_default c = let waits = c.in_default.ensures 0 false in (waits.same, waits.not_ready)

@@ -5,7 +5,7 @@ use Rattle.xr_types.specs.declared.handles.Kind.TheVariants.{Instance}
 use Rattle.xr_model.specs.Handles.{no_handle}
 use Rattle.xr_model.specs.Paths.{intern_refusals, with_text, atom_of, text_at, copy_refusals, copied, size_at}
 use Rattle.xr_model.specs.State.{CoreState}
-use Rattle.xr_model.specs.Rules.{Rule, done, done_writing}
+use Rattle.xr_model.specs.Rule.{Rule, done, done_writing}
 
 -- xrStringToPath
 abbrev pub string_to_path_rule : CoreState → Bool → ℕ → List ℕ → Rule

@@ -7,7 +7,7 @@ use Rattle.xr_types.specs.declared.session.SessionState.{SessionState}
 use Rattle.xr_types.specs.declared.session.SessionState.TheVariants.{Idle}
 use Rattle.xr_model.specs.Handles.{Handles, is_live}
 use Rattle.xr_model.specs.Events.{Queue, pushed}
-use Rattle.xr_model.specs.States.{Life, Changed}
+use Rattle.xr_model.specs.SessionLife.{Life, Changed}
 
 -- Its handle; its ordinal, which is the count of sessions that were created in the run, itself included; and its life.
 pub record Session : Type 0 where

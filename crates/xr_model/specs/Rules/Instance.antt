@@ -12,7 +12,7 @@ use Rattle.xr_model.specs.Events.{no_events, polled, behind_poll}
 use Rattle.xr_model.specs.Refusals.{when}
 use Rattle.xr_model.specs.State.{CoreState}
 use Rattle.xr_model.specs.Destroyed.{without_handle}
-use Rattle.xr_model.specs.Rules.{Rule, done, destroying}
+use Rattle.xr_model.specs.Rule.{Rule, done, destroying}
 
 -- xrCreateInstance (section 4.2): version 1.0 alone, and one instance at a time
 abbrev pub create_instance_rule : CoreState → ℕ → ℕ → ℕ → Rule

@@ -4,7 +4,7 @@ use Rattle.xr_types.specs.declared.scenario.Op.{Op}
 use Rattle.xr_types.specs.declared.scenario.Sort.{Sort}
 use Rattle.xr_types.specs.Op.{sort_of}
 use Rattle.xr_model.specs.Names.{Known, is_known}
-use Rattle.xr_model.specs.Formed.{IsFormed}
+use Rattle.xr_model.specs.InRange.{IsFormed}
 
 -- any place will do
 abbrev pub IsAnyPlace : Sort → ℕ → Type 0

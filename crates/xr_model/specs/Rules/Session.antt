@@ -6,14 +6,14 @@ use Rattle.xr_types.specs.declared.handles.Kind.TheVariants.{Instance, Session}
 use Rattle.xr_types.specs.declared.session.ViewConfig.{ViewConfig}
 use Rattle.xr_model.specs.Handles.{no_handle, no_room, with_handle, gone}
 use Rattle.xr_model.specs.Refusals.{Refusal, when}
-use Rattle.xr_model.specs.States.{Life, Changed, unchanged, started, begin_checks, begun, end_checks, ended, exit_checks, exiting}
-use Rattle.xr_model.specs.Sessions as sessions
-use Rattle.xr_model.specs.Sessions.{session_at, life_in, with_life_at, told_states}
+use Rattle.xr_model.specs.SessionLife.{Life, Changed, unchanged, started, begin_checks, begun, end_checks, ended, exit_checks, exiting}
+use Rattle.xr_model.specs.LiveSessions as sessions
+use Rattle.xr_model.specs.LiveSessions.{session_at, life_in, with_life_at, told_states}
 use Rattle.xr_model.specs.State.{CoreState}
 use Rattle.xr_model.specs.Destroyed.{without_handle}
-use Rattle.xr_model.specs.Rules.{Rule, done, destroying}
+use Rattle.xr_model.specs.Rule.{Rule, done, destroying}
 use Rattle.xr_model.specs.SessionRule.{on_session}
-use Rattle.xr_model.specs.Steps.Instance.{the_system}
+use Rattle.xr_model.specs.Rules.Instance.{the_system}
 
 -- ---- coming and going
 

@@ -1,0 +1,138 @@
+-- A line of a device's text, printed from its event, reads back as that event.
+use Rattle.std.proofs.Common.{◌≡◌, ◌<◌, ◌≤◌, ◌+◌, ◌-◌, ◌*◌, ◌/◌, ◌%◌, ◌==◌, ◌^◌, ℕ, pos, negsuc, Bool, true, false, List, [], ◌∷◌, ◌++◌, length, get_or, Option, Some, None, refl, sym, ap, ◌∙◌, arith, append_assoc, true≢false}
+use Rattle.std.specs.Prelude.{codes, decimal, if◌then◌else◌}
+use Rattle.std.proofs.lemmas.Fmt.{decimal_by_steps, decimal_nonempty, first_decimal, length-decimal-le_succ}
+use Rattle.std.proofs.lemmas.Bool.Decides.{nat_tests}
+use Rattle.xr_types.specs.declared.device.DeviceEvent.{DeviceEvent}
+use Rattle.xr_types.specs.declared.device.DeviceEvent.TheVariants as event
+use Rattle.xr_types.specs.declared.device.Wish.TheVariants as wish
+use Rattle.xr_types.specs.Device.{checks, is_time, is_mark, in_range}
+use Rattle.xr_model.specs.DeviceText.{words_of, is_digit, digits_behind, number_of, event_by, if_checked}
+use Rattle.xr_model.specs.DeviceLines.{line_of}
+use Rattle.xr_model.specs.DeviceLaws.{LinesReadBack}
+use Rattle.xr_model.proofs.Rows.{both_of, same_key}
+
+-- ---- numbers
+
+-- digits behind others, one more
+digits_more : (k : ℕ) (ds : List ℕ) (b m : ℕ) → digits_behind k ds ≡ Some m → is_digit b ≡ true → digits_behind k (ds ++ b ∷ []) ≡ Some (m * 10 + (b - 48))
+digits_more k [] b m e digit = rw digit (ap (λ (x : ℕ). Some (x * 10 + (b - 48))) (same e))
+  where
+    same : Some k ≡ Some m → k ≡ m
+    same e = cc
+digits_more k (d ∷ ds) b m e digit = by (is_digit d) e (λ more. digits_more (k * 10 + (d - 48)) ds b m more digit)
+  where
+    by : (c : Bool) → (if c then digits_behind (k * 10 + (d - 48)) ds else None) ≡ Some m
+        → (digits_behind (k * 10 + (d - 48)) ds ≡ Some m → digits_behind (k * 10 + (d - 48)) (ds ++ b ∷ []) ≡ Some (m * 10 + (b - 48)))
+        → (if c then digits_behind (k * 10 + (d - 48)) (ds ++ b ∷ []) else None) ≡ Some (m * 10 + (b - 48))
+    by true e later = later e
+    by false e later = cc
+
+-- no byte of a number is a space
+abbrev NoSpace : List ℕ → Type 0
+NoSpace [] = Unit {0}
+NoSpace (b ∷ bs) = ((b == 32) ≡ false) × NoSpace bs
+
+no_space_more : (ds : List ℕ) (b : ℕ) → NoSpace ds → (b == 32) ≡ false → NoSpace (ds ++ b ∷ [])
+no_space_more [] b none other = (other, tt)
+no_space_more (d ∷ ds) b none other = (none.0, no_space_more ds b none.1 other)
+
+abbrev Reads : ℕ → List ℕ → Type 0
+Reads n ds = (digits_behind 0 ds ≡ Some n) × NoSpace ds
+
+reads : (n : ℕ) → n < 2 ^ 64 → Reads n (decimal n)
+reads = decimal_by_steps Reads one more
+  where
+    is_one : (n : ℕ) → n < 10 → is_digit (48 + n) ≡ true
+    is_one n l = grind (arith, nat_tests, l)
+
+    no_space : (n : ℕ) → (48 + n == 32) ≡ false
+    no_space n = grind (arith, nat_tests)
+
+    one : (n : ℕ) → n < 10 → Reads n ((48 + n) ∷ [])
+    one n l = (rw (is_one n l) (ap (λ (x : ℕ). Some x) (omega arith)), (no_space n, tt))
+
+    more : (n : ℕ) (ds : List ℕ) → 10 ≤ n → Reads (n / 10) ds → Reads n (ds ++ ((48 + n % 10) ∷ []))
+    more n ds l h =
+        let last : n % 10 < 10 = omega arith in
+        (digits_more 0 ds (48 + n % 10) (n / 10) h.0 (is_one (n % 10) last) ∙ ap (λ (x : ℕ). Some x) (omega arith), no_space_more ds (48 + n % 10) h.1 (no_space (n % 10)))
+
+-- without a leading zero they are a number
+number_by : (n : ℕ) (ds : List ℕ) → digits_behind 0 ds ≡ Some n → 0 < length ds → (0 < n → 48 < get_or ds 0 0) → length ds ≤ n + 1 → number_of ds ≡ Some n
+number_by n [] e some first short = absurd (omega (arith, some))
+number_by n (b ∷ []) e some first short = e
+number_by n (b ∷ c ∷ bs) e some first short = by (b == 48) refl
+  where
+    by : (z : Bool) → (b == 48) ≡ z → (if z then None else digits_behind 0 (b ∷ c ∷ bs)) ≡ Some n
+    by false ez = e
+    by true ez =
+        let zero : b ≡ 48 = same_key b 48 ez in
+        let many : 0 < n = omega (arith, short) in
+        let large = first many in
+        absurd (omega (arith, zero, large))
+
+number_reads : (n : ℕ) → n < 2 ^ 64 → number_of (decimal n) ≡ Some n
+number_reads n small = number_by n (decimal n) (reads n small).0 (decimal_nonempty n small) (λ some. first_decimal n some small) (length-decimal-le_succ n small)
+
+-- ---- words
+
+words_alone : (ds : List ℕ) → NoSpace ds → words_of ds ≡ ds ∷ []
+words_alone [] none = refl
+words_alone (b ∷ bs) none = rw (none.0, words_alone bs none.1) refl
+
+words_then : (ds rest : List ℕ) → NoSpace ds → words_of (ds ++ 32 ∷ rest) ≡ ds ∷ words_of rest
+words_then [] rest none = refl
+words_then (b ∷ bs) rest none = rw (none.0, words_then bs rest none.1) refl
+
+-- a word and a number
+word_number : (word : List ℕ) (n : ℕ) → NoSpace word → n < 2 ^ 64 → words_of ((word ++ 32 ∷ []) ++ decimal n) ≡ word ∷ decimal n ∷ []
+word_number word n none small = ap words_of (append_assoc word (32 ∷ []) (decimal n)) ∙ words_then word (decimal n) none ∙ ap (λ (ws : List (List ℕ)). word ∷ ws) (words_alone (decimal n) (reads n small).1)
+
+-- ---- numbers in range
+
+small_time : (n : ℕ) → is_time (pos n) ≡ true → n < 2 ^ 64
+small_time n e = grind (arith, nat_tests, e)
+
+small_mark : (n : ℕ) → is_mark n ≡ true → n < 2 ^ 64
+small_mark n e = grind (arith, nat_tests, e)
+
+small_period : (n : ℕ) → in_range (pos n) (pos 1) (pos 1000000000) ≡ true → n < 2 ^ 64
+small_period n e = grind (arith, nat_tests, e)
+
+-- ---- events
+
+-- the words of a grid
+grid_words : (base period : ℕ) → base < 2 ^ 64 → period < 2 ^ 64 → words_of (((codes "grid " ++ decimal base) ++ codes " ") ++ decimal period) ≡ codes "grid" ∷ decimal base ∷ decimal period ∷ []
+grid_words base period small few =
+    ap words_of (append_assoc (codes "grid " ++ decimal base) (codes " ") (decimal period) ∙ append_assoc (codes "grid ") (decimal base) (codes " " ++ decimal period))
+    ∙ words_then (codes "grid") (decimal base ++ (codes " " ++ decimal period)) (refl, (refl, (refl, (refl, tt))))
+    ∙ ap (λ (ws : List (List ℕ)). codes "grid" ∷ ws) (words_then (decimal base) (decimal period) (reads base small).1 ∙ ap (λ (ws : List (List ℕ)). decimal base ∷ ws) (words_alone (decimal period) (reads period few).1))
+
+checked : (e : DeviceEvent) (found : Option DeviceEvent) → found ≡ Some e → checks e ≡ true → if_checked found ≡ Some e
+checked e found is good = rw (is, good) refl
+
+pub lines_read_back : LinesReadBack
+lines_read_back (event.Clock (pos n)) line good =
+    let small = small_time n good in
+    checked (event.Clock (pos n)) (event_by (words_of (line_of (event.Clock (pos n))))) (rw (word_number (codes "clock") n (refl, (refl, (refl, (refl, (refl, tt))))) small, number_reads n small) refl) good
+lines_read_back (event.Clock (negsuc n)) line good = absurd (true≢false (sym good))
+lines_read_back (event.Grid (pos base) (pos period)) line good =
+    let parts = both_of (is_time (pos base)) (in_range (pos period) (pos 1) (pos 1000000000)) good in
+    let small = small_time base parts.0 in
+    let few = small_period period parts.1 in
+    checked (event.Grid (pos base) (pos period)) (event_by (words_of (line_of (event.Grid (pos base) (pos period))))) (rw (grid_words base period small few, number_reads base small, number_reads period few) refl) good
+lines_read_back (event.Grid (negsuc base) period) line good = absurd (true≢false (sym good))
+lines_read_back (event.Grid (pos base) (negsuc period)) line good = absurd (true≢false (sym (both_of (is_time (pos base)) false good).1))
+lines_read_back (event.Mark n) line good =
+    let small = small_mark n good in
+    checked (event.Mark n) (event_by (words_of (line_of (event.Mark n)))) (rw (word_number (codes "mark") n (refl, (refl, (refl, (refl, tt)))) small, number_reads n small) refl) good
+lines_read_back (event.Await n) line good =
+    let small = small_mark n good in
+    checked (event.Await n) (event_by (words_of (line_of (event.Await n)))) (rw (word_number (codes "await") n (refl, (refl, (refl, (refl, (refl, tt))))) small, number_reads n small) refl) good
+lines_read_back (event.Wish wish.Rest) line good = refl
+lines_read_back (event.Wish wish.Ready) line good = refl
+lines_read_back (event.Wish wish.Visible) line good = refl
+lines_read_back (event.Wish wish.Focused) line good = refl
+lines_read_back event.Loss line good = refl
+lines_read_back event.Lost line good = refl
+lines_read_back _ line good = absurd (true≢false (sym line))
