@@ -1,14 +1,26 @@
-// One call of the machine: each call has its arm, and its method in `calls`.
-ghost use Rattle.std.specs.Prelude.{◌<◌, ◌^◌, length};
+// One call of the machine: whether it has to wait, and then the group that it belongs to, a file of `calls` each.
+ghost use Rattle.std.specs.Prelude.{◌≡◌, ◌<◌, ◌^◌, length};
 ghost use Rattle.xr_model.specs.Request.{request_of};
 ghost use Rattle.xr_model.specs.State.{CellReads};
+ghost use Rattle.xr_model.specs.Machine.{is_held_back};
 ghost use Rattle.xr_model.specs.CoreCalls.{MayMake, CoreApplies};
 
 use crate::Core;
-use crate::sessions::LifeCall;
 use xr_types::{Actor, Call, Step};
 
 impl Core {
+    /// Whether a call that would succeed has to wait.
+    fn is_held_back(&self, call: &Call<'_>) -> bool
+        ensures { (reads : CellReads) → result ≡ is_held_back self.now reads (request_of call.now) }
+    {
+        match call {
+            Call::AwaitMark { mark } => self.mark_value(*mark).is_none(),
+            Call::Device(event) => self.is_waiting(*event),
+            Call::NextFrame => !self.all_left(),
+            _ => false,
+        }
+    }
+
     /// Makes a call that is built, or says that it has to wait and leaves all as it was. `text` is the buffer that
     /// `path_to_string` is lent, of the call's `capacity`; for other calls it may have any size and stays.
     /// Whatever the cells tell, the reply is the machine's to an allowed entry: it gives a handle exactly where a creation
@@ -18,56 +30,26 @@ impl Core {
         requires may { MayMake self.old who (request_of call.now) (length text.old) }
         ensures { (reads : CellReads) → CoreApplies reads self.old self.new who call.now text.old text.new result }
     {
-        match call {
-            Call::CreateInstance { major, minor } => Step::Done(self.create_instance(
-                *major, *minor,
-            )),
-            Call::DestroyInstance { instance } => Step::Done(self.destroy_instance(*instance)),
-            Call::GetSystem { instance, form } => Step::Done(self.get_system(*instance, *form)),
-            Call::StringToPath { instance, text } => Step::Done(self.string_to_path(
-                *instance, text,
-            )),
-            Call::PathToString {
-                instance,
-                path,
-                capacity: _,
-            } => Step::Done(self.path_to_string(*instance, *path, text)),
-            Call::PollEvent { instance } => Step::Done(self.poll_event(*instance)),
-            Call::CreateSession { instance, system } => Step::Done(self.create_session(
-                *instance, *system,
-            )),
-            Call::DestroySession { session } => Step::Done(self.destroy_session(*session)),
-            Call::BeginSession { session, view } => Step::Done(self.change_life(
-                *session,
-                LifeCall::Begin(*view),
-            )),
-            Call::EndSession { session } => Step::Done(self.change_life(*session, LifeCall::End)),
-            Call::RequestExitSession { session } => Step::Done(self.change_life(
-                *session,
-                LifeCall::RequestExit,
-            )),
-            Call::Mark { mark, value } => Step::Done(self.mark(*mark, *value)),
-            Call::AwaitMark { mark } => match self.mark_value(*mark) {
-                Some(value) => Step::Done(self.await_mark(*mark, value)),
-                None => Step::NotReady,
-            },
-            Call::Device(event) => {
-                if self.is_waiting(*event) {
-                    return Step::NotReady;
-                }
-                Step::Done(self.device_event(*event))
-            }
-            Call::Leave => match who {
-                Actor::App(app) => Step::Done(self.leave(app)),
-                Actor::Compositor | Actor::Device => unreachable!(),
-            },
-            Call::NextFrame => {
-                if !self.all_left() {
-                    return Step::NotReady;
-                }
-                Step::Done(self.next_frame())
-            }
-            _ => unreachable!(),
+        if self.is_held_back(call) {
+            return Step::NotReady;
         }
+        let reply = match call {
+            Call::CreateInstance { .. }
+            | Call::DestroyInstance { .. }
+            | Call::GetSystem { .. }
+            | Call::PollEvent { .. } => self.instance_call(call),
+            Call::StringToPath { .. } | Call::PathToString { .. } => self.path_call(call, text),
+            Call::CreateSession { .. }
+            | Call::DestroySession { .. }
+            | Call::BeginSession { .. }
+            | Call::EndSession { .. }
+            | Call::RequestExitSession { .. } => self.session_call(call),
+            Call::Mark { .. } | Call::AwaitMark { .. } | Call::Leave | Call::NextFrame => {
+                self.own_call(who, call)
+            }
+            Call::Device(event) => self.device_event(*event),
+            _ => unreachable!(),
+        };
+        Step::Done(reply)
     }
 }

@@ -6,7 +6,7 @@ use Rattle.xr_model.specs.DeviceText.{DeviceStream, nothing_more}
 -- what is still to come where it is told, how many events that are at most, how often a read has failed, which of the
 -- two files is read, and whether the device answers its end for ever
 pub record Outlook : Type 0 where
-  pub told : Option DeviceStream
+  pub remaining : Option DeviceStream
   pub bound : ℕ
   pub faults : ℕ
   pub which : Which

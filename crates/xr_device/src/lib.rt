@@ -37,7 +37,7 @@ pub enum Next {
 /// ever.
 pub trait Device {
     /// What is still to come, where it tells that.
-    ghost told: { Self → Option DeviceStream };
+    ghost remaining: { Self → Option DeviceStream };
 
     /// At most so many events are still to come.
     ghost bound: { Self → ℕ };
@@ -48,17 +48,17 @@ pub trait Device {
     /// Which of the two files it is read from.
     ghost which: { Self → Which };
 
-    /// Whether it answers `End` for ever. `told` alone can't say that, since a text of which nothing is to come may
-    /// still fail to be read to its end.
+    /// Whether it answers `End` for ever. `remaining` alone can't say that, since a text of which nothing is to come
+    /// may still fail to be read to its end.
     ghost over: { Self → Bool };
 
     /// The next event, or why there is none.
     fn next(&mut self) -> Next
-        ensures told { Tells (told self.old) (told self.new) result }
+        ensures told { Tells (remaining self.old) (remaining self.new) result }
         ensures sound { OnEvent result (λ e. IsTold e) }
 
         // After any answer but an event nothing is to come, and the answer is `End` from then on.
-        ensures last { UnlessEvent result ((told self.new ≡ Some nothing_more) × (over self.new ≡ true)) }
+        ensures last { UnlessEvent result ((remaining self.new ≡ Some nothing_more) × (over self.new ≡ true)) }
         ensures over { over self.old ≡ true → result ≡ Next.End }
 
         ensures fewer { OnEvent result (λ e. bound self.new < bound self.old) }

@@ -22,7 +22,7 @@ impl<S: Source> Model for LineDevice<S> {
     ghost Value = { Outlook };
 
     ghost view = { λ d. record {
-      told = told_unless d.over (told_at d.text.number d.text.used d.text.held (S.left d.text.source));
+      remaining = told_unless d.over (told_at d.text.number d.text.used d.text.held (S.left d.text.source));
       bound = bound_behind d.over d.text.used;
       faults = S.faults d.text.source;
       which = S.which d.text.source;
@@ -35,7 +35,7 @@ impl<S: Source> Model for LineDevice<S> {
 impl<S: Source> LineDevice<S> {
     /// A device over a source, of which nothing was read yet.
     pub fn new(source: S) -> LineDevice<S>
-        ensures told { result.told ≡ option_map told_in (S.left source) }
+        ensures remaining { result.remaining ≡ option_map told_in (S.left source) }
         ensures bound { result.bound ≤ 16777216 }
         ensures faults { result.faults ≡ S.faults source }
         ensures which { result.which ≡ S.which source }
@@ -58,7 +58,7 @@ impl<S: Source> LineDevice<S> {
 }
 
 impl<S: Source> Device for LineDevice<S> {
-    ghost told = { λ d. d.told };
+    ghost remaining = { λ d. d.remaining };
 
     ghost bound = { λ d. d.bound };
 

@@ -62,7 +62,7 @@ impl Device for ListDevice {
     ghost use Rattle.xr_io.specs.declared.Which.TheVariants.{Device};
     ghost use Rattle.xr_model.specs.DeviceText.{ends};
 
-    ghost told = { λ d. Some (record { events = d; ending = ends }) };
+    ghost remaining = { λ d. Some (record { events = d; ending = ends }) };
 
     ghost bound = { λ d. length d };
 

@@ -57,7 +57,7 @@ fn read_text<O: Opener>(alloc: Global, opener: &mut O, source: O::S) -> Result<V
 /// Runs a text beside a device, or says why it isn't run.
 fn run_text<D: Device>(alloc: Global, text: &[u8], device: &mut D) -> Result<Lists, Status>
     requires fresh { D.bound device.old ≤ 16777216 }
-    ensures means { MeansText text.now (D.told device.old) result }
+    ensures means { MeansText text.now (D.remaining device.old) result }
     ensures fault { IfOk result (λ lists. list_any is_fault lists.events ≡ true → Rose (D.faults device.old) (D.faults device.new)) }
     ensures which { D.which device.new ≡ D.which device.old }
 {

@@ -1,2 +1,2 @@
 pub mod Items
-pub mod Known
+pub mod KnownNames

@@ -16,7 +16,7 @@ pub enum Fault {
 pub(crate) fn at<T: Drop>(place: u8, found: Option<T>) -> Result<T, Fault>
     ensures reads { Reads result (at place found) }
     ensures same { IfOk result (λ x. found ≡ Some x) }
-    ensures told { IfErr result IsWrong }
+    ensures only_wrong { IfErr result IsWrong }
 {
     match found {
         Some(value) => Ok(value),

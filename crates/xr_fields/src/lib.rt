@@ -4,10 +4,10 @@
 #![tactic(auto)]
 
 mod fault;
-mod givers;
 mod keys;
 mod lines;
 mod lists;
+mod named_ops;
 mod names;
 mod numbers;
 mod parts;
@@ -15,10 +15,10 @@ mod uses;
 mod words;
 
 pub use fault::Fault;
-pub use givers::Givers;
 pub use keys::only_keys;
 pub use lines::{ReadLine, line};
 pub use lists::{Part, list};
+pub use named_ops::NamedOps;
 pub use names::name;
 pub use numbers::{MOST, MOST_CAPACITY, mark_number, number, small, timeout, truth};
 pub use uses::{atom, handle, mark_value, system, time};

@@ -27,7 +27,7 @@ pub fn line<'v>(
     ensures reads { ReadsLine result (only (map (λ k. k.now) keys.now) (view value.now)
         (line op (option_map (λ n. n.now) name.entry))) }
     ensures same { IfOk result (λ l. l.op ≡ op) }
-    ensures told { IfErr result IsWrong }
+    ensures only_wrong { IfErr result IsWrong }
 {
     if only_keys(keys, value) {
         Ok(ReadLine { op, name })

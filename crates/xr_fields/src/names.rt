@@ -37,7 +37,7 @@ fn is_name(text: &str) -> bool
 /// The name that an op gives under `as`, if it gives one: 1 to 32 small letters, digits and `_`.
 pub fn name(value: &Value, place: u8) -> Result<Option<&str>, Fault>
     ensures reads { ReadsName result (name_at place (view value.now)) }
-    ensures told { IfErr result IsWrong }
+    ensures only_wrong { IfErr result IsWrong }
 {
     let Some(found) = value.get("as") else {
         return Ok(None);

@@ -31,7 +31,7 @@ pub(crate) fn number_in(value: &Value, most: u64) -> Option<u64>
 pub fn number(value: &Value, key: &str, place: u8, most: u64) -> Result<u64, Fault>
     ensures reads { Reads result (field (number_in most) place key.now (view value.now)) }
     ensures formed { IfOk result (λ n. n ≤ most) }
-    ensures told { IfErr result IsWrong }
+    ensures only_wrong { IfErr result IsWrong }
 {
     let Some(found) = value.get(key) else {
         return at(place, None);
@@ -43,7 +43,7 @@ pub fn number(value: &Value, key: &str, place: u8, most: u64) -> Result<u64, Fau
 pub fn small(value: &Value, key: &str, place: u8) -> Result<u32, Fault>
     ensures reads { Reads result (field (number_in most_u32) place key.now (view value.now)) }
     ensures formed { IfOk result (λ n. n ≤ most_u32) }
-    ensures told { IfErr result IsWrong }
+    ensures only_wrong { IfErr result IsWrong }
 {
     let Some(found) = value.get(key) else {
         return at(place, None);
@@ -70,7 +70,7 @@ fn mark_in(value: &Value) -> Option<u8>
 pub fn mark_number(value: &Value, key: &str, place: u8) -> Result<u8, Fault>
     ensures reads { Reads result (field mark_in place key.now (view value.now)) }
     ensures formed { IfOk result IsMark }
-    ensures told { IfErr result IsWrong }
+    ensures only_wrong { IfErr result IsWrong }
 {
     let Some(found) = value.get(key) else {
         return at(place, None);
@@ -105,7 +105,7 @@ fn timeout_in(value: &Value) -> Option<i64>
 pub fn timeout(value: &Value, key: &str, place: u8) -> Result<i64, Fault>
     ensures reads { Reads result (field timeout_in place key.now (view value.now)) }
     ensures formed { IfOk result IsTimeout }
-    ensures told { IfErr result IsWrong }
+    ensures only_wrong { IfErr result IsWrong }
 {
     let Some(found) = value.get(key) else {
         return at(place, None);
@@ -116,7 +116,7 @@ pub fn timeout(value: &Value, key: &str, place: u8) -> Result<i64, Fault>
 /// Whether a field is true.
 pub fn truth(value: &Value, key: &str, place: u8) -> Result<bool, Fault>
     ensures reads { Reads result (field as_bool place key.now (view value.now)) }
-    ensures told { IfErr result IsWrong }
+    ensures only_wrong { IfErr result IsWrong }
 {
     let Some(found) = value.get(key) else {
         return at(place, None);

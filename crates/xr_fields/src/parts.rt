@@ -5,9 +5,9 @@ ghost use Rattle.xr_model.specs.InRange.{IsHandlePart, IsAtomPart, IsBinding, Is
 ghost use Rattle.xr_model.specs.ScriptForm.{IsKnownPlace};
 ghost use Rattle.xr_model.specs.ListItems.{item_count, handle_part, atom_part, binding_part, active_set_part, pixel_at, sub_image_part, projection_in, quad_in, layer_part};
 
-use crate::givers::Givers;
 use crate::keys::only_keys;
 use crate::lists::{Part, list_in};
+use crate::named_ops::NamedOps;
 use crate::numbers::{MOST, number_in};
 use crate::uses::{atom_in, handle_in};
 use serde_json::Value;
@@ -23,10 +23,10 @@ impl Part for HandleUse {
 
     fn read(
         _alloc: Global,
-        givers: &Givers<'_>,
+        named_ops: &NamedOps<'_>,
         value: &Value,
     ) -> Result<Option<HandleUse>, AllocError> {
-        match handle_in(givers, value) {
+        match handle_in(named_ops, value) {
             Some(handle) => Ok(Some(HandleUse { handle })),
             None => Ok(None),
         }
@@ -40,10 +40,10 @@ impl Part for AtomUse {
 
     fn read(
         _alloc: Global,
-        givers: &Givers<'_>,
+        named_ops: &NamedOps<'_>,
         value: &Value,
     ) -> Result<Option<AtomUse>, AllocError> {
-        match atom_in(givers, value) {
+        match atom_in(named_ops, value) {
             Some(atom) => Ok(Some(AtomUse { atom })),
             None => Ok(None),
         }
@@ -61,15 +61,15 @@ fn item_count(value: &Value) -> usize
     }
 }
 
-fn binding(givers: &Givers<'_>, value: &Value) -> Option<BindingUse>
-    ensures found { result ≡ binding_part givers.now (view value.now) }
-    ensures formed { IfSome result (λ u. IsBinding (IsKnownPlace givers.now) u) }
+fn binding(named_ops: &NamedOps<'_>, value: &Value) -> Option<BindingUse>
+    ensures found { result ≡ binding_part named_ops.now (view value.now) }
+    ensures formed { IfSome result (λ u. IsBinding (IsKnownPlace named_ops.now) u) }
 {
     if item_count(value) != 2 {
         return None;
     }
-    let action = handle_in(givers, value.get(0)?)?;
-    let path = atom_in(givers, value.get(1)?)?;
+    let action = handle_in(named_ops, value.get(0)?)?;
+    let path = atom_in(named_ops, value.get(1)?)?;
     Some(BindingUse { action, path })
 }
 
@@ -80,22 +80,22 @@ impl Part for BindingUse {
 
     fn read(
         _alloc: Global,
-        givers: &Givers<'_>,
+        named_ops: &NamedOps<'_>,
         value: &Value,
     ) -> Result<Option<BindingUse>, AllocError> {
-        Ok(binding(givers, value))
+        Ok(binding(named_ops, value))
     }
 }
 
-fn active_set(givers: &Givers<'_>, value: &Value) -> Option<ActiveSetUse>
-    ensures found { result ≡ active_set_part givers.now (view value.now) }
-    ensures formed { IfSome result (λ u. IsActiveSet (IsKnownPlace givers.now) u) }
+fn active_set(named_ops: &NamedOps<'_>, value: &Value) -> Option<ActiveSetUse>
+    ensures found { result ≡ active_set_part named_ops.now (view value.now) }
+    ensures formed { IfSome result (λ u. IsActiveSet (IsKnownPlace named_ops.now) u) }
 {
     if item_count(value) != 2 {
         return None;
     }
-    let set = handle_in(givers, value.get(0)?)?;
-    let sub = atom_in(givers, value.get(1)?)?;
+    let set = handle_in(named_ops, value.get(0)?)?;
+    let sub = atom_in(named_ops, value.get(1)?)?;
     Some(ActiveSetUse { set, sub })
 }
 
@@ -106,10 +106,10 @@ impl Part for ActiveSetUse {
 
     fn read(
         _alloc: Global,
-        givers: &Givers<'_>,
+        named_ops: &NamedOps<'_>,
         value: &Value,
     ) -> Result<Option<ActiveSetUse>, AllocError> {
-        Ok(active_set(givers, value))
+        Ok(active_set(named_ops, value))
     }
 }
 
@@ -125,14 +125,14 @@ fn pixel_at(value: &Value, place: usize) -> Option<i32>
     }
 }
 
-fn sub_image(givers: &Givers<'_>, value: &Value) -> Option<SubImageUse>
-    ensures found { result ≡ sub_image_part givers.now (view value.now) }
-    ensures formed { IfSome result (λ u. IsSubImage (IsKnownPlace givers.now) u) }
+fn sub_image(named_ops: &NamedOps<'_>, value: &Value) -> Option<SubImageUse>
+    ensures found { result ≡ sub_image_part named_ops.now (view value.now) }
+    ensures formed { IfSome result (λ u. IsSubImage (IsKnownPlace named_ops.now) u) }
 {
     if item_count(value) != 5 {
         return None;
     }
-    let chain = handle_in(givers, value.get(0)?)?;
+    let chain = handle_in(named_ops, value.get(0)?)?;
     let x = pixel_at(value, 1)?;
     let y = pixel_at(value, 2)?;
     let w = pixel_at(value, 3)?;
@@ -147,41 +147,41 @@ impl Part for SubImageUse {
 
     fn read(
         _alloc: Global,
-        givers: &Givers<'_>,
+        named_ops: &NamedOps<'_>,
         value: &Value,
     ) -> Result<Option<SubImageUse>, AllocError> {
-        Ok(sub_image(givers, value))
+        Ok(sub_image(named_ops, value))
     }
 }
 
-fn quad(givers: &Givers<'_>, value: &Value) -> Option<LayerUse>
-    ensures found { result ≡ quad_in givers.now (view value.now) }
-    ensures formed { IfSome result (λ u. IsLayer (IsKnownPlace givers.now) u) }
+fn quad(named_ops: &NamedOps<'_>, value: &Value) -> Option<LayerUse>
+    ensures found { result ≡ quad_in named_ops.now (view value.now) }
+    ensures formed { IfSome result (λ u. IsLayer (IsKnownPlace named_ops.now) u) }
 {
-    let space = handle_in(givers, value.get("quad")?)?;
-    let image = sub_image(givers, value.get("image")?)?;
+    let space = handle_in(named_ops, value.get("quad")?)?;
+    let image = sub_image(named_ops, value.get("image")?)?;
     let pose = number_in(value.get("pose")?, MOST)?;
     Some(LayerUse::Quad { space, image, pose })
 }
 
 fn projection(
     alloc: Global,
-    givers: &Givers<'_>,
+    named_ops: &NamedOps<'_>,
     value: &Value,
 ) -> Result<Option<LayerUse>, AllocError>
-    ensures found { IfOk result (λ found. found ≡ projection_in givers.now (view value.now)) }
-    ensures formed { IfOk result (λ found. IfSome found (λ u. IsLayer (IsKnownPlace givers.now) u)) }
+    ensures found { IfOk result (λ found. found ≡ projection_in named_ops.now (view value.now)) }
+    ensures formed { IfOk result (λ found. IfSome found (λ u. IsLayer (IsKnownPlace named_ops.now) u)) }
 {
     let Some(space) = value.get("projection") else {
         return Ok(None);
     };
-    let Some(space) = handle_in(givers, space) else {
+    let Some(space) = handle_in(named_ops, space) else {
         return Ok(None);
     };
     let Some(views) = value.get("views") else {
         return Ok(None);
     };
-    match list_in(alloc, givers, views, MOST_VIEWS)? {
+    match list_in(alloc, named_ops, views, MOST_VIEWS)? {
         Some(views) => Ok(Some(LayerUse::Projection { space, views })),
         None => Ok(None),
     }
@@ -194,14 +194,14 @@ impl Part for LayerUse {
 
     fn read(
         alloc: Global,
-        givers: &Givers<'_>,
+        named_ops: &NamedOps<'_>,
         value: &Value,
     ) -> Result<Option<LayerUse>, AllocError> {
         if only_keys(&["projection", "views"], value) {
-            return projection(alloc, givers, value);
+            return projection(alloc, named_ops, value);
         }
         if only_keys(&["quad", "image", "pose"], value) {
-            return Ok(quad(givers, value));
+            return Ok(quad(named_ops, value));
         }
         Ok(None)
     }

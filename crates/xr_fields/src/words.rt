@@ -54,7 +54,7 @@ fn form_of(text: &str) -> Option<Form>
 /// The kind of a device: `head` or `hand`.
 pub fn form(value: &Value, key: &str, place: u8) -> Result<Form, Fault>
     ensures reads { Reads result (field form_in place key.now (view value.now)) }
-    ensures told { IfErr result IsWrong }
+    ensures only_wrong { IfErr result IsWrong }
 {
     let Some(found) = value.get(key) else {
         return at(place, None);
@@ -78,7 +78,7 @@ fn view_of(text: &str) -> Option<ViewConfig>
 /// How many views there are: `mono` or `stereo`.
 pub fn view_config(value: &Value, key: &str, place: u8) -> Result<ViewConfig, Fault>
     ensures reads { Reads result (field view_in place key.now (view value.now)) }
-    ensures told { IfErr result IsWrong }
+    ensures only_wrong { IfErr result IsWrong }
 {
     let Some(found) = value.get(key) else {
         return at(place, None);
@@ -103,7 +103,7 @@ fn ref_kind_of(text: &str) -> Option<RefKind>
 /// A reference space: `view`, `local` or `stage`.
 pub fn ref_kind(value: &Value, key: &str, place: u8) -> Result<RefKind, Fault>
     ensures reads { Reads result (field ref_kind_in place key.now (view value.now)) }
-    ensures told { IfErr result IsWrong }
+    ensures only_wrong { IfErr result IsWrong }
 {
     let Some(found) = value.get(key) else {
         return at(place, None);
@@ -130,7 +130,7 @@ fn action_type_of(text: &str) -> Option<ActionType>
 /// What an action gives: `boolean`, `float`, `vector`, `pose` or `vibration`.
 pub fn action_type(value: &Value, key: &str, place: u8) -> Result<ActionType, Fault>
     ensures reads { Reads result (field action_type_in place key.now (view value.now)) }
-    ensures told { IfErr result IsWrong }
+    ensures only_wrong { IfErr result IsWrong }
 {
     let Some(found) = value.get(key) else {
         return at(place, None);
@@ -155,7 +155,7 @@ fn blend_of(text: &str) -> Option<Blend>
 /// How a frame is laid over what is around: `opaque`, `additive` or `alpha`.
 pub fn blend(value: &Value, key: &str, place: u8) -> Result<Blend, Fault>
     ensures reads { Reads result (field blend_in place key.now (view value.now)) }
-    ensures told { IfErr result IsWrong }
+    ensures only_wrong { IfErr result IsWrong }
 {
     let Some(found) = value.get(key) else {
         return at(place, None);

@@ -12,32 +12,32 @@ ghost use Rattle.xr_model.specs.Ops.Frames.{begin_frame, create_reference_space,
 use serde_json::Value;
 use std::alloc::Global;
 use xr_fields::{
-    Fault, Givers, MOST, ReadLine, atom, blend, handle, line, list, name, number, ref_kind, small,
-    time, timeout, truth,
+    Fault, MOST, NamedOps, ReadLine, atom, blend, handle, line, list, name, number, ref_kind,
+    small, time, timeout, truth,
 };
 use xr_types::Op;
 
 /// Reads `begin_frame`: `session`.
-pub fn begin_frame<'v>(givers: &Givers<'_>, value: &'v Value) -> Result<ReadLine<'v>, Fault>
-    ensures reads { ReadsLine result (begin_frame givers.now (view value.now)) }
-    ensures formed { IfOk result (λ l. IsFormed (IsKnownPlace givers.now) l.op) }
-    ensures told { IfErr result IsWrong }
+pub fn begin_frame<'v>(named_ops: &NamedOps<'_>, value: &'v Value) -> Result<ReadLine<'v>, Fault>
+    ensures reads { ReadsLine result (begin_frame named_ops.now (view value.now)) }
+    ensures formed { IfOk result (λ l. IsFormed (IsKnownPlace named_ops.now) l.op) }
+    ensures only_wrong { IfErr result IsWrong }
 {
-    let session = handle(givers, value, "session", 1)?;
+    let session = handle(named_ops, value, "session", 1)?;
     let op = Op::BeginFrame { session };
     line(value, &["op", "session"], op, None)
 }
 
 /// Reads `create_reference_space`: `session`, `kind`, `offset`, `as`?.
 pub fn create_reference_space<'v>(
-    givers: &Givers<'_>,
+    named_ops: &NamedOps<'_>,
     value: &'v Value,
 ) -> Result<ReadLine<'v>, Fault>
-    ensures reads { ReadsLine result (create_reference_space givers.now (view value.now)) }
-    ensures formed { IfOk result (λ l. IsFormed (IsKnownPlace givers.now) l.op) }
-    ensures told { IfErr result IsWrong }
+    ensures reads { ReadsLine result (create_reference_space named_ops.now (view value.now)) }
+    ensures formed { IfOk result (λ l. IsFormed (IsKnownPlace named_ops.now) l.op) }
+    ensures only_wrong { IfErr result IsWrong }
 {
-    let session = handle(givers, value, "session", 1)?;
+    let session = handle(named_ops, value, "session", 1)?;
     let kind = ref_kind(value, "kind", 2)?;
     let offset = number(value, "offset", 3, MOST)?;
     let name = name(value, 4)?;
@@ -50,14 +50,17 @@ pub fn create_reference_space<'v>(
 }
 
 /// Reads `create_action_space`: `session`, `action`, `sub`, `offset`, `as`?.
-pub fn create_action_space<'v>(givers: &Givers<'_>, value: &'v Value) -> Result<ReadLine<'v>, Fault>
-    ensures reads { ReadsLine result (create_action_space givers.now (view value.now)) }
-    ensures formed { IfOk result (λ l. IsFormed (IsKnownPlace givers.now) l.op) }
-    ensures told { IfErr result IsWrong }
+pub fn create_action_space<'v>(
+    named_ops: &NamedOps<'_>,
+    value: &'v Value,
+) -> Result<ReadLine<'v>, Fault>
+    ensures reads { ReadsLine result (create_action_space named_ops.now (view value.now)) }
+    ensures formed { IfOk result (λ l. IsFormed (IsKnownPlace named_ops.now) l.op) }
+    ensures only_wrong { IfErr result IsWrong }
 {
-    let session = handle(givers, value, "session", 1)?;
-    let action = handle(givers, value, "action", 2)?;
-    let sub = atom(givers, value, "sub", 3)?;
+    let session = handle(named_ops, value, "session", 1)?;
+    let action = handle(named_ops, value, "action", 2)?;
+    let sub = atom(named_ops, value, "sub", 3)?;
     let offset = number(value, "offset", 4, MOST)?;
     let name = name(value, 5)?;
     let op = Op::CreateActionSpace {
@@ -75,36 +78,39 @@ pub fn create_action_space<'v>(givers: &Givers<'_>, value: &'v Value) -> Result<
 }
 
 /// Reads `destroy_space`: `space`.
-pub fn destroy_space<'v>(givers: &Givers<'_>, value: &'v Value) -> Result<ReadLine<'v>, Fault>
-    ensures reads { ReadsLine result (destroy_space givers.now (view value.now)) }
-    ensures formed { IfOk result (λ l. IsFormed (IsKnownPlace givers.now) l.op) }
-    ensures told { IfErr result IsWrong }
+pub fn destroy_space<'v>(named_ops: &NamedOps<'_>, value: &'v Value) -> Result<ReadLine<'v>, Fault>
+    ensures reads { ReadsLine result (destroy_space named_ops.now (view value.now)) }
+    ensures formed { IfOk result (λ l. IsFormed (IsKnownPlace named_ops.now) l.op) }
+    ensures only_wrong { IfErr result IsWrong }
 {
-    let space = handle(givers, value, "space", 1)?;
+    let space = handle(named_ops, value, "space", 1)?;
     let op = Op::DestroySpace { space };
     line(value, &["op", "space"], op, None)
 }
 
 /// Reads `locate_space`: `space`, `base`, `time`.
-pub fn locate_space<'v>(givers: &Givers<'_>, value: &'v Value) -> Result<ReadLine<'v>, Fault>
-    ensures reads { ReadsLine result (locate_space givers.now (view value.now)) }
-    ensures formed { IfOk result (λ l. IsFormed (IsKnownPlace givers.now) l.op) }
-    ensures told { IfErr result IsWrong }
+pub fn locate_space<'v>(named_ops: &NamedOps<'_>, value: &'v Value) -> Result<ReadLine<'v>, Fault>
+    ensures reads { ReadsLine result (locate_space named_ops.now (view value.now)) }
+    ensures formed { IfOk result (λ l. IsFormed (IsKnownPlace named_ops.now) l.op) }
+    ensures only_wrong { IfErr result IsWrong }
 {
-    let space = handle(givers, value, "space", 1)?;
-    let base = handle(givers, value, "base", 2)?;
-    let time = time(givers, value, "time", 3)?;
+    let space = handle(named_ops, value, "space", 1)?;
+    let base = handle(named_ops, value, "base", 2)?;
+    let time = time(named_ops, value, "time", 3)?;
     let op = Op::LocateSpace { space, base, time };
     line(value, &["op", "space", "base", "time"], op, None)
 }
 
 /// Reads `create_swapchain`: `session`, `format`, `width`, `height`, `static`, `as`?.
-pub fn create_swapchain<'v>(givers: &Givers<'_>, value: &'v Value) -> Result<ReadLine<'v>, Fault>
-    ensures reads { ReadsLine result (create_swapchain givers.now (view value.now)) }
-    ensures formed { IfOk result (λ l. IsFormed (IsKnownPlace givers.now) l.op) }
-    ensures told { IfErr result IsWrong }
+pub fn create_swapchain<'v>(
+    named_ops: &NamedOps<'_>,
+    value: &'v Value,
+) -> Result<ReadLine<'v>, Fault>
+    ensures reads { ReadsLine result (create_swapchain named_ops.now (view value.now)) }
+    ensures formed { IfOk result (λ l. IsFormed (IsKnownPlace named_ops.now) l.op) }
+    ensures only_wrong { IfErr result IsWrong }
 {
-    let session = handle(givers, value, "session", 1)?;
+    let session = handle(named_ops, value, "session", 1)?;
     let format = number(value, "format", 2, MOST)?;
     let width = small(value, "width", 3)?;
     let height = small(value, "height", 4)?;
@@ -126,69 +132,72 @@ pub fn create_swapchain<'v>(givers: &Givers<'_>, value: &'v Value) -> Result<Rea
 }
 
 /// Reads `destroy_swapchain`: `chain`.
-pub fn destroy_swapchain<'v>(givers: &Givers<'_>, value: &'v Value) -> Result<ReadLine<'v>, Fault>
-    ensures reads { ReadsLine result (destroy_swapchain givers.now (view value.now)) }
-    ensures formed { IfOk result (λ l. IsFormed (IsKnownPlace givers.now) l.op) }
-    ensures told { IfErr result IsWrong }
+pub fn destroy_swapchain<'v>(
+    named_ops: &NamedOps<'_>,
+    value: &'v Value,
+) -> Result<ReadLine<'v>, Fault>
+    ensures reads { ReadsLine result (destroy_swapchain named_ops.now (view value.now)) }
+    ensures formed { IfOk result (λ l. IsFormed (IsKnownPlace named_ops.now) l.op) }
+    ensures only_wrong { IfErr result IsWrong }
 {
-    let chain = handle(givers, value, "chain", 1)?;
+    let chain = handle(named_ops, value, "chain", 1)?;
     let op = Op::DestroySwapchain { chain };
     line(value, &["op", "chain"], op, None)
 }
 
 /// Reads `acquire_image`: `chain`.
-pub fn acquire_image<'v>(givers: &Givers<'_>, value: &'v Value) -> Result<ReadLine<'v>, Fault>
-    ensures reads { ReadsLine result (acquire_image givers.now (view value.now)) }
-    ensures formed { IfOk result (λ l. IsFormed (IsKnownPlace givers.now) l.op) }
-    ensures told { IfErr result IsWrong }
+pub fn acquire_image<'v>(named_ops: &NamedOps<'_>, value: &'v Value) -> Result<ReadLine<'v>, Fault>
+    ensures reads { ReadsLine result (acquire_image named_ops.now (view value.now)) }
+    ensures formed { IfOk result (λ l. IsFormed (IsKnownPlace named_ops.now) l.op) }
+    ensures only_wrong { IfErr result IsWrong }
 {
-    let chain = handle(givers, value, "chain", 1)?;
+    let chain = handle(named_ops, value, "chain", 1)?;
     let op = Op::AcquireImage { chain };
     line(value, &["op", "chain"], op, None)
 }
 
 /// Reads `release_image`: `chain`.
-pub fn release_image<'v>(givers: &Givers<'_>, value: &'v Value) -> Result<ReadLine<'v>, Fault>
-    ensures reads { ReadsLine result (release_image givers.now (view value.now)) }
-    ensures formed { IfOk result (λ l. IsFormed (IsKnownPlace givers.now) l.op) }
-    ensures told { IfErr result IsWrong }
+pub fn release_image<'v>(named_ops: &NamedOps<'_>, value: &'v Value) -> Result<ReadLine<'v>, Fault>
+    ensures reads { ReadsLine result (release_image named_ops.now (view value.now)) }
+    ensures formed { IfOk result (λ l. IsFormed (IsKnownPlace named_ops.now) l.op) }
+    ensures only_wrong { IfErr result IsWrong }
 {
-    let chain = handle(givers, value, "chain", 1)?;
+    let chain = handle(named_ops, value, "chain", 1)?;
     let op = Op::ReleaseImage { chain };
     line(value, &["op", "chain"], op, None)
 }
 
 /// Reads `wait_image`: `chain`, `timeout`.
-pub fn wait_image<'v>(givers: &Givers<'_>, value: &'v Value) -> Result<ReadLine<'v>, Fault>
-    ensures reads { ReadsLine result (wait_image givers.now (view value.now)) }
-    ensures formed { IfOk result (λ l. IsFormed (IsKnownPlace givers.now) l.op) }
-    ensures told { IfErr result IsWrong }
+pub fn wait_image<'v>(named_ops: &NamedOps<'_>, value: &'v Value) -> Result<ReadLine<'v>, Fault>
+    ensures reads { ReadsLine result (wait_image named_ops.now (view value.now)) }
+    ensures formed { IfOk result (λ l. IsFormed (IsKnownPlace named_ops.now) l.op) }
+    ensures only_wrong { IfErr result IsWrong }
 {
-    let chain = handle(givers, value, "chain", 1)?;
+    let chain = handle(named_ops, value, "chain", 1)?;
     let timeout = timeout(value, "timeout", 2)?;
     let op = Op::WaitImage { chain, timeout };
     line(value, &["op", "chain", "timeout"], op, None)
 }
 
 /// Reads `paint`: `chain`, `stamp`.
-pub fn paint<'v>(givers: &Givers<'_>, value: &'v Value) -> Result<ReadLine<'v>, Fault>
-    ensures reads { ReadsLine result (paint givers.now (view value.now)) }
-    ensures formed { IfOk result (λ l. IsFormed (IsKnownPlace givers.now) l.op) }
-    ensures told { IfErr result IsWrong }
+pub fn paint<'v>(named_ops: &NamedOps<'_>, value: &'v Value) -> Result<ReadLine<'v>, Fault>
+    ensures reads { ReadsLine result (paint named_ops.now (view value.now)) }
+    ensures formed { IfOk result (λ l. IsFormed (IsKnownPlace named_ops.now) l.op) }
+    ensures only_wrong { IfErr result IsWrong }
 {
-    let chain = handle(givers, value, "chain", 1)?;
+    let chain = handle(named_ops, value, "chain", 1)?;
     let stamp = number(value, "stamp", 2, MOST)?;
     let op = Op::Paint { chain, stamp };
     line(value, &["op", "chain", "stamp"], op, None)
 }
 
 /// Reads `wait_frame`: `session`, `as`?.
-pub fn wait_frame<'v>(givers: &Givers<'_>, value: &'v Value) -> Result<ReadLine<'v>, Fault>
-    ensures reads { ReadsLine result (wait_frame givers.now (view value.now)) }
-    ensures formed { IfOk result (λ l. IsFormed (IsKnownPlace givers.now) l.op) }
-    ensures told { IfErr result IsWrong }
+pub fn wait_frame<'v>(named_ops: &NamedOps<'_>, value: &'v Value) -> Result<ReadLine<'v>, Fault>
+    ensures reads { ReadsLine result (wait_frame named_ops.now (view value.now)) }
+    ensures formed { IfOk result (λ l. IsFormed (IsKnownPlace named_ops.now) l.op) }
+    ensures only_wrong { IfErr result IsWrong }
 {
-    let session = handle(givers, value, "session", 1)?;
+    let session = handle(named_ops, value, "session", 1)?;
     let name = name(value, 2)?;
     let op = Op::WaitFrame { session };
     line(value, &["op", "session", "as"], op, name)
@@ -197,16 +206,16 @@ pub fn wait_frame<'v>(givers: &Givers<'_>, value: &'v Value) -> Result<ReadLine<
 /// Reads `end_frame`: `session`, `time`, `blend`, `layers`.
 pub fn end_frame<'v>(
     alloc: Global,
-    givers: &Givers<'_>,
+    named_ops: &NamedOps<'_>,
     value: &'v Value,
 ) -> Result<ReadLine<'v>, Fault>
-    ensures reads { ReadsLine result (end_frame givers.now (view value.now)) }
-    ensures formed { IfOk result (λ l. IsFormed (IsKnownPlace givers.now) l.op) }
+    ensures reads { ReadsLine result (end_frame named_ops.now (view value.now)) }
+    ensures formed { IfOk result (λ l. IsFormed (IsKnownPlace named_ops.now) l.op) }
 {
-    let session = handle(givers, value, "session", 1)?;
-    let time = time(givers, value, "time", 2)?;
+    let session = handle(named_ops, value, "session", 1)?;
+    let time = time(named_ops, value, "time", 2)?;
     let blend = blend(value, "blend", 3)?;
-    let layers = list(alloc, givers, value, "layers", 4, 32)?;
+    let layers = list(alloc, named_ops, value, "layers", 4, 32)?;
     let op = Op::EndFrame {
         session,
         time,

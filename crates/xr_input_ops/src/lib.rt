@@ -12,20 +12,20 @@ ghost use Rattle.xr_model.specs.Ops.Input.{create_action_set, destroy_action_set
 use serde_json::Value;
 use std::alloc::Global;
 use xr_fields::{
-    Fault, Givers, ReadLine, action_type, atom, handle, line, list, name, small, text,
+    Fault, NamedOps, ReadLine, action_type, atom, handle, line, list, name, small, text,
 };
 use xr_types::Op;
 
 /// Reads `create_action_set`: `instance`, `name`, `localized`, `priority`, `as`?.
 pub fn create_action_set<'v>(
     alloc: Global,
-    givers: &Givers<'_>,
+    named_ops: &NamedOps<'_>,
     value: &'v Value,
 ) -> Result<ReadLine<'v>, Fault>
-    ensures reads { ReadsLine result (create_action_set givers.now (view value.now)) }
-    ensures formed { IfOk result (λ l. IsFormed (IsKnownPlace givers.now) l.op) }
+    ensures reads { ReadsLine result (create_action_set named_ops.now (view value.now)) }
+    ensures formed { IfOk result (λ l. IsFormed (IsKnownPlace named_ops.now) l.op) }
 {
-    let instance = handle(givers, value, "instance", 1)?;
+    let instance = handle(named_ops, value, "instance", 1)?;
     let called = text(alloc, value, "name", 2)?;
     let localized = text(alloc, value, "localized", 3)?;
     let priority = small(value, "priority", 4)?;
@@ -45,12 +45,15 @@ pub fn create_action_set<'v>(
 }
 
 /// Reads `destroy_action_set`: `set`.
-pub fn destroy_action_set<'v>(givers: &Givers<'_>, value: &'v Value) -> Result<ReadLine<'v>, Fault>
-    ensures reads { ReadsLine result (destroy_action_set givers.now (view value.now)) }
-    ensures formed { IfOk result (λ l. IsFormed (IsKnownPlace givers.now) l.op) }
-    ensures told { IfErr result IsWrong }
+pub fn destroy_action_set<'v>(
+    named_ops: &NamedOps<'_>,
+    value: &'v Value,
+) -> Result<ReadLine<'v>, Fault>
+    ensures reads { ReadsLine result (destroy_action_set named_ops.now (view value.now)) }
+    ensures formed { IfOk result (λ l. IsFormed (IsKnownPlace named_ops.now) l.op) }
+    ensures only_wrong { IfErr result IsWrong }
 {
-    let set = handle(givers, value, "set", 1)?;
+    let set = handle(named_ops, value, "set", 1)?;
     let op = Op::DestroyActionSet { set };
     line(value, &["op", "set"], op, None)
 }
@@ -58,16 +61,16 @@ pub fn destroy_action_set<'v>(givers: &Givers<'_>, value: &'v Value) -> Result<R
 /// Reads `create_action`: `set`, `name`, `type`, `subactions`, `localized`, `as`?.
 pub fn create_action<'v>(
     alloc: Global,
-    givers: &Givers<'_>,
+    named_ops: &NamedOps<'_>,
     value: &'v Value,
 ) -> Result<ReadLine<'v>, Fault>
-    ensures reads { ReadsLine result (create_action givers.now (view value.now)) }
-    ensures formed { IfOk result (λ l. IsFormed (IsKnownPlace givers.now) l.op) }
+    ensures reads { ReadsLine result (create_action named_ops.now (view value.now)) }
+    ensures formed { IfOk result (λ l. IsFormed (IsKnownPlace named_ops.now) l.op) }
 {
-    let set = handle(givers, value, "set", 1)?;
+    let set = handle(named_ops, value, "set", 1)?;
     let called = text(alloc, value, "name", 2)?;
     let kind = action_type(value, "type", 3)?;
-    let subactions = list(alloc, givers, value, "subactions", 4, 8)?;
+    let subactions = list(alloc, named_ops, value, "subactions", 4, 8)?;
     let localized = text(alloc, value, "localized", 5)?;
     let name = name(value, 6)?;
     let op = Op::CreateAction {
@@ -86,12 +89,12 @@ pub fn create_action<'v>(
 }
 
 /// Reads `destroy_action`: `action`.
-pub fn destroy_action<'v>(givers: &Givers<'_>, value: &'v Value) -> Result<ReadLine<'v>, Fault>
-    ensures reads { ReadsLine result (destroy_action givers.now (view value.now)) }
-    ensures formed { IfOk result (λ l. IsFormed (IsKnownPlace givers.now) l.op) }
-    ensures told { IfErr result IsWrong }
+pub fn destroy_action<'v>(named_ops: &NamedOps<'_>, value: &'v Value) -> Result<ReadLine<'v>, Fault>
+    ensures reads { ReadsLine result (destroy_action named_ops.now (view value.now)) }
+    ensures formed { IfOk result (λ l. IsFormed (IsKnownPlace named_ops.now) l.op) }
+    ensures only_wrong { IfErr result IsWrong }
 {
-    let action = handle(givers, value, "action", 1)?;
+    let action = handle(named_ops, value, "action", 1)?;
     let op = Op::DestroyAction { action };
     line(value, &["op", "action"], op, None)
 }
@@ -99,15 +102,15 @@ pub fn destroy_action<'v>(givers: &Givers<'_>, value: &'v Value) -> Result<ReadL
 /// Reads `suggest_bindings`: `instance`, `profile`, `bindings`.
 pub fn suggest_bindings<'v>(
     alloc: Global,
-    givers: &Givers<'_>,
+    named_ops: &NamedOps<'_>,
     value: &'v Value,
 ) -> Result<ReadLine<'v>, Fault>
-    ensures reads { ReadsLine result (suggest_bindings givers.now (view value.now)) }
-    ensures formed { IfOk result (λ l. IsFormed (IsKnownPlace givers.now) l.op) }
+    ensures reads { ReadsLine result (suggest_bindings named_ops.now (view value.now)) }
+    ensures formed { IfOk result (λ l. IsFormed (IsKnownPlace named_ops.now) l.op) }
 {
-    let instance = handle(givers, value, "instance", 1)?;
-    let profile = atom(givers, value, "profile", 2)?;
-    let bindings = list(alloc, givers, value, "bindings", 3, 600)?;
+    let instance = handle(named_ops, value, "instance", 1)?;
+    let profile = atom(named_ops, value, "profile", 2)?;
+    let bindings = list(alloc, named_ops, value, "bindings", 3, 600)?;
     let op = Op::SuggestBindings {
         instance,
         profile,
@@ -119,14 +122,14 @@ pub fn suggest_bindings<'v>(
 /// Reads `attach_sets`: `session`, `sets`.
 pub fn attach_sets<'v>(
     alloc: Global,
-    givers: &Givers<'_>,
+    named_ops: &NamedOps<'_>,
     value: &'v Value,
 ) -> Result<ReadLine<'v>, Fault>
-    ensures reads { ReadsLine result (attach_sets givers.now (view value.now)) }
-    ensures formed { IfOk result (λ l. IsFormed (IsKnownPlace givers.now) l.op) }
+    ensures reads { ReadsLine result (attach_sets named_ops.now (view value.now)) }
+    ensures formed { IfOk result (λ l. IsFormed (IsKnownPlace named_ops.now) l.op) }
 {
-    let session = handle(givers, value, "session", 1)?;
-    let sets = list(alloc, givers, value, "sets", 2, 32)?;
+    let session = handle(named_ops, value, "session", 1)?;
+    let sets = list(alloc, named_ops, value, "sets", 2, 32)?;
     let op = Op::AttachSets { session, sets };
     line(value, &["op", "session", "sets"], op, None)
 }
@@ -134,27 +137,27 @@ pub fn attach_sets<'v>(
 /// Reads `sync_actions`: `session`, `active`.
 pub fn sync_actions<'v>(
     alloc: Global,
-    givers: &Givers<'_>,
+    named_ops: &NamedOps<'_>,
     value: &'v Value,
 ) -> Result<ReadLine<'v>, Fault>
-    ensures reads { ReadsLine result (sync_actions givers.now (view value.now)) }
-    ensures formed { IfOk result (λ l. IsFormed (IsKnownPlace givers.now) l.op) }
+    ensures reads { ReadsLine result (sync_actions named_ops.now (view value.now)) }
+    ensures formed { IfOk result (λ l. IsFormed (IsKnownPlace named_ops.now) l.op) }
 {
-    let session = handle(givers, value, "session", 1)?;
-    let active = list(alloc, givers, value, "active", 2, 128)?;
+    let session = handle(named_ops, value, "session", 1)?;
+    let active = list(alloc, named_ops, value, "active", 2, 128)?;
     let op = Op::SyncActions { session, active };
     line(value, &["op", "session", "active"], op, None)
 }
 
 /// Reads `get_boolean`: `session`, `action`, `sub`.
-pub fn get_boolean<'v>(givers: &Givers<'_>, value: &'v Value) -> Result<ReadLine<'v>, Fault>
-    ensures reads { ReadsLine result (get_boolean givers.now (view value.now)) }
-    ensures formed { IfOk result (λ l. IsFormed (IsKnownPlace givers.now) l.op) }
-    ensures told { IfErr result IsWrong }
+pub fn get_boolean<'v>(named_ops: &NamedOps<'_>, value: &'v Value) -> Result<ReadLine<'v>, Fault>
+    ensures reads { ReadsLine result (get_boolean named_ops.now (view value.now)) }
+    ensures formed { IfOk result (λ l. IsFormed (IsKnownPlace named_ops.now) l.op) }
+    ensures only_wrong { IfErr result IsWrong }
 {
-    let session = handle(givers, value, "session", 1)?;
-    let action = handle(givers, value, "action", 2)?;
-    let sub = atom(givers, value, "sub", 3)?;
+    let session = handle(named_ops, value, "session", 1)?;
+    let action = handle(named_ops, value, "action", 2)?;
+    let sub = atom(named_ops, value, "sub", 3)?;
     let op = Op::GetBoolean {
         session,
         action,
@@ -164,14 +167,14 @@ pub fn get_boolean<'v>(givers: &Givers<'_>, value: &'v Value) -> Result<ReadLine
 }
 
 /// Reads `get_float`: `session`, `action`, `sub`.
-pub fn get_float<'v>(givers: &Givers<'_>, value: &'v Value) -> Result<ReadLine<'v>, Fault>
-    ensures reads { ReadsLine result (get_float givers.now (view value.now)) }
-    ensures formed { IfOk result (λ l. IsFormed (IsKnownPlace givers.now) l.op) }
-    ensures told { IfErr result IsWrong }
+pub fn get_float<'v>(named_ops: &NamedOps<'_>, value: &'v Value) -> Result<ReadLine<'v>, Fault>
+    ensures reads { ReadsLine result (get_float named_ops.now (view value.now)) }
+    ensures formed { IfOk result (λ l. IsFormed (IsKnownPlace named_ops.now) l.op) }
+    ensures only_wrong { IfErr result IsWrong }
 {
-    let session = handle(givers, value, "session", 1)?;
-    let action = handle(givers, value, "action", 2)?;
-    let sub = atom(givers, value, "sub", 3)?;
+    let session = handle(named_ops, value, "session", 1)?;
+    let action = handle(named_ops, value, "action", 2)?;
+    let sub = atom(named_ops, value, "sub", 3)?;
     let op = Op::GetFloat {
         session,
         action,
@@ -181,14 +184,14 @@ pub fn get_float<'v>(givers: &Givers<'_>, value: &'v Value) -> Result<ReadLine<'
 }
 
 /// Reads `get_vector`: `session`, `action`, `sub`.
-pub fn get_vector<'v>(givers: &Givers<'_>, value: &'v Value) -> Result<ReadLine<'v>, Fault>
-    ensures reads { ReadsLine result (get_vector givers.now (view value.now)) }
-    ensures formed { IfOk result (λ l. IsFormed (IsKnownPlace givers.now) l.op) }
-    ensures told { IfErr result IsWrong }
+pub fn get_vector<'v>(named_ops: &NamedOps<'_>, value: &'v Value) -> Result<ReadLine<'v>, Fault>
+    ensures reads { ReadsLine result (get_vector named_ops.now (view value.now)) }
+    ensures formed { IfOk result (λ l. IsFormed (IsKnownPlace named_ops.now) l.op) }
+    ensures only_wrong { IfErr result IsWrong }
 {
-    let session = handle(givers, value, "session", 1)?;
-    let action = handle(givers, value, "action", 2)?;
-    let sub = atom(givers, value, "sub", 3)?;
+    let session = handle(named_ops, value, "session", 1)?;
+    let action = handle(named_ops, value, "action", 2)?;
+    let sub = atom(named_ops, value, "sub", 3)?;
     let op = Op::GetVector {
         session,
         action,
@@ -198,14 +201,17 @@ pub fn get_vector<'v>(givers: &Givers<'_>, value: &'v Value) -> Result<ReadLine<
 }
 
 /// Reads `get_pose_active`: `session`, `action`, `sub`.
-pub fn get_pose_active<'v>(givers: &Givers<'_>, value: &'v Value) -> Result<ReadLine<'v>, Fault>
-    ensures reads { ReadsLine result (get_pose_active givers.now (view value.now)) }
-    ensures formed { IfOk result (λ l. IsFormed (IsKnownPlace givers.now) l.op) }
-    ensures told { IfErr result IsWrong }
+pub fn get_pose_active<'v>(
+    named_ops: &NamedOps<'_>,
+    value: &'v Value,
+) -> Result<ReadLine<'v>, Fault>
+    ensures reads { ReadsLine result (get_pose_active named_ops.now (view value.now)) }
+    ensures formed { IfOk result (λ l. IsFormed (IsKnownPlace named_ops.now) l.op) }
+    ensures only_wrong { IfErr result IsWrong }
 {
-    let session = handle(givers, value, "session", 1)?;
-    let action = handle(givers, value, "action", 2)?;
-    let sub = atom(givers, value, "sub", 3)?;
+    let session = handle(named_ops, value, "session", 1)?;
+    let action = handle(named_ops, value, "action", 2)?;
+    let sub = atom(named_ops, value, "sub", 3)?;
     let op = Op::GetPoseActive {
         session,
         action,

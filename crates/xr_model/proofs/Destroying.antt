@@ -28,7 +28,7 @@ pub record IsAbsent (h : Handles) (handle : ℕ) : Type 0 where
   pub spaces : has h.spaces handle ≡ false
   pub chains : has h.chains handle ≡ false
 
-and_false : (b : Bool) → b && false ≡ false
+pub and_false : (b : Bool) → b && false ≡ false
 and_false true = refl
 and_false false = refl
 
@@ -144,7 +144,7 @@ over_without h kind handle known live dead =
     by false e nz = absurd (true≢false (sym live ∙ dead (known handle nz e)))
 
 -- a destroying call that succeeds has its effect, and its handle is live
-destroyed : (P : Handles → Type 0) (s : CoreState) (live : Bool) (x : Effect) → is_success (unless_refused s (first_of (when (not live) HandleInvalid ∷ [])) x).code ≡ true
+pub destroyed : (P : Handles → Type 0) (s : CoreState) (live : Bool) (x : Effect) → is_success (unless_refused s (first_of (when (not live) HandleInvalid ∷ [])) x).code ≡ true
     → (live ≡ true → P x.state.handles) → P (unless_refused s (first_of (when (not live) HandleInvalid ∷ [])) x).state.handles
 destroyed P s true x good done = done refl
 destroyed P s false x good done = absurd (true≢false (sym good))

@@ -12,3 +12,5 @@ pub mod Listed
 pub mod SessionSteps
 pub mod LostSessions
 pub mod DeviceLines
+pub mod StandOnce
+pub mod DestroyingTakes

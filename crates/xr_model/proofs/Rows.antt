@@ -41,7 +41,7 @@ in_none p xs ys zs e = let two = any_more p (xs ++ ys) zs e in let more = any_mo
 -- ---- a handle is put into a row
 
 -- the row with a slot in its first free place
-pub put_first : Slot → List Slot → List Slot
+unfoldable pub put_first : Slot → List Slot → List Slot
 put_first new [] = []
 put_first new (s ∷ ss) = if s.handle == 0 then new ∷ ss else s ∷ put_first new ss
 
@@ -97,7 +97,7 @@ none_put test new (s ∷ ss) none other =
     by false here there more = rw here more
 
 -- a test that holds of each slot and of the new one holds of each afterwards
-each_put : (test : Slot → Bool) (new : Slot) (row : List Slot) → list_all test row ≡ true → test new ≡ true → list_all test (put_first new row) ≡ true
+pub each_put : (test : Slot → Bool) (new : Slot) (row : List Slot) → list_all test row ≡ true → test new ≡ true → list_all test (put_first new row) ≡ true
 unfolding put_first
 each_put test new [] each good = refl
 each_put test new (s ∷ ss) each good =
@@ -111,7 +111,7 @@ each_put test new (s ∷ ss) each good =
 apart : (a p : ℕ) → (a == 0) ≡ true → (a == p) ≡ true → (p == 0) ≡ false → ⊥
 apart a p e f g = grind (arith, e, f, g)
 
-not_zero : (p : ℕ) → (p == 0) ≡ false → (0 == p) ≡ false
+pub not_zero : (p : ℕ) → (p == 0) ≡ false → (0 == p) ≡ false
 not_zero p e = grind (arith, e)
 
 -- what a row has stays there, since a free place has no handle

@@ -20,7 +20,7 @@ use Rattle.xr_types.specs.declared.spaces.RefKind.{RefKind}
 use Rattle.xr_types.specs.declared.spaces.RefKind.TheVariants.{View, Local, Stage}
 use Rattle.xr_types.specs.declared.status.What.{What}
 use Rattle.xr_types.specs.declared.status.What.TheVariants.{Field, Extra}
-use Rattle.xr_model.specs.Names.{Known, place_of}
+use Rattle.xr_model.specs.Names.{NamedOp, place_of}
 
 -- first this, and then with its value the rest; what is wrong first is what is told
 abbrev pub and_then : {T U : Type 0} → Result T What → (T → Result U What) → Result U What
@@ -83,31 +83,31 @@ timeout_in d = timeout_by d (as_str d)
 -- ---- names and numbers
 
 -- a name of a sort, or else a whole number of a range
-abbrev pub use_by : Sort → ℤ → ℤ → List Known → Data → Option (List ℕ) → Option Use
+abbrev pub use_by : Sort → ℤ → ℤ → List NamedOp → Data → Option (List ℕ) → Option Use
 use_by kind least greatest names d (Some name) = option_map Of (place_of kind name names)
 use_by kind least greatest names d None = option_map Number (integer_in least greatest d)
 
-abbrev pub use_in : Sort → ℤ → ℤ → List Known → Data → Option Use
+abbrev pub use_in : Sort → ℤ → ℤ → List NamedOp → Data → Option Use
 use_in kind least greatest names d = use_by kind least greatest names d (as_str d)
 
 -- a handle is a name of its sort, or 0
-abbrev pub handle_in : List Known → Data → Option Use
+abbrev pub handle_in : List NamedOp → Data → Option Use
 handle_in = use_in sort.Handle (pos 0) (pos 0)
 
 -- an atom is a name of its sort, or a number below 2^63
-abbrev pub atom_in : List Known → Data → Option Use
+abbrev pub atom_in : List NamedOp → Data → Option Use
 atom_in = use_in sort.Atom (pos 0) most_i64
 
 -- a system is a name of the number sort, or a number below 2^63
-abbrev pub system_in : List Known → Data → Option Use
+abbrev pub system_in : List NamedOp → Data → Option Use
 system_in = use_in sort.Number (pos 0) most_i64
 
 -- a time is a name of the number sort, or a number of 64 bits
-abbrev pub time_in : List Known → Data → Option Use
+abbrev pub time_in : List NamedOp → Data → Option Use
 time_in = use_in sort.Number least_i64 most_i64
 
 -- the value of a mark is a handle for marks 1 to 32, and an atom for the others
-abbrev pub value_in : List Known → ℕ → Data → Option Use
+abbrev pub value_in : List NamedOp → ℕ → Data → Option Use
 value_in names mark d = if nat_le mark 32 then handle_in names d else atom_in names d
 
 -- ---- words

@@ -9,7 +9,7 @@ use Rattle.xr_types.specs.declared.scenario.Sort.{Sort}
 use Rattle.xr_types.specs.declared.status.What.{What}
 use Rattle.xr_types.specs.declared.status.What.TheVariants as what
 use Rattle.xr_types.specs.Op.{sort_of}
-use Rattle.xr_model.specs.Names.{Known, given}
+use Rattle.xr_model.specs.Names.{NamedOp, given}
 use Rattle.xr_model.specs.Line.{Line}
 use Rattle.xr_model.specs.Fields.{and_then}
 use Rattle.xr_model.specs.Ops.Session.{create_instance, destroy_instance, poll_event, get_system, string_to_path, path_to_string, create_session, destroy_session, end_session, request_exit_session, begin_session, mark, await}
@@ -70,7 +70,7 @@ abbrev pub op_name : Data → Result CallName What
 op_name d = named_by (op_of d)
 
 -- the op of this name
-abbrev pub line_named : List Known → Data → CallName → Result Line What
+abbrev pub line_named : List NamedOp → Data → CallName → Result Line What
 line_named names d call.CreateInstance = create_instance d
 line_named names d call.DestroyInstance = destroy_instance names d
 line_named names d call.PollEvent = poll_event names d
@@ -111,13 +111,13 @@ line_named names d call.Await = await d
 line_named names d _ = Err what.Op
 
 -- an op of a script, after ops that gave these names, or what of it is wrong first
-abbrev pub line_of : List Known → Data → Result Line What
+abbrev pub line_of : List NamedOp → Data → Result Line What
 line_of names d = and_then (op_name d) (line_named names d)
 
-abbrev pub with_name_of : ℕ → Option Sort → Option (List ℕ) → List Known → List Known
+abbrev pub with_name_of : ℕ → Option Sort → Option (List ℕ) → List NamedOp → List NamedOp
 with_name_of place (Some sort) (Some name) names = given name place sort names
 with_name_of place _ _ names = names
 
 -- the names after an op
-abbrev pub with_name : ℕ → Line → List Known → List Known
+abbrev pub with_name : ℕ → Line → List NamedOp → List NamedOp
 with_name place l names = with_name_of place (sort_of l.op) l.name names

@@ -10,7 +10,7 @@ use Rattle.xr_types.specs.declared.scenario.LayerUse.{LayerUse}
 use Rattle.xr_types.specs.declared.scenario.LayerUse.TheVariants.{Projection, Quad}
 use Rattle.xr_types.specs.declared.scenario.SubImageUse.{SubImageUse}
 use Rattle.xr_types.specs.declared.scenario.Use.{Use}
-use Rattle.xr_model.specs.Names.{Known}
+use Rattle.xr_model.specs.Names.{NamedOp}
 use Rattle.xr_model.specs.Fields.{most, handle_in, atom_in, number_in, integer_in, only_keys}
 
 -- ---- lists
@@ -41,17 +41,17 @@ item_count d = count_by (as_array d)
 
 -- ---- items
 
-abbrev pub handle_part : List Known → Data → Option HandleUse
+abbrev pub handle_part : List NamedOp → Data → Option HandleUse
 handle_part names d = option_map (λ u. record { handle = u }) (handle_in names d)
 
-abbrev pub atom_part : List Known → Data → Option AtomUse
+abbrev pub atom_part : List NamedOp → Data → Option AtomUse
 atom_part names d = option_map (λ u. record { atom = u }) (atom_in names d)
 
 abbrev pub binding : Use → Use → BindingUse
 binding h a = record { action = h; path = a }
 
 -- an array of an action and a path
-abbrev pub binding_part : List Known → Data → Option BindingUse
+abbrev pub binding_part : List NamedOp → Data → Option BindingUse
 binding_part names d =
     if item_count d == 2 then option_and_then (λ h. option_map (binding h) (option_and_then (atom_in names) (at 1 d))) (option_and_then (handle_in names) (at 0 d))
     else None
@@ -60,7 +60,7 @@ abbrev pub active_set : Use → Use → ActiveSetUse
 active_set h a = record { set = h; sub = a }
 
 -- an array of an action set and a user path
-abbrev pub active_set_part : List Known → Data → Option ActiveSetUse
+abbrev pub active_set_part : List NamedOp → Data → Option ActiveSetUse
 active_set_part names d =
     if item_count d == 2 then option_and_then (λ h. option_map (active_set h) (option_and_then (atom_in names) (at 1 d))) (option_and_then (handle_in names) (at 0 d))
     else None
@@ -75,27 +75,27 @@ pixel_at i d = option_and_then pixel_in (at i d)
 abbrev pub sub_image : Use → ℤ → ℤ → ℤ → ℤ → SubImageUse
 sub_image c left top width height = record { chain = c; x = left; y = top; w = width; h = height }
 
-abbrev pub sub_image_of : List Known → Data → Option SubImageUse
+abbrev pub sub_image_of : List NamedOp → Data → Option SubImageUse
 sub_image_of names d =
     option_and_then (λ c. option_and_then (λ x. option_and_then (λ y. option_and_then (λ w.
     option_map (sub_image c x y w) (pixel_at 4 d)) (pixel_at 3 d)) (pixel_at 2 d)) (pixel_at 1 d)) (option_and_then (handle_in names) (at 0 d))
 
 -- an array of a chain and four numbers of pixels
-abbrev pub sub_image_part : List Known → Data → Option SubImageUse
+abbrev pub sub_image_part : List NamedOp → Data → Option SubImageUse
 sub_image_part names d = if item_count d == 5 then sub_image_of names d else None
 
-abbrev pub projection_in : List Known → Data → Option LayerUse
+abbrev pub projection_in : List NamedOp → Data → Option LayerUse
 projection_in names d =
     option_and_then (λ space. option_map (Projection space) (option_and_then (list_in (sub_image_part names) 4) (get (codes "views") d)))
     (option_and_then (handle_in names) (get (codes "projection") d))
 
-abbrev pub quad_in : List Known → Data → Option LayerUse
+abbrev pub quad_in : List NamedOp → Data → Option LayerUse
 quad_in names d =
     option_and_then (λ space. option_and_then (λ i. option_map (Quad space i) (option_and_then (number_in most) (get (codes "pose") d)))
     (option_and_then (sub_image_part names) (get (codes "image") d))) (option_and_then (handle_in names) (get (codes "quad") d))
 
 -- a projection with its keys alone, or a quad with its own
-abbrev pub layer_part : List Known → Data → Option LayerUse
+abbrev pub layer_part : List NamedOp → Data → Option LayerUse
 layer_part names d =
     if only_keys (codes "projection" ∷ codes "views" ∷ []) d then projection_in names d
     else (if only_keys (codes "quad" ∷ codes "image" ∷ codes "pose" ∷ []) d then quad_in names d

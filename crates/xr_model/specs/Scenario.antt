@@ -11,7 +11,7 @@ use Rattle.xr_types.specs.declared.status.Refusal.{Refusal}
 use Rattle.xr_types.specs.declared.status.Refusal.TheVariants.{TooLong, Json, BadShape}
 use Rattle.xr_types.specs.declared.status.What.{What}
 use Rattle.xr_types.specs.declared.status.What.TheVariants as what
-use Rattle.xr_model.specs.Names.{Known}
+use Rattle.xr_model.specs.Names.{NamedOp}
 use Rattle.xr_model.specs.Fields.{only_keys}
 use Rattle.xr_model.specs.ListItems.{count_items}
 use Rattle.xr_model.specs.Line.{Line}
@@ -29,7 +29,7 @@ after_line script place name (Err wrong) more = Err (BadShape script place name 
 after_line script place name (Ok l) more = and_first l.op (more l)
 
 -- the ops from a place of a script on, after ops that gave these names
-abbrev pub ops_from : ℕ → ℕ → List Known → Items → Result (List Op) Refusal
+abbrev pub ops_from : ℕ → ℕ → List NamedOp → Items → Result (List Op) Refusal
 ops_from script place names no_items = Ok []
 ops_from script place names (item d ds) = after_line script place (op_of d) (line_of names d) (λ l. ops_from script (place + 1) (with_name place l names) ds)
 

@@ -3,7 +3,7 @@ use Rattle.std.specs.Prelude.{◌≡◌, ℕ, ◌-◌, ◌≤◌, true, List, []
 use Rattle.xr_types.specs.declared.scenario.Op.{Op}
 use Rattle.xr_types.specs.declared.scenario.Sort.{Sort}
 use Rattle.xr_types.specs.Op.{sort_of}
-use Rattle.xr_model.specs.Names.{Known, is_known}
+use Rattle.xr_model.specs.Names.{NamedOp, is_known}
 use Rattle.xr_model.specs.InRange.{IsFormed}
 
 -- any place will do
@@ -42,5 +42,5 @@ AllInForm [] = ⊤
 AllInForm (ops ∷ scripts) = IsInForm ops × AllInForm scripts
 
 -- a place that one of these names stands for, and the name is of this sort
-abbrev pub IsKnownPlace : List Known → Sort → ℕ → Type 0
+abbrev pub IsKnownPlace : List NamedOp → Sort → ℕ → Type 0
 IsKnownPlace names sort place = is_known names sort place ≡ true

@@ -4,7 +4,7 @@
 
 ghost use Rattle.xr_model.specs.AnswerLaws.{AnswersAreAHistory};
 ghost use Rattle.xr_model.specs.DeviceLaws.{LinesReadBack};
-ghost use Rattle.xr_model.specs.HandleLaws.{NoOrphans, DestroyedForGood};
+ghost use Rattle.xr_model.specs.HandleLaws.{NoOrphans, DestroyedForGood, HandlesStandOnce, DestroyingTakes, CreatingAdds};
 ghost use Rattle.xr_model.specs.Laws.{RefusalsChangeNothing, AfterIsInTurn, EntriesAreCounted, PlacesCount, FrontsAreLegal, ExchangesStand};
 ghost use Rattle.xr_model.specs.SessionLaws.{SessionsAreListed, LostSessions, PendingLosses};
 ghost use Rattle.xr_model.specs.StateLaws.{NoRowFits};
@@ -60,6 +60,24 @@ pub fn no_orphans()
 #[tactic(auto, using(crate::proofs::Destroying::destroyed_for_good))]
 pub fn destroyed_for_good()
     ensures { DestroyedForGood }
+{}
+
+/// After every legal history, a handle stands in one place of one row at most.
+#[tactic(auto, using(crate::proofs::StandOnce::handles_stand_once))]
+pub fn handles_stand_once()
+    ensures { HandlesStandOnce }
+{}
+
+/// Destroying takes exactly the handle and what is below it, and leaves all else that lives.
+#[tactic(auto, using(crate::proofs::DestroyingTakes::destroying_takes))]
+pub fn destroying_takes()
+    ensures { DestroyingTakes }
+{}
+
+/// A call that gives a handle leaves all else that lives, and adds nothing else.
+#[tactic(auto, using(crate::proofs::StandOnce::creating_adds))]
+pub fn creating_adds()
+    ensures { CreatingAdds }
 {}
 
 /// Where a session has settled, no row of the table of states fits.

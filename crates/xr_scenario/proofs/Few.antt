@@ -12,7 +12,7 @@ use Rattle.xr_types.specs.declared.scenario.Op.{Op}
 use Rattle.xr_types.specs.declared.scenario.Scenario.{Scenario}
 use Rattle.xr_types.specs.declared.status.Refusal.{Refusal}
 use Rattle.xr_types.specs.declared.status.What.{What}
-use Rattle.xr_model.specs.Names.{Known}
+use Rattle.xr_model.specs.Names.{NamedOp}
 use Rattle.xr_model.specs.Line.{Line}
 use Rattle.xr_model.specs.Lines.{op_of, line_of, with_name}
 use Rattle.xr_model.specs.Scenario.{and_first, after_line, ops_from, script_of, after_script, scripts_from, scripts_by, scripts_in, has_version, scenario_by, scenario_in, scenario_if, scenario_of}
@@ -31,7 +31,7 @@ more_ops : (op : Op) (n m : ℕ) (r : Result (List Op) Refusal) → 1 + n ≤ m 
 more_ops op n m (Ok ops) le x = omega (arith, le, x)
 more_ops op n m (Err e) le x = tt
 
-ops_few : (script place : ℕ) (names : List Known) (ds : Items) → AtMost length (items_size ds) (ops_from script place names ds)
+ops_few : (script place : ℕ) (names : List NamedOp) (ds : Items) → AtMost length (items_size ds) (ops_from script place names ds)
 ops_few script place names no_items = omega arith
 ops_few script place names (item d ds) = by (line_of names d) (λ l. ops_few script (place + 1) (with_name place l names) ds)
   where

@@ -4,8 +4,8 @@ use Rattle.xr_fields.specs.declared.fault.Fault.{Fault}
 use Rattle.xr_fields.specs.declared.lines.ReadLine.{ReadLine}
 use Rattle.xr_model.specs.InRange.{IsFormed}
 use Rattle.xr_model.specs.ScriptForm.{IsKnownPlace}
-use Rattle.xr_model.specs.Names.{Known}
+use Rattle.xr_model.specs.Names.{NamedOp}
 
-pub formed_at : (r : Result ReadLine Fault) (names : List Known) → IfOk r (λ l. (ns : List Known) → IsFormed (IsKnownPlace ns) l.op) → IfOk r (λ l. IsFormed (IsKnownPlace names) l.op)
+pub formed_at : (r : Result ReadLine Fault) (names : List NamedOp) → IfOk r (λ l. (ns : List NamedOp) → IsFormed (IsKnownPlace ns) l.op) → IfOk r (λ l. IsFormed (IsKnownPlace names) l.op)
 formed_at (Ok l) names h = h names
 formed_at (Err e) names h = tt

@@ -7,7 +7,7 @@ use Rattle.xr_types.specs.declared.scenario.Op.{Op}
 use Rattle.xr_types.specs.declared.scenario.Sort.{Sort}
 use Rattle.xr_types.specs.declared.scenario.Sort.TheVariants.{Handle, Atom, Number}
 use Rattle.xr_types.specs.Op.{sort_of}
-use Rattle.xr_model.specs.Names.{Known, known, given, is_known, is_sort}
+use Rattle.xr_model.specs.Names.{NamedOp, known, given, is_known, is_sort}
 use Rattle.xr_model.specs.InRange.{IsFormed}
 use Rattle.xr_model.specs.ScriptForm.{HasSort, IsPlaceOf, AreInForm, IsInForm, AllInForm, IsKnownPlace}
 use Rattle.xr_model.specs.Lines.{with_name_of}
@@ -26,7 +26,7 @@ all_in_form-snoc (os ∷ scripts) ops all h = (all.0, all_in_form-snoc scripts o
 -- ---- names stand for ops
 
 -- each place that a name stands for is that of an op whose name has its sort
-abbrev pub AreOf : List Known → List Op → Type 0
+abbrev pub AreOf : List NamedOp → List Op → Type 0
 AreOf names ops = (sort : Sort) (place : ℕ) → IsKnownPlace names sort place → IsPlaceOf ops sort place
 
 slice_get-append : (ops more : List Op) (i : ℕ) (sort : Sort) → HasSort (slice_get ops i) sort → HasSort (slice_get (ops ++ more) i) sort
@@ -49,11 +49,11 @@ same_sort Atom Number h = absurd (true≢false (sym h))
 same_sort Number Handle h = absurd (true≢false (sym h))
 same_sort Number Atom h = absurd (true≢false (sym h))
 
-are_of-more : (names : List Known) (ops : List Op) (o : Op) → AreOf names ops → AreOf names (ops ++ o ∷ [])
+are_of-more : (names : List NamedOp) (ops : List Op) (o : Op) → AreOf names ops → AreOf names (ops ++ o ∷ [])
 are_of-more names ops o are sort place h = let old : IsPlaceOf ops sort place = are sort place h in (old.0, slice_get-append ops (o ∷ []) (place - 1) sort old.1)
 
 -- a place that is known once a name is given is the new one, or was known before
-given_known : (name : List ℕ) (place : ℕ) (sort : Sort) (names : List Known) (s : Sort) (p : ℕ) → IsKnownPlace (given name place sort names) s p → ((place ≡ p) × (sort ≡ s)) ⊎ IsKnownPlace names s p
+given_known : (name : List ℕ) (place : ℕ) (sort : Sort) (names : List NamedOp) (s : Sort) (p : ℕ) → IsKnownPlace (given name place sort names) s p → ((place ≡ p) × (sort ≡ s)) ⊎ IsKnownPlace names s p
 given_known name place sort [] s p h = here (or_cases (place == p && is_sort sort s) false h)
   where
     here : ((place == p && is_sort sort s) ≡ true) ⊎ (false ≡ true) → ((place ≡ p) × (sort ≡ s)) ⊎ IsKnownPlace [] s p
@@ -80,7 +80,7 @@ given_known name place sort (k ∷ ks) s p h = by (bytes_eq name k.name) (given_
     by false more h = old more (or_cases (k.place == p && is_sort k.sort s) (is_known (given name place sort ks) s p) h)
 
 -- the op behind these has given its name, if it has one
-pub are_of-next : (names : List Known) (ops : List Op) (o : Op) (name : Option (List ℕ)) (place : ℕ) → place ≡ length ops + 1 → AreOf names ops → AreOf (with_name_of place (sort_of o) name names) (ops ++ o ∷ [])
+pub are_of-next : (names : List NamedOp) (ops : List Op) (o : Op) (name : Option (List ℕ)) (place : ℕ) → place ≡ length ops + 1 → AreOf names ops → AreOf (with_name_of place (sort_of o) name names) (ops ++ o ∷ [])
 are_of-next names ops o name place is are = by (sort_of o) refl name
   where
     given_are : (sort : Sort) (text : List ℕ) → sort_of o ≡ Some sort → AreOf (given text place sort names) (ops ++ o ∷ [])
@@ -97,8 +97,8 @@ are_of-next names ops o name place is are = by (sort_of o) refl name
     by (Some sort) e None = are_of-more names ops o are
     by (Some sort) e (Some text) = given_are sort text e
 
-pub formed_of-known : (names : List Known) (ops : List Op) (o : Op) → AreOf names ops → IsFormed (IsKnownPlace names) o → IsFormed (IsPlaceOf ops) o
+pub formed_of-known : (names : List NamedOp) (ops : List Op) (o : Op) → AreOf names ops → IsFormed (IsKnownPlace names) o → IsFormed (IsPlaceOf ops) o
 formed_of-known names ops o are h = formed-weaker (IsKnownPlace names) (IsPlaceOf ops) are o h
 
-pub in_form-next : (names : List Known) (ops : List Op) (o : Op) → AreOf names ops → IsInForm ops → IsFormed (IsKnownPlace names) o → IsInForm (ops ++ o ∷ [])
+pub in_form-next : (names : List NamedOp) (ops : List Op) (o : Op) → AreOf names ops → IsInForm ops → IsFormed (IsKnownPlace names) o → IsInForm (ops ++ o ∷ [])
 in_form-next names ops o are all h = in_form_snoc [] ops o all (formed_of-known names ops o are h)

@@ -5,7 +5,7 @@ use Rattle.serde_json.specs.View.{view, items_view}
 use Rattle.serde_json.specs.declared.value.Value.{Value}
 use Rattle.xr_types.specs.declared.scenario.Op.{Op}
 use Rattle.xr_types.specs.declared.status.Refusal.{Refusal}
-use Rattle.xr_model.specs.Names.{Known}
+use Rattle.xr_model.specs.Names.{NamedOp}
 use Rattle.xr_model.specs.Line.{Line}
 use Rattle.xr_model.specs.Lines.{op_of, line_of, with_name}
 use Rattle.xr_model.specs.Scenario.{and_first, after_line, ops_from, script_of, after_script, scripts_from}
@@ -31,12 +31,12 @@ items_step : (vs : List Value) (i : ℕ) (d : Value) → i < length vs → items
 items_step vs i d h = rw (add-one, drop-cons vs i d) refl
 
 -- what is read from the value at i on
-pub ops_step : (script place : ℕ) (names : List Known) (vs : List Value) (i : ℕ) (d : Value) → i < length vs
+pub ops_step : (script place : ℕ) (names : List NamedOp) (vs : List Value) (i : ℕ) (d : Value) → i < length vs
     → ops_from script place names (items_view (drop i vs)) ≡ after_line script place (op_of (view (get_or vs i d))) (line_of names (view (get_or vs i d))) (λ l. ops_from script (place + 1) (with_name place l names) (items_view (drop (i + 1) vs)))
 ops_step script place names vs i d h = ap (ops_from script place names) (items_step vs i d h)
 
 -- an op that is read, and the rest
-pub ops_more : (script place : ℕ) (names : List Known) (vs : List Value) (i : ℕ) (d : Value) (ops : List Op) (l : Line) → i < length vs → line_of names (view (get_or vs i d)) ≡ Ok l
+pub ops_more : (script place : ℕ) (names : List NamedOp) (vs : List Value) (i : ℕ) (d : Value) (ops : List Op) (l : Line) → i < length vs → line_of names (view (get_or vs i d)) ≡ Ok l
     → prepend ops (ops_from script place names (items_view (drop i vs))) ≡ prepend (ops ++ l.op ∷ []) (ops_from script (place + 1) (with_name place l names) (items_view (drop (i + 1) vs)))
 ops_more script place names vs i d ops l h e =
     ap (prepend ops) (ops_step script place names vs i d h ∙ ap (λ r. after_line script place (op_of (view (get_or vs i d))) r (λ m. ops_from script (place + 1) (with_name place m names) (items_view (drop (i + 1) vs)))) e) ∙ prepend_first ops l.op _

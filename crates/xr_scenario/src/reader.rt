@@ -15,7 +15,7 @@ use crate::fault::ScenarioFault;
 use crate::line::{op_of, read_line};
 use serde_json::Value;
 use std::alloc::Global;
-use xr_fields::{Fault, Givers, only_keys};
+use xr_fields::{Fault, NamedOps, only_keys};
 use xr_types::{Op, Refusal, Scenario, Script, Several, Sort, What};
 
 const MOST_BYTES: usize = 1_048_576;
@@ -24,12 +24,12 @@ const MOST_SCRIPTS: usize = 8;
 
 /// Keeps the name that an op gives, if it gives one.
 fn keep<'v>(
-    givers: &mut Givers<'v>,
+    named_ops: &mut NamedOps<'v>,
     place: u32,
     sort: Option<Sort>,
     name: Option<&'v str>,
 ) -> Result<(), ScenarioFault>
-    ensures kept { OnOk result (givers.new ≡ with_name_of place sort (option_map (λ n. n.now) name.entry) givers.old) }
+    ensures kept { OnOk result (named_ops.new ≡ with_name_of place sort (option_map (λ n. n.now) name.entry) named_ops.old) }
     ensures cause { IfErr result (λ e. e ≡ NoMemory) }
 {
     let Some(sort) = sort else {
@@ -38,7 +38,7 @@ fn keep<'v>(
     let Some(name) = name else {
         return Ok(());
     };
-    if givers.give(name, place, sort).is_err() {
+    if named_ops.give(name, place, sort).is_err() {
         return Err(ScenarioFault::NoMemory);
     }
     Ok(())
@@ -61,12 +61,12 @@ fn read_ops(alloc: Global, script: u32, values: &[Value]) -> Result<Script, Scen
     ensures reads { ReadsShape result (ops_from script 1 [] (items_view values.now)) }
     ensures formed { IfOk result (λ ops. IsInForm ops) }
 {
-    let mut givers = Givers::new(alloc);
+    let mut named_ops = NamedOps::new(alloc);
     let mut ops: Vec<Op> = Vec::new(alloc);
     let mut place = 0;
     for value in values {
         place += 1;
-        let line = match read_line(alloc, &givers, value) {
+        let line = match read_line(alloc, &named_ops, value) {
             Ok(line) => line,
             Err(Fault::Wrong(what)) => {
                 return Err(ScenarioFault::Refused(Refusal::BadShape {
@@ -78,7 +78,7 @@ fn read_ops(alloc: Global, script: u32, values: &[Value]) -> Result<Script, Scen
             }
             Err(Fault::NoMemory) => return Err(ScenarioFault::NoMemory),
         };
-        keep(&mut givers, place, line.op.sort(), line.name)?;
+        keep(&mut named_ops, place, line.op.sort(), line.name)?;
         add(&mut ops, line.op)?;
     }
     Ok(Several::new(ops))

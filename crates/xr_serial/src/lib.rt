@@ -39,7 +39,7 @@ pub fn run<D: Device>(alloc: Global, ops: &[Op], device: &mut D) -> Result<Lists
     requires formed { IsInForm ops.now }
     requires built { list_all is_built_op ops.now ≡ true }
     requires fresh { D.bound device.old ≤ 16777216 }
-    ensures ran { IfOk result (λ lists. (scenario : Scenario) → scenario.scripts ≡ ops.now ∷ [] → Ran scenario ops.now (D.told device.old) lists) }
+    ensures ran { IfOk result (λ lists. (scenario : Scenario) → scenario.scripts ≡ ops.now ∷ [] → Ran scenario ops.now (D.remaining device.old) lists) }
     ensures fault { IfOk result (λ lists. list_any is_fault lists.events ≡ true → Rose (D.faults device.old) (D.faults device.new)) }
     ensures later { D.faults device.old ≤ D.faults device.new }
     ensures which { D.which device.new ≡ D.which device.old }

@@ -105,8 +105,8 @@ fn device_turn<D: Device>(
     requires few { length run.old.side.list.items < 2 ^ 31 }
     requires idle { idle < 3 }
     ensures kept { IfOk result (λ went. (told : Option DeviceStream) (before : ℕ)
-        → RunKeeps ops.now Turn.Device idle core.old run.old told (D.told device.old) before (D.faults device.old) (D.bound device.old)
-        → RunKeeps ops.now Turn.Compositor (if went then 0 else idle + 1) core.new run.new told (D.told device.new) before (D.faults device.new) (D.bound device.new)) }
+        → RunKeeps ops.now Turn.Device idle core.old run.old told (D.remaining device.old) before (D.faults device.old) (D.bound device.old)
+        → RunKeeps ops.now Turn.Compositor (if went then 0 else idle + 1) core.new run.new told (D.remaining device.new) before (D.faults device.new) (D.bound device.new)) }
     ensures counts { IfOk result (λ went. core.new.core.locked ≡ core.old.core.locked + (if went then 1 else 0)) }
     ensures later { D.faults device.old ≤ D.faults device.new }
     ensures which { D.which device.new ≡ D.which device.old }
@@ -176,8 +176,8 @@ fn one_turn<D: Device>(
     requires fewer { length run.old.side.list.items < 2 ^ 31 }
     requires idle { idle < 3 }
     ensures kept { IfOk result (λ went. (told : Option DeviceStream) (before : ℕ)
-        → RunKeeps ops.now turn idle core.old run.old told (D.told device.old) before (D.faults device.old) (D.bound device.old)
-        → RunKeeps ops.now (turn_behind turn) (if went then 0 else idle + 1) core.new run.new told (D.told device.new) before (D.faults device.new) (D.bound device.new)) }
+        → RunKeeps ops.now turn idle core.old run.old told (D.remaining device.old) before (D.faults device.old) (D.bound device.old)
+        → RunKeeps ops.now (turn_behind turn) (if went then 0 else idle + 1) core.new run.new told (D.remaining device.new) before (D.faults device.new) (D.bound device.new)) }
     ensures counts { IfOk result (λ went. core.new.core.locked ≡ core.old.core.locked + (if went then 1 else 0)) }
     ensures later { D.faults device.old ≤ D.faults device.new }
     ensures which { D.which device.new ≡ D.which device.old }
@@ -200,10 +200,10 @@ pub(crate) fn go_on<D: Device>(
     requires few { length ops.now < 2 ^ 20 }
     requires formed { IsInForm ops.now }
     requires built { list_all is_built_op ops.now ≡ true }
-    requires kept { (told : Option DeviceStream) × (before : ℕ) × RunKeeps ops.now Turn.Script 0 core.old run.old told (D.told device.old) before (D.faults device.old) (D.bound device.old) }
+    requires kept { (told : Option DeviceStream) × (before : ℕ) × RunKeeps ops.now Turn.Script 0 core.old run.old told (D.remaining device.old) before (D.faults device.old) (D.bound device.old) }
     ensures kept { OnOk result ((told : Option DeviceStream) (before : ℕ)
-        → RunKeeps ops.now Turn.Script 0 core.old run.old told (D.told device.old) before (D.faults device.old) (D.bound device.old)
-        → (turn : Turn) × RunKeeps ops.now turn 3 core.new run.new told (D.told device.new) before (D.faults device.new) (D.bound device.new)) }
+        → RunKeeps ops.now Turn.Script 0 core.old run.old told (D.remaining device.old) before (D.faults device.old) (D.bound device.old)
+        → (turn : Turn) × RunKeeps ops.now turn 3 core.new run.new told (D.remaining device.new) before (D.faults device.new) (D.bound device.new)) }
     ensures later { D.faults device.old ≤ D.faults device.new }
     ensures which { D.which device.new ≡ D.which device.old }
 {

@@ -29,7 +29,7 @@ pub(crate) struct DeviceSide {
 fn fetch<D: Device>(device: &mut D, side: &mut DeviceSide)
     requires unknown { side.old.pending ≡ None }
     requires going { side.old.over ≡ false }
-    ensures fetched { Fetched (D.told device.old) (D.told device.new) (D.faults device.old) (D.faults device.new) (D.bound device.old) (D.bound device.new) side.new.pending side.new.over }
+    ensures fetched { Fetched (D.remaining device.old) (D.remaining device.new) (D.faults device.old) (D.faults device.new) (D.bound device.old) (D.bound device.new) side.new.pending side.new.over }
     ensures lists { (side.new.events ≡ side.old.events) × (side.new.list ≡ side.old.list) }
     ensures done { IfSome side.new.pending IsDone }
     ensures later { D.faults device.old ≤ D.faults device.new }
@@ -53,8 +53,8 @@ fn fetch<D: Device>(device: &mut D, side: &mut DeviceSide)
 pub(crate) fn look<D: Device>(device: &mut D, side: &mut DeviceSide)
     requires done { IfSome side.old.pending IsDone }
     ensures kept { (ops : List Op) (idle : ℕ) (s : State) (made : ℕ) (names : List ℕ) (list : List Made) (gone : Bool) (ended : Option Reply) (told : Option DeviceStream) (before : ℕ) → idle < 3
-        → RunInvariant ops Turn.Device idle s made names list gone side.old.pending side.old.over side.old.events.items side.old.list.items ended told (D.told device.old) before (D.faults device.old) (D.bound device.old)
-        → RunInvariant ops Turn.Device idle s made names list gone side.new.pending side.new.over side.new.events.items side.new.list.items ended told (D.told device.new) before (D.faults device.new) (D.bound device.new) }
+        → RunInvariant ops Turn.Device idle s made names list gone side.old.pending side.old.over side.old.events.items side.old.list.items ended told (D.remaining device.old) before (D.faults device.old) (D.bound device.old)
+        → RunInvariant ops Turn.Device idle s made names list gone side.new.pending side.new.over side.new.events.items side.new.list.items ended told (D.remaining device.new) before (D.faults device.new) (D.bound device.new) }
     ensures known { side.new.pending ≡ None → side.new.over ≡ true }
     ensures done { IfSome side.new.pending IsDone }
     ensures list { side.new.list ≡ side.old.list }

@@ -7,13 +7,13 @@ ghost use Rattle.serde_json.specs.View.{view};
 ghost use Rattle.xr_fields.specs.Reads.{IsWrong, ReadsLine};
 ghost use Rattle.xr_model.specs.InRange.{IsFormed};
 ghost use Rattle.xr_model.specs.ScriptForm.{IsKnownPlace};
-ghost use Rattle.xr_model.specs.Names.{Known};
+ghost use Rattle.xr_model.specs.Names.{NamedOp};
 ghost use Rattle.xr_model.specs.Ops.Session.{create_instance, destroy_instance, poll_event, get_system, string_to_path, path_to_string, create_session, destroy_session, end_session, request_exit_session, begin_session, mark, await};
 
 use serde_json::Value;
 use std::alloc::Global;
 use xr_fields::{
-    Fault, Givers, MOST_CAPACITY, ReadLine, atom, form, handle, line, mark_number, mark_value,
+    Fault, MOST_CAPACITY, NamedOps, ReadLine, atom, form, handle, line, mark_number, mark_value,
     name, number, small, system, text, view_config,
 };
 use xr_types::Op;
@@ -21,8 +21,8 @@ use xr_types::Op;
 /// Reads `create_instance`: `major`, `minor`, `as`?.
 pub fn create_instance<'v>(value: &'v Value) -> Result<ReadLine<'v>, Fault>
     ensures reads { ReadsLine result (create_instance (view value.now)) }
-    ensures formed { IfOk result (λ l. (names : List Known) → IsFormed (IsKnownPlace names) l.op) }
-    ensures told { IfErr result IsWrong }
+    ensures formed { IfOk result (λ l. (names : List NamedOp) → IsFormed (IsKnownPlace names) l.op) }
+    ensures only_wrong { IfErr result IsWrong }
 {
     let major = small(value, "major", 1)?;
     let minor = small(value, "minor", 2)?;
@@ -32,34 +32,37 @@ pub fn create_instance<'v>(value: &'v Value) -> Result<ReadLine<'v>, Fault>
 }
 
 /// Reads `destroy_instance`: `instance`.
-pub fn destroy_instance<'v>(givers: &Givers<'_>, value: &'v Value) -> Result<ReadLine<'v>, Fault>
-    ensures reads { ReadsLine result (destroy_instance givers.now (view value.now)) }
-    ensures formed { IfOk result (λ l. IsFormed (IsKnownPlace givers.now) l.op) }
-    ensures told { IfErr result IsWrong }
+pub fn destroy_instance<'v>(
+    named_ops: &NamedOps<'_>,
+    value: &'v Value,
+) -> Result<ReadLine<'v>, Fault>
+    ensures reads { ReadsLine result (destroy_instance named_ops.now (view value.now)) }
+    ensures formed { IfOk result (λ l. IsFormed (IsKnownPlace named_ops.now) l.op) }
+    ensures only_wrong { IfErr result IsWrong }
 {
-    let instance = handle(givers, value, "instance", 1)?;
+    let instance = handle(named_ops, value, "instance", 1)?;
     let op = Op::DestroyInstance { instance };
     line(value, &["op", "instance"], op, None)
 }
 
 /// Reads `poll_event`: `instance`.
-pub fn poll_event<'v>(givers: &Givers<'_>, value: &'v Value) -> Result<ReadLine<'v>, Fault>
-    ensures reads { ReadsLine result (poll_event givers.now (view value.now)) }
-    ensures formed { IfOk result (λ l. IsFormed (IsKnownPlace givers.now) l.op) }
-    ensures told { IfErr result IsWrong }
+pub fn poll_event<'v>(named_ops: &NamedOps<'_>, value: &'v Value) -> Result<ReadLine<'v>, Fault>
+    ensures reads { ReadsLine result (poll_event named_ops.now (view value.now)) }
+    ensures formed { IfOk result (λ l. IsFormed (IsKnownPlace named_ops.now) l.op) }
+    ensures only_wrong { IfErr result IsWrong }
 {
-    let instance = handle(givers, value, "instance", 1)?;
+    let instance = handle(named_ops, value, "instance", 1)?;
     let op = Op::PollEvent { instance };
     line(value, &["op", "instance"], op, None)
 }
 
 /// Reads `get_system`: `instance`, `form`, `as`?.
-pub fn get_system<'v>(givers: &Givers<'_>, value: &'v Value) -> Result<ReadLine<'v>, Fault>
-    ensures reads { ReadsLine result (get_system givers.now (view value.now)) }
-    ensures formed { IfOk result (λ l. IsFormed (IsKnownPlace givers.now) l.op) }
-    ensures told { IfErr result IsWrong }
+pub fn get_system<'v>(named_ops: &NamedOps<'_>, value: &'v Value) -> Result<ReadLine<'v>, Fault>
+    ensures reads { ReadsLine result (get_system named_ops.now (view value.now)) }
+    ensures formed { IfOk result (λ l. IsFormed (IsKnownPlace named_ops.now) l.op) }
+    ensures only_wrong { IfErr result IsWrong }
 {
-    let instance = handle(givers, value, "instance", 1)?;
+    let instance = handle(named_ops, value, "instance", 1)?;
     let form = form(value, "form", 2)?;
     let name = name(value, 3)?;
     let op = Op::GetSystem { instance, form };
@@ -69,13 +72,13 @@ pub fn get_system<'v>(givers: &Givers<'_>, value: &'v Value) -> Result<ReadLine<
 /// Reads `string_to_path`: `instance`, `text`, `as`?.
 pub fn string_to_path<'v>(
     alloc: Global,
-    givers: &Givers<'_>,
+    named_ops: &NamedOps<'_>,
     value: &'v Value,
 ) -> Result<ReadLine<'v>, Fault>
-    ensures reads { ReadsLine result (string_to_path givers.now (view value.now)) }
-    ensures formed { IfOk result (λ l. IsFormed (IsKnownPlace givers.now) l.op) }
+    ensures reads { ReadsLine result (string_to_path named_ops.now (view value.now)) }
+    ensures formed { IfOk result (λ l. IsFormed (IsKnownPlace named_ops.now) l.op) }
 {
-    let instance = handle(givers, value, "instance", 1)?;
+    let instance = handle(named_ops, value, "instance", 1)?;
     let text = text(alloc, value, "text", 2)?;
     let name = name(value, 3)?;
     let op = Op::StringToPath { instance, text };
@@ -83,13 +86,13 @@ pub fn string_to_path<'v>(
 }
 
 /// Reads `path_to_string`: `instance`, `path`, `capacity`.
-pub fn path_to_string<'v>(givers: &Givers<'_>, value: &'v Value) -> Result<ReadLine<'v>, Fault>
-    ensures reads { ReadsLine result (path_to_string givers.now (view value.now)) }
-    ensures formed { IfOk result (λ l. IsFormed (IsKnownPlace givers.now) l.op) }
-    ensures told { IfErr result IsWrong }
+pub fn path_to_string<'v>(named_ops: &NamedOps<'_>, value: &'v Value) -> Result<ReadLine<'v>, Fault>
+    ensures reads { ReadsLine result (path_to_string named_ops.now (view value.now)) }
+    ensures formed { IfOk result (λ l. IsFormed (IsKnownPlace named_ops.now) l.op) }
+    ensures only_wrong { IfErr result IsWrong }
 {
-    let instance = handle(givers, value, "instance", 1)?;
-    let path = atom(givers, value, "path", 2)?;
+    let instance = handle(named_ops, value, "instance", 1)?;
+    let path = atom(named_ops, value, "path", 2)?;
     let capacity = number(value, "capacity", 3, MOST_CAPACITY)?;
     let op = Op::PathToString {
         instance,
@@ -100,74 +103,77 @@ pub fn path_to_string<'v>(givers: &Givers<'_>, value: &'v Value) -> Result<ReadL
 }
 
 /// Reads `create_session`: `instance`, `system`, `as`?.
-pub fn create_session<'v>(givers: &Givers<'_>, value: &'v Value) -> Result<ReadLine<'v>, Fault>
-    ensures reads { ReadsLine result (create_session givers.now (view value.now)) }
-    ensures formed { IfOk result (λ l. IsFormed (IsKnownPlace givers.now) l.op) }
-    ensures told { IfErr result IsWrong }
+pub fn create_session<'v>(named_ops: &NamedOps<'_>, value: &'v Value) -> Result<ReadLine<'v>, Fault>
+    ensures reads { ReadsLine result (create_session named_ops.now (view value.now)) }
+    ensures formed { IfOk result (λ l. IsFormed (IsKnownPlace named_ops.now) l.op) }
+    ensures only_wrong { IfErr result IsWrong }
 {
-    let instance = handle(givers, value, "instance", 1)?;
-    let system = system(givers, value, "system", 2)?;
+    let instance = handle(named_ops, value, "instance", 1)?;
+    let system = system(named_ops, value, "system", 2)?;
     let name = name(value, 3)?;
     let op = Op::CreateSession { instance, system };
     line(value, &["op", "instance", "system", "as"], op, name)
 }
 
 /// Reads `destroy_session`: `session`.
-pub fn destroy_session<'v>(givers: &Givers<'_>, value: &'v Value) -> Result<ReadLine<'v>, Fault>
-    ensures reads { ReadsLine result (destroy_session givers.now (view value.now)) }
-    ensures formed { IfOk result (λ l. IsFormed (IsKnownPlace givers.now) l.op) }
-    ensures told { IfErr result IsWrong }
+pub fn destroy_session<'v>(
+    named_ops: &NamedOps<'_>,
+    value: &'v Value,
+) -> Result<ReadLine<'v>, Fault>
+    ensures reads { ReadsLine result (destroy_session named_ops.now (view value.now)) }
+    ensures formed { IfOk result (λ l. IsFormed (IsKnownPlace named_ops.now) l.op) }
+    ensures only_wrong { IfErr result IsWrong }
 {
-    let session = handle(givers, value, "session", 1)?;
+    let session = handle(named_ops, value, "session", 1)?;
     let op = Op::DestroySession { session };
     line(value, &["op", "session"], op, None)
 }
 
 /// Reads `end_session`: `session`.
-pub fn end_session<'v>(givers: &Givers<'_>, value: &'v Value) -> Result<ReadLine<'v>, Fault>
-    ensures reads { ReadsLine result (end_session givers.now (view value.now)) }
-    ensures formed { IfOk result (λ l. IsFormed (IsKnownPlace givers.now) l.op) }
-    ensures told { IfErr result IsWrong }
+pub fn end_session<'v>(named_ops: &NamedOps<'_>, value: &'v Value) -> Result<ReadLine<'v>, Fault>
+    ensures reads { ReadsLine result (end_session named_ops.now (view value.now)) }
+    ensures formed { IfOk result (λ l. IsFormed (IsKnownPlace named_ops.now) l.op) }
+    ensures only_wrong { IfErr result IsWrong }
 {
-    let session = handle(givers, value, "session", 1)?;
+    let session = handle(named_ops, value, "session", 1)?;
     let op = Op::EndSession { session };
     line(value, &["op", "session"], op, None)
 }
 
 /// Reads `request_exit_session`: `session`.
 pub fn request_exit_session<'v>(
-    givers: &Givers<'_>,
+    named_ops: &NamedOps<'_>,
     value: &'v Value,
 ) -> Result<ReadLine<'v>, Fault>
-    ensures reads { ReadsLine result (request_exit_session givers.now (view value.now)) }
-    ensures formed { IfOk result (λ l. IsFormed (IsKnownPlace givers.now) l.op) }
-    ensures told { IfErr result IsWrong }
+    ensures reads { ReadsLine result (request_exit_session named_ops.now (view value.now)) }
+    ensures formed { IfOk result (λ l. IsFormed (IsKnownPlace named_ops.now) l.op) }
+    ensures only_wrong { IfErr result IsWrong }
 {
-    let session = handle(givers, value, "session", 1)?;
+    let session = handle(named_ops, value, "session", 1)?;
     let op = Op::RequestExitSession { session };
     line(value, &["op", "session"], op, None)
 }
 
 /// Reads `begin_session`: `session`, `view`.
-pub fn begin_session<'v>(givers: &Givers<'_>, value: &'v Value) -> Result<ReadLine<'v>, Fault>
-    ensures reads { ReadsLine result (begin_session givers.now (view value.now)) }
-    ensures formed { IfOk result (λ l. IsFormed (IsKnownPlace givers.now) l.op) }
-    ensures told { IfErr result IsWrong }
+pub fn begin_session<'v>(named_ops: &NamedOps<'_>, value: &'v Value) -> Result<ReadLine<'v>, Fault>
+    ensures reads { ReadsLine result (begin_session named_ops.now (view value.now)) }
+    ensures formed { IfOk result (λ l. IsFormed (IsKnownPlace named_ops.now) l.op) }
+    ensures only_wrong { IfErr result IsWrong }
 {
-    let session = handle(givers, value, "session", 1)?;
+    let session = handle(named_ops, value, "session", 1)?;
     let view = view_config(value, "view", 2)?;
     let op = Op::BeginSession { session, view };
     line(value, &["op", "session", "view"], op, None)
 }
 
 /// Reads `mark`: `mark`, `value`?.
-pub fn mark<'v>(givers: &Givers<'_>, value: &'v Value) -> Result<ReadLine<'v>, Fault>
-    ensures reads { ReadsLine result (mark givers.now (view value.now)) }
-    ensures formed { IfOk result (λ l. IsFormed (IsKnownPlace givers.now) l.op) }
-    ensures told { IfErr result IsWrong }
+pub fn mark<'v>(named_ops: &NamedOps<'_>, value: &'v Value) -> Result<ReadLine<'v>, Fault>
+    ensures reads { ReadsLine result (mark named_ops.now (view value.now)) }
+    ensures formed { IfOk result (λ l. IsFormed (IsKnownPlace named_ops.now) l.op) }
+    ensures only_wrong { IfErr result IsWrong }
 {
     let mark = mark_number(value, "mark", 1)?;
-    let marked = mark_value(givers, value, "value", 2, mark)?;
+    let marked = mark_value(named_ops, value, "value", 2, mark)?;
     let op = Op::Mark {
         mark,
         value: marked,
@@ -178,8 +184,8 @@ pub fn mark<'v>(givers: &Givers<'_>, value: &'v Value) -> Result<ReadLine<'v>, F
 /// Reads `await`: `mark`, `as`?.
 pub fn await_mark<'v>(value: &'v Value) -> Result<ReadLine<'v>, Fault>
     ensures reads { ReadsLine result (await (view value.now)) }
-    ensures formed { IfOk result (λ l. (names : List Known) → IsFormed (IsKnownPlace names) l.op) }
-    ensures told { IfErr result IsWrong }
+    ensures formed { IfOk result (λ l. (names : List NamedOp) → IsFormed (IsKnownPlace names) l.op) }
+    ensures only_wrong { IfErr result IsWrong }
 {
     let mark = mark_number(value, "mark", 1)?;
     let name = name(value, 2)?;

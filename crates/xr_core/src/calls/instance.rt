@@ -1,16 +1,31 @@
 // The calls on instances, their systems and their events (OpenXR 1.0 chapters 2, 4 and 5).
 ghost use Rattle.std.specs.Prelude.{◌<◌, ◌^◌, []};
-ghost use Rattle.xr_model.specs.Request.{create_instance, destroy_instance, get_system, poll_event};
+ghost use Rattle.xr_model.specs.Request.{create_instance, destroy_instance, get_system, poll_event, request_of};
 ghost use Rattle.xr_core.specs.Calls.{Makes};
+ghost use Rattle.xr_core.specs.Groups.{IsInstanceCall};
 
 use crate::Core;
-use xr_types::{Code, Form, Gives, Kind, Reply};
+use xr_types::{Call, Code, Form, Gives, Kind, Reply};
 
 /// The one system.
 pub(crate) const SYSTEM: u64 = 1;
 
 impl Core {
-    pub(crate) fn create_instance(&mut self, major: u32, minor: u32) -> Reply
+    pub(crate) fn instance_call(&mut self, call: &Call<'_>) -> Reply
+        requires calls { self.old.locked < 2 ^ 44 }
+        requires group { IsInstanceCall (request_of call.now) }
+        ensures { Makes self.old (request_of call.now) self.new result [] }
+    {
+        match call {
+            Call::CreateInstance { major, minor } => self.create_instance(*major, *minor),
+            Call::DestroyInstance { instance } => self.destroy_instance(*instance),
+            Call::GetSystem { instance, form } => self.get_system(*instance, *form),
+            Call::PollEvent { instance } => self.poll_event(*instance),
+            _ => unreachable!(),
+        }
+    }
+
+    fn create_instance(&mut self, major: u32, minor: u32) -> Reply
         requires { self.old.locked < 2 ^ 44 }
         ensures { Makes self.old (create_instance major minor) self.new result [] }
     {
@@ -29,7 +44,7 @@ impl Core {
         }
     }
 
-    pub(crate) fn destroy_instance(&mut self, instance: u64) -> Reply
+    fn destroy_instance(&mut self, instance: u64) -> Reply
         requires { self.old.locked < 2 ^ 44 }
         ensures { Makes self.old (destroy_instance instance) self.new result [] }
     {
@@ -42,7 +57,7 @@ impl Core {
         self.answered(Code::Success, Gives::Nothing)
     }
 
-    pub(crate) fn get_system(&mut self, instance: u64, form: Form) -> Reply
+    fn get_system(&mut self, instance: u64, form: Form) -> Reply
         requires { self.old.locked < 2 ^ 44 }
         ensures { Makes self.old (get_system instance form) self.new result [] }
     {
@@ -55,7 +70,7 @@ impl Core {
         }
     }
 
-    pub(crate) fn poll_event(&mut self, instance: u64) -> Reply
+    fn poll_event(&mut self, instance: u64) -> Reply
         requires { self.old.locked < 2 ^ 44 }
         ensures { Makes self.old (poll_event instance) self.new result [] }
     {

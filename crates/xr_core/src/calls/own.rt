@@ -1,22 +1,47 @@
 // The calls that are this project's own.
-ghost use Rattle.std.specs.Prelude.{◌≡◌, ◌<◌, ◌^◌, [], true, Some};
+ghost use Rattle.std.specs.Prelude.{◌≡◌, ◌<◌, ◌^◌, [], true, false, Some};
 ghost use Rattle.std.specs.List.{list_all};
 ghost use Rattle.xr_types.specs.Device.{is_mark};
 ghost use Rattle.xr_model.specs.State.{CellReads};
 ghost use Rattle.xr_model.specs.Marks.{mark_at, with_mark};
 ghost use Rattle.xr_model.specs.Request as request;
-ghost use Rattle.xr_model.specs.Request.{leave, next_frame};
-ghost use Rattle.xr_model.specs.Machine.{IsPresent};
-ghost use Rattle.xr_model.specs.CoreCalls.{CoreAnswers};
-ghost use Rattle.xr_model.specs.CoreCalls.{entry_of};
+ghost use Rattle.xr_model.specs.Request.{leave, next_frame, request_of};
+ghost use Rattle.xr_model.specs.Machine.{IsPresent, is_held_back};
+ghost use Rattle.xr_model.specs.CoreCalls.{CoreAnswers, HasNumbers, IsCaller, entry_of};
 ghost use Rattle.xr_core.specs.Calls.{Makes};
+ghost use Rattle.xr_core.specs.Groups.{IsOwnCall};
 
 use crate::Core;
-use xr_types::{Actor, Code, Gives, Reply};
+use xr_types::{Actor, Call, Code, Gives, Reply};
 
 impl Core {
+    /// Makes a call that isn't held back.
+    pub(crate) fn own_call(&mut self, who: Actor, call: &Call<'_>) -> Reply
+        requires calls { self.old.locked < 2 ^ 44 }
+        requires group { IsOwnCall (request_of call.now) }
+        requires present { IsPresent self.old who }
+        requires caller { IsCaller who (request_of call.now) }
+        requires numbers { HasNumbers (request_of call.now) }
+        requires ready { (reads : CellReads) → is_held_back self.old reads (request_of call.now) ≡ false }
+        ensures { (reads : CellReads) → CoreAnswers reads self.old (entry_of who (request_of call.now) result) self.new result [] [] }
+    {
+        match call {
+            Call::Mark { mark, value } => self.mark(*mark, *value),
+            Call::AwaitMark { mark } => match self.mark_value(*mark) {
+                Some(value) => self.await_mark(*mark, value),
+                None => unreachable!(),
+            },
+            Call::Leave => match who {
+                Actor::App(app) => self.leave(app),
+                Actor::Compositor | Actor::Device => unreachable!(),
+            },
+            Call::NextFrame => self.next_frame(),
+            _ => unreachable!(),
+        }
+    }
+
     #[tactic(auto, using(crate::proofs::Start::left_set))]
-    pub(crate) fn leave(&mut self, app: u8) -> Reply
+    fn leave(&mut self, app: u8) -> Reply
         requires calls { self.old.locked < 2 ^ 44 }
         requires present { IsPresent self.old (Actor.App app) }
         ensures { (reads : CellReads) → CoreAnswers reads self.old (entry_of (Actor.App app) leave result) self.new result [] [] }
@@ -55,7 +80,7 @@ impl Core {
         }
     }
 
-    pub(crate) fn mark(&mut self, mark: u8, value: u64) -> Reply
+    fn mark(&mut self, mark: u8, value: u64) -> Reply
         requires calls { self.old.locked < 2 ^ 44 }
         requires number { is_mark mark ≡ true }
         ensures { Makes self.old (request.mark mark value) self.new result [] }
@@ -65,7 +90,7 @@ impl Core {
     }
 
     /// The value of a mark that was awaited.
-    pub(crate) fn await_mark(&mut self, mark: u8, value: u64) -> Reply
+    fn await_mark(&mut self, mark: u8, value: u64) -> Reply
         requires calls { self.old.locked < 2 ^ 44 }
         requires set { mark_at self.old.marks mark ≡ Some value }
         ensures { Makes self.old (request.await_mark mark) self.new result [] }
@@ -74,7 +99,7 @@ impl Core {
     }
 
     /// The end. There are no frames.
-    pub(crate) fn next_frame(&mut self) -> Reply
+    fn next_frame(&mut self) -> Reply
         requires { self.old.locked < 2 ^ 44 }
         ensures { Makes self.old next_frame self.new result [] }
     {

@@ -1,13 +1,33 @@
 // The calls on paths (OpenXR 1.0 section 6.2).
 ghost use Rattle.std.specs.Prelude.{◌<◌, ◌^◌, [], length};
-ghost use Rattle.xr_model.specs.Request.{string_to_path, path_to_string};
+ghost use Rattle.xr_model.specs.Request.{string_to_path, path_to_string, request_of};
+ghost use Rattle.xr_model.specs.CoreCalls.{FitsBuffer};
 ghost use Rattle.xr_core.specs.Calls.{Makes, MakesOver};
+ghost use Rattle.xr_core.specs.Groups.{IsPathCall};
 
 use crate::Core;
-use xr_types::{Code, Gives, Kind, Reply};
+use xr_types::{Call, Code, Gives, Kind, Reply};
 
 impl Core {
-    pub(crate) fn string_to_path(&mut self, instance: u64, text: &[u8]) -> Reply
+    /// `out` is the buffer that `path_to_string` is lent; the other call leaves it.
+    pub(crate) fn path_call(&mut self, call: &Call<'_>, out: &mut [u8]) -> Reply
+        requires calls { self.old.locked < 2 ^ 44 }
+        requires group { IsPathCall (request_of call.now) }
+        requires buffer { FitsBuffer (request_of call.now) (length out.old) }
+        ensures { MakesOver self.old (request_of call.now) self.new result out.old out.new }
+    {
+        match call {
+            Call::StringToPath { instance, text } => self.string_to_path(*instance, text),
+            Call::PathToString {
+                instance,
+                path,
+                capacity: _,
+            } => self.path_to_string(*instance, *path, out),
+            _ => unreachable!(),
+        }
+    }
+
+    fn string_to_path(&mut self, instance: u64, text: &[u8]) -> Reply
         requires { self.old.locked < 2 ^ 44 }
         ensures { Makes self.old (string_to_path instance text.now) self.new result [] }
     {
@@ -21,7 +41,7 @@ impl Core {
         self.answered(Code::Success, Gives::Number(answer.number))
     }
 
-    pub(crate) fn path_to_string(&mut self, instance: u64, path: u64, out: &mut [u8]) -> Reply
+    fn path_to_string(&mut self, instance: u64, path: u64, out: &mut [u8]) -> Reply
         requires { self.old.locked < 2 ^ 44 }
         ensures { MakesOver self.old (path_to_string instance path (length out.old)) self.new result out.old out.new }
     {

@@ -2,21 +2,43 @@
 ghost use Rattle.std.specs.Prelude.{◌≡◌, ◌≢◌, ◌<◌, ◌+◌, ◌^◌, [], length, true, false, Some};
 ghost use Rattle.xr_types.specs.declared.handles.TheConstants.{SESSIONS};
 ghost use Rattle.xr_model.specs.Handles.{has_room, was_given};
-ghost use Rattle.xr_model.specs.Request.{create_session, destroy_session};
+ghost use Rattle.xr_model.specs.Request.{create_session, destroy_session, request_of};
 ghost use Rattle.xr_model.specs.CoreCalls.{given_by};
 ghost use Rattle.xr_model.specs.SessionRule.{code_on};
 ghost use Rattle.xr_model.specs.SessionLife.{started};
 ghost use Rattle.xr_model.specs.Rules.Session.{life_of, with_session};
 ghost use Rattle.xr_core.specs.Calls.{Makes};
+ghost use Rattle.xr_core.specs.Groups.{IsSessionCall};
 ghost use Rattle.xr_core.specs.Changes.{place_at, life_request, changed_life, answer_to};
 
 use crate::Core;
 use crate::calls::instance::SYSTEM;
 use crate::sessions::{LifeCall, LiveSession, change_life, place_of, success_of};
-use xr_types::{Code, Gives, Kind, Reply};
+use xr_types::{Call, Code, Gives, Kind, Reply};
 
 impl Core {
-    pub(crate) fn create_session(&mut self, instance: u64, system: u64) -> Reply
+    pub(crate) fn session_call(&mut self, call: &Call<'_>) -> Reply
+        requires calls { self.old.locked < 2 ^ 44 }
+        requires group { IsSessionCall (request_of call.now) }
+        ensures { Makes self.old (request_of call.now) self.new result [] }
+    {
+        match call {
+            Call::CreateSession { instance, system } => self.create_session(*instance, *system),
+            Call::DestroySession { session } => self.destroy_session(*session),
+            Call::BeginSession { session, view } => self.change_life(
+                *session,
+                LifeCall::Begin(*view),
+            ),
+            Call::EndSession { session } => self.change_life(*session, LifeCall::End),
+            Call::RequestExitSession { session } => self.change_life(
+                *session,
+                LifeCall::RequestExit,
+            ),
+            _ => unreachable!(),
+        }
+    }
+
+    fn create_session(&mut self, instance: u64, system: u64) -> Reply
         requires { self.old.locked < 2 ^ 44 }
         ensures { Makes self.old (create_session instance system) self.new result [] }
     {
@@ -32,7 +54,7 @@ impl Core {
         self.give_session(instance)
     }
 
-    pub(crate) fn destroy_session(&mut self, session: u64) -> Reply
+    fn destroy_session(&mut self, session: u64) -> Reply
         requires { self.old.locked < 2 ^ 44 }
         ensures { Makes self.old (destroy_session session) self.new result [] }
     {
@@ -88,7 +110,7 @@ impl Core {
     }
 
     /// Begins a session, ends it, or asks for its end.
-    pub(crate) fn change_life(&mut self, session: u64, call: LifeCall) -> Reply
+    fn change_life(&mut self, session: u64, call: LifeCall) -> Reply
         requires { self.old.locked < 2 ^ 44 }
         ensures { Makes self.old (life_request session call) self.new result [] }
     {

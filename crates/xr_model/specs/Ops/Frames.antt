@@ -5,46 +5,46 @@ use Rattle.serde_json.specs.Data.{Data}
 use Rattle.serde_json.specs.Find.{as_bool}
 use Rattle.xr_types.specs.declared.scenario.Op.TheVariants as op
 use Rattle.xr_types.specs.declared.status.What.{What}
-use Rattle.xr_model.specs.Names.{Known}
+use Rattle.xr_model.specs.Names.{NamedOp}
 use Rattle.xr_model.specs.Fields.{and_then, field, handle_in, atom_in, time_in, number_in, most, most_u32, ref_kind_in, blend_in, timeout_in, name_at, only}
 use Rattle.xr_model.specs.ListItems.{list_in, layer_part}
 use Rattle.xr_model.specs.Line.{Line, line}
 
 -- session
-abbrev pub begin_frame : List Known → Data → Result Line What
+abbrev pub begin_frame : List NamedOp → Data → Result Line What
 begin_frame names d =
     and_then (field (handle_in names) 1 (codes "session") d) (λ session.
     only (codes "op" ∷ codes "session" ∷ []) d (line (op.BeginFrame session) None))
 
 -- session, kind, offset, as?
-abbrev pub create_reference_space : List Known → Data → Result Line What
+abbrev pub create_reference_space : List NamedOp → Data → Result Line What
 create_reference_space names d =
     and_then (field (handle_in names) 1 (codes "session") d) (λ session. and_then (field ref_kind_in 2 (codes "kind") d) (λ kind.
     and_then (field (number_in most) 3 (codes "offset") d) (λ offset. and_then (name_at 4 d) (λ name.
     only (codes "op" ∷ codes "session" ∷ codes "kind" ∷ codes "offset" ∷ codes "as" ∷ []) d (line (op.CreateReferenceSpace session kind offset) name)))))
 
 -- session, action, sub, offset, as?
-abbrev pub create_action_space : List Known → Data → Result Line What
+abbrev pub create_action_space : List NamedOp → Data → Result Line What
 create_action_space names d =
     and_then (field (handle_in names) 1 (codes "session") d) (λ session. and_then (field (handle_in names) 2 (codes "action") d) (λ action.
     and_then (field (atom_in names) 3 (codes "sub") d) (λ sub. and_then (field (number_in most) 4 (codes "offset") d) (λ offset. and_then (name_at 5 d) (λ name.
     only (codes "op" ∷ codes "session" ∷ codes "action" ∷ codes "sub" ∷ codes "offset" ∷ codes "as" ∷ []) d (line (op.CreateActionSpace session action sub offset) name))))))
 
 -- space
-abbrev pub destroy_space : List Known → Data → Result Line What
+abbrev pub destroy_space : List NamedOp → Data → Result Line What
 destroy_space names d =
     and_then (field (handle_in names) 1 (codes "space") d) (λ space.
     only (codes "op" ∷ codes "space" ∷ []) d (line (op.DestroySpace space) None))
 
 -- space, base, time
-abbrev pub locate_space : List Known → Data → Result Line What
+abbrev pub locate_space : List NamedOp → Data → Result Line What
 locate_space names d =
     and_then (field (handle_in names) 1 (codes "space") d) (λ space. and_then (field (handle_in names) 2 (codes "base") d) (λ base.
     and_then (field (time_in names) 3 (codes "time") d) (λ time.
     only (codes "op" ∷ codes "space" ∷ codes "base" ∷ codes "time" ∷ []) d (line (op.LocateSpace space base time) None))))
 
 -- session, format, width, height, static, as?
-abbrev pub create_swapchain : List Known → Data → Result Line What
+abbrev pub create_swapchain : List NamedOp → Data → Result Line What
 create_swapchain names d =
     and_then (field (handle_in names) 1 (codes "session") d) (λ session. and_then (field (number_in most) 2 (codes "format") d) (λ format.
     and_then (field (number_in most_u32) 3 (codes "width") d) (λ width. and_then (field (number_in most_u32) 4 (codes "height") d) (λ height.
@@ -52,43 +52,43 @@ create_swapchain names d =
     only (codes "op" ∷ codes "session" ∷ codes "format" ∷ codes "width" ∷ codes "height" ∷ codes "static" ∷ codes "as" ∷ []) d (line (op.CreateSwapchain session format width height fixed) name)))))))
 
 -- chain
-abbrev pub destroy_swapchain : List Known → Data → Result Line What
+abbrev pub destroy_swapchain : List NamedOp → Data → Result Line What
 destroy_swapchain names d =
     and_then (field (handle_in names) 1 (codes "chain") d) (λ chain.
     only (codes "op" ∷ codes "chain" ∷ []) d (line (op.DestroySwapchain chain) None))
 
 -- chain
-abbrev pub acquire_image : List Known → Data → Result Line What
+abbrev pub acquire_image : List NamedOp → Data → Result Line What
 acquire_image names d =
     and_then (field (handle_in names) 1 (codes "chain") d) (λ chain.
     only (codes "op" ∷ codes "chain" ∷ []) d (line (op.AcquireImage chain) None))
 
 -- chain
-abbrev pub release_image : List Known → Data → Result Line What
+abbrev pub release_image : List NamedOp → Data → Result Line What
 release_image names d =
     and_then (field (handle_in names) 1 (codes "chain") d) (λ chain.
     only (codes "op" ∷ codes "chain" ∷ []) d (line (op.ReleaseImage chain) None))
 
 -- chain, timeout
-abbrev pub wait_image : List Known → Data → Result Line What
+abbrev pub wait_image : List NamedOp → Data → Result Line What
 wait_image names d =
     and_then (field (handle_in names) 1 (codes "chain") d) (λ chain. and_then (field timeout_in 2 (codes "timeout") d) (λ timeout.
     only (codes "op" ∷ codes "chain" ∷ codes "timeout" ∷ []) d (line (op.WaitImage chain timeout) None)))
 
 -- chain, stamp
-abbrev pub paint : List Known → Data → Result Line What
+abbrev pub paint : List NamedOp → Data → Result Line What
 paint names d =
     and_then (field (handle_in names) 1 (codes "chain") d) (λ chain. and_then (field (number_in most) 2 (codes "stamp") d) (λ stamp.
     only (codes "op" ∷ codes "chain" ∷ codes "stamp" ∷ []) d (line (op.Paint chain stamp) None)))
 
 -- session, as?
-abbrev pub wait_frame : List Known → Data → Result Line What
+abbrev pub wait_frame : List NamedOp → Data → Result Line What
 wait_frame names d =
     and_then (field (handle_in names) 1 (codes "session") d) (λ session. and_then (name_at 2 d) (λ name.
     only (codes "op" ∷ codes "session" ∷ codes "as" ∷ []) d (line (op.WaitFrame session) name)))
 
 -- session, time, blend, layers
-abbrev pub end_frame : List Known → Data → Result Line What
+abbrev pub end_frame : List NamedOp → Data → Result Line What
 end_frame names d =
     and_then (field (handle_in names) 1 (codes "session") d) (λ session. and_then (field (time_in names) 2 (codes "time") d) (λ time.
     and_then (field blend_in 3 (codes "blend") d) (λ blend. and_then (field (list_in (layer_part names) 32) 4 (codes "layers") d) (λ layers.

@@ -5,7 +5,7 @@ use Rattle.serde_json.specs.Data.{Data}
 use Rattle.xr_types.specs.declared.scenario.Op.TheVariants as op
 use Rattle.xr_types.specs.declared.scenario.Use.TheVariants.{Number}
 use Rattle.xr_types.specs.declared.status.What.{What}
-use Rattle.xr_model.specs.Names.{Known}
+use Rattle.xr_model.specs.Names.{NamedOp}
 use Rattle.xr_model.specs.Fields.{and_then, field, handle_in, atom_in, system_in, number_in, most_u32, text_in, form_in, view_in, mark_in, value_in, optional, name_at, only}
 use Rattle.xr_model.specs.Line.{Line, line}
 
@@ -17,69 +17,69 @@ create_instance d =
     only (codes "op" ∷ codes "major" ∷ codes "minor" ∷ codes "as" ∷ []) d (line (op.CreateInstance major minor) name))))
 
 -- instance
-abbrev pub destroy_instance : List Known → Data → Result Line What
+abbrev pub destroy_instance : List NamedOp → Data → Result Line What
 destroy_instance names d =
     and_then (field (handle_in names) 1 (codes "instance") d) (λ instance.
     only (codes "op" ∷ codes "instance" ∷ []) d (line (op.DestroyInstance instance) None))
 
 -- instance
-abbrev pub poll_event : List Known → Data → Result Line What
+abbrev pub poll_event : List NamedOp → Data → Result Line What
 poll_event names d =
     and_then (field (handle_in names) 1 (codes "instance") d) (λ instance.
     only (codes "op" ∷ codes "instance" ∷ []) d (line (op.PollEvent instance) None))
 
 -- instance, form, as?
-abbrev pub get_system : List Known → Data → Result Line What
+abbrev pub get_system : List NamedOp → Data → Result Line What
 get_system names d =
     and_then (field (handle_in names) 1 (codes "instance") d) (λ instance. and_then (field form_in 2 (codes "form") d) (λ form. and_then (name_at 3 d) (λ name.
     only (codes "op" ∷ codes "instance" ∷ codes "form" ∷ codes "as" ∷ []) d (line (op.GetSystem instance form) name))))
 
 -- instance, text, as?
-abbrev pub string_to_path : List Known → Data → Result Line What
+abbrev pub string_to_path : List NamedOp → Data → Result Line What
 string_to_path names d =
     and_then (field (handle_in names) 1 (codes "instance") d) (λ instance. and_then (field text_in 2 (codes "text") d) (λ text. and_then (name_at 3 d) (λ name.
     only (codes "op" ∷ codes "instance" ∷ codes "text" ∷ codes "as" ∷ []) d (line (op.StringToPath instance text) name))))
 
 -- instance, path, capacity
-abbrev pub path_to_string : List Known → Data → Result Line What
+abbrev pub path_to_string : List NamedOp → Data → Result Line What
 path_to_string names d =
     and_then (field (handle_in names) 1 (codes "instance") d) (λ instance. and_then (field (atom_in names) 2 (codes "path") d) (λ path.
     and_then (field (number_in 1024) 3 (codes "capacity") d) (λ capacity.
     only (codes "op" ∷ codes "instance" ∷ codes "path" ∷ codes "capacity" ∷ []) d (line (op.PathToString instance path capacity) None))))
 
 -- instance, system, as?
-abbrev pub create_session : List Known → Data → Result Line What
+abbrev pub create_session : List NamedOp → Data → Result Line What
 create_session names d =
     and_then (field (handle_in names) 1 (codes "instance") d) (λ instance. and_then (field (system_in names) 2 (codes "system") d) (λ system.
     and_then (name_at 3 d) (λ name.
     only (codes "op" ∷ codes "instance" ∷ codes "system" ∷ codes "as" ∷ []) d (line (op.CreateSession instance system) name))))
 
 -- session
-abbrev pub destroy_session : List Known → Data → Result Line What
+abbrev pub destroy_session : List NamedOp → Data → Result Line What
 destroy_session names d =
     and_then (field (handle_in names) 1 (codes "session") d) (λ session.
     only (codes "op" ∷ codes "session" ∷ []) d (line (op.DestroySession session) None))
 
 -- session
-abbrev pub end_session : List Known → Data → Result Line What
+abbrev pub end_session : List NamedOp → Data → Result Line What
 end_session names d =
     and_then (field (handle_in names) 1 (codes "session") d) (λ session.
     only (codes "op" ∷ codes "session" ∷ []) d (line (op.EndSession session) None))
 
 -- session
-abbrev pub request_exit_session : List Known → Data → Result Line What
+abbrev pub request_exit_session : List NamedOp → Data → Result Line What
 request_exit_session names d =
     and_then (field (handle_in names) 1 (codes "session") d) (λ session.
     only (codes "op" ∷ codes "session" ∷ []) d (line (op.RequestExitSession session) None))
 
 -- session, view
-abbrev pub begin_session : List Known → Data → Result Line What
+abbrev pub begin_session : List NamedOp → Data → Result Line What
 begin_session names d =
     and_then (field (handle_in names) 1 (codes "session") d) (λ session. and_then (field view_in 2 (codes "view") d) (λ view.
     only (codes "op" ∷ codes "session" ∷ codes "view" ∷ []) d (line (op.BeginSession session view) None)))
 
 -- mark, value?
-abbrev pub mark : List Known → Data → Result Line What
+abbrev pub mark : List NamedOp → Data → Result Line What
 mark names d =
     and_then (field mark_in 1 (codes "mark") d) (λ mark. and_then (optional (value_in names mark) (Number (pos 0)) 2 (codes "value") d) (λ value.
     only (codes "op" ∷ codes "mark" ∷ codes "value" ∷ []) d (line (op.Mark mark value) None)))

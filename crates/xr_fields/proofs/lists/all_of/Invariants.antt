@@ -7,7 +7,7 @@ use Rattle.xr_fields.proofs.lists.all_of.Given as goal
 
 abbrev pub invariant-loop-value : goal.invariant-loop-value
 invariant-loop-value g l = record {
-  meant : all_of (g.T.Part.part l.givers) (items_view l.values) ≡ prepend l.list.items (all_of (g.T.Part.part l.givers) (items_view (drop l.value-index l.values)));
+  meant : all_of (g.T.Part.part l.named_ops) (items_view l.values) ≡ prepend l.list.items (all_of (g.T.Part.part l.named_ops) (items_view (drop l.value-index l.values)));
   count : length l.list.items ≡ l.value-index;
-  each : Each (g.T.Part.formed l.givers) l.list.items;
+  each : Each (g.T.Part.formed l.named_ops) l.list.items;
 }

@@ -8,8 +8,8 @@ abbrev pub invariant-loop-idle : goal.invariant-loop-idle
 invariant-loop-idle g l = record {
   most : l.idle ≤ 3;
   kept : (told : Option DeviceStream) (before : ℕ)
-      → RunKeeps l.ops turn.Script 0 l.fn.core l.fn.run told (g.D.Device.told l.fn.device) before (g.D.Device.faults l.fn.device) (g.D.Device.bound l.fn.device)
-      → RunKeeps l.ops l.turn l.idle l.core l.run told (g.D.Device.told l.device) before (g.D.Device.faults l.device) (g.D.Device.bound l.device);
+      → RunKeeps l.ops turn.Script 0 l.fn.core l.fn.run told (g.D.Device.remaining l.fn.device) before (g.D.Device.faults l.fn.device) (g.D.Device.bound l.fn.device)
+      → RunKeeps l.ops l.turn l.idle l.core l.run told (g.D.Device.remaining l.device) before (g.D.Device.faults l.device) (g.D.Device.bound l.device);
   later : g.D.Device.faults l.fn.device ≤ g.D.Device.faults l.device;
   which : g.D.Device.which l.device ≡ g.D.Device.which l.fn.device;
 }

@@ -1,4 +1,4 @@
--- The names that are known: a map of givers, seen as a list of them.
+-- The names that are known: a map by name, seen as a list of the ops that gave them.
 use Rattle.std.proofs.Common.{◌≡◌, ℕ, Bool, true, false, List, [], ◌∷◌, map, cond, Some, None, refl, ap}
 use Rattle.std.proofs.lemmas.Bool.{eq-eqb, and_from, or_left, or_right}
 use Rattle.std.specs.Prelude.{◌==◌, ◌&&◌, option_and_then, if◌then◌else◌}
@@ -8,9 +8,9 @@ use Rattle.std.specs.Str.{bytes_eq}
 use Rattle.std.specs.Borrow.{Bor}
 use Rattle.indexmap.specs.IndexMap.{insert_entry}
 use Rattle.xr_types.specs.declared.scenario.Sort.{Sort}
-use Rattle.xr_model.specs.Names.{Known, known, given, is_sort, if_sort, place_of, is_known}
+use Rattle.xr_model.specs.Names.{NamedOp, known, given, is_sort, if_sort, place_of, is_known}
 use Rattle.xr_model.specs.ScriptForm.{IsKnownPlace}
-use Rattle.xr_fields.specs.declared.givers.Giver.{Giver}
+use Rattle.xr_fields.specs.declared.named_ops.Giver.{Giver}
 use Rattle.xr_fields.specs.Given.{known_of, place_by}
 
 -- an op gives a name
@@ -23,7 +23,7 @@ given-insert_entry (e ∷ es) name giver = by (bytes_eq name.now e.0.now) (given
         → map known_of (if b then (e.0, giver) ∷ es else e ∷ insert_entry (λ a b. bytes_eq a.now b.now) es name giver)
         ≡ (if b then known e.0.now giver.place giver.sort ∷ map known_of es else known_of e ∷ given name.now giver.place giver.sort (map known_of es))
     by true more = refl
-    by false more = ap (λ (ks : List Known). known_of e ∷ ks) more
+    by false more = ap (λ (ks : List NamedOp). known_of e ∷ ks) more
 
 -- a name is looked up
 pub place_of-lookup : (sort : Sort) (name : List ℕ) (es : List (Bor (List ℕ) × Giver))
@@ -38,7 +38,7 @@ place_of-lookup sort name (e ∷ es) = by (bytes_eq name e.0.now) (place_of-look
     by false more = more
 
 -- the place that is found for a name is known
-pub known_place : (sort : Sort) (name : List ℕ) (names : List Known) (place : ℕ) → place_of sort name names ≡ Some place → IsKnownPlace names sort place
+pub known_place : (sort : Sort) (name : List ℕ) (names : List NamedOp) (place : ℕ) → place_of sort name names ≡ Some place → IsKnownPlace names sort place
 known_place sort name [] place e = cc
 known_place sort name (k ∷ ks) place e = by (bytes_eq name k.name) (known_place sort name ks place) e
   where

@@ -19,28 +19,28 @@ pub(crate) struct Giver {
 /// The names that ops have given, each with the place and the sort of the latest op that gave it. A name
 /// is looked up at about the same cost however many there are.
 #[derive(Drop)]
-pub struct Givers<'v> {
-    givers: IndexMap<&'v str, Giver>,
+pub struct NamedOps<'v> {
+    by_name: IndexMap<&'v str, Giver>,
 }
 
-impl<'v> Model for Givers<'v> {
+impl<'v> Model for NamedOps<'v> {
     ghost use Rattle.std.specs.Prelude.{List, map};
-    ghost use Rattle.xr_model.specs.Names.{Known};
+    ghost use Rattle.xr_model.specs.Names.{NamedOp};
 
-    ghost Value = { List Known };
+    ghost Value = { List NamedOp };
 
     ghost use Rattle.xr_fields.specs.Given.{known_of};
 
-    ghost view = { λ names. map known_of names.givers.entries };
+    ghost view = { λ names. map known_of names.by_name.entries };
 }
 
-impl<'v> Givers<'v> {
+impl<'v> NamedOps<'v> {
     /// No name is known. Takes no memory.
-    pub fn new(alloc: Global) -> Givers<'v>
+    pub fn new(alloc: Global) -> NamedOps<'v>
         ensures { result ≡ [] }
     {
-        Givers {
-            givers: IndexMap::new(alloc),
+        NamedOps {
+            by_name: IndexMap::new(alloc),
         }
     }
 
@@ -48,7 +48,7 @@ impl<'v> Givers<'v> {
     pub fn give(&mut self, name: &'v str, place: u32, sort: Sort) -> Result<(), AllocError>
         ensures { OnOk result (self.new ≡ given name.entry.now place sort self.old) }
     {
-        let _earlier = self.givers.insert(name, Giver { place, sort })?;
+        let _earlier = self.by_name.insert(name, Giver { place, sort })?;
         Ok(())
     }
 
@@ -56,7 +56,7 @@ impl<'v> Givers<'v> {
     pub fn place_of(&self, name: &str, sort: Sort) -> Option<u32>
         ensures { result ≡ place_of sort name.now self.now }
     {
-        match self.givers.get(name) {
+        match self.by_name.get(name) {
             Some(giver) => of_sort(giver, sort),
             None => None,
         }
@@ -75,10 +75,10 @@ fn of_sort(giver: &Giver, sort: Sort) -> Option<u32>
 }
 
 /// The place of an op that gave a name of this sort.
-#[tactic(auto, using(crate::proofs::Known::known_place))]
-pub(crate) fn known_place(givers: &Givers<'_>, name: &str, sort: Sort) -> Option<u32>
-    ensures place { result ≡ place_of sort name.now givers.now }
-    ensures known { IfSome result (λ place. IsKnownPlace givers.now sort place) }
+#[tactic(auto, using(crate::proofs::KnownNames::known_place))]
+pub(crate) fn known_place(named_ops: &NamedOps<'_>, name: &str, sort: Sort) -> Option<u32>
+    ensures place { result ≡ place_of sort name.now named_ops.now }
+    ensures known { IfSome result (λ place. IsKnownPlace named_ops.now sort place) }
 {
-    givers.place_of(name, sort)
+    named_ops.place_of(name, sort)
 }

@@ -1,9 +1,0 @@
-use Rattle.std.proofs.Common.{refl}
-use Rattle.xr_fields.proofs.Known.{place_of-lookup}
-use Rattle.xr_fields.proofs.givers.Givers.place_of.Goals as goal
-
-pub returns-in-Some : goal.returns-in-Some
-returns-in-Some c = rw (← c.self.view_is, place_of-lookup c.args.sort c.args.name.now c.self.inside.givers.entries, ← c.in-Some.ensures.value) c.of_sort.ensures
-
-pub returns-in-None : goal.returns-in-None
-returns-in-None c = rw (← c.self.view_is, place_of-lookup c.args.sort c.args.name.now c.self.inside.givers.entries, ← c.in-None.ensures.value) refl
