@@ -2,7 +2,7 @@
 use Rattle.std.specs.Prelude.{◌≡◌, ℕ, true, false, List, Option, Some, None, option_map, Result, Ok, Err}
 use Rattle.clap.specs.Words.{found_of, rows_of}
 use Rattle.clap.specs.declared.parser.matches.ArgMatches.{ArgMatches}
-use Rattle.xr_model.specs.Words as words
+use Rattle.xr_model.specs.command_line.Words as words
 use Rattle.xr_command.specs.declared.RunOptions.{RunOptions}
 use Rattle.xr_command.specs.declared.WordsFault.{WordsFault}
 use Rattle.xr_command.specs.declared.WordsFault.TheVariants.{Usage, NoMemory}

@@ -3,7 +3,7 @@
 
 ghost use Rattle.std.specs.Prelude.{◌≡◌, ◌≤◌, IfOk, IfSome, false, length, map, option_map, string_bytes};
 ghost use Rattle.clap.specs.Words.{app_of, rule_of, first_of, found_of, rows_of};
-ghost use Rattle.xr_model.specs.Words.{run_app, file_arg, device_arg, places_arg, is_file, is_file_or_none, is_serial, form_in, form_of};
+ghost use Rattle.xr_model.specs.command_line.Words.{run_app, file_arg, device_arg, places_arg, is_file, is_file_or_none, is_serial, options_in, options_of};
 ghost use Rattle.xr_command.specs.Reads.{shown, ReadsForm, ReadsRows};
 
 use clap::error::ErrorKind;
@@ -63,7 +63,7 @@ fn run_command<'a>(alloc: Global) -> Result<Command<'a>, AllocError>
 }
 
 /// What the command makes of the words.
-#[tactic(auto, unfolding(xr_model::specs::Words::is_taken, xr_model::specs::Words::rows_in))]
+#[tactic(auto, unfolding(xr_model::specs::command_line::Words::is_taken, xr_model::specs::command_line::Words::rows_in))]
 fn run_matches<'a>(alloc: Global, words: &'a [String]) -> Result<ArgMatches<'a>, WordsFault>
     ensures { ReadsRows result (map string_bytes words.entry.now) }
 {
@@ -110,8 +110,8 @@ fn text_of<'a>(matches: &ArgMatches<'a>, id: &str) -> Option<&'a str>
 }
 
 /// The form of what the command found.
-fn form_in<'a>(matches: &ArgMatches<'a>) -> Option<RunOptions<'a>>
-    ensures form { option_map shown result ≡ form_in (rows_of (found_of matches.now)) }
+fn options_in<'a>(matches: &ArgMatches<'a>) -> Option<RunOptions<'a>>
+    ensures form { option_map shown result ≡ options_in (rows_of (found_of matches.now)) }
     ensures short { IfSome result (λ form. length form.file.now ≤ 4095) }
     ensures short_device { IfSome result (λ form. IfSome form.device (λ name. length name.now ≤ 4095)) }
 {
@@ -132,8 +132,8 @@ fn form_in<'a>(matches: &ArgMatches<'a>) -> Option<RunOptions<'a>>
 
 /// The form of the words: `serial FILE`, with `--device FILE` and `--places` where these are wanted.
 /// `Usage` comes exactly where they have no form, and `NoMemory` is free.
-pub fn form_of<'a>(alloc: Global, words: &'a [String]) -> Result<RunOptions<'a>, WordsFault>
-    ensures form { ReadsForm result (form_of (map string_bytes words.entry.now)) }
+pub fn options_of<'a>(alloc: Global, words: &'a [String]) -> Result<RunOptions<'a>, WordsFault>
+    ensures form { ReadsForm result (options_of (map string_bytes words.entry.now)) }
     ensures short { IfOk result (λ form. length form.file.now ≤ 4095) }
     ensures short_device { IfOk result (λ form. IfSome form.device (λ name. length name.now ≤ 4095)) }
 {
@@ -144,7 +144,7 @@ pub fn form_of<'a>(alloc: Global, words: &'a [String]) -> Result<RunOptions<'a>,
         Ok(matches) => matches,
         Err(e) => return Err(e),
     };
-    match form_in(&matches) {
+    match options_in(&matches) {
         Some(form) => Ok(form),
         None => Err(WordsFault::Usage),
     }

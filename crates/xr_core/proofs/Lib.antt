@@ -1,6 +1,6 @@
 pub mod Start
-pub mod Answering
-pub mod Refusing
+pub mod CallAnswers
+pub mod PartRefusals
 pub mod SessionCalls
 pub mod SessionEvents
 pub mod Listed

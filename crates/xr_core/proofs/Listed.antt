@@ -5,12 +5,12 @@ use Rattle.std.specs.List.{position_from}
 use Rattle.xr_types.specs.declared.handles.Kind.TheVariants as kind
 use Rattle.xr_types.specs.declared.handles.Slot.{Slot}
 use Rattle.xr_types.specs.declared.handles.TheConstants.{SESSIONS}
-use Rattle.xr_model.specs.Handles.{Handles, is_live, has_room, no_room, first_free, with_handle}
-use Rattle.xr_model.specs.LiveSessions.{Session, no_life, session_at, with_life, with_life_at}
-use Rattle.xr_model.specs.SessionLife.{Life}
-use Rattle.xr_model.specs.Refusals.{Refusal, first_of, unless}
-use Rattle.xr_core.specs.Changes.{place_at}
-use Rattle.xr_model.specs.SessionLaws.{AreListed}
+use Rattle.xr_model.specs.machine.Handles.{Handles, is_live, has_room, no_room, first_free, with_handle}
+use Rattle.xr_model.specs.machine.LiveSessions.{Session, no_life, session_at, with_life, with_life_at}
+use Rattle.xr_model.specs.machine.SessionLife.{Life}
+use Rattle.xr_model.specs.machine.Refusals.{Refusal, first_of, unless}
+use Rattle.xr_core.specs.inside.Changes.{place_at}
+use Rattle.xr_model.specs.laws.SessionLaws.{AreListed}
 use Rattle.xr_model.proofs.Rows.{one_later, same_key, itself}
 use Rattle.xr_model.proofs.Listed.{listed_more}
 

@@ -4,9 +4,9 @@ use Rattle.xr_types.specs.declared.calls.Actor.{Actor}
 use Rattle.xr_types.specs.declared.calls.Call.{Call}
 use Rattle.xr_types.specs.declared.calls.Step.{Step}
 use Rattle.xr_types.specs.declared.calls.Step.TheVariants.{Done, NotReady}
-use Rattle.xr_model.specs.State.{CoreState, State, CellReads}
-use Rattle.xr_model.specs.Machine.{reads_of}
-use Rattle.xr_model.specs.CoreCalls.{CoreApplies, Applies}
+use Rattle.xr_model.specs.machine.State.{CoreState, State, CellReads}
+use Rattle.xr_model.specs.machine.Machine.{reads_of}
+use Rattle.xr_model.specs.machine.CoreCalls.{CoreApplies, Applies}
 
 pub pairs : (s : State) (new : CoreState) (who : Actor) (call : Call) (before after : List ℕ) (answer : Step) → ((reads : CellReads) → CoreApplies reads s.core new who call before after answer)
     → Applies s (record { core = new; cells = s.cells }) who call before after answer

@@ -8,19 +8,19 @@ use Rattle.xr_types.specs.declared.calls.Gives.TheVariants.{Nothing}
 use Rattle.xr_types.specs.declared.handles.Kind.TheVariants as kind
 use Rattle.xr_types.specs.declared.session.SessionState.TheVariants.{LossPending}
 use Rattle.xr_types.specs.Code.{is_out_of_memory}
-use Rattle.xr_model.specs.Request.{Request, is_locked}
-use Rattle.xr_model.specs.Handles.{is_live}
-use Rattle.xr_model.specs.Refusals.{Refusal, when, first_of, unless}
-use Rattle.xr_model.specs.SessionLife.{Life, is_state}
-use Rattle.xr_model.specs.LiveSessions.{Session, session_at}
-use Rattle.xr_model.specs.SessionRule.{code_on}
-use Rattle.xr_model.specs.Rules.Session.{life_of, with_change, changing_rule}
-use Rattle.xr_model.specs.State.{CoreState, CellReads}
-use Rattle.xr_model.specs.Rule.{Rule, refusals}
-use Rattle.xr_model.specs.Machine.{rule_of, is_built, is_creation}
+use Rattle.xr_model.specs.machine.Request.{Request, is_locked}
+use Rattle.xr_model.specs.machine.Handles.{is_live}
+use Rattle.xr_model.specs.machine.Refusals.{Refusal, when, first_of, unless}
+use Rattle.xr_model.specs.machine.SessionLife.{Life, is_state}
+use Rattle.xr_model.specs.machine.LiveSessions.{Session, session_at}
+use Rattle.xr_model.specs.machine.SessionRule.{code_on}
+use Rattle.xr_model.specs.machine.Rules.Session.{life_of, with_change, changing_rule}
+use Rattle.xr_model.specs.machine.State.{CoreState, CellReads}
+use Rattle.xr_model.specs.machine.Rule.{Rule, refusals}
+use Rattle.xr_model.specs.machine.Machine.{rule_of, is_built, is_creation}
 use Rattle.xr_states.specs.Codes.{code_by}
-use Rattle.xr_core.specs.Calls.{Makes}
-use Rattle.xr_core.specs.Changes.{life_request, checks_of, change_of, refusals_of, changed_life, answer_to}
+use Rattle.xr_core.specs.inside.Calls.{Makes}
+use Rattle.xr_core.specs.inside.Changes.{life_request, checks_of, change_of, refusals_of, changed_life, answer_to}
 use Rattle.xr_core.specs.declared.sessions.LifeCall.{LifeCall}
 use Rattle.xr_core.specs.declared.sessions.LifeCall.TheVariants.{Begin, End, RequestExit}
 

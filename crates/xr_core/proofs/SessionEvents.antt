@@ -1,12 +1,12 @@
 -- A session that a call has changed or refused to change, once that is told.
 use Rattle.std.proofs.Common.{◌≡◌, ◌<◌, ◌+◌, ℕ, zero, suc, List, [], ◌∷◌, ◌++◌, length, take, drop, Option, Some, None, refl, sym, ap, ◌∙◌, add-one, arith}
 use Rattle.std.specs.Prelude.{slice_set, slice_index_or}
-use Rattle.xr_model.specs.Refusals.{Refusal, first_of, unless}
-use Rattle.xr_model.specs.SessionLife.{Life, Changed}
-use Rattle.xr_model.specs.LiveSessions.{Session, session_at, with_life, with_life_at, each_changed, told_states}
-use Rattle.xr_model.specs.Rules.Session.{life_of, with_change}
-use Rattle.xr_model.specs.State.{CoreState}
-use Rattle.xr_core.specs.Changes.{place_at, ordinal_in, refusals_of, change_of, life_after, told_after, changed_life}
+use Rattle.xr_model.specs.machine.Refusals.{Refusal, first_of, unless}
+use Rattle.xr_model.specs.machine.SessionLife.{Life, Changed}
+use Rattle.xr_model.specs.machine.LiveSessions.{Session, session_at, with_life, with_life_at, each_changed, told_states}
+use Rattle.xr_model.specs.machine.Rules.Session.{life_of, with_change}
+use Rattle.xr_model.specs.machine.State.{CoreState}
+use Rattle.xr_core.specs.inside.Changes.{place_at, ordinal_in, refusals_of, change_of, life_after, told_after, changed_life}
 use Rattle.xr_core.specs.declared.sessions.LifeCall.{LifeCall}
 use Rattle.xr_core.proofs.Listed.{Stands, stands}
 

@@ -1,9 +1,9 @@
 // One call of the machine: whether it has to wait, and then the group that it belongs to, a file of `calls` each.
 ghost use Rattle.std.specs.Prelude.{◌≡◌, ◌<◌, ◌^◌, length};
-ghost use Rattle.xr_model.specs.Request.{request_of};
-ghost use Rattle.xr_model.specs.State.{CellReads};
-ghost use Rattle.xr_model.specs.Machine.{is_held_back};
-ghost use Rattle.xr_model.specs.CoreCalls.{MayMake, CoreApplies};
+ghost use Rattle.xr_model.specs.machine.Request.{request_of};
+ghost use Rattle.xr_model.specs.machine.State.{CellReads};
+ghost use Rattle.xr_model.specs.machine.Machine.{is_held_back};
+ghost use Rattle.xr_model.specs.machine.CoreCalls.{MayMake, CoreApplies};
 
 use crate::Core;
 use xr_types::{Actor, Call, Step};

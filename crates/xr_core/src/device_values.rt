@@ -1,7 +1,7 @@
 // What the device has told of itself.
 ghost use Rattle.std.specs.Prelude.{◌≡◌};
-ghost use Rattle.xr_model.specs.Device.{first_device};
-ghost use Rattle.xr_model.specs.Rules.Device.{later_of};
+ghost use Rattle.xr_model.specs.machine.Device.{first_device};
+ghost use Rattle.xr_model.specs.machine.Rules.Device.{later_of};
 
 use std::marker::Model;
 use xr_types::Wish;
@@ -20,7 +20,7 @@ pub(crate) struct DeviceValues {
 }
 
 impl Model for DeviceValues {
-    ghost use Rattle.xr_model.specs.Device.{Device};
+    ghost use Rattle.xr_model.specs.machine.Device.{Device};
 
     ghost Value = { Device };
 

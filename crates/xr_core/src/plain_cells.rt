@@ -1,6 +1,6 @@
 // Cells in plain memory: the stamps of all images and the images that are held.
 ghost use Rattle.std.specs.Prelude.{◌≡◌};
-ghost use Rattle.xr_model.specs.State.{opening_cells};
+ghost use Rattle.xr_model.specs.machine.State.{opening_cells};
 
 use arrayvec::ArrayVec;
 use std::marker::Model;
@@ -17,7 +17,7 @@ pub struct PlainCells {
 }
 
 impl Model for PlainCells {
-    ghost use Rattle.xr_model.specs.State.{Cells};
+    ghost use Rattle.xr_model.specs.machine.State.{Cells};
 
     ghost Value = { Cells };
 

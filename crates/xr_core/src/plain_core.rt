@@ -1,9 +1,9 @@
 // A core and plain cells as one value, seen as the whole state. It knows no call.
 ghost use Rattle.std.specs.Prelude.{◌≡◌, ◌≤◌, ◌<◌, ◌^◌, ◌↔◌, IfOk, IsTrue, length};
-ghost use Rattle.xr_model.specs.Request.{request_of};
-ghost use Rattle.xr_model.specs.State.{with_apps, opening};
-ghost use Rattle.xr_model.specs.Machine.{IsPresent};
-ghost use Rattle.xr_model.specs.CoreCalls.{MayMake, Applies};
+ghost use Rattle.xr_model.specs.machine.Request.{request_of};
+ghost use Rattle.xr_model.specs.machine.State.{with_apps, opening};
+ghost use Rattle.xr_model.specs.machine.Machine.{IsPresent};
+ghost use Rattle.xr_model.specs.machine.CoreCalls.{MayMake, Applies};
 
 use crate::{Core, PlainCells};
 use std::alloc::Global;
@@ -18,7 +18,7 @@ pub struct PlainCore {
 }
 
 impl Model for PlainCore {
-    ghost use Rattle.xr_model.specs.State.{State};
+    ghost use Rattle.xr_model.specs.machine.State.{State};
 
     ghost Value = { State };
 

@@ -1,10 +1,10 @@
 // The live sessions, what changes them, and what is told of that.
 ghost use Rattle.std.specs.Prelude.{◌≡◌, ◌<◌, [], length, Some};
 ghost use Rattle.xr_types.specs.declared.code.Code.TheVariants.{Success};
-ghost use Rattle.xr_model.specs.SessionLife.{started};
-ghost use Rattle.xr_model.specs.LiveSessions.{session_at, life_in, with_life, with_life_at, each_changed, told_states, told_changes};
-ghost use Rattle.xr_model.specs.SessionRule.{code_on};
-ghost use Rattle.xr_core.specs.Changes.{change_by, place_at, ordinal_in, life_after, told_after, answer_to};
+ghost use Rattle.xr_model.specs.machine.SessionLife.{started_session};
+ghost use Rattle.xr_model.specs.machine.LiveSessions.{session_at, life_in, with_life, with_life_at, each_changed, told_states, told_changes};
+ghost use Rattle.xr_model.specs.machine.SessionRule.{code_on};
+ghost use Rattle.xr_core.specs.inside.Changes.{change_by, place_at, ordinal_in, life_after, told_after, answer_to};
 
 use arrayvec::ArrayVec;
 use std::marker::Model;
@@ -22,7 +22,7 @@ pub(crate) struct LiveSession {
 }
 
 impl Model for LiveSession {
-    ghost use Rattle.xr_model.specs.LiveSessions as sessions;
+    ghost use Rattle.xr_model.specs.machine.LiveSessions as sessions;
 
     ghost Value = { sessions.Session };
 
@@ -59,32 +59,32 @@ fn tell(events: &mut Events, ordinal: u64, session: u64, changes: &Changes)
 }
 
 /// Begins a session.
-#[tactic(auto, unfolding(crate::specs::Changes::life_after, crate::specs::Changes::told_after, crate::specs::Changes::answer_to))]
+#[tactic(auto, unfolding(crate::specs::inside::Changes::life_after, crate::specs::inside::Changes::told_after, crate::specs::inside::Changes::answer_to))]
 fn begin(life: &mut Session, view: ViewConfig, wish: Wish) -> Code
     ensures life { life.new ≡ life_after wish (LifeCall.Begin view) life.old }
-    ensures told { [] ≡ told_after wish (LifeCall.Begin view) life.old }
+    ensures through { [] ≡ told_after wish (LifeCall.Begin view) life.old }
     ensures code { result ≡ answer_to (LifeCall.Begin view) life.old }
 {
     life.begin(view)
 }
 
 /// Ends a session.
-#[tactic(auto, unfolding(crate::specs::Changes::life_after, crate::specs::Changes::told_after, crate::specs::Changes::answer_to))]
+#[tactic(auto, unfolding(crate::specs::inside::Changes::life_after, crate::specs::inside::Changes::told_after, crate::specs::inside::Changes::answer_to))]
 fn end(life: &mut Session, wish: Wish, changes: &mut Changes) -> Code
     requires { changes.old ≡ [] }
     ensures life { life.new ≡ life_after wish LifeCall.End life.old }
-    ensures told { changes.new ≡ told_after wish LifeCall.End life.old }
+    ensures through { changes.new ≡ told_after wish LifeCall.End life.old }
     ensures code { result ≡ answer_to LifeCall.End life.old }
 {
     life.end(wish, changes)
 }
 
 /// Asks for a session's end.
-#[tactic(auto, unfolding(crate::specs::Changes::life_after, crate::specs::Changes::told_after, crate::specs::Changes::answer_to))]
+#[tactic(auto, unfolding(crate::specs::inside::Changes::life_after, crate::specs::inside::Changes::told_after, crate::specs::inside::Changes::answer_to))]
 fn request_exit(life: &mut Session, wish: Wish, changes: &mut Changes) -> Code
     requires { changes.old ≡ [] }
     ensures life { life.new ≡ life_after wish LifeCall.RequestExit life.old }
-    ensures told { changes.new ≡ told_after wish LifeCall.RequestExit life.old }
+    ensures through { changes.new ≡ told_after wish LifeCall.RequestExit life.old }
     ensures code { result ≡ answer_to LifeCall.RequestExit life.old }
 {
     life.request_exit(wish, changes)
@@ -94,7 +94,7 @@ fn request_exit(life: &mut Session, wish: Wish, changes: &mut Changes) -> Code
 fn live(life: &mut Session, call: LifeCall, wish: Wish, changes: &mut Changes) -> Code
     requires { changes.old ≡ [] }
     ensures life { life.new ≡ life_after wish call life.old }
-    ensures told { changes.new ≡ told_after wish call life.old }
+    ensures through { changes.new ≡ told_after wish call life.old }
     ensures code { result ≡ answer_to call life.old }
 {
     match call {
@@ -107,8 +107,8 @@ fn live(life: &mut Session, call: LifeCall, wish: Wish, changes: &mut Changes) -
 impl LiveSession {
     /// A new session, which tells its first states.
     pub(crate) fn create(handle: u64, ordinal: u64, wish: Wish, events: &mut Events) -> LiveSession
-        ensures session { result ≡ record { handle = handle; ordinal = ordinal; life = (started wish).life } }
-        ensures told { events.new ≡ told_states events.old ordinal handle (started wish).through }
+        ensures session { result ≡ record { handle = handle; ordinal = ordinal; life = (started_session wish).life } }
+        ensures events { events.new ≡ told_states events.old ordinal handle (started_session wish).through }
     {
         let mut changes = Changes::new();
         let life = Session::start(wish, &mut changes);
@@ -139,7 +139,7 @@ impl LiveSession {
     /// Makes a call that changes the session's life, and tells what it went through.
     fn make(&mut self, call: LifeCall, wish: Wish, events: &mut Events) -> Code
         ensures life { self.new ≡ with_life (life_after wish call self.old.life) self.old }
-        ensures told { events.new ≡ told_states events.old self.old.ordinal self.old.handle (told_after wish call self.old.life) }
+        ensures events { events.new ≡ told_states events.old self.old.ordinal self.old.handle (told_after wish call self.old.life) }
         ensures code { result ≡ answer_to call self.old.life }
     {
         let mut changes = Changes::new();
@@ -151,7 +151,7 @@ impl LiveSession {
     /// Changes with all others, and tells what it went through.
     fn change(&mut self, change: Change, events: &mut Events)
         ensures life { self.new ≡ with_life (change_by change self.old.life).life self.old }
-        ensures told { events.new ≡ told_states events.old self.old.ordinal self.old.handle (change_by change self.old.life).through }
+        ensures events { events.new ≡ told_states events.old self.old.ordinal self.old.handle (change_by change self.old.life).through }
     {
         let mut changes = Changes::new();
         match change {
@@ -166,7 +166,7 @@ impl LiveSession {
 /// Changes all sessions, in the order of their creation.
 pub(crate) fn change_each(sessions: &mut [LiveSession], change: Change, events: &mut Events)
     ensures sessions { sessions.new ≡ each_changed (change_by change) sessions.old }
-    ensures told { events.new ≡ told_changes events.old (change_by change) sessions.old }
+    ensures events { events.new ≡ told_changes events.old (change_by change) sessions.old }
 {
     for session in sessions.iter_mut() {
         session.change(change, events);
@@ -203,7 +203,7 @@ pub(crate) fn change_life(
     requires found { place_at sessions.old.items handle ≡ Some place }
     requires within { place < length sessions.old.items }
     ensures sessions { sessions.new.items ≡ with_life_at handle (life_after wish call (life_in (session_at sessions.old.items handle))) sessions.old.items }
-    ensures told { events.new ≡ told_states events.old (ordinal_in (session_at sessions.old.items handle)) handle (told_after wish call (life_in (session_at sessions.old.items handle))) }
+    ensures events { events.new ≡ told_states events.old (ordinal_in (session_at sessions.old.items handle)) handle (told_after wish call (life_in (session_at sessions.old.items handle))) }
     ensures code { result ≡ answer_to call (life_in (session_at sessions.old.items handle)) }
 {
     sessions[place].make(call, wish, events)

@@ -1,11 +1,11 @@
 // The state, and how a call ends. It touches no part's inside.
 ghost use Rattle.std.specs.Prelude.{◌≡◌, ◌≤◌, ◌<◌, ◌^◌, ◌+◌, ◌↔◌, IfOk, IsTrue, length};
-ghost use Rattle.xr_model.specs.Destroyed.{without_handle};
-ghost use Rattle.xr_model.specs.LiveSessions.{still_live};
-ghost use Rattle.xr_model.specs.Rules.Device.{with_changes};
-ghost use Rattle.xr_core.specs.Changes.{change_by};
-ghost use Rattle.xr_model.specs.State.{with_apps, opening_core};
-ghost use Rattle.xr_model.specs.Machine.{IsPresent};
+ghost use Rattle.xr_model.specs.machine.Destroyed.{without_handle};
+ghost use Rattle.xr_model.specs.machine.LiveSessions.{still_live};
+ghost use Rattle.xr_model.specs.machine.Rules.Device.{with_changes};
+ghost use Rattle.xr_core.specs.inside.Changes.{change_by};
+ghost use Rattle.xr_model.specs.machine.State.{with_apps, opening_core};
+ghost use Rattle.xr_model.specs.machine.Machine.{IsPresent};
 
 use crate::device_values::DeviceValues;
 use crate::sessions::{Change, LiveSession, change_each};
@@ -44,8 +44,8 @@ pub struct Core {
 
 impl Model for Core {
     ghost use Rattle.std.specs.Prelude.{◌≡◌, ◌≤◌, take, length};
-    ghost use Rattle.xr_model.specs.SessionLaws.{AreListed};
-    ghost use Rattle.xr_model.specs.State.{CoreState};
+    ghost use Rattle.xr_model.specs.laws.SessionLaws.{AreListed};
+    ghost use Rattle.xr_model.specs.machine.State.{CoreState};
 
     ghost Value = { CoreState };
 
@@ -125,8 +125,8 @@ impl Core {
     pub(crate) fn destroy(&mut self, handle: u64)
         ensures { self.new ≡ without_handle self.old handle }
     {
-        let mut gone: ArrayVec<u64, MOST_HANDLES> = ArrayVec::new();
-        self.handles.destroy(handle, &mut gone);
+        let mut destroyed: ArrayVec<u64, MOST_HANDLES> = ArrayVec::new();
+        self.handles.destroy(handle, &mut destroyed);
         keep_live(&self.handles, &mut self.sessions);
     }
 

@@ -2,7 +2,7 @@
 use Rattle.std.proofs.Common.{◌≡◌, ◌≢◌, ◌<◌, ◌==◌, ℕ, ◌+◌, ◌-◌, Bool, true, false, true≢false, List, [], ◌∷◌, ◌++◌, length, get_or, take, drop, refl, sym, ap, ◌∙◌, arith, take-append-drop, None}
 use Rattle.std.proofs.lemmas.Bool.Decides.{nat_tests}
 use Rattle.std.proofs.lemmas.List.{drop_more, take_more, take_rest, length-take, get_or-take, take-take}
-use Rattle.xr_model.specs.DeviceText.{words_of, before_first, event_by, event_of, if_checked}
+use Rattle.xr_model.specs.device_text.DeviceText.{words_of, before_first, event_by, event_of, if_checked}
 use Rattle.xr_device.specs.FirstByte.{is_free_of, IsFirstAt}
 
 free_push : (b : ℕ) (xs : List ℕ) (y : ℕ) → is_free_of b xs ≡ true → (y == b) ≡ false → is_free_of b (xs ++ y ∷ []) ≡ true

@@ -2,8 +2,8 @@
 use Rattle.std.proofs.Common.{◌≡◌, ◌<◌, ◌≤◌, ℕ, ◌+◌, ◌-◌, ◌*◌, Bool, true, false, nat_le, List, [], ◌∷◌, length, get_or, drop, Option, Some, None, refl, ap, ◌∙◌, arith}
 use Rattle.std.proofs.lemmas.Bool.Decides.{nat_tests}
 use Rattle.std.proofs.lemmas.List.{drop_more}
-use Rattle.xr_model.specs.DeviceText.{digits_behind, is_digit}
-use Rattle.xr_device.specs.Said.{up_to}
+use Rattle.xr_model.specs.device_text.DeviceText.{digits_behind, is_digit}
+use Rattle.xr_device.specs.inside.Said.{up_to}
 
 same_number : (n m : ℕ) → Some n ≡ Some m → n ≡ m
 same_number n m e = cc

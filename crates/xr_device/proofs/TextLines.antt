@@ -3,7 +3,7 @@ use Rattle.std.proofs.Common.{◌≡◌, ◌<◌, ◌≤◌, ◌⊎◌, ◌==◌
 use Rattle.std.proofs.lemmas.List.{length-take-le, take_all, drop_all}
 use Rattle.std.specs.Prelude.{if◌then◌else◌}
 use Rattle.std.proofs.lemmas.Bool.Decides.{nat_tests}
-use Rattle.xr_model.specs.DeviceText.{Line, in_front, lines_in, size_of, told_from, told_by, meaning_of}
+use Rattle.xr_model.specs.device_text.DeviceText.{Line, in_front, lines_in, line_size, told_from, told_by, meaning_of}
 use Rattle.xr_device.specs.FirstByte.{is_free_of, IsFirstAt}
 use Rattle.xr_device.specs.Answers.{garbled}
 use Rattle.xr_device.proofs.FirstBytes.{first_parts}
@@ -76,12 +76,12 @@ test_fits a used size few fits = grind (arith, nat_tests)
 late : (number used n : ℕ) (line : Line) (ls : List Line) → n ≤ length line.bytes → (255 < n) ⊎ (16777216 < used + n) → told_from number used (line ∷ ls) ≡ garbled number
 late number used n line ls le h = rw (test_late (length line.bytes) (if line.closed then 1 else 0) used n le h) refl
 
-past : (number used : ℕ) (line : Line) (ls : List Line) → 16777216 < used + size_of line → told_from number used (line ∷ ls) ≡ garbled number
-past number used line ls h = rw (test_past (length line.bytes) used (size_of line) h) refl
+past : (number used : ℕ) (line : Line) (ls : List Line) → 16777216 < used + line_size line → told_from number used (line ∷ ls) ≡ garbled number
+past number used line ls h = rw (test_past (length line.bytes) used (line_size line) h) refl
 
-fits : (number used : ℕ) (line : Line) (ls : List Line) → length line.bytes ≤ 255 → used + size_of line ≤ 16777216
-    → told_from number used (line ∷ ls) ≡ told_by number (meaning_of line.bytes) (told_from (number + 1) (used + size_of line) ls)
-fits number used line ls few h = rw (test_fits (length line.bytes) used (size_of line) few h) refl
+fits : (number used : ℕ) (line : Line) (ls : List Line) → length line.bytes ≤ 255 → used + line_size line ≤ 16777216
+    → told_from number used (line ∷ ls) ≡ told_by number (meaning_of line.bytes) (told_from (number + 1) (used + line_size line) ls)
+fits number used line ls few h = rw (test_fits (length line.bytes) used (line_size line) few h) refl
 
 -- a last line without a line feed
 alone : (number used : ℕ) (l : List ℕ) → is_free_of 10 l ≡ true → 0 < length l → length l ≤ 255 → used + length l ≤ 16777216

@@ -3,8 +3,8 @@ use Rattle.std.specs.Prelude.{◌≡◌, ℕ, ◌&&◌, Bool, true, false, [], �
 use Rattle.xr_types.specs.declared.device.DeviceEvent.{DeviceEvent}
 use Rattle.xr_types.specs.declared.device.DeviceEvent.TheVariants as event
 use Rattle.xr_types.specs.Device.{checks}
-use Rattle.xr_model.specs.DeviceLaws.{is_of_line}
-use Rattle.xr_model.specs.DeviceText.{DeviceStream, nothing_more, garbled_at}
+use Rattle.xr_model.specs.laws.DeviceLaws.{is_of_line}
+use Rattle.xr_model.specs.device_text.DeviceText.{DeviceStream, nothing_more, garbled_at}
 use Rattle.xr_device.specs.declared.Next.{Next}
 use Rattle.xr_device.specs.declared.Next.TheVariants as next
 

@@ -1,6 +1,5 @@
 pub mod Answers
 pub mod FirstByte
-pub mod Said
 pub mod Texts
-pub mod Steps
 pub mod Outlook
+pub mod inside

@@ -1,7 +1,7 @@
 -- What is known of a device that reads a text.
 use Rattle.std.specs.Prelude.{ℕ, ◌-◌, Bool, Option, Some, if◌then◌else◌}
 use Rattle.xr_io.specs.declared.Which.{Which}
-use Rattle.xr_model.specs.DeviceText.{DeviceStream, nothing_more}
+use Rattle.xr_model.specs.device_text.DeviceText.{DeviceStream, nothing_more}
 
 -- what is still to come where it is told, how many events that are at most, how often a read has failed, which of the
 -- two files is read, and whether the device answers its end for ever

@@ -1,7 +1,7 @@
 -- A device text of which some bytes are held and the rest may be told.
 use Rattle.std.specs.Prelude.{◌≡◌, ◌≤◌, ◌<◌, ℕ, ◌+◌, ◌-◌, if◌then◌else◌, Bool, true, false, List, [], ◌++◌, length, take, drop, Option, Some, None, option_map}
 use Rattle.std.specs.Io.KnownBytes.{IsAtEnd, prepend_known}
-use Rattle.xr_model.specs.DeviceText.{DeviceStream, told_from, told_by, lines_in, meaning_of, nothing_more}
+use Rattle.xr_model.specs.device_text.DeviceText.{DeviceStream, told_from, told_by, lines_in, meaning_of, nothing_more}
 use Rattle.xr_device.specs.Answers.{garbled}
 use Rattle.xr_device.specs.FirstByte.{is_free_of}
 use Rattle.xr_device.specs.declared.lines.Front.{Front}

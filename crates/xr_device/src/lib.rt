@@ -5,7 +5,7 @@
 ghost use Rattle.std.specs.Prelude.{◌≡◌, ◌≤◌, ◌<◌, ℕ, Bool, true, Option, Some};
 ghost use Rattle.xr_io.specs.declared.Which.{Which};
 ghost use Rattle.xr_io.specs.Outside.{Rose};
-ghost use Rattle.xr_model.specs.DeviceText.{DeviceStream, nothing_more};
+ghost use Rattle.xr_model.specs.device_text.DeviceText.{DeviceStream, nothing_more};
 ghost use Rattle.xr_device.specs.Answers.{Tells, IsTold, OnEvent, UnlessEvent, OnFailed};
 
 mod bytes;
@@ -54,7 +54,7 @@ pub trait Device {
 
     /// The next event, or why there is none.
     fn next(&mut self) -> Next
-        ensures told { Tells (remaining self.old) (remaining self.new) result }
+        ensures remaining { Tells (remaining self.old) (remaining self.new) result }
         ensures sound { OnEvent result (λ e. IsTold e) }
 
         // After any answer but an event nothing is to come, and the answer is `End` from then on.

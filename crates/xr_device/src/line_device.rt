@@ -1,6 +1,6 @@
 // The device that reads a text.
 ghost use Rattle.std.specs.Prelude.{◌≡◌, ◌≤◌, false, option_map};
-ghost use Rattle.xr_model.specs.DeviceText.{told_in};
+ghost use Rattle.xr_model.specs.device_text.DeviceText.{told_in};
 
 use crate::text::{Step, Text};
 use crate::{Device, Next};

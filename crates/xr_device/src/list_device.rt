@@ -60,7 +60,7 @@ impl ListDevice {
 impl Device for ListDevice {
     ghost use Rattle.std.specs.Prelude.{◌==◌, Some, length};
     ghost use Rattle.xr_io.specs.declared.Which.TheVariants.{Device};
-    ghost use Rattle.xr_model.specs.DeviceText.{ends};
+    ghost use Rattle.xr_model.specs.device_text.DeviceText.{ends};
 
     ghost remaining = { λ d. Some (record { events = d; ending = ends }) };
 

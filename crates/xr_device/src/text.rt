@@ -1,9 +1,9 @@
 // A device text that is read line by line.
 ghost use Rattle.std.specs.Prelude.{◌≡◌, ◌≤◌, ◌<◌, ◌+◌, false, option_map};
 ghost use Rattle.xr_io.specs.Outside.{Rose};
-ghost use Rattle.xr_model.specs.DeviceText.{told_in};
+ghost use Rattle.xr_model.specs.device_text.DeviceText.{told_in};
 ghost use Rattle.xr_device.specs.Answers.{IsTold, OnEvent, OnFailed};
-ghost use Rattle.xr_device.specs.Steps.{OnGoing, OnAnswer, Steps};
+ghost use Rattle.xr_device.specs.inside.Steps.{OnGoing, OnAnswer, Steps};
 ghost use Rattle.xr_device.specs.Texts.{told_at, IsFrontLine, IsUndecided, IsReadTo, steps_left};
 
 use crate::Next;
@@ -35,7 +35,7 @@ impl<S: Source> Text<S> {
     pub(crate) fn new(source: S) -> Text<S>
         ensures source { result.source ≡ source }
         ensures read { IsReadTo result.number result.used result.held result.ended (S.left result.source) }
-        ensures told { told_at result.number result.used result.held (S.left result.source) ≡ option_map told_in (S.left source) }
+        ensures remaining { told_at result.number result.used result.held (S.left result.source) ≡ option_map told_in (S.left source) }
     {
         Text {
             source,
@@ -58,7 +58,7 @@ impl<S: Source> Text<S> {
     pub(crate) fn step(&mut self) -> Step
         requires { IsReadTo self.old.number self.old.used self.old.held self.old.ended (S.left self.old.source) }
         ensures read { IsReadTo self.new.number self.new.used self.new.held self.new.ended (S.left self.new.source) }
-        ensures told { Steps
+        ensures remaining { Steps
             (told_at self.old.number self.old.used self.old.held (S.left self.old.source))
             (told_at self.new.number self.new.used self.new.held (S.left self.new.source))
             result }
@@ -83,7 +83,7 @@ impl<S: Source> Text<S> {
         requires read { IsReadTo self.old.number self.old.used self.old.held self.old.ended (S.left self.old.source) }
         requires line { IsFrontLine self.old.used self.old.held self.old.ended bytes size }
         ensures read { IsReadTo self.new.number self.new.used self.new.held self.new.ended (S.left self.new.source) }
-        ensures told { Steps
+        ensures remaining { Steps
             (told_at self.old.number self.old.used self.old.held (S.left self.old.source))
             (told_at self.new.number self.new.used self.new.held (S.left self.new.source))
             result }
@@ -111,7 +111,7 @@ impl<S: Source> Text<S> {
         requires undecided { IsUndecided self.old.used self.old.held }
         requires unended { self.old.ended ≡ false }
         ensures read { IsReadTo self.new.number self.new.used self.new.held self.new.ended (S.left self.new.source) }
-        ensures told { Steps
+        ensures remaining { Steps
             (told_at self.old.number self.old.used self.old.held (S.left self.old.source))
             (told_at self.new.number self.new.used self.new.held (S.left self.new.source))
             result }

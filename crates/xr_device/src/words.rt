@@ -1,8 +1,8 @@
 // What one line says: its words, its numbers and its event.
 ghost use Rattle.std.specs.Prelude.{◌≡◌, ◌≤◌, true, [], ◌∷◌, pos, MatchOption, IfSome, option_map};
-ghost use Rattle.xr_model.specs.DeviceText.{words_of, number_of, digits_behind, wish_of, grid_by, event_by, if_checked, event_of, meaning_of};
-ghost use Rattle.xr_model.specs.DeviceLaws.{is_of_line};
-ghost use Rattle.xr_device.specs.Said.{up_to, ranged, meaning, IsSaidTold};
+ghost use Rattle.xr_model.specs.device_text.DeviceText.{words_of, number_of, digits_behind, wish_of, grid_by, event_by, if_checked, event_of, meaning_of};
+ghost use Rattle.xr_model.specs.laws.DeviceLaws.{is_of_line};
+ghost use Rattle.xr_device.specs.inside.Said.{up_to, ranged, meaning, IsSaidTold};
 ghost use Rattle.xr_types.specs.declared.device.DeviceEvent.TheVariants as event;
 
 use crate::bytes::place_of;
@@ -221,7 +221,7 @@ fn event_of(line: &[u8]) -> Option<DeviceEvent>
 /// What a line says, without its line feed.
 pub(crate) fn said_by(line: &[u8]) -> Said
     ensures meaning { meaning result ≡ meaning_of line.now }
-    ensures told { IsSaidTold result }
+    ensures sound { IsSaidTold result }
 {
     if line.is_empty() || line[0] == b'#' {
         return Said::Nothing;

@@ -1,7 +1,7 @@
 -- The causes of statuses.
 use Rattle.std.proofs.Common.{◌≡◌, ◌<◌, ℕ, arith}
 use Rattle.xr_io.specs.Outside.{Rose}
-use Rattle.xr_drive.specs.Input.{RoseIfStopped, status_of}
+use Rattle.xr_drive.specs.inside.Input.{RoseIfStopped, status_of}
 use Rattle.xr_drive.specs.Top.{IsReadFault}
 use Rattle.xr_drive.specs.declared.input.Stop.{Stop}
 use Rattle.xr_drive.specs.declared.input.Stop.TheVariants.{Failed, NoMemory}

@@ -11,12 +11,12 @@ use Rattle.xr_types.specs.declared.made.Lists.{Lists}
 use Rattle.xr_types.specs.declared.scenario.Op.{Op}
 use Rattle.xr_types.specs.declared.scenario.Scenario.{Scenario}
 use Rattle.xr_types.specs.Device.{checks}
-use Rattle.xr_model.specs.DeviceText.{Line, lines_in, size_of, is_word, most_line, most_text, Meaning, skipped, tells, malformed, event_or_none, meaning_of, words_of, number_of, wish_of, grid_by, event_by, if_checked, event_of, Ending, ends, garbled_at, DeviceStream, nothing_more, told_by, told_from, told_in}
-use Rattle.xr_model.specs.State.{with_apps}
-use Rattle.xr_model.specs.History.{calls_of}
-use Rattle.xr_model.specs.Lists.{events_in}
-use Rattle.xr_model.specs.Report.{is_garbled}
-use Rattle.xr_model.specs.Robin.{device_calls, last_event}
+use Rattle.xr_model.specs.device_text.DeviceText.{Line, lines_in, line_size, is_word, most_line, most_text, Meaning, skipped, tells, malformed, event_or_none, meaning_of, words_of, number_of, wish_of, grid_by, event_by, if_checked, event_of, Ending, ends, garbled_at, DeviceStream, nothing_more, told_by, told_from, told_in}
+use Rattle.xr_model.specs.machine.State.{with_apps}
+use Rattle.xr_model.specs.machine.History.{calls_of}
+use Rattle.xr_model.specs.runs.Lists.{events_in}
+use Rattle.xr_model.specs.report.Report.{is_garbled}
+use Rattle.xr_model.specs.runs.Robin.{device_calls, last_event}
 use Rattle.xr_serial.specs.Ran.{Gave, Ran}
 use Rattle.xr_drive.specs.Top.{told_under}
 use Rattle.xr_drive.proofs.Status.{IsClean, clean_front, clean_both}
@@ -95,10 +95,10 @@ told_by_clean number malformed rest h clean = refl
 told_from_clean : (number used : ℕ) (ls : List Line) → IsClean (told_from number used ls).events
 told_from_clean number used [] = refl
 told_from_clean number used (l ∷ ls) =
-    by (nat_lt most_line (length l.bytes) || nat_lt most_text (used + size_of l)) (told_by_clean number (meaning_of l.bytes) (told_from (number + 1) (used + size_of l) ls) (meaning_clean l.bytes) (told_from_clean (number + 1) (used + size_of l) ls))
+    by (nat_lt most_line (length l.bytes) || nat_lt most_text (used + line_size l)) (told_by_clean number (meaning_of l.bytes) (told_from (number + 1) (used + line_size l) ls) (meaning_clean l.bytes) (told_from_clean (number + 1) (used + line_size l) ls))
   where
-    by : (bad : Bool) → IsClean (told_by number (meaning_of l.bytes) (told_from (number + 1) (used + size_of l) ls)).events
-        → IsClean (if bad then record { events = []; ending = garbled_at number } else told_by number (meaning_of l.bytes) (told_from (number + 1) (used + size_of l) ls)).events
+    by : (bad : Bool) → IsClean (told_by number (meaning_of l.bytes) (told_from (number + 1) (used + line_size l) ls)).events
+        → IsClean (if bad then record { events = []; ending = garbled_at number } else told_by number (meaning_of l.bytes) (told_from (number + 1) (used + line_size l) ls)).events
     by true clean = refl
     by false clean = clean
 

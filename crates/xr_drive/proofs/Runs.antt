@@ -11,10 +11,10 @@ use Rattle.xr_types.specs.declared.status.Status.{Status}
 use Rattle.xr_types.specs.declared.status.Status.TheVariants.{Done, Usage, OpenFault, ReadFault, ScenarioRefused, DeviceFailed, DeviceGarbled, Stuck, WriteFault, NoMemory}
 use Rattle.xr_types.specs.declared.status.Refusal.{Refusal}
 use Rattle.xr_types.specs.declared.status.Refusal.TheVariants.{TooLong, Unbuilt}
-use Rattle.xr_model.specs.Words.{RunOptions, form_of}
-use Rattle.xr_model.specs.Scenario.{scenario_of}
-use Rattle.xr_model.specs.Built.{are_built, if_built, run_scenario_of}
-use Rattle.xr_model.specs.DeviceText.{DeviceStream, ends}
+use Rattle.xr_model.specs.command_line.Words.{RunOptions, options_of}
+use Rattle.xr_model.specs.scenario.Scenario.{scenario_of}
+use Rattle.xr_model.specs.scenario.Built.{are_built, if_built, run_scenario_of}
+use Rattle.xr_model.specs.device_text.DeviceText.{DeviceStream, ends}
 use Rattle.xr_drive.specs.Run.{Run}
 use Rattle.xr_drive.specs.Status.{status_by}
 use Rattle.xr_drive.specs.Top.{told_under, RunsText, Means, MeansText, MeansRun, MeansWritten, RoseIfUnwritten, HasRunCause, Faults, NoneRose, HasItsCause, IsComplete}
@@ -100,7 +100,7 @@ means_run all text told (Err Stuck) read e = absurd e
 means_run all text told (Err WriteFault) read e = absurd e
 
 -- ---- what a status behind a report means
-pub means_written : (words : List (List ℕ)) (bytes : List ℕ → Option (List ℕ)) (before after : Option (List ℕ)) (form : RunOptions) (lists : Lists) (status : Status) → form_of words ≡ Some form
+pub means_written : (words : List (List ℕ)) (bytes : List ℕ → Option (List ℕ)) (before after : Option (List ℕ)) (form : RunOptions) (lists : Lists) (status : Status) → options_of words ≡ Some form
     → RunsText (bytes form.file) (told_under bytes form.device) lists → MeansWritten lists form.places before after status → Means words bytes before after status
 means_written words bytes before after form lists Done is run m = (form, is, (lists, run, m))
 means_written words bytes before after form lists DeviceFailed is run m = (form, is, (lists, run, m))

@@ -8,7 +8,7 @@ use Rattle.xr_types.specs.declared.device.DeviceEvent.{DeviceEvent}
 use Rattle.xr_types.specs.declared.device.DeviceEvent.TheVariants as event
 use Rattle.xr_types.specs.declared.made.Waiting.{Waiting}
 use Rattle.xr_types.specs.declared.status.Status.TheVariants.{DeviceFailed, DeviceGarbled}
-use Rattle.xr_model.specs.Report.{is_fault, is_garbled}
+use Rattle.xr_model.specs.report.Report.{is_fault, is_garbled}
 use Rattle.xr_drive.specs.Status.{garbled_line, first_garbled, stuck_or_done, unless_garbled, status_by}
 
 -- where it failed, an event is a fault

@@ -1,5 +1,5 @@
 pub mod Run
-pub mod Input
 pub mod Status
 pub mod Top
 pub mod Exit
+pub mod inside

@@ -3,8 +3,8 @@ use Rattle.std.specs.Prelude.{◌≡◌, List, ℕ, Option, Ok}
 use Rattle.xr_types.specs.declared.made.Lists.{Lists}
 use Rattle.xr_types.specs.declared.scenario.Op.{Op}
 use Rattle.xr_types.specs.declared.scenario.Scenario.{Scenario}
-use Rattle.xr_model.specs.Built.{run_scenario_of}
-use Rattle.xr_model.specs.DeviceText.{DeviceStream}
+use Rattle.xr_model.specs.scenario.Built.{run_scenario_of}
+use Rattle.xr_model.specs.device_text.DeviceText.{DeviceStream}
 use Rattle.xr_serial.specs.Ran.{Ran}
 
 -- A run of a text beside a device that is known to give this: the text is a scenario that is run, and the lists are

@@ -6,7 +6,7 @@ use Rattle.xr_types.specs.declared.device.DeviceEvent.TheVariants.{Garbled}
 use Rattle.xr_types.specs.declared.made.Waiting.{Waiting}
 use Rattle.xr_types.specs.declared.status.Status.{Status}
 use Rattle.xr_types.specs.declared.status.Status.TheVariants.{Done, DeviceFailed, DeviceGarbled, Stuck}
-use Rattle.xr_model.specs.Report.{is_fault}
+use Rattle.xr_model.specs.report.Report.{is_fault}
 
 abbrev pub garbled_line : DeviceEvent → Option ℕ
 garbled_line (Garbled line) = Some line

@@ -9,16 +9,16 @@ use Rattle.xr_types.specs.declared.made.Lists.{Lists}
 use Rattle.xr_types.specs.declared.scenario.Scenario.{Scenario}
 use Rattle.xr_types.specs.declared.status.Status.{Status}
 use Rattle.xr_types.specs.declared.status.Status.TheVariants.{Done, Usage, OpenFault, ReadFault, ScenarioRefused, DeviceFailed, DeviceGarbled, Stuck, WriteFault, NoMemory}
-use Rattle.xr_model.specs.Words.{RunOptions, form_of}
-use Rattle.xr_model.specs.Built.{run_scenario_of}
-use Rattle.xr_model.specs.DeviceText.{DeviceStream, ends, nothing_more, told_in}
-use Rattle.xr_model.specs.Report.{is_fault, report_of}
+use Rattle.xr_model.specs.command_line.Words.{RunOptions, options_of}
+use Rattle.xr_model.specs.scenario.Built.{run_scenario_of}
+use Rattle.xr_model.specs.device_text.DeviceText.{DeviceStream, ends, nothing_more, told_in}
+use Rattle.xr_model.specs.report.Report.{is_fault, report_of}
 use Rattle.xr_drive.specs.Run.{Run}
 use Rattle.xr_drive.specs.Status.{status_by}
 
 -- The words have a form, and this is so of it.
 abbrev pub OfForm : List (List ℕ) → (RunOptions → Type 0) → Type 0
-OfForm words P = (form : RunOptions) × (form_of words ≡ Some form) × P form
+OfForm words P = (form : RunOptions) × (options_of words ≡ Some form) × P form
 
 -- what the device is known to give: nothing where there is none, else what its file's text tells, where that is told
 abbrev pub told_under : (List ℕ → Option (List ℕ)) → Option (List ℕ) → Option DeviceStream
@@ -41,7 +41,7 @@ EndsSo words bytes before after status =
 -- What each status says of the words, of the bytes under each name, and of what the sink had and has.
 abbrev pub Means : List (List ℕ) → (List ℕ → Option (List ℕ)) → Option (List ℕ) → Option (List ℕ) → Status → Type 0
 Means words bytes before after Done = EndsSo words bytes before after Done
-Means words bytes before after Usage = (form_of words ≡ None) × Keeps before after
+Means words bytes before after Usage = (options_of words ≡ None) × Keeps before after
 Means words bytes before after OpenFault = OfForm words (λ form. Keeps before after)
 Means words bytes before after ReadFault = OfForm words (λ form. Keeps before after)
 Means words bytes before after (ScenarioRefused why) = OfForm words (λ form. IfSome (bytes form.file) (λ text. run_scenario_of text ≡ Err why) × Keeps before after)
@@ -80,7 +80,7 @@ pub record NoneRose (old new : Faults) : Type 0 where
 -- and it ends at the end of its text, and no count of faults rose, the run is done, or stuck, or memory was short.
 abbrev pub IsComplete : List (List ℕ) → (List ℕ → Option (List ℕ)) → Faults → Faults → Status → Type 0
 IsComplete words bytes old new status =
-    (form : RunOptions) (text : List ℕ) (scenario : Scenario) (told : DeviceStream) → form_of words ≡ Some form → bytes form.file ≡ Some text → run_scenario_of text ≡ Ok scenario
+    (form : RunOptions) (text : List ℕ) (scenario : Scenario) (told : DeviceStream) → options_of words ≡ Some form → bytes form.file ≡ Some text → run_scenario_of text ≡ Ok scenario
     → told_under bytes form.device ≡ Some told → told.ending ≡ ends → NoneRose old new → (status ≡ Done) ⊎ ((status ≡ Stuck) ⊎ (status ≡ NoMemory))
 
 -- ---- what was asked for

@@ -1,7 +1,7 @@
 // Which scenarios are run.
 ghost use Rattle.std.specs.Prelude.{◌≡◌, ◌∷◌, [], true, IfSome, is_some};
 ghost use Rattle.std.specs.List.{list_all};
-ghost use Rattle.xr_model.specs.Built.{is_built_op, are_built};
+ghost use Rattle.xr_model.specs.scenario.Built.{is_built_op, are_built};
 
 use xr_types::{Op, Script};
 

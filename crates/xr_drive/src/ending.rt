@@ -1,7 +1,7 @@
 // How a run ended, and the number of each way to end.
 ghost use Rattle.std.specs.Prelude.{◌≡◌};
 ghost use Rattle.std.specs.List.{list_any};
-ghost use Rattle.xr_model.specs.Report.{is_fault};
+ghost use Rattle.xr_model.specs.report.Report.{is_fault};
 ghost use Rattle.xr_drive.specs.Exit.{exit_of};
 ghost use Rattle.xr_drive.specs.Status.{first_garbled, status_by};
 

@@ -1,7 +1,7 @@
 // Reading all of a source.
 ghost use Rattle.std.specs.Prelude.{◌≡◌, ◌≤◌, ◌<◌, ◌+◌, ◌++◌, ℕ, List, take, IfOk, IfSome, vec_len};
 ghost use Rattle.std.specs.Io.KnownBytes.{Consumes, IsAtEnd};
-ghost use Rattle.xr_drive.specs.Input.{HasReadCause};
+ghost use Rattle.xr_drive.specs.inside.Input.{HasReadCause};
 
 use std::alloc::Global;
 use xr_io::Source;

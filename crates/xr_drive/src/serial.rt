@@ -3,10 +3,10 @@ ghost use Rattle.std.specs.Prelude.{◌≡◌, ◌≤◌, ℕ, true, List, map, 
 ghost use Rattle.std.specs.List.{list_any};
 ghost use Rattle.xr_io.specs.Outside.{Rose};
 ghost use Rattle.xr_io.specs.declared.Which.{Which};
-ghost use Rattle.xr_model.specs.DeviceText.{nothing_more};
-ghost use Rattle.xr_model.specs.Report.{is_fault};
-ghost use Rattle.xr_model.specs.Words.{form_of};
-ghost use Rattle.xr_drive.specs.Input.{status_of};
+ghost use Rattle.xr_model.specs.device_text.DeviceText.{nothing_more};
+ghost use Rattle.xr_model.specs.report.Report.{is_fault};
+ghost use Rattle.xr_model.specs.command_line.Words.{options_of};
+ghost use Rattle.xr_drive.specs.inside.Input.{status_of};
 ghost use Rattle.xr_drive.specs.Top.{Means, HasItsCause, IsComplete, IsAskedFor, IsDeviceAskedFor, device_of, faults, KeepsDevice, UnlessDevice, IsReadFault, MeansText, MeansRun, HasRunCause, MeansWritten, RoseIfUnwritten, status_in, told_under};
 
 use crate::built::built_script;
@@ -14,7 +14,7 @@ use crate::ending::status_of;
 use crate::input::{Stop, read_all};
 use crate::output::write_all;
 use std::alloc::Global;
-use xr_command::{WordsFault, form_of};
+use xr_command::{WordsFault, options_of};
 use xr_device::{Device, LineDevice, ListDevice};
 use xr_io::{Opener, Sink, Source, Which};
 use xr_report::report;
@@ -199,12 +199,12 @@ pub fn run_serial<O: Opener, K: Sink>(
         (faults (O.open_faults opener.new) (O.read_faults opener.new) (K.faults sink.new)) result }
 
     // The files that are asked for are those of the words, and without a device nothing of it changes.
-    ensures asked { IsAskedFor (form_of (map string_bytes words.now)) (O.asked opener.new Which.Scenario) result }
-    ensures device { IsDeviceAskedFor (device_of (form_of (map string_bytes words.now))) (O.asked opener.new Which.Device) result
-        × UnlessDevice (device_of (form_of (map string_bytes words.now))) (KeepsDevice O.asked O.open_faults O.read_faults opener.old opener.new) }
+    ensures asked { IsAskedFor (options_of (map string_bytes words.now)) (O.asked opener.new Which.Scenario) result }
+    ensures device { IsDeviceAskedFor (device_of (options_of (map string_bytes words.now))) (O.asked opener.new Which.Device) result
+        × UnlessDevice (device_of (options_of (map string_bytes words.now))) (KeepsDevice O.asked O.open_faults O.read_faults opener.old opener.new) }
     ensures same { (name : List ℕ) → O.bytes opener.new name ≡ O.bytes opener.old name }
 {
-    let form = match form_of(alloc, words) {
+    let form = match options_of(alloc, words) {
         Ok(form) => form,
         Err(WordsFault::Usage) => return Status::Usage,
         Err(WordsFault::NoMemory) => return Status::NoMemory,

@@ -1,6 +1,6 @@
 // The queue over a ring whose room is taken at the start.
 ghost use Rattle.std.specs.Prelude.{◌≡◌, IfOk};
-ghost use Rattle.xr_model.specs.Events.{no_events, pushed, polled, behind_poll};
+ghost use Rattle.xr_model.specs.machine.Events.{no_events, pushed, polled, behind_poll};
 
 use circular_buffer::HeapCircularBuffer;
 use std::alloc::Global;
@@ -20,7 +20,7 @@ pub struct Events {
 
 impl Model for Events {
     ghost use Rattle.std.specs.Prelude.{◌≡◌, ◌≤◌, length};
-    ghost use Rattle.xr_model.specs.Events.{Queue};
+    ghost use Rattle.xr_model.specs.machine.Events.{Queue};
 
     ghost Value = { Queue };
 

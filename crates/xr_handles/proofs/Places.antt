@@ -3,8 +3,8 @@ use Rattle.std.proofs.Common.{◌≡◌, ◌+◌, ◌==◌, ◌||◌, ℕ, Bool,
 use Rattle.std.specs.Prelude.{is_some, if◌then◌else◌}
 use Rattle.std.specs.List.{position_from}
 use Rattle.xr_types.specs.declared.handles.Slot.{Slot}
-use Rattle.xr_model.specs.Handles.{has}
-use Rattle.xr_model.specs.HandlePlaces.{place_in}
+use Rattle.xr_model.specs.machine.Handles.{has}
+use Rattle.xr_model.specs.machine.HandlePlaces.{place_in}
 
 found_from : (row : List Slot) (handle i : ℕ) → is_some (position_from (λ s. s.handle == handle) i row) ≡ has row handle
 found_from [] handle i = refl

@@ -1,6 +1,6 @@
 -- Handles counted up from 1.
 use Rattle.std.specs.Prelude.{zero, suc, ℕ, ◌+◌, List, [], ◌∷◌, length}
-use Rattle.xr_model.specs.Handles.{Handles}
+use Rattle.xr_model.specs.machine.Handles.{Handles}
 
 -- the numbers from n down to 1
 abbrev pub counted : ℕ → List ℕ

@@ -1,11 +1,11 @@
 // The rows of all kinds, and the calls on them.
 ghost use Rattle.std.specs.Prelude.{◌≡◌, ◌≢◌, ◌<◌, ◌^◌, [], ◌∷◌, false, length, is_some, IfSome};
-ghost use Rattle.xr_model.specs.Handles as model;
-ghost use Rattle.xr_model.specs.Handles.{no_handles, row_of, is_live, first_free, no_room, was_given, with_handle, without};
-ghost use Rattle.xr_model.specs.HandlePlaces.{limit_of};
-ghost use Rattle.xr_model.specs.HandlePlaces.{kind_of, parent_of, place_of, place_among, handle_in};
-ghost use Rattle.xr_model.specs.Refusals.{first_of, unless};
-ghost use Rattle.xr_model.specs.PartAnswers.{answer_by};
+ghost use Rattle.xr_model.specs.machine.Handles as model;
+ghost use Rattle.xr_model.specs.machine.Handles.{no_handles, row_of, is_live, first_free, no_room, was_given, with_handle, without};
+ghost use Rattle.xr_model.specs.machine.HandlePlaces.{limit_of};
+ghost use Rattle.xr_model.specs.machine.HandlePlaces.{kind_of, parent_of, place_of, place_among, handle_at};
+ghost use Rattle.xr_model.specs.machine.Refusals.{first_of, unless};
+ghost use Rattle.xr_model.specs.machine.PartAnswers.{answer_by};
 ghost use Rattle.xr_handles.specs.Numbers.{next_number};
 
 use crate::row;
@@ -30,7 +30,7 @@ pub struct Handles {
 }
 
 impl Model for Handles {
-    ghost use Rattle.xr_model.specs.Handles as model;
+    ghost use Rattle.xr_model.specs.machine.Handles as model;
     ghost use Rattle.xr_handles.specs.Numbers.{counted};
 
     ghost Value = { model.Handles };
@@ -163,7 +163,7 @@ impl Handles {
     /// The handle that stands in a place of a kind, 0 where none does.
     pub fn handle_at(&self, kind: Kind, place: usize) -> u64
         requires { place < limit_of kind }
-        ensures { result ≡ handle_in (row_of self.now kind) place }
+        ensures { result ≡ handle_at (row_of self.now kind) place }
     {
         self.row(kind)[place].handle
     }
@@ -194,18 +194,18 @@ impl Handles {
     }
 
     /// Destroys a handle and all below it, and lists them: a level behind the one above it.
-    pub fn destroy(&mut self, handle: u64, gone: &mut ArrayVec<u64, MOST_HANDLES>)
-        requires { gone.old.items ≡ [] }
+    pub fn destroy(&mut self, handle: u64, destroyed: &mut ArrayVec<u64, MOST_HANDLES>)
+        requires { destroyed.old.items ≡ [] }
         ensures kept { self.new ≡ without self.old handle }
-        ensures gone { gone.new.items ≡ model.gone self.old handle }
+        ensures destroyed { destroyed.new.items ≡ model.destroyed_by self.old handle }
     {
-        row::sweep(&mut self.instances, handle, &[], gone);
-        let above = row::copied(gone);
-        row::sweep(&mut self.sessions, handle, above.as_slice(), gone);
-        row::sweep(&mut self.sets, handle, above.as_slice(), gone);
-        let parents = row::copied(gone);
-        row::sweep(&mut self.actions, handle, parents.as_slice(), gone);
-        row::sweep(&mut self.spaces, handle, parents.as_slice(), gone);
-        row::sweep(&mut self.chains, handle, parents.as_slice(), gone);
+        row::sweep(&mut self.instances, handle, &[], destroyed);
+        let above = row::copied(destroyed);
+        row::sweep(&mut self.sessions, handle, above.as_slice(), destroyed);
+        row::sweep(&mut self.sets, handle, above.as_slice(), destroyed);
+        let parents = row::copied(destroyed);
+        row::sweep(&mut self.actions, handle, parents.as_slice(), destroyed);
+        row::sweep(&mut self.spaces, handle, parents.as_slice(), destroyed);
+        row::sweep(&mut self.chains, handle, parents.as_slice(), destroyed);
     }
 }

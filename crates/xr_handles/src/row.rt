@@ -1,7 +1,7 @@
 // One row of places: what is found in it, put into it, and swept out of it.
 ghost use Rattle.std.specs.Prelude.{◌≡◌, ◌≤◌, ◌<◌, ◌+◌, ◌++◌, length, is_some, option_map, IfSome};
-ghost use Rattle.xr_model.specs.Handles.{first_free, put_in, has, goes, going, cleared};
-ghost use Rattle.xr_model.specs.HandlePlaces.{place_in, slot_in};
+ghost use Rattle.xr_model.specs.machine.Handles.{first_free, put_in, has, goes, going, cleared};
+ghost use Rattle.xr_model.specs.machine.HandlePlaces.{place_in, slot_in};
 
 use arrayvec::ArrayVec;
 use xr_types::{MOST_HANDLES, Slot};
@@ -58,7 +58,7 @@ pub(crate) fn parent_in(row: &[Slot], handle: u64) -> Option<u64>
 }
 
 /// Whether a place's handle is the one that is destroyed or is below one that goes.
-#[tactic(auto, unfolding(xr_model::specs::Handles::goes))]
+#[tactic(auto, unfolding(xr_model::specs::machine::Handles::goes))]
 fn leaves(slot: Slot, handle: u64, above: &[u64]) -> bool
     ensures { result ≡ goes handle above.now slot }
 {
@@ -70,18 +70,18 @@ pub(crate) fn sweep(
     row: &mut [Slot],
     handle: u64,
     above: &[u64],
-    gone: &mut ArrayVec<u64, MOST_HANDLES>,
+    destroyed: &mut ArrayVec<u64, MOST_HANDLES>,
 )
-    requires { length gone.old.items + length row.old ≤ 165 }
+    requires { length destroyed.old.items + length row.old ≤ 165 }
     ensures row { row.new ≡ cleared handle above.now row.old }
-    ensures gone { gone.new.items ≡ gone.old.items ++ going handle above.now row.old }
-    ensures few { length gone.new.items ≤ length gone.old.items + length row.old }
+    ensures destroyed { destroyed.new.items ≡ destroyed.old.items ++ going handle above.now row.old }
+    ensures few { length destroyed.new.items ≤ length destroyed.old.items + length row.old }
 {
     let count = row.len();
     for i in 0..count {
         let slot = row[i];
         if leaves(slot, handle, above) {
-            gone.push(slot.handle);
+            destroyed.push(slot.handle);
             row[i] = FREE;
         }
     }

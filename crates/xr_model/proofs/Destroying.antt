@@ -6,15 +6,15 @@ use Rattle.xr_types.specs.declared.handles.Kind.{Kind}
 use Rattle.xr_types.specs.declared.handles.Kind.TheVariants.{Instance, Session}
 use Rattle.xr_types.specs.declared.handles.Slot.{Slot}
 use Rattle.xr_types.specs.declared.handles.TheConstants.{INSTANCES, SESSIONS, ACTION_SETS, ACTIONS, SPACES, SWAPCHAINS}
-use Rattle.xr_model.specs.Request.{Entry, Request, destroy_instance, destroy_session}
-use Rattle.xr_model.specs.Handles.{Handles, has, is_live, was_given, with_handle, gone_instances, gone_parents, without}
-use Rattle.xr_model.specs.HandlePlaces.{kind_of}
-use Rattle.xr_model.specs.Refusals.{when, first_of}
-use Rattle.xr_model.specs.State.{CoreState, Settings, State, opening}
-use Rattle.xr_model.specs.Rule.{Effect, unless_refused}
-use Rattle.xr_model.specs.Machine.{step, rule, reads_of, IsGiven, IsAllowed}
-use Rattle.xr_model.specs.History.{after, opening_clocks, clocks_after, IsLegalFrom}
-use Rattle.xr_model.specs.HandleLaws.{destroys, DestroyedForGood}
+use Rattle.xr_model.specs.machine.Request.{Entry, Request, destroy_instance, destroy_session}
+use Rattle.xr_model.specs.machine.Handles.{Handles, has, is_live, was_given, with_handle, destroyed_instances, destroyed_parents, without}
+use Rattle.xr_model.specs.machine.HandlePlaces.{kind_of}
+use Rattle.xr_model.specs.machine.Refusals.{when, first_of}
+use Rattle.xr_model.specs.machine.State.{CoreState, Settings, State, opening}
+use Rattle.xr_model.specs.machine.Rule.{Effect, unless_refused}
+use Rattle.xr_model.specs.machine.Machine.{step, rule, reads_of, IsGiven, IsAllowed}
+use Rattle.xr_model.specs.machine.History.{after, opening_clocks, clocks_after, IsLegalFrom}
+use Rattle.xr_model.specs.laws.HandleLaws.{destroys, DestroyedForGood}
 use Rattle.xr_model.proofs.Histories.{after_is_in_turn}
 use Rattle.xr_model.proofs.Rows.{same_key, both_of, neither_of, not_true, hasnt_put, hasnt_free, hasnt_cleared, cleared_away}
 use Rattle.xr_model.proofs.HandleSteps.{gives_handle, kept_by_step}
@@ -39,22 +39,22 @@ absent_kind h handle a = rw (a.instances, a.sessions, a.sets, a.actions, a.space
 absent_without : (h : Handles) (gone handle : ℕ) → (handle == 0) ≡ false → IsAbsent h handle → IsAbsent (without h gone) handle
 absent_without h gone handle nz a = record {
   instances = hasnt_cleared gone [] h.instances handle nz a.instances;
-  sessions = hasnt_cleared gone (gone_instances h gone) h.sessions handle nz a.sessions;
-  sets = hasnt_cleared gone (gone_instances h gone) h.sets handle nz a.sets;
-  actions = hasnt_cleared gone (gone_parents h gone) h.actions handle nz a.actions;
-  spaces = hasnt_cleared gone (gone_parents h gone) h.spaces handle nz a.spaces;
-  chains = hasnt_cleared gone (gone_parents h gone) h.chains handle nz a.chains;
+  sessions = hasnt_cleared gone (destroyed_instances h gone) h.sessions handle nz a.sessions;
+  sets = hasnt_cleared gone (destroyed_instances h gone) h.sets handle nz a.sets;
+  actions = hasnt_cleared gone (destroyed_parents h gone) h.actions handle nz a.actions;
+  spaces = hasnt_cleared gone (destroyed_parents h gone) h.spaces handle nz a.spaces;
+  chains = hasnt_cleared gone (destroyed_parents h gone) h.chains handle nz a.chains;
 }
 
 -- nor does it stand anywhere once it was destroyed
 absent_itself : (h : Handles) (handle : ℕ) → (handle == 0) ≡ false → IsAbsent (without h handle) handle
 absent_itself h handle nz = record {
   instances = cleared_away handle [] h.instances nz;
-  sessions = cleared_away handle (gone_instances h handle) h.sessions nz;
-  sets = cleared_away handle (gone_instances h handle) h.sets nz;
-  actions = cleared_away handle (gone_parents h handle) h.actions nz;
-  spaces = cleared_away handle (gone_parents h handle) h.spaces nz;
-  chains = cleared_away handle (gone_parents h handle) h.chains nz;
+  sessions = cleared_away handle (destroyed_instances h handle) h.sessions nz;
+  sets = cleared_away handle (destroyed_instances h handle) h.sets nz;
+  actions = cleared_away handle (destroyed_parents h handle) h.actions nz;
+  spaces = cleared_away handle (destroyed_parents h handle) h.spaces nz;
+  chains = cleared_away handle (destroyed_parents h handle) h.chains nz;
 }
 
 module _ (h : Handles) (parent given handle : ℕ) (other : (given == handle) ≡ false) (a : IsAbsent h handle) where

@@ -1,21 +1,21 @@
 -- A call that destroys a handle takes it and what is below it by parents, and nothing else that lives.
-use Rattle.std.proofs.Common.{◌≡◌, ◌≤◌, ◌+◌, ◌==◌, ◌&&◌, ◌||◌, ℕ, suc, not, Bool, true, false, List, [], ◌∷◌, ◌++◌, Option, Some, None, option_map, refl, sym, ap, subst, ◌∙◌, arith, true≢false}
+use Rattle.std.proofs.Common.{◌≡◌, ◌≤◌, ◌+◌, ◌==◌, ◌&&◌, ◌||◌, ℕ, suc, not, Bool, true, false, List, [], ◌∷◌, ◌++◌, Some, None, option_map, refl, sym, ap, subst, ◌∙◌, arith, true≢false}
 use Rattle.std.specs.Prelude.{if◌then◌else◌}
 use Rattle.std.specs.List.{list_any, list_all}
 use Rattle.xr_types.specs.Code.{is_success}
 use Rattle.xr_types.specs.declared.handles.Kind.{Kind}
 use Rattle.xr_types.specs.declared.handles.Kind.TheVariants.{Instance, Session, ActionSet, Action, Space, Swapchain}
 use Rattle.xr_types.specs.declared.handles.Slot.{Slot}
-use Rattle.xr_model.specs.Request.{Entry, Request, destroy_instance, destroy_session}
-use Rattle.xr_model.specs.Handles.{Handles, free, has, is_live, row_of, put_in, first_free, goes, going, cleared, gone_instances, gone_parents, with_handle, without}
-use Rattle.xr_model.specs.HandlePlaces.{kind_of, slot_in, parent_of}
-use Rattle.xr_model.specs.HandleLaws.{count_in, places_with, is_under, AreUnder, StandOnce, is_within, destroys, DestroyingTakes}
-use Rattle.xr_model.specs.State.{State, opening}
-use Rattle.xr_model.specs.Machine.{step, rule, reads_of}
-use Rattle.xr_model.specs.History.{after}
-use Rattle.xr_model.proofs.Rows.{same_key, both_of, neither_of, not_true, not_zero, itself, hasnt_cleared, put_is_first, each_put}
+use Rattle.xr_model.specs.machine.Request.{Entry, Request, destroy_instance, destroy_session}
+use Rattle.xr_model.specs.machine.Handles.{Handles, free, has, is_live, row_of, put_in, first_free, goes, going, cleared, destroyed_instances, destroyed_parents, without}
+use Rattle.xr_model.specs.machine.HandlePlaces.{slot_in, parent_of}
+use Rattle.xr_model.specs.laws.HandleLaws.{count_in, places_with, is_under, AreUnder, StandOnce, is_within, destroys, DestroyingTakes}
+use Rattle.xr_model.specs.machine.State.{State, opening}
+use Rattle.xr_model.specs.machine.Machine.{step, rule, reads_of}
+use Rattle.xr_model.specs.machine.History.{after}
+use Rattle.xr_model.proofs.Rows.{same_key, both_of, neither_of, not_true, not_zero, hasnt_cleared, put_is_first, each_put}
 use Rattle.xr_model.proofs.HandleSteps.{kept_by_step}
-use Rattle.xr_model.proofs.Destroying.{destroyed, and_false}
+use Rattle.xr_model.proofs.Destroying.{destroyed}
 use Rattle.xr_model.proofs.Orphans.{no_orphans}
 use Rattle.xr_model.proofs.StandOnce.{handles_stand_once}
 
@@ -232,35 +232,35 @@ module _ (h : Handles) (top : ℕ) (some : (top == 0) ≡ false) (once : StandOn
     within_more n q e = ap (λ o. (p == top) || elim o [ None ↦ false | Some parent ↦ is_within n h parent top ]) e
 
   -- what is known to go of the rows above is what is within them
-  instance_within : (p : ℕ) → (p == 0) ≡ false → has h.instances p ≡ true → list_any (λ g. g == p) (gone_instances h top) ≡ is_within 1 h p top
+  instance_within : (p : ℕ) → (p == 0) ≡ false → has h.instances p ≡ true → list_any (λ g. g == p) (destroyed_instances h top) ≡ is_within 1 h p top
   instance_within p nz there =
       one_going top [] p nz h.instances there (most h.instances p nz (omega arith))
       ∙ sym (within_more p nz 0 0 (instance_parent p nz there) ∙ ap (λ b. (p == top) || b) (not_zero top some))
 
   -- where nothing is below the parent's parent
-  below_instance : (row : List Slot) (p : ℕ) → (p == 0) ≡ false → is_under h.instances row ≡ true → has row p ≡ true → list_any (λ g. g == parent_in row p) (gone_instances h top) ≡ (parent_in row p == top)
+  below_instance : (row : List Slot) (p : ℕ) → (p == 0) ≡ false → is_under h.instances row ≡ true → has row p ≡ true → list_any (λ g. g == parent_in row p) (destroyed_instances h top) ≡ (parent_in row p == top)
   below_instance row p nz u there =
       let parent = under_parent h.instances row p nz u there in
       one_going top [] (parent_in row p) parent.0 h.instances parent.1 (most h.instances (parent_in row p) parent.0 (omega arith)) ∙ or_false (parent_in row p == top)
 
-  session_within : (p : ℕ) → (p == 0) ≡ false → has h.sessions p ≡ true → list_any (λ g. g == p) (gone_parents h top) ≡ is_within 1 h p top
+  session_within : (p : ℕ) → (p == 0) ≡ false → has h.sessions p ≡ true → list_any (λ g. g == p) (destroyed_parents h top) ≡ is_within 1 h p top
   session_within p nz there =
       let a = none_going top [] h.instances p (aside h.sessions h.instances p nz there (omega arith)) in
-      let c = none_going top (gone_instances h top) h.sets p (aside h.sessions h.sets p nz there (omega arith)) in
-      let here = one_going top (gone_instances h top) p nz h.sessions there (most h.sessions p nz (omega arith)) in
-      any_append (λ g. g == p) (gone_instances h top ++ going top (gone_instances h top) h.sessions) (going top (gone_instances h top) h.sets)
-      ∙ ap (λ b. b || list_any (λ g. g == p) (going top (gone_instances h top) h.sets)) (any_append (λ g. g == p) (gone_instances h top) (going top (gone_instances h top) h.sessions))
-      ∙ rw (a, c) (or_false (list_any (λ g. g == p) (going top (gone_instances h top) h.sessions)))
+      let c = none_going top (destroyed_instances h top) h.sets p (aside h.sessions h.sets p nz there (omega arith)) in
+      let here = one_going top (destroyed_instances h top) p nz h.sessions there (most h.sessions p nz (omega arith)) in
+      any_append (λ g. g == p) (destroyed_instances h top ++ going top (destroyed_instances h top) h.sessions) (going top (destroyed_instances h top) h.sets)
+      ∙ ap (λ b. b || list_any (λ g. g == p) (going top (destroyed_instances h top) h.sets)) (any_append (λ g. g == p) (destroyed_instances h top) (going top (destroyed_instances h top) h.sessions))
+      ∙ rw (a, c) (or_false (list_any (λ g. g == p) (going top (destroyed_instances h top) h.sessions)))
       ∙ here ∙ ap (λ b. (p == top) || b) (below_instance h.sessions p nz under.sessions there)
       ∙ sym (within_more p nz 0 (parent_in h.sessions p) (session_parent p nz there))
 
-  set_within : (p : ℕ) → (p == 0) ≡ false → has h.sets p ≡ true → list_any (λ g. g == p) (gone_parents h top) ≡ is_within 1 h p top
+  set_within : (p : ℕ) → (p == 0) ≡ false → has h.sets p ≡ true → list_any (λ g. g == p) (destroyed_parents h top) ≡ is_within 1 h p top
   set_within p nz there =
       let a = none_going top [] h.instances p (aside h.sets h.instances p nz there (omega arith)) in
-      let b = none_going top (gone_instances h top) h.sessions p (aside h.sets h.sessions p nz there (omega arith)) in
-      let here = one_going top (gone_instances h top) p nz h.sets there (most h.sets p nz (omega arith)) in
-      any_append (λ g. g == p) (gone_instances h top ++ going top (gone_instances h top) h.sessions) (going top (gone_instances h top) h.sets)
-      ∙ ap (λ b. b || list_any (λ g. g == p) (going top (gone_instances h top) h.sets)) (any_append (λ g. g == p) (gone_instances h top) (going top (gone_instances h top) h.sessions))
+      let b = none_going top (destroyed_instances h top) h.sessions p (aside h.sets h.sessions p nz there (omega arith)) in
+      let here = one_going top (destroyed_instances h top) p nz h.sets there (most h.sets p nz (omega arith)) in
+      any_append (λ g. g == p) (destroyed_instances h top ++ going top (destroyed_instances h top) h.sessions) (going top (destroyed_instances h top) h.sets)
+      ∙ ap (λ b. b || list_any (λ g. g == p) (going top (destroyed_instances h top) h.sets)) (any_append (λ g. g == p) (destroyed_instances h top) (going top (destroyed_instances h top) h.sessions))
       ∙ rw (a, b) refl
       ∙ here ∙ ap (λ b. (p == top) || b) (below_instance h.sets p nz under.sets there)
       ∙ sym (within_more p nz 0 (parent_in h.sets p) (set_parent p nz there))
@@ -287,23 +287,23 @@ module _ (h : Handles) (top : ℕ) (some : (top == 0) ≡ false) (once : StandOn
       row_takes [] h.instances other nz (omega arith) (λ there. nothing_within ∙ ap (λ n. is_within 1 h n top) (sym (root_parent h.instances other roots)))
       (λ there. instance_parent other nz there ∙ ap Some (sym (root_parent h.instances other roots)))
   live_takes Session other nz =
-      row_takes (gone_instances h top) h.sessions other nz (omega arith)
+      row_takes (destroyed_instances h top) h.sessions other nz (omega arith)
       (λ there. let parent = under_parent h.instances h.sessions other nz under.sessions there in instance_within (parent_in h.sessions other) parent.0 parent.1)
       (session_parent other nz)
   live_takes ActionSet other nz =
-      row_takes (gone_instances h top) h.sets other nz (omega arith)
+      row_takes (destroyed_instances h top) h.sets other nz (omega arith)
       (λ there. let parent = under_parent h.instances h.sets other nz under.sets there in instance_within (parent_in h.sets other) parent.0 parent.1)
       (set_parent other nz)
   live_takes Action other nz =
-      row_takes (gone_parents h top) h.actions other nz (omega arith)
+      row_takes (destroyed_parents h top) h.actions other nz (omega arith)
       (λ there. let parent = under_parent h.sets h.actions other nz under.actions there in set_within (parent_in h.actions other) parent.0 parent.1)
       (action_parent other nz)
   live_takes Space other nz =
-      row_takes (gone_parents h top) h.spaces other nz (omega arith)
+      row_takes (destroyed_parents h top) h.spaces other nz (omega arith)
       (λ there. let parent = under_parent h.sessions h.spaces other nz under.spaces there in session_within (parent_in h.spaces other) parent.0 parent.1)
       (space_parent other nz)
   live_takes Swapchain other nz =
-      row_takes (gone_parents h top) h.chains other nz (omega arith)
+      row_takes (destroyed_parents h top) h.chains other nz (omega arith)
       (λ there. let parent = under_parent h.sessions h.chains other nz under.chains there in session_within (parent_in h.chains other) parent.0 parent.1)
       (chain_parent other nz)
 

@@ -7,9 +7,9 @@ use Rattle.xr_types.specs.declared.device.DeviceEvent.{DeviceEvent}
 use Rattle.xr_types.specs.declared.device.DeviceEvent.TheVariants as event
 use Rattle.xr_types.specs.declared.device.Wish.TheVariants as wish
 use Rattle.xr_types.specs.Device.{checks, is_time, is_mark, in_range}
-use Rattle.xr_model.specs.DeviceText.{words_of, is_digit, digits_behind, number_of, event_by, if_checked}
-use Rattle.xr_model.specs.DeviceLines.{line_of}
-use Rattle.xr_model.specs.DeviceLaws.{LinesReadBack}
+use Rattle.xr_model.specs.device_text.DeviceText.{words_of, is_digit, digits_behind, number_of, event_by, if_checked}
+use Rattle.xr_model.specs.device_text.DeviceLines.{line_of}
+use Rattle.xr_model.specs.laws.DeviceLaws.{LinesReadBack}
 use Rattle.xr_model.proofs.Rows.{both_of, same_key}
 
 -- ---- numbers

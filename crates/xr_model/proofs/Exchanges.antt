@@ -2,12 +2,12 @@
 use Rattle.std.proofs.Common.{◌≡◌, ◌+◌, ℕ, zero, suc, Bool, true, false, List, [], ◌∷◌, Some, ap, refl, ◌∙◌, arith}
 use Rattle.std.specs.Prelude.{slice_get, if◌then◌else◌}
 use Rattle.xr_types.specs.declared.calls.Actor.{Actor}
-use Rattle.xr_model.specs.Request.{Entry, Exchange, is_actor}
-use Rattle.xr_model.specs.State.{State, opening}
-use Rattle.xr_model.specs.Machine.{step}
-use Rattle.xr_model.specs.History.{calls_from}
-use Rattle.xr_model.specs.Positions.{outcome_from, positions_from}
-use Rattle.xr_model.specs.Laws.{ExchangesStand}
+use Rattle.xr_model.specs.machine.Request.{Entry, Exchange, is_actor}
+use Rattle.xr_model.specs.machine.State.{State, opening}
+use Rattle.xr_model.specs.machine.Machine.{step}
+use Rattle.xr_model.specs.machine.History.{calls_from}
+use Rattle.xr_model.specs.machine.Positions.{outcome_from, positions_from}
+use Rattle.xr_model.specs.laws.Laws.{ExchangesStand}
 
 -- the same of a history that stands behind n other entries
 record StandsFrom (s : State) (n : ℕ) (who : Actor) (es : List Entry) (k : ℕ) (x : Exchange) : Type 0 where

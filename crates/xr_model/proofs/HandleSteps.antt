@@ -6,19 +6,19 @@ use Rattle.xr_types.specs.declared.code.Code.TheVariants.{HandleInvalid, CallOrd
 use Rattle.xr_types.specs.declared.calls.Actor.{Actor}
 use Rattle.xr_types.specs.declared.calls.Actor.TheVariants.{App, Compositor, Device}
 use Rattle.xr_types.specs.declared.handles.Kind.TheVariants as kind
-use Rattle.xr_model.specs.Request.{Entry, Request, create_instance, destroy_instance, create_session, destroy_session, begin_session, end_session, request_exit_session, leave, device}
-use Rattle.xr_model.specs.Handles.{Handles, is_live, with_handle, without}
-use Rattle.xr_model.specs.Refusals.{Refusal, when, first_of}
-use Rattle.xr_model.specs.State.{CoreState, CellReads}
-use Rattle.xr_model.specs.Rule.{Effect, refusals, unless_refused}
+use Rattle.xr_model.specs.machine.Request.{Entry, Request, create_instance, destroy_instance, create_session, destroy_session, begin_session, end_session, request_exit_session, leave, device}
+use Rattle.xr_model.specs.machine.Handles.{Handles, is_live, with_handle, without}
+use Rattle.xr_model.specs.machine.Refusals.{Refusal, when, first_of}
+use Rattle.xr_model.specs.machine.State.{CoreState, CellReads}
+use Rattle.xr_model.specs.machine.Rule.{Effect, refusals, unless_refused}
 use Rattle.xr_types.specs.declared.device.DeviceEvent.{DeviceEvent}
 use Rattle.xr_types.specs.declared.device.DeviceEvent.TheVariants as event
-use Rattle.xr_model.specs.Rules.Own.{with_left}
-use Rattle.xr_model.specs.SessionLife.{Life, Changed}
-use Rattle.xr_model.specs.LiveSessions.{Session, session_at}
-use Rattle.xr_model.specs.Rules.Session.{with_change}
-use Rattle.xr_model.specs.Rules.Device.{behind_event}
-use Rattle.xr_model.specs.Machine.{core_step, rule, is_creation}
+use Rattle.xr_model.specs.machine.Rules.Own.{with_left}
+use Rattle.xr_model.specs.machine.SessionLife.{Life, Changed}
+use Rattle.xr_model.specs.machine.LiveSessions.{Session, session_at}
+use Rattle.xr_model.specs.machine.Rules.Session.{with_change}
+use Rattle.xr_model.specs.machine.Rules.Device.{behind_event}
+use Rattle.xr_model.specs.machine.Machine.{core_step, rule, is_creation}
 
 -- the entry gives a new handle
 abbrev pub gives_handle : CoreState → CellReads → Entry → Bool

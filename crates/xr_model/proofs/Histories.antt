@@ -5,17 +5,17 @@ use Rattle.xr_types.specs.Code.{is_success}
 use Rattle.xr_types.specs.declared.code.Code.{Code}
 use Rattle.xr_types.specs.declared.code.Code.TheVariants.{Success, SessionLossPending, FrameDiscarded}
 use Rattle.xr_types.specs.declared.session.SessionState.TheVariants.{LossPending}
-use Rattle.xr_model.specs.SessionLife.{Life, is_state}
-use Rattle.xr_model.specs.SessionRule.{code_on}
-use Rattle.xr_model.specs.Rules.Session.{life_of}
-use Rattle.xr_model.specs.Request.{Entry, Outcome, is_locked, Request, create_instance, string_to_path, path_to_string, begin_session, end_session, request_exit_session, leave, next_frame}
-use Rattle.xr_model.specs.Refusals.{Refusal, first_of}
-use Rattle.xr_model.specs.State.{CoreState, CellReads, State}
-use Rattle.xr_model.specs.Rule.{Effect, refusals, unless_refused, locked_after}
-use Rattle.xr_model.specs.Machine.{step, rule, reads_of}
-use Rattle.xr_model.specs.History.{clocks_after}
-use Rattle.xr_model.specs.Positions.{outcome_from}
-use Rattle.xr_model.specs.Laws.{is_without_effect, RefusalsChangeNothing, AfterIsInTurn, count_locked, EntriesAreCounted, PlacesCount, FrontsAreLegal, HasPlace}
+use Rattle.xr_model.specs.machine.SessionLife.{Life, is_state}
+use Rattle.xr_model.specs.machine.SessionRule.{code_on}
+use Rattle.xr_model.specs.machine.Rules.Session.{life_of}
+use Rattle.xr_model.specs.machine.Request.{Entry, Outcome, is_locked, Request, create_instance, string_to_path, path_to_string, begin_session, end_session, request_exit_session, leave, next_frame}
+use Rattle.xr_model.specs.machine.Refusals.{Refusal, first_of}
+use Rattle.xr_model.specs.machine.State.{CoreState, CellReads, State}
+use Rattle.xr_model.specs.machine.Rule.{Effect, refusals, unless_refused, locked_after}
+use Rattle.xr_model.specs.machine.Machine.{step, rule, reads_of}
+use Rattle.xr_model.specs.machine.History.{clocks_after}
+use Rattle.xr_model.specs.machine.Positions.{outcome_from}
+use Rattle.xr_model.specs.laws.Laws.{is_without_effect, RefusalsChangeNothing, AfterIsInTurn, count_locked, EntriesAreCounted, PlacesCount, FrontsAreLegal, HasPlace}
 
 -- a success has an effect
 success_has_effect : (code : Code) → is_success code ≡ true → is_without_effect code ≡ true → ⊥

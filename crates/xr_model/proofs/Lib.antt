@@ -2,7 +2,7 @@ pub mod Histories
 pub mod InRange
 pub mod ScriptForm
 pub mod Exchanges
-pub mod Answering
+pub mod AnsweredCalls
 pub mod Rows
 pub mod HandleSteps
 pub mod Orphans

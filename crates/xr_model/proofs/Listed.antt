@@ -4,10 +4,10 @@ use Rattle.std.specs.Prelude.{is_some, if◌then◌else◌}
 use Rattle.std.specs.List.{filter}
 use Rattle.xr_types.specs.declared.handles.Kind.TheVariants as kind
 use Rattle.xr_types.specs.declared.handles.TheConstants.{SESSIONS}
-use Rattle.xr_model.specs.Handles.{Handles, no_handles, is_live, has, has_room, with_handle, without, gone_instances}
-use Rattle.xr_model.specs.LiveSessions.{Session, session_at, with_life, with_life_at, still_live, each_changed}
-use Rattle.xr_model.specs.SessionLife.{Life, Changed}
-use Rattle.xr_model.specs.SessionLaws.{AreListed}
+use Rattle.xr_model.specs.machine.Handles.{Handles, no_handles, is_live, has, has_room, with_handle, without, destroyed_instances}
+use Rattle.xr_model.specs.machine.LiveSessions.{Session, session_at, with_life, with_life_at, still_live, each_changed}
+use Rattle.xr_model.specs.machine.SessionLife.{Life, Changed}
+use Rattle.xr_model.specs.laws.SessionLaws.{AreListed}
 use Rattle.xr_model.proofs.Rows.{or_true, same_key, has_put, has_new, hasnt_put, hasnt_free, hasnt_cleared}
 
 pub listed_none : AreListed no_handles []
@@ -105,7 +105,7 @@ live_before h handle k = by (k == 0) refl (has h.sessions k) refl
     by : (z : Bool) → (k == 0) ≡ z → (o : Bool) → has h.sessions k ≡ o → (not z && has (without h handle).sessions k) && (not z && has h.sessions k) ≡ not z && has (without h handle).sessions k
     by true ez o eo = refl
     by false ez true eo = rw eo (and_true (has (without h handle).sessions k))
-    by false ez false eo = rw (hasnt_cleared handle (gone_instances h handle) h.sessions k ez eo) refl
+    by false ez false eo = rw (hasnt_cleared handle (destroyed_instances h handle) h.sessions k ez eo) refl
 
 pub listed_left : (h : Handles) (handle : ℕ) (xs : List Session) → AreListed h xs → AreListed (without h handle) (still_live (without h handle) xs)
 listed_left h handle xs listed k =

@@ -7,18 +7,18 @@ use Rattle.xr_types.specs.Code.{is_success}
 use Rattle.xr_types.specs.declared.code.Code.{Code}
 use Rattle.xr_types.specs.declared.code.Code.TheVariants.{Success, SessionLost, SessionLossPending, HandleInvalid, CallOrderInvalid}
 use Rattle.xr_types.specs.declared.session.SessionState.TheVariants.{LossPending}
-use Rattle.xr_model.specs.Request.{Entry, Request, create_session, begin_session, end_session, request_exit_session}
-use Rattle.xr_model.specs.Handles.{Handles, is_live, was_given, without}
-use Rattle.xr_model.specs.Refusals.{Refusal, when, first_of}
-use Rattle.xr_model.specs.State.{CoreState, Settings, State, opening}
-use Rattle.xr_model.specs.Rule.{Effect, refusals, unless_refused, carried_out}
-use Rattle.xr_model.specs.SessionRule.{code_on}
-use Rattle.xr_model.specs.SessionLife.{Life, Changed, unchanged, started, begin_checks, begun, end_checks, ended, exit_checks, exiting, lost, is_state}
-use Rattle.xr_model.specs.LiveSessions.{Session, session_at, life_in, with_life, with_life_at, each_changed}
-use Rattle.xr_model.specs.Rules.Session.{new_session, life_of, changing_rule}
-use Rattle.xr_model.specs.Machine.{step, rule, reads_of, is_creation, IsAllowed, IsGiven}
-use Rattle.xr_model.specs.History.{after, opening_clocks, clocks_after, IsLegalFrom}
-use Rattle.xr_model.specs.SessionLaws.{AreListed, SessionsAreListed, session_of, is_device_lost, is_session_creation, creates_session, was_lost, LostSessions, PendingLosses}
+use Rattle.xr_model.specs.machine.Request.{Entry, Request, create_session, begin_session, end_session, request_exit_session}
+use Rattle.xr_model.specs.machine.Handles.{Handles, is_live, was_given, without}
+use Rattle.xr_model.specs.machine.Refusals.{Refusal, when, first_of}
+use Rattle.xr_model.specs.machine.State.{CoreState, Settings, State, opening}
+use Rattle.xr_model.specs.machine.Rule.{Effect, refusals, unless_refused, carried_out}
+use Rattle.xr_model.specs.machine.SessionRule.{code_on}
+use Rattle.xr_model.specs.machine.SessionLife.{Life, Changed, unchanged, started_session, begin_checks, begun_session, end_checks, ended_session, exit_checks, exiting_session, lost_session, is_state}
+use Rattle.xr_model.specs.machine.LiveSessions.{Session, session_at, life_in, with_life, with_life_at, each_changed}
+use Rattle.xr_model.specs.machine.Rules.Session.{new_session, life_of, changing_rule}
+use Rattle.xr_model.specs.machine.Machine.{step, rule, reads_of, is_creation, IsAllowed, IsGiven}
+use Rattle.xr_model.specs.machine.History.{after, opening_clocks, clocks_after, IsLegalFrom}
+use Rattle.xr_model.specs.laws.SessionLaws.{AreListed, SessionsAreListed, session_of, is_device_lost, is_session_creation, creates_session, was_lost, LostSessions, PendingLosses}
 use Rattle.xr_model.proofs.Rows.{itself, same_key}
 use Rattle.xr_model.proofs.Listed.{listed_none, listed_lives, listed_each, listed_more, listed_left}
 use Rattle.xr_model.proofs.SessionSteps.{kept_by_step}
@@ -64,7 +64,7 @@ listed_step s e allowed listed = kept_by_step (λ h xs. AreListed h xs) s.core (
   without = λ d c handle. listed_left s.core.handles handle s.core.sessions listed;
   lives = λ d c session x found life same. listed_lives s.core.handles s.core.sessions x.handle life listed;
   each = λ d c f keeps. listed_each s.core.handles f s.core.sessions listed;
-  lost = λ d c. listed_each s.core.handles (λ life. unchanged (lost life)) s.core.sessions listed;
+  lost = λ d c. listed_each s.core.handles (λ life. unchanged (lost_session life)) s.core.sessions listed;
 })
 
 listed_after : (s : State) (clocks : List ℤ) (es : List Entry) → IsLegalFrom s clocks es → AreListed s.core.handles s.core.sessions → AreListed (after s es).core.handles (after s es).core.sessions
@@ -216,14 +216,14 @@ module _ (s : State) (e : Entry) (allowed : IsAllowed s e) (known : AreKnown s.c
     without = λ d c handle session x found. let there = found_left (λ n. is_live (without s.core.handles handle) kind.Session n) s.core.sessions session x found in lost_before session x there ∙ as_before session d (uncreated session c);
     lives = λ d c named y there life same session x found. let one = found_lives s.core.sessions y.handle life (λ z found_z. same ∙ ap (λ (w : Session). w.life.lost) (some_is y z (sym (at_own named y there) ∙ found_z))) session x found in one.2 ∙ lost_before session one.0 one.1 ∙ as_before session d (uncreated session c);
     each = λ d c f keeps session x found. let one = found_each f s.core.sessions session x found in ap (λ (l : Life). l.lost) one.2 ∙ keeps one.0.life ∙ lost_before session one.0 one.1 ∙ as_before session d (uncreated session c);
-    lost = λ d c session x found. let one = found_each (λ life. unchanged (lost life)) s.core.sessions session x found in ap (λ (l : Life). l.lost) one.2 ∙ rw (uncreated session c, d) (sym (or_true (before session)));
+    lost = λ d c session x found. let one = found_each (λ life. unchanged (lost_session life)) s.core.sessions session x found in ap (λ (l : Life). l.lost) one.2 ∙ rw (uncreated session c, d) (sym (or_true (before session)));
   })
     where
       -- a session is found under its own handle
       at_own : (named : ℕ) (y : Session) → session_at s.core.sessions named ≡ Some y → session_at s.core.sessions y.handle ≡ Some y
       at_own named y there = subst (λ (n : ℕ). session_at s.core.sessions n ≡ Some y) (sym (handle_of s.core.sessions named y there)) there
 
-      created : is_device_lost e.request ≡ false → is_session_creation e.request ≡ true → is_success (step s e).1.reply.code ≡ true → (session : ℕ) (x : Session) → Found s.core.sessions (new_session s.core e.given (started s.core.device.wish).life) session x → x.life.lost ≡ after_entry e before session
+      created : is_device_lost e.request ≡ false → is_session_creation e.request ≡ true → is_success (step s e).1.reply.code ≡ true → (session : ℕ) (x : Session) → Found s.core.sessions (new_session s.core e.given (started_session s.core.device.wish).life) session x → x.life.lost ≡ after_entry e before session
       created d c good session x (inl there) =
           let fresh = (new_session_given s e allowed c good).1 in
           lost_before session x there ∙ as_before session d (rw c (is_false (e.given == session) (λ same. never_new session x there (subst (λ (n : ℕ). was_given s.core.handles n ≡ false) (same_key e.given session same) fresh))))
@@ -311,9 +311,9 @@ lost_sessions settings es e session legal named = by e.request named
 
     by : (r : Request) → session_of r ≡ Some session
         → ((step (after (opening settings) es) (record e { request = r })).1.reply.code ≡ SessionLost) ↔ ((is_live (after (opening settings) es).core.handles kind.Session session ≡ true) × (was_lost session false es ≡ true))
-    by (begin_session other view) named = joined _ (subst (λ (n : ℕ). ((step (after (opening settings) es) (record e { request = begin_session other view })).1.reply.code ≡ SessionLost) ↔ ((is_live (after (opening settings) es).core.handles kind.Session n ≡ true) × ((life_of (after (opening settings) es).core n).lost ≡ true))) (named_is other session named) (answered_lost (after (opening settings) es).core other (begin_checks (life_of (after (opening settings) es).core other) view) (λ life. unchanged (begun life)) ((λ c. cc), ((λ c. cc), ((λ c. cc), ((λ c. cc), tt))))))
-    by (end_session other) named = joined _ (subst (λ (n : ℕ). ((step (after (opening settings) es) (record e { request = end_session other })).1.reply.code ≡ SessionLost) ↔ ((is_live (after (opening settings) es).core.handles kind.Session n ≡ true) × ((life_of (after (opening settings) es).core n).lost ≡ true))) (named_is other session named) (answered_lost (after (opening settings) es).core other (end_checks (life_of (after (opening settings) es).core other)) (ended (after (opening settings) es).core.device.wish) ((λ c. cc), ((λ c. cc), ((λ c. cc), tt)))))
-    by (request_exit_session other) named = joined _ (subst (λ (n : ℕ). ((step (after (opening settings) es) (record e { request = request_exit_session other })).1.reply.code ≡ SessionLost) ↔ ((is_live (after (opening settings) es).core.handles kind.Session n ≡ true) × ((life_of (after (opening settings) es).core n).lost ≡ true))) (named_is other session named) (answered_lost (after (opening settings) es).core other (exit_checks (life_of (after (opening settings) es).core other)) (exiting (after (opening settings) es).core.device.wish) ((λ c. cc), ((λ c. cc), tt))))
+    by (begin_session other view) named = joined _ (subst (λ (n : ℕ). ((step (after (opening settings) es) (record e { request = begin_session other view })).1.reply.code ≡ SessionLost) ↔ ((is_live (after (opening settings) es).core.handles kind.Session n ≡ true) × ((life_of (after (opening settings) es).core n).lost ≡ true))) (named_is other session named) (answered_lost (after (opening settings) es).core other (begin_checks (life_of (after (opening settings) es).core other) view) (λ life. unchanged (begun_session life)) ((λ c. cc), ((λ c. cc), ((λ c. cc), ((λ c. cc), tt))))))
+    by (end_session other) named = joined _ (subst (λ (n : ℕ). ((step (after (opening settings) es) (record e { request = end_session other })).1.reply.code ≡ SessionLost) ↔ ((is_live (after (opening settings) es).core.handles kind.Session n ≡ true) × ((life_of (after (opening settings) es).core n).lost ≡ true))) (named_is other session named) (answered_lost (after (opening settings) es).core other (end_checks (life_of (after (opening settings) es).core other)) (ended_session (after (opening settings) es).core.device.wish) ((λ c. cc), ((λ c. cc), ((λ c. cc), tt)))))
+    by (request_exit_session other) named = joined _ (subst (λ (n : ℕ). ((step (after (opening settings) es) (record e { request = request_exit_session other })).1.reply.code ≡ SessionLost) ↔ ((is_live (after (opening settings) es).core.handles kind.Session n ≡ true) × ((life_of (after (opening settings) es).core n).lost ≡ true))) (named_is other session named) (answered_lost (after (opening settings) es).core other (exit_checks (life_of (after (opening settings) es).core other)) (exiting_session (after (opening settings) es).core.device.wish) ((λ c. cc), ((λ c. cc), tt))))
     by _ named = cc
 
 -- ---- pending losses
@@ -339,7 +339,7 @@ pending_losses s e session named = by e.request named
   where
     by : (r : Request) → session_of r ≡ Some session
         → ((step s (record e { request = r })).1.reply.code ≡ SessionLossPending) ↔ ((first_of (refusals (rule s.core (reads_of s) (record e { request = r }))) ≡ None) × (is_state (life_of s.core session).state LossPending ≡ true))
-    by (begin_session other view) named = subst (λ (n : ℕ). ((step s (record e { request = begin_session other view })).1.reply.code ≡ SessionLossPending) ↔ ((first_of (refusals (rule s.core (reads_of s) (record e { request = begin_session other view }))) ≡ None) × (is_state (life_of s.core n).state LossPending ≡ true))) (named_is other session named) (answered_pending s.core other (begin_checks (life_of s.core other) view) (λ life. unchanged (begun life)) ((λ c. cc), ((λ c. cc), ((λ c. cc), ((λ c. cc), ((λ c. cc), ((λ c. cc), tt)))))))
-    by (end_session other) named = subst (λ (n : ℕ). ((step s (record e { request = end_session other })).1.reply.code ≡ SessionLossPending) ↔ ((first_of (refusals (rule s.core (reads_of s) (record e { request = end_session other }))) ≡ None) × (is_state (life_of s.core n).state LossPending ≡ true))) (named_is other session named) (answered_pending s.core other (end_checks (life_of s.core other)) (ended s.core.device.wish) ((λ c. cc), ((λ c. cc), ((λ c. cc), ((λ c. cc), ((λ c. cc), tt))))))
-    by (request_exit_session other) named = subst (λ (n : ℕ). ((step s (record e { request = request_exit_session other })).1.reply.code ≡ SessionLossPending) ↔ ((first_of (refusals (rule s.core (reads_of s) (record e { request = request_exit_session other }))) ≡ None) × (is_state (life_of s.core n).state LossPending ≡ true))) (named_is other session named) (answered_pending s.core other (exit_checks (life_of s.core other)) (exiting s.core.device.wish) ((λ c. cc), ((λ c. cc), ((λ c. cc), ((λ c. cc), tt)))))
+    by (begin_session other view) named = subst (λ (n : ℕ). ((step s (record e { request = begin_session other view })).1.reply.code ≡ SessionLossPending) ↔ ((first_of (refusals (rule s.core (reads_of s) (record e { request = begin_session other view }))) ≡ None) × (is_state (life_of s.core n).state LossPending ≡ true))) (named_is other session named) (answered_pending s.core other (begin_checks (life_of s.core other) view) (λ life. unchanged (begun_session life)) ((λ c. cc), ((λ c. cc), ((λ c. cc), ((λ c. cc), ((λ c. cc), ((λ c. cc), tt)))))))
+    by (end_session other) named = subst (λ (n : ℕ). ((step s (record e { request = end_session other })).1.reply.code ≡ SessionLossPending) ↔ ((first_of (refusals (rule s.core (reads_of s) (record e { request = end_session other }))) ≡ None) × (is_state (life_of s.core n).state LossPending ≡ true))) (named_is other session named) (answered_pending s.core other (end_checks (life_of s.core other)) (ended_session s.core.device.wish) ((λ c. cc), ((λ c. cc), ((λ c. cc), ((λ c. cc), ((λ c. cc), tt))))))
+    by (request_exit_session other) named = subst (λ (n : ℕ). ((step s (record e { request = request_exit_session other })).1.reply.code ≡ SessionLossPending) ↔ ((first_of (refusals (rule s.core (reads_of s) (record e { request = request_exit_session other }))) ≡ None) × (is_state (life_of s.core n).state LossPending ≡ true))) (named_is other session named) (answered_pending s.core other (exit_checks (life_of s.core other)) (exiting_session s.core.device.wish) ((λ c. cc), ((λ c. cc), ((λ c. cc), ((λ c. cc), tt)))))
     by _ named = cc

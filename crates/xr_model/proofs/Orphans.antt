@@ -2,12 +2,12 @@
 use Rattle.std.proofs.Common.{◌≡◌, ℕ, ◌==◌, not, true, List, [], ◌∷◌, refl}
 use Rattle.xr_types.specs.declared.handles.Kind.TheVariants.{Instance, Session}
 use Rattle.xr_types.specs.declared.handles.Slot.{Slot}
-use Rattle.xr_model.specs.Request.{Entry}
-use Rattle.xr_model.specs.Handles.{Handles, is_live, has, with_handle, going, gone_instances, gone_parents, without}
-use Rattle.xr_model.specs.State.{State, opening}
-use Rattle.xr_model.specs.Machine.{step, reads_of}
-use Rattle.xr_model.specs.History.{after}
-use Rattle.xr_model.specs.HandleLaws.{AreUnder, NoOrphans}
+use Rattle.xr_model.specs.machine.Request.{Entry}
+use Rattle.xr_model.specs.machine.Handles.{Handles, is_live, has, with_handle, going, destroyed_instances, destroyed_parents, without}
+use Rattle.xr_model.specs.machine.State.{State, opening}
+use Rattle.xr_model.specs.machine.Machine.{step, reads_of}
+use Rattle.xr_model.specs.machine.History.{after}
+use Rattle.xr_model.specs.laws.HandleLaws.{AreUnder, NoOrphans}
 use Rattle.xr_model.proofs.Rows.{both_of, or_true, in_none, has_put, under_put, under_more, cleared_under}
 use Rattle.xr_model.proofs.HandleSteps.{kept_by_step}
 
@@ -22,16 +22,16 @@ without_under h handle u = record {
 }
   where
     instances : List ℕ
-    instances = gone_instances h handle
+    instances = destroyed_instances h handle
 
     parents : List ℕ
-    parents = gone_parents h handle
+    parents = destroyed_parents h handle
 
     sessions : List ℕ
-    sessions = going handle (gone_instances h handle) h.sessions
+    sessions = going handle (destroyed_instances h handle) h.sessions
 
     sets : List ℕ
-    sets = going handle (gone_instances h handle) h.sets
+    sets = going handle (destroyed_instances h handle) h.sets
 
 -- with an instance more
 instance_under : (h : Handles) (given : ℕ) → AreUnder h → AreUnder (with_handle h Instance 0 given)

@@ -3,8 +3,8 @@ use Rattle.std.proofs.Common.{◌≡◌, ◌+◌, ℕ, zero, suc, ◌==◌, ◌&
 use Rattle.std.specs.Prelude.{is_some}
 use Rattle.std.specs.List.{list_any, list_all, position_from}
 use Rattle.xr_types.specs.declared.handles.Slot.{Slot}
-use Rattle.xr_model.specs.Handles.{free, has, first_free, put_in, goes, going, cleared}
-use Rattle.xr_model.specs.HandleLaws.{is_under}
+use Rattle.xr_model.specs.machine.Handles.{free, has, first_free, put_in, goes, going, cleared}
+use Rattle.xr_model.specs.laws.HandleLaws.{is_under}
 
 -- ---- tests
 

@@ -1,7 +1,7 @@
 -- What holds of scripts in form holds of each of their ops.
 use Rattle.std.proofs.Common.{◌++◌, ◌<◌, ℕ, zero, suc, List, [], ◌∷◌, length, arith, get_or}
 use Rattle.xr_types.specs.declared.scenario.Op.{Op}
-use Rattle.xr_model.specs.ScriptForm.{IsPlaceOf, AreInForm, IsInForm, AllInForm, IsAnyPlace, IsInRange}
+use Rattle.xr_model.specs.scenario.ScriptForm.{IsPlaceOf, AreInForm, IsInForm, AllInForm, IsAnyPlace, IsInRange}
 use Rattle.xr_model.proofs.InRange.{formed-weaker}
 
 in_range-behind : (before ops : List Op) (i : ℕ) (d : Op) → AreInForm before ops → i < length ops → IsInRange (get_or ops i d)

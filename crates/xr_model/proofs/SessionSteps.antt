@@ -7,19 +7,19 @@ use Rattle.xr_types.specs.Code.{is_success}
 use Rattle.xr_types.specs.declared.device.DeviceEvent.{DeviceEvent}
 use Rattle.xr_types.specs.declared.device.DeviceEvent.TheVariants as event
 use Rattle.xr_types.specs.declared.handles.Kind.TheVariants as kind
-use Rattle.xr_model.specs.Request.{Entry, Request, create_instance, destroy_instance, create_session, destroy_session, begin_session, end_session, request_exit_session, leave, device}
-use Rattle.xr_model.specs.Handles.{Handles, is_live, has_room, with_handle, without}
-use Rattle.xr_model.specs.Refusals.{Refusal, first_of}
-use Rattle.xr_model.specs.State.{CoreState, CellReads}
-use Rattle.xr_model.specs.Rule.{Effect, refusals, unless_refused}
-use Rattle.xr_model.specs.Rules.Instance.{the_system}
-use Rattle.xr_model.specs.Rules.Own.{with_left}
-use Rattle.xr_model.specs.Rules.Device.{behind_event}
-use Rattle.xr_model.specs.Rules.Session.{new_session, with_change}
-use Rattle.xr_model.specs.SessionLife.{Life, Changed, unchanged, started, settled, begun, ended, exiting, losing, lost, is_state}
-use Rattle.xr_model.specs.LiveSessions.{Session, session_at, with_life_at, still_live, each_changed}
-use Rattle.xr_model.specs.SessionLaws.{is_device_lost, is_session_creation}
-use Rattle.xr_model.specs.Machine.{core_step, rule}
+use Rattle.xr_model.specs.machine.Request.{Entry, Request, create_instance, destroy_instance, create_session, destroy_session, begin_session, end_session, request_exit_session, leave, device}
+use Rattle.xr_model.specs.machine.Handles.{Handles, is_live, has_room, with_handle, without}
+use Rattle.xr_model.specs.machine.Refusals.{Refusal, first_of}
+use Rattle.xr_model.specs.machine.State.{CoreState, CellReads}
+use Rattle.xr_model.specs.machine.Rule.{Effect, refusals, unless_refused}
+use Rattle.xr_model.specs.machine.Rules.Instance.{the_system}
+use Rattle.xr_model.specs.machine.Rules.Own.{with_left}
+use Rattle.xr_model.specs.machine.Rules.Device.{behind_event}
+use Rattle.xr_model.specs.machine.Rules.Session.{new_session, with_change}
+use Rattle.xr_model.specs.machine.SessionLife.{Life, Changed, unchanged, started_session, settled_session, begun_session, ended_session, exiting_session, losing_session, lost_session, is_state}
+use Rattle.xr_model.specs.machine.LiveSessions.{Session, session_at, with_life_at, still_live, each_changed}
+use Rattle.xr_model.specs.laws.SessionLaws.{is_device_lost, is_session_creation}
+use Rattle.xr_model.specs.machine.Machine.{core_step, rule}
 use Rattle.xr_types.specs.declared.session.SessionState.TheVariants.{Exiting, LossPending}
 
 -- a property that the handles and the sessions have before an entry, and that each thing that it may do keeps
@@ -27,11 +27,11 @@ pub record Keeps (P : Handles → List Session → Type 0) (s : CoreState) (read
   pub same : is_device_lost e.request ≡ false → is_session_creation e.request && is_success (core_step s reads e).1.reply.code ≡ false → P s.handles s.sessions
   pub instance : is_device_lost e.request ≡ false → is_session_creation e.request ≡ false → P (with_handle s.handles kind.Instance 0 e.given) s.sessions
   pub session : is_device_lost e.request ≡ false → is_session_creation e.request ≡ true → is_success (core_step s reads e).1.reply.code ≡ true → has_room s.handles kind.Session ≡ true
-      → (instance : ℕ) → P (with_handle s.handles kind.Session instance e.given) (s.sessions ++ new_session s e.given (started s.device.wish).life ∷ [])
+      → (instance : ℕ) → P (with_handle s.handles kind.Session instance e.given) (s.sessions ++ new_session s e.given (started_session s.device.wish).life ∷ [])
   pub without : is_device_lost e.request ≡ false → is_session_creation e.request ≡ false → (handle : ℕ) → P (without s.handles handle) (still_live (without s.handles handle) s.sessions)
   pub lives : is_device_lost e.request ≡ false → is_session_creation e.request ≡ false → (session : ℕ) (x : Session) → session_at s.sessions session ≡ Some x → (life : Life) → life.lost ≡ x.life.lost → P s.handles (with_life_at x.handle life s.sessions)
   pub each : is_device_lost e.request ≡ false → is_session_creation e.request ≡ false → (f : Life → Changed) → ((life : Life) → (f life).life.lost ≡ life.lost) → P s.handles (each_changed f s.sessions)
-  pub lost : is_device_lost e.request ≡ true → is_session_creation e.request ≡ false → P s.handles (each_changed (λ life. unchanged (lost life)) s.sessions)
+  pub lost : is_device_lost e.request ≡ true → is_session_creation e.request ≡ false → P s.handles (each_changed (λ life. unchanged (lost_session life)) s.sessions)
 
 abbrev Has : (Handles → List Session → Type 0) → CoreState → Type 0
 Has P s = P s.handles s.sessions
@@ -40,7 +40,7 @@ kept : (P : Handles → List Session → Type 0) (s : CoreState) (o : Option Ref
 kept P s None x same done = done refl
 kept P s (Some r) x same done = same
 
-losing_keeps : (life : Life) → (losing life).life.lost ≡ life.lost
+losing_keeps : (life : Life) → (losing_session life).life.lost ≡ life.lost
 losing_keeps life = by (is_state life.state Exiting) (is_state life.state LossPending)
   where
     by : (a b : Bool) → (if a || b then unchanged life else record { life = record life { state = LossPending }; through = LossPending ∷ [] }).life.lost ≡ life.lost
@@ -56,8 +56,8 @@ module _ (P : Handles → List Session → Type 0) (s : CoreState) (reads : Cell
   events : (what : DeviceEvent) → Keeps P s reads (record e { request = device what }) → Has P (behind_event s what)
   events (event.Clock time) k = k.same refl refl
   events (event.Grid base period) k = k.same refl refl
-  events (event.Wish wish) k = k.each refl refl (settled wish) (λ life. refl)
-  events event.Loss k = k.each refl refl losing losing_keeps
+  events (event.Wish wish) k = k.each refl refl (settled_session wish) (λ life. refl)
+  events event.Loss k = k.each refl refl losing_session losing_keeps
   events event.Lost k = k.lost refl refl
   events (event.Mark mark) k = k.same refl refl
   events event.Fault k = k.lost refl refl
@@ -100,13 +100,13 @@ kept_by_step P s reads e = by e.request
         kept P s (first_of (refusals f)) f.effect (k.same refl refl) (λ none. k.without refl refl session)
     by (begin_session session view) k =
         let f = rule s reads (record e { request = begin_session session view }) in
-        kept P s (first_of (refusals f)) f.effect (k.same refl refl) (λ none. changed P s reads e session (λ life. unchanged (begun life)) (session_at s.sessions session) refl (k.same refl refl) (λ x found. k.lives refl refl session x found _ refl))
+        kept P s (first_of (refusals f)) f.effect (k.same refl refl) (λ none. changed P s reads e session (λ life. unchanged (begun_session life)) (session_at s.sessions session) refl (k.same refl refl) (λ x found. k.lives refl refl session x found _ refl))
     by (end_session session) k =
         let f = rule s reads (record e { request = end_session session }) in
-        kept P s (first_of (refusals f)) f.effect (k.same refl refl) (λ none. changed P s reads e session (ended s.device.wish) (session_at s.sessions session) refl (k.same refl refl) (λ x found. k.lives refl refl session x found _ refl))
+        kept P s (first_of (refusals f)) f.effect (k.same refl refl) (λ none. changed P s reads e session (ended_session s.device.wish) (session_at s.sessions session) refl (k.same refl refl) (λ x found. k.lives refl refl session x found _ refl))
     by (request_exit_session session) k =
         let f = rule s reads (record e { request = request_exit_session session }) in
-        kept P s (first_of (refusals f)) f.effect (k.same refl refl) (λ none. changed P s reads e session (exiting s.device.wish) (session_at s.sessions session) refl (k.same refl refl) (λ x found. k.lives refl refl session x found _ refl))
+        kept P s (first_of (refusals f)) f.effect (k.same refl refl) (λ none. changed P s reads e session (exiting_session s.device.wish) (session_at s.sessions session) refl (k.same refl refl) (λ x found. k.lives refl refl session x found _ refl))
     by leave k = left_alone P s reads e e.actor (k.same refl refl)
     by (device what) k = events P s reads e what k
     by r k = let f = rule s reads (record e { request = r }) in kept P s (first_of (refusals f)) f.effect (k.same refl refl) (λ none. k.same refl refl)

@@ -4,8 +4,8 @@ use Rattle.xr_types.specs.declared.device.Wish.{Wish}
 use Rattle.xr_types.specs.declared.device.Wish.TheVariants as wish
 use Rattle.xr_types.specs.declared.session.SessionState.{SessionState}
 use Rattle.xr_types.specs.declared.session.SessionState.TheVariants.{Idle, Ready, Synchronized, Visible, Focused, Stopping, LossPending, Exiting}
-use Rattle.xr_model.specs.SessionLife.{next_state, changes, most_changes, last_of}
-use Rattle.xr_model.specs.StateLaws.{NoRowFits}
+use Rattle.xr_model.specs.machine.SessionLife.{next_state, changes, most_changes, last_of}
+use Rattle.xr_model.specs.laws.StateLaws.{NoRowFits}
 
 -- that many changes are enough
 enough : (w : Wish) (exit : Bool) (state : SessionState) → next_state w exit (last_of state (changes most_changes w exit state)) ≡ None

@@ -1,20 +1,18 @@
 -- A live handle stands in one place, and a new one changes nothing else that lives.
-use Rattle.std.proofs.Common.{◌≡◌, ◌≢◌, ◌≤◌, ◌+◌, ◌==◌, ◌&&◌, ◌||◌, ℕ, ℤ, zero, suc, not, Bool, true, false, List, [], ◌∷◌, Option, Some, None, refl, sym, ap, subst, ◌∙◌, arith, true≢false}
+use Rattle.std.proofs.Common.{◌≡◌, ◌≢◌, ◌≤◌, ◌+◌, ◌==◌, ◌&&◌, ℕ, ℤ, not, Bool, true, false, List, [], ◌∷◌, Option, Some, None, refl, sym, subst, ◌∙◌, arith, true≢false}
 use Rattle.std.specs.Prelude.{if◌then◌else◌}
-use Rattle.std.specs.List.{list_any, list_all}
-use Rattle.xr_types.specs.Code.{is_success}
 use Rattle.xr_types.specs.declared.handles.Kind.{Kind}
 use Rattle.xr_types.specs.declared.handles.Kind.TheVariants.{Instance, Session, ActionSet, Action, Space, Swapchain}
 use Rattle.xr_types.specs.declared.handles.Slot.{Slot}
 use Rattle.xr_types.specs.declared.handles.TheConstants.{INSTANCES, SESSIONS, ACTION_SETS, ACTIONS, SPACES, SWAPCHAINS}
-use Rattle.xr_model.specs.Request.{Entry, Request, create_instance, create_session}
-use Rattle.xr_model.specs.Handles.{Handles, free, has, is_live, was_given, first_free, put_in, cleared, goes, gone_instances, gone_parents, with_handle, without, no_handles}
-use Rattle.xr_model.specs.HandleLaws.{count_in, places_with, StandOnce, HandlesStandOnce, CreatingAdds}
-use Rattle.xr_model.specs.Refusals.{Refusal, first_of}
-use Rattle.xr_model.specs.Rule.{Effect, refusals, unless_refused}
-use Rattle.xr_model.specs.State.{CoreState, Settings, State, opening}
-use Rattle.xr_model.specs.Machine.{step, rule, reads_of, is_creation, IsAllowed, IsGiven}
-use Rattle.xr_model.specs.History.{after, opening_clocks, clocks_after, IsLegalFrom}
+use Rattle.xr_model.specs.machine.Request.{Entry, Request, create_instance, create_session}
+use Rattle.xr_model.specs.machine.Handles.{Handles, free, has, is_live, was_given, first_free, put_in, cleared, goes, destroyed_instances, destroyed_parents, with_handle, without, no_handles}
+use Rattle.xr_model.specs.laws.HandleLaws.{count_in, places_with, StandOnce, HandlesStandOnce, CreatingAdds}
+use Rattle.xr_model.specs.machine.Refusals.{Refusal, first_of}
+use Rattle.xr_model.specs.machine.Rule.{Effect, refusals, unless_refused}
+use Rattle.xr_model.specs.machine.State.{CoreState, State, opening}
+use Rattle.xr_model.specs.machine.Machine.{step, rule, reads_of, is_creation, IsAllowed, IsGiven}
+use Rattle.xr_model.specs.machine.History.{after, opening_clocks, clocks_after, IsLegalFrom}
 use Rattle.xr_model.proofs.Rows.{itself, same_key, hasnt_free, neither_of, not_zero, put_first, put_is_first, has_put, hasnt_put}
 use Rattle.xr_model.proofs.HandleSteps.{kept_by_step, gives_handle}
 use Rattle.xr_model.proofs.Destroying.{IsAbsent, AreKnown, known_step, known_opening}
@@ -116,11 +114,11 @@ without_once : (h : Handles) (top : ℕ) → StandOnce h → StandOnce (without 
 without_once h top once k nz =
     let all = once k nz in
     let a = count_cleared top [] h.instances k nz in
-    let b = count_cleared top (gone_instances h top) h.sessions k nz in
-    let c = count_cleared top (gone_instances h top) h.sets k nz in
-    let d = count_cleared top (gone_parents h top) h.actions k nz in
-    let e = count_cleared top (gone_parents h top) h.spaces k nz in
-    let f = count_cleared top (gone_parents h top) h.chains k nz in
+    let b = count_cleared top (destroyed_instances h top) h.sessions k nz in
+    let c = count_cleared top (destroyed_instances h top) h.sets k nz in
+    let d = count_cleared top (destroyed_parents h top) h.actions k nz in
+    let e = count_cleared top (destroyed_parents h top) h.spaces k nz in
+    let f = count_cleared top (destroyed_parents h top) h.chains k nz in
     omega (arith, all, a, b, c, d, e, f)
 
 once_step : (s : State) (e : Entry) → IsAllowed s e → AreKnown s.core.handles → StandOnce s.core.handles → StandOnce (step s e).0.core.handles
@@ -185,7 +183,7 @@ refused_same s None x kind other same = same
 refused_same s (Some r) x kind other same = refl
 
 pub creating_adds : CreatingAdds
-creating_adds s e allowed creates kind other apart = by e.request creates
+creating_adds s e creates kind other apart = by e.request creates
   where
     by : (r : Request) → is_creation r ≡ true → is_live (step s (record e { request = r })).0.core.handles kind other ≡ is_live s.core.handles kind other
     by (create_instance major minor) creates =

@@ -2,12 +2,12 @@
 //! definitions in `specs/`. The code here is one empty function for each law that holds of them.
 #![tactic(auto)]
 
-ghost use Rattle.xr_model.specs.AnswerLaws.{AnswersAreAHistory};
-ghost use Rattle.xr_model.specs.DeviceLaws.{LinesReadBack};
-ghost use Rattle.xr_model.specs.HandleLaws.{NoOrphans, DestroyedForGood, HandlesStandOnce, DestroyingTakes, CreatingAdds};
-ghost use Rattle.xr_model.specs.Laws.{RefusalsChangeNothing, AfterIsInTurn, EntriesAreCounted, PlacesCount, FrontsAreLegal, ExchangesStand};
-ghost use Rattle.xr_model.specs.SessionLaws.{SessionsAreListed, LostSessions, PendingLosses};
-ghost use Rattle.xr_model.specs.StateLaws.{NoRowFits};
+ghost use Rattle.xr_model.specs.laws.AnswerLaws.{AnswersAreAHistory};
+ghost use Rattle.xr_model.specs.laws.DeviceLaws.{LinesReadBack};
+ghost use Rattle.xr_model.specs.laws.HandleLaws.{NoOrphans, DestroyedForGood, HandlesStandOnce, DestroyingTakes, CreatingAdds};
+ghost use Rattle.xr_model.specs.laws.Laws.{RefusalsChangeNothing, AfterIsInTurn, EntriesAreCounted, PlacesCount, FrontsAreLegal, ExchangesStand};
+ghost use Rattle.xr_model.specs.laws.SessionLaws.{SessionsAreListed, LostSessions, PendingLosses};
+ghost use Rattle.xr_model.specs.laws.StateLaws.{NoRowFits};
 
 /// A refusal, a timeout and the want of an event change nothing but the count of locked calls.
 #[tactic(auto, using(crate::proofs::Histories::refusals_change_nothing))]
@@ -46,7 +46,7 @@ pub fn exchanges_stand()
 {}
 
 /// Calls that were answered one after another are a legal history, and the answers are the machine's.
-#[tactic(auto, using(crate::proofs::Answering::answers_are_a_history))]
+#[tactic(auto, using(crate::proofs::AnsweredCalls::answers_are_a_history))]
 pub fn answers_are_a_history()
     ensures { AnswersAreAHistory }
 {}

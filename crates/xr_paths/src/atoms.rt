@@ -4,10 +4,10 @@ ghost use Rattle.std.specs.Option.{option_copied};
 ghost use Rattle.std.specs.List.{list_any};
 ghost use Rattle.std.specs.Cmp.Lexicographic.{pointwise};
 ghost use Rattle.xr_types.specs.Code.{is_out_of_memory};
-ghost use Rattle.xr_model.specs.Paths.{index_of, atom_of, with_text, text_at, intern_refusals, may_want_memory, copy_refusals, copied, size_at};
-ghost use Rattle.xr_model.specs.Refusals.{first_of, unless};
-ghost use Rattle.xr_model.specs.PartAnswers.{answer_by};
-ghost use Rattle.xr_model.specs.CoreCalls.{written_over};
+ghost use Rattle.xr_model.specs.machine.Paths.{index_of, atom_of, with_text, text_at, intern_refusals, may_want_memory, copy_refusals, copied, size_at};
+ghost use Rattle.xr_model.specs.machine.Refusals.{first_of, unless};
+ghost use Rattle.xr_model.specs.machine.PartAnswers.{answer_by};
+ghost use Rattle.xr_model.specs.machine.CoreCalls.{written_over};
 
 use crate::copy::copy_text;
 use crate::text::is_path_text;

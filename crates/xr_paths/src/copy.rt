@@ -1,9 +1,9 @@
 // A text and its terminating zero, at the front of a lent buffer.
 ghost use Rattle.std.specs.Prelude.{◌≡◌, length, Some};
-ghost use Rattle.xr_model.specs.Paths.{copy_refusals, copied, size_of};
-ghost use Rattle.xr_model.specs.Refusals.{first_of};
-ghost use Rattle.xr_model.specs.PartAnswers.{answer_by};
-ghost use Rattle.xr_model.specs.CoreCalls.{written_over};
+ghost use Rattle.xr_model.specs.machine.Paths.{copy_refusals, copied, size_of};
+ghost use Rattle.xr_model.specs.machine.Refusals.{first_of};
+ghost use Rattle.xr_model.specs.machine.PartAnswers.{answer_by};
+ghost use Rattle.xr_model.specs.machine.CoreCalls.{written_over};
 
 use xr_types::{Answer, Code};
 

@@ -1,11 +1,11 @@
 // Whether a text is a path, in one scan from left to right.
 ghost use Rattle.std.specs.Prelude.{◌≡◌, false};
-ghost use Rattle.xr_paths.specs.Scan.{scan};
-ghost use Rattle.xr_model.specs.Paths.{is_path_byte, is_path_text};
+ghost use Rattle.xr_paths.specs.inside.Scan.{scan};
+ghost use Rattle.xr_model.specs.machine.Paths.{is_path_byte, is_path_text};
 
 const MOST_BYTES: usize = 255;
 
-#[tactic(auto, unfolding(xr_model::specs::Paths::is_path_byte))]
+#[tactic(auto, unfolding(xr_model::specs::machine::Paths::is_path_byte))]
 fn is_path_byte(b: u8) -> bool
     ensures { result ≡ is_path_byte b }
 {

@@ -4,7 +4,7 @@ use Rattle.std.proofs.lemmas.Bool.{cases_lt}
 use Rattle.std.proofs.lemmas.List.{at_drop_all}
 use Rattle.xr_types.specs.declared.device.DeviceEvent.{DeviceEvent}
 use Rattle.xr_types.specs.declared.made.Made.{Made}
-use Rattle.xr_model.specs.Report.{events_from}
+use Rattle.xr_model.specs.report.Report.{events_from}
 
 events_from-no_calls : (places : Bool) (number : ℕ) (events : List DeviceEvent) → events_from places number events [] ≡ []
 events_from-no_calls places number [] = refl

@@ -1,7 +1,7 @@
 // The blocks of a report.
 ghost use Rattle.std.specs.Prelude.{◌≡◌, ◌++◌, OnOk, IfOk};
 ghost use Rattle.std.specs.List.{list_any};
-ghost use Rattle.xr_model.specs.Report.{lines_of, threads_from, frames_from, compositor_block, events_from, device_block, waiting_lines, stuck_block, is_fault, is_garbled, status_of, status_line, report_of};
+ghost use Rattle.xr_model.specs.report.Report.{lines_of, threads_from, frames_from, compositor_block, events_from, device_block, waiting_lines, stuck_block, is_fault, is_garbled, status_of, status_line, report_of};
 
 use crate::lines::{push_call, push_ended, push_event_line, push_frame_line, push_waiting};
 use crate::push::{push_number, push_text};

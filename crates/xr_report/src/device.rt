@@ -1,7 +1,7 @@
 // The lines of a device text.
 ghost use Rattle.std.specs.Prelude.{◌≡◌, ◌++◌, OnOk};
-ghost use Rattle.xr_model.specs.InputNames.{input_name};
-ghost use Rattle.xr_model.specs.DeviceLines.{connected, origin_name, line_of};
+ghost use Rattle.xr_model.specs.device_text.InputNames.{input_name};
+ghost use Rattle.xr_model.specs.device_text.DeviceLines.{connected, origin_name, line_of};
 
 use crate::push::{push_number, push_signed, push_text};
 use std::alloc::AllocError;

@@ -1,6 +1,6 @@
 // The lines of a report.
 ghost use Rattle.std.specs.Prelude.{◌≡◌, ◌++◌, slice_get, OnOk};
-ghost use Rattle.xr_model.specs.ReportLines.{call_line, layer_text, layers_text, frame_place, frame_line, ended_line, event_text, event_line, waiting_line};
+ghost use Rattle.xr_model.specs.report.ReportLines.{call_line, layer_text, layers_text, frame_place, frame_line, ended_line, event_text, event_line, waiting_line};
 
 use crate::device::push_device_line;
 use crate::push::{push_number, push_place, push_signed, push_text};

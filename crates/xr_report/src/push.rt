@@ -1,8 +1,8 @@
 // Texts, numbers and places, appended.
 ghost use Rattle.std.specs.Prelude.{◌≡◌, ◌++◌, decimal, OnOk};
 ghost use Rattle.std.specs.Fmt.{signed_decimal};
-ghost use Rattle.xr_model.specs.ReportValues.{flag};
-ghost use Rattle.xr_model.specs.ReportLines.{place_behind};
+ghost use Rattle.xr_model.specs.report.ReportValues.{flag};
+ghost use Rattle.xr_model.specs.report.ReportLines.{place_behind};
 
 use itoa::Buffer;
 use std::alloc::AllocError;

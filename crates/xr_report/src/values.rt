@@ -1,6 +1,6 @@
 // The values behind a call's code.
 ghost use Rattle.std.specs.Prelude.{◌≡◌, ◌++◌, OnOk};
-ghost use Rattle.xr_model.specs.ReportValues.{number_values, text_behind, event_values, frame_values, change_values, boolean_values, float_values, vector_values, location_values, given_values, values_of};
+ghost use Rattle.xr_model.specs.report.ReportValues.{number_values, text_behind, event_values, frame_values, change_values, boolean_values, float_values, vector_values, location_values, given_values, values_of};
 
 use crate::push::{push_flag, push_number, push_signed, push_text};
 use std::alloc::AllocError;

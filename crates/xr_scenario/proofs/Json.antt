@@ -7,7 +7,7 @@ use Rattle.serde_json.specs.Data.{Data}
 use Rattle.serde_json.specs.Read.{read}
 use Rattle.xr_scenario.specs.Size.{size}
 use Rattle.xr_scenario.proofs.Sizes.{holds_less}
-use Rattle.xr_model.specs.Scenario.{json_of}
+use Rattle.xr_model.specs.scenario.Scenario.{json_of}
 
 pub json_some : (bytes : List ℕ) (d : Data) → IsUtf8 bytes → read bytes ≡ Some d → json_of bytes ≡ Some d
 json_some bytes d utf8 e = rw (is_utf8-from_IsUtf8 bytes utf8) e

@@ -1,6 +1,6 @@
 pub mod Sizes
 pub mod Json
-pub mod Lines
+pub mod OpReading
 pub mod Few
-pub mod Formed
-pub mod InForm
+pub mod InRange
+pub mod ScriptForm

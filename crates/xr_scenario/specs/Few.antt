@@ -2,7 +2,7 @@
 use Rattle.std.specs.Prelude.{◌≡◌, ◌<◌, Ok, ℕ, ◌+◌, List, [], ◌∷◌, length}
 use Rattle.xr_types.specs.declared.scenario.Op.{Op}
 use Rattle.xr_types.specs.declared.scenario.Scenario.{Scenario}
-use Rattle.xr_model.specs.Scenario.{scenario_of}
+use Rattle.xr_model.specs.scenario.Scenario.{scenario_of}
 
 abbrev pub total : List (List Op) → ℕ
 total [] = 0

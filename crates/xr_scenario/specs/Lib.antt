@@ -1,4 +1,3 @@
 pub mod Size
 pub mod Few
-pub mod Shapes
-pub mod OpNames
+pub mod inside

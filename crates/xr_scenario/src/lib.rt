@@ -5,10 +5,10 @@
 
 mod fault;
 mod laws;
-mod line;
+mod read_op;
 mod reader;
 
 pub use fault::ScenarioFault;
 pub use laws::{few_ops, holds_less};
 pub use reader::read;
-pub use xr_calls::{Names, Scratch, call_of};
+pub use xr_scenario_calls::{Names, Scratch, call_of};

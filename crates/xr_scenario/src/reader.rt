@@ -3,19 +3,19 @@ ghost use Rattle.std.specs.Prelude.{◌≡◌, ◌≤◌, ◌<◌, ◌^◌, ◌+
 ghost use Rattle.serde_json.specs.View.{view, items_view};
 ghost use Rattle.serde_json.specs.Find.{as_array};
 ghost use Rattle.xr_types.specs.declared.status.Refusal.TheVariants.{BadShape};
-ghost use Rattle.xr_model.specs.ScriptForm.{IsInForm, AllInForm};
-ghost use Rattle.xr_model.specs.Lines.{with_name_of};
-ghost use Rattle.xr_model.specs.Scenario.{ops_from, script_of, scripts_from, scripts_by, has_version, scenario_in, json_of, scenario_of};
+ghost use Rattle.xr_model.specs.scenario.ScriptForm.{IsInForm, AllInForm};
+ghost use Rattle.xr_model.specs.scenario.OpReading.{with_name_of};
+ghost use Rattle.xr_model.specs.scenario.Scenario.{ops_from, script_of, scripts_from, scripts_by, has_version, scenario_in, json_of, scenario_of};
 ghost use Rattle.xr_scenario.specs.declared.fault.ScenarioFault.TheVariants.{Refused, NoMemory};
 ghost use Rattle.xr_scenario.specs.Few.{total};
 ghost use Rattle.xr_scenario.specs.Size.{size, items_size};
-ghost use Rattle.xr_scenario.specs.Shapes.{ReadsShape, IsJsonFault};
+ghost use Rattle.xr_scenario.specs.inside.Shapes.{ReadsShape, IsJsonFault};
 
 use crate::fault::ScenarioFault;
-use crate::line::{op_of, read_line};
+use crate::read_op::{op_of, read_op};
 use serde_json::Value;
 use std::alloc::Global;
-use xr_fields::{Fault, NamedOps, only_keys};
+use xr_scenario_fields::{Fault, NamedOps, only_keys};
 use xr_types::{Op, Refusal, Scenario, Script, Several, Sort, What};
 
 const MOST_BYTES: usize = 1_048_576;
@@ -55,7 +55,7 @@ fn add<T: Drop>(list: &mut Vec<T>, item: T) -> Result<(), ScenarioFault>
 }
 
 /// The ops of a script, or the first wrong place.
-#[tactic(auto, using(crate::proofs::Lines::prepended, crate::proofs::Lines::ops_step, crate::proofs::Lines::list_sizes))]
+#[tactic(auto, using(crate::proofs::OpReading::prepended, crate::proofs::OpReading::ops_step, crate::proofs::OpReading::list_sizes))]
 fn read_ops(alloc: Global, script: u32, values: &[Value]) -> Result<Script, ScenarioFault>
     requires { items_size (items_view values.now) < 2 ^ 31 }
     ensures reads { ReadsShape result (ops_from script 1 [] (items_view values.now)) }
@@ -66,8 +66,8 @@ fn read_ops(alloc: Global, script: u32, values: &[Value]) -> Result<Script, Scen
     let mut place = 0;
     for value in values {
         place += 1;
-        let line = match read_line(alloc, &named_ops, value) {
-            Ok(line) => line,
+        let read = match read_op(alloc, &named_ops, value) {
+            Ok(read) => read,
             Err(Fault::Wrong(what)) => {
                 return Err(ScenarioFault::Refused(Refusal::BadShape {
                     script,
@@ -78,8 +78,8 @@ fn read_ops(alloc: Global, script: u32, values: &[Value]) -> Result<Script, Scen
             }
             Err(Fault::NoMemory) => return Err(ScenarioFault::NoMemory),
         };
-        keep(&mut named_ops, place, line.op.sort(), line.name)?;
-        add(&mut ops, line.op)?;
+        keep(&mut named_ops, place, read.op.sort(), read.name)?;
+        add(&mut ops, read.op)?;
     }
     Ok(Several::new(ops))
 }
@@ -103,7 +103,7 @@ fn read_script(alloc: Global, script: u32, value: &Value) -> Result<Script, Scen
 }
 
 /// The scripts of a scenario, or the first wrong place.
-#[tactic(auto, using(crate::proofs::Lines::list_sizes, crate::proofs::Lines::script_steps))]
+#[tactic(auto, using(crate::proofs::OpReading::list_sizes, crate::proofs::OpReading::script_steps))]
 fn read_scripts(alloc: Global, values: &[Value]) -> Result<Several<Script>, ScenarioFault>
     requires { items_size (items_view values.now) < 2 ^ 31 }
     ensures reads { ReadsShape result (scripts_from 1 (items_view values.now)) }
@@ -135,7 +135,7 @@ fn top<T>(what: What) -> Result<T, ScenarioFault>
 }
 
 /// The scripts of a list of 1 to 8.
-#[tactic(auto, using(crate::proofs::Lines::items_counted, crate::proofs::Few::array_size))]
+#[tactic(auto, using(crate::proofs::OpReading::items_counted, crate::proofs::Few::array_size))]
 fn read_list(alloc: Global, scripts: &Value) -> Result<Several<Script>, ScenarioFault>
     requires { size (view scripts.now) < 2 ^ 31 }
     ensures reads { ReadsShape result (scripts_by (as_array (view scripts.now))) }

@@ -9,20 +9,20 @@ use Rattle.xr_types.specs.declared.made.Waiting.{Waiting}
 use Rattle.xr_types.specs.declared.scenario.Op.{Op}
 use Rattle.xr_types.specs.declared.scenario.Scenario.{Scenario}
 use Rattle.xr_io.specs.Outside.{Rose}
-use Rattle.xr_model.specs.Request as request
-use Rattle.xr_model.specs.Request.{Request, wait_image, Entry}
-use Rattle.xr_model.specs.State.{with_apps, State, opening}
-use Rattle.xr_model.specs.History.{calls_of}
-use Rattle.xr_model.specs.Scripts.{request_for, FollowsSoFar}
-use Rattle.xr_model.specs.DeviceText.{DeviceStream}
-use Rattle.xr_model.specs.Robin.{Agenda, script, with_start, device_calls, IsRobinFrom, agendas_left, in_round}
-use Rattle.xr_model.specs.Report.{is_fault}
-use Rattle.xr_model.specs.Lists.{name_of, end_of, events_in, lists_of, waiting_of}
-use Rattle.xr_serial.specs.Turns.{Parts, parts_of, device_part, compositor_part, pending_list, now_part, next_part, last_part, AreHeldBack}
-use Rattle.xr_serial.specs.Continues.{first_three, IsRest}
-use Rattle.xr_serial.specs.RunInvariant.{ScriptKept, EndKept, RunInvariant}
+use Rattle.xr_model.specs.machine.Request as request
+use Rattle.xr_model.specs.machine.Request.{Request, wait_image, Entry}
+use Rattle.xr_model.specs.machine.State.{with_apps, State, opening}
+use Rattle.xr_model.specs.machine.History.{calls_of}
+use Rattle.xr_model.specs.runs.Scripts.{request_for, FollowsSoFar}
+use Rattle.xr_model.specs.device_text.DeviceText.{DeviceStream}
+use Rattle.xr_model.specs.runs.Robin.{Agenda, script, with_start, device_calls, IsRobinFrom, agendas_left, in_round}
+use Rattle.xr_model.specs.report.Report.{is_fault}
+use Rattle.xr_model.specs.runs.Lists.{name_of, end_of, events_in, lists_of, waiting_of}
+use Rattle.xr_serial.specs.inside.Turns.{Parts, parts_of, device_part, compositor_part, pending_list, now_part, next_part, last_part, AreHeldBack}
+use Rattle.xr_serial.specs.inside.Continues.{first_three, IsRest}
+use Rattle.xr_serial.specs.inside.RunInvariant.{ScriptKept, EndKept, RunInvariant}
 use Rattle.xr_serial.specs.Ran.{IsEnd, IsWhole, Ran}
-use Rattle.xr_serial.specs.AtEnd.{in_order, lists_at}
+use Rattle.xr_serial.specs.inside.AtEnd.{in_order, lists_at}
 use Rattle.xr_serial.specs.declared.turn.Turn.{Turn}
 use Rattle.xr_serial.proofs.TurnOrder.{none_turn}
 use Rattle.xr_serial.proofs.Ending.{Gives, gives, is_over, in_round_is}
@@ -32,7 +32,7 @@ filled w ws h = cc
 
 -- ---- the script
 
-follows_so_far : (gone : Bool) (ops : List Op) (made : ℕ) (names : List ℕ) (list : List Made) (app : List request.Exchange) → ScriptKept ops made names list gone app → FollowsSoFar ops app
+follows_so_far : (has_left : Bool) (ops : List Op) (made : ℕ) (names : List ℕ) (list : List Made) (app : List request.Exchange) → ScriptKept ops made names list has_left app → FollowsSoFar ops app
 follows_so_far true ops made names list app kept = kept.front refl
 follows_so_far false ops made names list app kept = subst (FollowsSoFar ops) (append-nil app) (kept.so_far [] refl tt)
 
@@ -57,34 +57,34 @@ same_script : (app place : ℕ) (ops : List Op) (values : List ℕ) (c d : ℤ) 
 same_script app place [] values c d = refl
 same_script app place (o ∷ os) values c d = rw (name_started c (request_for values o), name_started d (request_for values o)) refl
 
-same_clock : (ops : List Op) (made : ℕ) (names : List ℕ) (c d : ℤ) (gone : Bool) (pending : Option DeviceEvent) (ended : Option Reply) (rest : List DeviceEvent)
-    → map waiting_of (in_order (parts_of ops made names c gone pending ended rest)) ≡ map waiting_of (in_order (parts_of ops made names d gone pending ended rest))
+same_clock : (ops : List Op) (made : ℕ) (names : List ℕ) (c d : ℤ) (has_left : Bool) (pending : Option DeviceEvent) (ended : Option Reply) (rest : List DeviceEvent)
+    → map waiting_of (in_order (parts_of ops made names c has_left pending ended rest)) ≡ map waiting_of (in_order (parts_of ops made names d has_left pending ended rest))
 same_clock ops made names c d true pending ended rest = refl
 same_clock ops made names c d false pending ended rest =
     ap (λ (w : Waiting). w ∷ map waiting_of (device_part pending rest ++ compositor_part ended)) (same_script 1 (made + 1) (drop made ops) names c d)
 
 -- what is still to come of a device is behind its next event
-same_waiting : (over : Bool) (ops : List Op) (made : ℕ) (names : List ℕ) (clock : ℤ) (gone : Bool) (pending : Option DeviceEvent) (ended : Option Reply) (rest : List DeviceEvent) → IsRest over rest → (pending ≡ None → over ≡ true)
-    → map waiting_of (in_order (parts_of ops made names clock gone pending ended rest)) ≡ map waiting_of (in_order (parts_of ops made names clock gone pending ended []))
-same_waiting over ops made names clock gone None ended rest ok known = rw (ok (known refl)) refl
+same_waiting : (over : Bool) (ops : List Op) (made : ℕ) (names : List ℕ) (clock : ℤ) (has_left : Bool) (pending : Option DeviceEvent) (ended : Option Reply) (rest : List DeviceEvent) → IsRest over rest → (pending ≡ None → over ≡ true)
+    → map waiting_of (in_order (parts_of ops made names clock has_left pending ended rest)) ≡ map waiting_of (in_order (parts_of ops made names clock has_left pending ended []))
+same_waiting over ops made names clock has_left None ended rest ok known = rw (ok (known refl)) refl
 same_waiting over ops made names clock true (Some e) ended rest ok known = refl
 same_waiting over ops made names clock false (Some e) ended rest ok known = refl
 
 -- where nobody is left
-pub record NoneLeft (gone : Bool) (pending : Option DeviceEvent) (ended : Option Reply) : Type 0 where
-  pub left : gone ≡ true
+pub record NoneLeft (has_left : Bool) (pending : Option DeviceEvent) (ended : Option Reply) : Type 0 where
+  pub left : has_left ≡ true
   pub told : pending ≡ None
   pub end : map waiting_of (compositor_part ended) ≡ []
 
-none_left : (ops : List Op) (made : ℕ) (names : List ℕ) (clock : ℤ) (gone : Bool) (pending : Option DeviceEvent) (ended : Option Reply) → map waiting_of (in_order (parts_of ops made names clock gone pending ended [])) ≡ [] → NoneLeft gone pending ended
+none_left : (ops : List Op) (made : ℕ) (names : List ℕ) (clock : ℤ) (has_left : Bool) (pending : Option DeviceEvent) (ended : Option Reply) → map waiting_of (in_order (parts_of ops made names clock has_left pending ended [])) ≡ [] → NoneLeft has_left pending ended
 none_left ops made names clock true None ended none = record { left = refl; told = refl; end = none }
 none_left ops made names clock true (Some e) ended h = absurd (filled _ _ h)
 none_left ops made names clock false pending ended h = absurd (filled _ _ h)
 
 -- ---- the run
 
-module _ (ops : List Op) (t : Turn) (s : State) (made : ℕ) (names : List ℕ) (list : List Made) (gone : Bool) (pending : Option DeviceEvent) (over : Bool) (evs : List DeviceEvent) (dlist : List Made) (ended : Option Reply) (told now : Option DeviceStream) (before after bound : ℕ)
-    (kept : RunInvariant ops t 3 s made names list gone pending over evs dlist ended told now before after bound) where
+module _ (ops : List Op) (t : Turn) (s : State) (made : ℕ) (names : List ℕ) (list : List Made) (has_left : Bool) (pending : Option DeviceEvent) (over : Bool) (evs : List DeviceEvent) (dlist : List Made) (ended : Option Reply) (told now : Option DeviceStream) (before after bound : ℕ)
+    (kept : RunInvariant ops t 3 s made names list has_left pending over evs dlist ended told now before after bound) where
   abbrev device : Gives told over pending kept.dev before after
   device = gives over pending evs dlist kept.dev told now before after kept.device
 
@@ -101,10 +101,10 @@ module _ (ops : List Op) (t : Turn) (s : State) (made : ℕ) (names : List ℕ) 
   compositor_calls = kept.going.compositors [] ∙ append-nil kept.comp
 
   abbrev parts : List DeviceEvent → Parts
-  parts rest = parts_of ops made names kept.clock gone pending ended rest
+  parts rest = parts_of ops made names kept.clock has_left pending ended rest
 
   abbrev told_parts : Parts
-  told_parts = parts_of ops made names (pos 0) gone pending ended []
+  told_parts = parts_of ops made names (pos 0) has_left pending ended []
 
   abbrev agendas : List Agenda
   agendas = now_part t (parts device.rest) ++ next_part t (parts device.rest) ++ last_part t (parts device.rest)
@@ -117,8 +117,8 @@ module _ (ops : List Op) (t : Turn) (s : State) (made : ℕ) (names : List ℕ) 
 
   known : pending ≡ None → over ≡ true
   known none =
-      is_over t s ops made names kept.clock gone over ended
-      (λ rest ok. subst (λ (next : Option DeviceEvent). AreHeldBack s (now_part t (parts_of ops made names kept.clock gone next ended rest) ++ next_part t (parts_of ops made names kept.clock gone next ended rest) ++ last_part t (parts_of ops made names kept.clock gone next ended rest))) none (kept.going.stands rest ok).1)
+      is_over t s ops made names kept.clock has_left over ended
+      (λ rest ok. subst (λ (next : Option DeviceEvent). AreHeldBack s (now_part t (parts_of ops made names kept.clock has_left next ended rest) ++ next_part t (parts_of ops made names kept.clock has_left next ended rest) ++ last_part t (parts_of ops made names kept.clock has_left next ended rest))) none (kept.going.stands rest ok).1)
 
   robin_three : IsRobinFrom (opening (with_apps 1)) (first_three ops calls) history
   robin_three = subst (λ (c : List DeviceEvent). IsRobinFrom (opening (with_apps 1)) (first_three ops c) history) (sym device.calls) (kept.going.robin device.rest device.none [] (rw stands.0 (none_turn s [] agendas stands.1)))
@@ -127,22 +127,22 @@ module _ (ops : List Op) (t : Turn) (s : State) (made : ℕ) (names : List ℕ) 
   left_three = subst (λ (c : List DeviceEvent). agendas_left (opening (with_apps 1)) (first_three ops c) history ≡ agendas) (sym device.calls) (kept.going.left device.rest device.none [] ∙ stands.0)
 
   next_three : map waiting_of (in_round 1 (agendas_left (opening (with_apps 1)) (first_three ops calls) history)) ≡ map waiting_of (in_order told_parts)
-  next_three = ap (λ (l : List Agenda). map waiting_of (in_round 1 l)) left_three ∙ ap (map waiting_of) (in_round_is t ops made names kept.clock gone pending ended device.rest (parts device.rest) refl) ∙ same_waiting over ops made names kept.clock gone pending ended device.rest device.none known ∙ same_clock ops made names kept.clock (pos 0) gone pending ended []
+  next_three = ap (λ (l : List Agenda). map waiting_of (in_round 1 l)) left_three ∙ ap (map waiting_of) (in_round_is t ops made names kept.clock has_left pending ended device.rest (parts device.rest) refl) ∙ same_waiting over ops made names kept.clock has_left pending ended device.rest device.none known ∙ same_clock ops made names kept.clock (pos 0) has_left pending ended []
 
-  lists_three : lists_at ops made names list gone pending evs dlist ended ≡ lists_of (with_apps 1) history (agendas_left (opening (with_apps 1)) (first_three ops calls) history)
+  lists_three : lists_at ops made names list has_left pending evs dlist ended ≡ lists_of (with_apps 1) history (agendas_left (opening (with_apps 1)) (first_three ops calls) history)
   lists_three = rw (next_three, app_calls, device_made, compositor_calls, ← kept.script.list_is, ← kept.device.list_is, ← kept.device.events_are, ends_so ended kept.comp kept.end) refl
 
   whole : map waiting_of (in_order told_parts) ≡ [] → IsWhole ops device.events device.ending history
-  whole none = by (none_left ops made names (pos 0) gone pending ended none)
+  whole none = by (none_left ops made names (pos 0) has_left pending ended none)
     where
-      by : NoneLeft gone pending ended → IsWhole ops device.events device.ending history
+      by : NoneLeft has_left pending ended → IsWhole ops device.events device.ending history
       by n = record {
         follows = rw app_calls (kept.script.whole n.left);
         ends = rw compositor_calls (ends_once ended kept.comp kept.end n.end);
         device = ap events_in device_made ∙ sym (device.calls ∙ (ap (λ (l : List DeviceEvent). (events_in kept.dev ++ pending_list pending) ++ l) (device.none (known n.told)) ∙ append-nil (events_in kept.dev ++ pending_list pending) ∙ ap (λ (p : Option DeviceEvent). events_in kept.dev ++ pending_list p) n.told ∙ append-nil (events_in kept.dev)));
       }
 
-  pub ran : (scenario : Scenario) → scenario.scripts ≡ ops ∷ [] → Ran scenario ops told (lists_at ops made names list gone pending evs dlist ended)
+  pub ran : (scenario : Scenario) → scenario.scripts ≡ ops ∷ [] → Ran scenario ops told (lists_at ops made names list has_left pending evs dlist ended)
   ran scenario one = record {
     history = history;
     events = device.events;
@@ -151,7 +151,7 @@ module _ (ops : List Op) (t : Turn) (s : State) (made : ℕ) (names : List ℕ) 
     gave = device.gave;
     legal = kept.going.legal [] tt;
     robin = rw one robin_three;
-    follows = rw app_calls (follows_so_far gone ops made names list kept.app kept.script);
+    follows = rw app_calls (follows_so_far has_left ops made names list kept.app kept.script);
     device = (pending_list pending ++ device.rest, rw device_made (device.calls ∙ append_assoc (events_in kept.dev) (pending_list pending) device.rest));
     whole = whole;
     made = rw one lists_three;

@@ -2,12 +2,12 @@
 use Rattle.std.proofs.Common.{◌≤◌, ℕ, pos, false, List, [], length, Option, Some, None, refl, sym, arith, true≢false}
 use Rattle.std.proofs.lemmas.Grind.{common_steps}
 use Rattle.xr_types.specs.declared.scenario.Op.{Op}
-use Rattle.xr_model.specs.State.{with_apps, opening}
-use Rattle.xr_model.specs.History.{opening_clocks}
-use Rattle.xr_model.specs.DeviceText.{DeviceStream}
-use Rattle.xr_model.specs.NameValues.{no_values}
-use Rattle.xr_serial.specs.Continues.{first_three}
-use Rattle.xr_serial.specs.RunInvariant.{GivesMore, RunInvariant}
+use Rattle.xr_model.specs.machine.State.{with_apps, opening}
+use Rattle.xr_model.specs.machine.History.{opening_clocks}
+use Rattle.xr_model.specs.device_text.DeviceText.{DeviceStream}
+use Rattle.xr_model.specs.runs.NameValues.{no_values}
+use Rattle.xr_serial.specs.inside.Continues.{first_three}
+use Rattle.xr_serial.specs.inside.RunInvariant.{GivesMore, RunInvariant}
 use Rattle.xr_serial.specs.declared.turn.Turn.TheVariants as turn
 
 gives_all : (told : Option DeviceStream) → GivesMore told told []

@@ -12,18 +12,18 @@ use Rattle.xr_types.specs.declared.device.DeviceEvent.TheVariants as event
 use Rattle.xr_types.specs.declared.made.Made.{Made}
 use Rattle.xr_types.specs.declared.scenario.Op.{Op}
 use Rattle.xr_io.specs.Outside.{Rose}
-use Rattle.xr_model.specs.Request as request
-use Rattle.xr_model.specs.Request.{is_actor}
-use Rattle.xr_model.specs.State.{State}
-use Rattle.xr_model.specs.DeviceText.{DeviceStream, Ending, ends}
-use Rattle.xr_model.specs.Report.{is_fault}
-use Rattle.xr_model.specs.Robin.{Agenda, actor_of, device_agendas, device_calls, last_event, agendas_of, in_round}
-use Rattle.xr_model.specs.Lists.{events_in}
-use Rattle.xr_serial.specs.Turns.{Parts, script_part, compositor_part, parts_of, pending_list, now_part, next_part, last_part, AreHeldBack}
-use Rattle.xr_serial.specs.Continues.{IsRest}
-use Rattle.xr_serial.specs.RunInvariant.{GivesMore, DeviceKept}
+use Rattle.xr_model.specs.machine.Request as request
+use Rattle.xr_model.specs.machine.Request.{is_actor}
+use Rattle.xr_model.specs.machine.State.{State}
+use Rattle.xr_model.specs.device_text.DeviceText.{DeviceStream, Ending, ends}
+use Rattle.xr_model.specs.report.Report.{is_fault}
+use Rattle.xr_model.specs.runs.Robin.{Agenda, actor_of, device_agendas, device_calls, last_event, agendas_of, in_round}
+use Rattle.xr_model.specs.runs.Lists.{events_in}
+use Rattle.xr_serial.specs.inside.Turns.{Parts, script_part, compositor_part, parts_of, pending_list, now_part, next_part, last_part, AreHeldBack}
+use Rattle.xr_serial.specs.inside.Continues.{IsRest}
+use Rattle.xr_serial.specs.inside.RunInvariant.{GivesMore, DeviceKept}
 use Rattle.xr_serial.specs.Ran.{Gave}
-use Rattle.xr_serial.specs.AtEnd.{in_order}
+use Rattle.xr_serial.specs.inside.AtEnd.{in_order}
 use Rattle.xr_serial.specs.declared.turn.Turn.{Turn}
 use Rattle.xr_serial.specs.declared.turn.Turn.TheVariants as turn
 
@@ -108,11 +108,11 @@ held_device turn.Device s p held = held_front s p.device p.compositor (held_fron
 held_device turn.Compositor s p held = held_behind s (p.compositor ++ p.script) p.device held
 
 -- a device of which more may come is asked for it, since it could tell what can be made at once
-pub is_over : (t : Turn) (s : State) (ops : List Op) (made : ℕ) (names : List ℕ) (clock : ℤ) (gone over : Bool) (ended : Option Reply)
-    → ((rest : List DeviceEvent) → IsRest over rest → AreHeldBack s (now_part t (parts_of ops made names clock gone None ended rest) ++ next_part t (parts_of ops made names clock gone None ended rest) ++ last_part t (parts_of ops made names clock gone None ended rest))) → over ≡ true
-is_over t s ops made names clock gone true ended held = refl
-is_over t s ops made names clock gone false ended held =
-    let can = held_device t s (parts_of ops made names clock gone None ended (event.Clock (pos 0) ∷ [])) (held (event.Clock (pos 0) ∷ []) (λ e. absurd (true≢false (sym e)))) in
+pub is_over : (t : Turn) (s : State) (ops : List Op) (made : ℕ) (names : List ℕ) (clock : ℤ) (has_left over : Bool) (ended : Option Reply)
+    → ((rest : List DeviceEvent) → IsRest over rest → AreHeldBack s (now_part t (parts_of ops made names clock has_left None ended rest) ++ next_part t (parts_of ops made names clock has_left None ended rest) ++ last_part t (parts_of ops made names clock has_left None ended rest))) → over ≡ true
+is_over t s ops made names clock has_left true ended held = refl
+is_over t s ops made names clock has_left false ended held =
+    let can = held_device t s (parts_of ops made names clock has_left None ended (event.Clock (pos 0) ∷ [])) (held (event.Clock (pos 0) ∷ []) (λ e. absurd (true≢false (sym e)))) in
     absurd (true≢false can.0)
 
 -- ---- in the order of a round
@@ -154,11 +154,11 @@ round_of turn.Script p o = rw (pick_first (App 1) p.script p.device p.compositor
 round_of turn.Device p o = rw (pick_third (App 1) p.device p.compositor p.script o.d1 o.c1 o.s1, pick_first Device p.device p.compositor p.script o.d2 o.c2 o.s2, pick_second Compositor p.device p.compositor p.script o.d3 o.c3 o.s3) refl
 round_of turn.Compositor p o = rw (pick_second (App 1) p.compositor p.script p.device o.c1 o.s1 o.d1, pick_third Device p.compositor p.script p.device o.c2 o.s2 o.d2, pick_first Compositor p.compositor p.script p.device o.c3 o.s3 o.d3) refl
 
-script_own : (ops : List Op) (made : ℕ) (names : List ℕ) (clock : ℤ) (gone : Bool) → agendas_of (App 1) (script_part ops made names clock gone) ≡ script_part ops made names clock gone
+script_own : (ops : List Op) (made : ℕ) (names : List ℕ) (clock : ℤ) (has_left : Bool) → agendas_of (App 1) (script_part ops made names clock has_left) ≡ script_part ops made names clock has_left
 script_own ops made names clock true = refl
 script_own ops made names clock false = refl
 
-script_none : (ops : List Op) (made : ℕ) (names : List ℕ) (clock : ℤ) (gone : Bool) → (agendas_of Device (script_part ops made names clock gone) ≡ []) × (agendas_of Compositor (script_part ops made names clock gone) ≡ [])
+script_none : (ops : List Op) (made : ℕ) (names : List ℕ) (clock : ℤ) (has_left : Bool) → (agendas_of Device (script_part ops made names clock has_left) ≡ []) × (agendas_of Compositor (script_part ops made names clock has_left) ≡ [])
 script_none ops made names clock true = (refl, refl)
 script_none ops made names clock false = (refl, refl)
 
@@ -179,12 +179,12 @@ compositor_none None = (refl, refl)
 compositor_none (Some reply) = (refl, refl)
 
 -- those left stand in the order of a round
-pub in_round_is : (t : Turn) (ops : List Op) (made : ℕ) (names : List ℕ) (clock : ℤ) (gone : Bool) (pending : Option DeviceEvent) (ended : Option Reply) (rest : List DeviceEvent) (p : Parts) → p ≡ parts_of ops made names clock gone pending ended rest
+pub in_round_is : (t : Turn) (ops : List Op) (made : ℕ) (names : List ℕ) (clock : ℤ) (has_left : Bool) (pending : Option DeviceEvent) (ended : Option Reply) (rest : List DeviceEvent) (p : Parts) → p ≡ parts_of ops made names clock has_left pending ended rest
     → in_round 1 (now_part t p ++ next_part t p ++ last_part t p) ≡ in_order p
-in_round_is t ops made names clock gone pending ended rest p same = round_of t p (rw same (record {
-  s1 = script_own ops made names clock gone;
-  s2 = (script_none ops made names clock gone).0;
-  s3 = (script_none ops made names clock gone).1;
+in_round_is t ops made names clock has_left pending ended rest p same = round_of t p (rw same (record {
+  s1 = script_own ops made names clock has_left;
+  s2 = (script_none ops made names clock has_left).0;
+  s3 = (script_none ops made names clock has_left).1;
   d1 = (device_none (pending_list pending ++ rest)).0;
   d2 = device_own (pending_list pending ++ rest);
   d3 = (device_none (pending_list pending ++ rest)).1;

@@ -8,26 +8,26 @@ use Rattle.xr_types.specs.declared.calls.Reply.{Reply}
 use Rattle.xr_types.specs.declared.device.DeviceEvent.{DeviceEvent}
 use Rattle.xr_types.specs.declared.made.Made.{Made}
 use Rattle.xr_types.specs.declared.scenario.Op.{Op}
-use Rattle.xr_model.specs.Request as request
-use Rattle.xr_model.specs.Request.{Request, leave, device, next_frame}
-use Rattle.xr_model.specs.CoreCalls.{entry_of}
-use Rattle.xr_model.specs.State.{State}
-use Rattle.xr_model.specs.Rule.{locked_after}
-use Rattle.xr_model.specs.Machine.{ready}
-use Rattle.xr_model.specs.DeviceText.{DeviceStream}
-use Rattle.xr_model.specs.NameValues.{value_given, learned}
-use Rattle.xr_model.specs.Scripts.{request_for}
-use Rattle.xr_model.specs.Robin.{script, clock_behind}
-use Rattle.xr_model.specs.Lists.{made_at, made_from}
-use Rattle.xr_serial.specs.Made.{IsAnswered, asked}
-use Rattle.xr_serial.specs.Sides.{told_of, OpTurn, Leaves}
-use Rattle.xr_serial.specs.Turns.{Parts, parts_of}
-use Rattle.xr_serial.specs.Continues.{Continues}
-use Rattle.xr_serial.specs.RunInvariant.{ScriptKept, RunInvariant}
+use Rattle.xr_model.specs.machine.Request as request
+use Rattle.xr_model.specs.machine.Request.{Request, leave, device, next_frame}
+use Rattle.xr_model.specs.machine.CoreCalls.{entry_of}
+use Rattle.xr_model.specs.machine.State.{State}
+use Rattle.xr_model.specs.machine.Rule.{locked_after}
+use Rattle.xr_model.specs.machine.Machine.{ready}
+use Rattle.xr_model.specs.device_text.DeviceText.{DeviceStream}
+use Rattle.xr_model.specs.runs.NameValues.{value_given, with_name_value}
+use Rattle.xr_model.specs.runs.Scripts.{request_for}
+use Rattle.xr_model.specs.runs.Robin.{script, clock_behind}
+use Rattle.xr_model.specs.runs.Lists.{made_at, made_from}
+use Rattle.xr_serial.specs.inside.Made.{IsAnswered, asked}
+use Rattle.xr_serial.specs.inside.Sides.{told_of, OpTurn, Leaves}
+use Rattle.xr_serial.specs.inside.Turns.{Parts, parts_of}
+use Rattle.xr_serial.specs.inside.Continues.{Continues}
+use Rattle.xr_serial.specs.inside.RunInvariant.{ScriptKept, RunInvariant}
 use Rattle.xr_serial.specs.declared.turn.Turn.{Turn}
 use Rattle.xr_serial.specs.declared.turn.Turn.TheVariants as turn
 use Rattle.xr_serial.proofs.Ops.{same_request, ready_started, built_unstarted, built_locked}
-use Rattle.xr_serial.proofs.Staying.{call_keeps, op_stays}
+use Rattle.xr_serial.proofs.OnlyLeaveLeaves.{call_keeps, op_stays}
 use Rattle.xr_serial.proofs.Steps.{Goes, made_turn, passed_turn}
 
 pub made_snoc : (place : ℕ) (told : List request.Exchange) (t : request.Exchange) → made_from place (told ++ t ∷ []) ≡ made_from place told ++ made_at (place + length told) t ∷ []
@@ -44,7 +44,7 @@ drop_all ops = grind (arith, common_steps)
 -- ---- one op more
 
 script_more : (ops : List Op) (made : ℕ) (names : List ℕ) (list : List Made) (app : List request.Exchange) (o : Op) (answer : Reply) (bytes : List ℕ) → made < length ops → drop made ops ≡ o ∷ drop (made + 1) ops → ScriptKept ops made names list false app
-    → ScriptKept ops (made + 1) (learned names (made + 1) o answer) (list ++ made_at (made + 1) (told_of (request_for names o) answer bytes) ∷ []) false (app ++ told_of (request_for names o) answer bytes ∷ [])
+    → ScriptKept ops (made + 1) (with_name_value names (made + 1) o answer) (list ++ made_at (made + 1) (told_of (request_for names o) answer bytes) ∷ []) false (app ++ told_of (request_for names o) answer bytes ∷ [])
 script_more ops made names list app o answer bytes within here kept =
     let t : request.Exchange = told_of (request_for names o) answer bytes in
     let count : length app ≡ made + 0 = kept.count in
@@ -67,11 +67,11 @@ module _ (ops : List Op) (told now : Option DeviceStream) (before after bound : 
   pub op_made : (made : ℕ) (names : List ℕ) (list : List Made) (pending : Option DeviceEvent) (over : Bool) (evs : List DeviceEvent) (dlist : List Made) (ended : Option Reply) (o : Op) (answer : Reply) (bytes : List ℕ) → made < length ops
       → drop made ops ≡ o ∷ drop (made + 1) ops → IsAnswered s new (App 1) (request_for names o) answer bytes
       → RunInvariant ops turn.Script k s made names list false pending over evs dlist ended told now before after bound
-      → RunInvariant ops turn.Device 0 new (made + 1) (learned names (made + 1) o answer) (list ++ made_at (made + 1) (told_of (request_for names o) answer bytes) ∷ []) false pending over evs dlist ended told now before after bound
+      → RunInvariant ops turn.Device 0 new (made + 1) (with_name_value names (made + 1) o answer) (list ++ made_at (made + 1) (told_of (request_for names o) answer bytes) ∷ []) false pending over evs dlist ended told now before after bound
   op_made made names list pending over evs dlist ended o answer bytes within here call kept =
       let what : Request = request_for names o in
       let t : request.Exchange = told_of what answer bytes in
-      let goes : Goes turn.Script (parts_of ops made names kept.clock false pending ended) (parts_of ops (made + 1) (learned names (made + 1) o answer) (clock_behind kept.clock what new) false pending ended) s new (App 1) what answer bytes = record {
+      let goes : Goes turn.Script (parts_of ops made names kept.clock false pending ended) (parts_of ops (made + 1) (with_name_value names (made + 1) o answer) (clock_behind kept.clock what new) false pending ended) s new (App 1) what answer bytes = record {
         agenda = λ rest. script 1 (made + 1) (drop made ops) names kept.clock;
         alone = λ rest. refl;
         of = λ rest. record { actor = refl; call = rw here (built_unstarted kept.clock what call.allowed.built) };

@@ -11,28 +11,28 @@ use Rattle.xr_types.specs.declared.device.DeviceEvent.TheVariants as event
 use Rattle.xr_types.specs.declared.made.Made.{Made}
 use Rattle.xr_types.specs.declared.scenario.Op.{Op}
 use Rattle.xr_io.specs.Outside.{Rose}
-use Rattle.xr_model.specs.Request as request
-use Rattle.xr_model.specs.Request.{Outcome, device, next_frame}
-use Rattle.xr_model.specs.CoreCalls.{entry_of}
-use Rattle.xr_model.specs.State.{State}
-use Rattle.xr_model.specs.Machine.{ready}
-use Rattle.xr_model.specs.Device.{is_built_event}
-use Rattle.xr_model.specs.DeviceLaws.{is_of_line}
-use Rattle.xr_model.specs.DeviceText.{DeviceStream, Ending, ends, garbled_at}
-use Rattle.xr_model.specs.Report.{is_fault}
-use Rattle.xr_model.specs.Robin.{events, compositor, last_event}
-use Rattle.xr_model.specs.Lists.{made_at, made_from, events_in}
+use Rattle.xr_model.specs.machine.Request as request
+use Rattle.xr_model.specs.machine.Request.{Outcome, device, next_frame}
+use Rattle.xr_model.specs.machine.CoreCalls.{entry_of}
+use Rattle.xr_model.specs.machine.State.{State}
+use Rattle.xr_model.specs.machine.Machine.{ready}
+use Rattle.xr_model.specs.machine.Device.{is_built_event}
+use Rattle.xr_model.specs.laws.DeviceLaws.{is_of_line}
+use Rattle.xr_model.specs.device_text.DeviceText.{DeviceStream, Ending, ends, garbled_at}
+use Rattle.xr_model.specs.report.Report.{is_fault}
+use Rattle.xr_model.specs.runs.Robin.{events, compositor, last_event}
+use Rattle.xr_model.specs.runs.Lists.{made_at, made_from, events_in}
 use Rattle.xr_device.specs.Answers.{Tells, IsTold}
 use Rattle.xr_device.specs.declared.Next.TheVariants as next
-use Rattle.xr_serial.specs.Made.{IsAnswered, asked}
-use Rattle.xr_serial.specs.Sides.{told_of, IsDone, Fetched, EventTurn, EndTurn}
-use Rattle.xr_serial.specs.Turns.{Parts, parts_of}
-use Rattle.xr_serial.specs.Continues.{Continues}
+use Rattle.xr_serial.specs.inside.Made.{IsAnswered, asked}
+use Rattle.xr_serial.specs.inside.Sides.{told_of, IsDone, Fetched, EventTurn, EndTurn}
+use Rattle.xr_serial.specs.inside.Turns.{Parts, parts_of}
+use Rattle.xr_serial.specs.inside.Continues.{Continues}
 use Rattle.xr_serial.specs.Ran.{Gave}
-use Rattle.xr_serial.specs.RunInvariant.{GivesMore, DeviceKept, RunInvariant}
+use Rattle.xr_serial.specs.inside.RunInvariant.{GivesMore, DeviceKept, RunInvariant}
 use Rattle.xr_serial.specs.declared.turn.Turn.{Turn}
 use Rattle.xr_serial.specs.declared.turn.Turn.TheVariants as turn
-use Rattle.xr_serial.proofs.Staying.{call_keeps}
+use Rattle.xr_serial.proofs.OnlyLeaveLeaves.{call_keeps}
 use Rattle.xr_serial.proofs.Keeping.{made_snoc}
 use Rattle.xr_serial.proofs.Steps.{Goes, made_turn, passed_turn, device_tells, device_ends}
 
@@ -98,13 +98,13 @@ rose_later a b c h r = grind (arith, h, r)
 
 -- ---- the device's turn
 
-module _ (ops : List Op) (told : Option DeviceStream) (before : ℕ) (k : ℕ) (few : k < 3) (s new : State) (made : ℕ) (names : List ℕ) (list : List Made) (gone : Bool) (evs : List DeviceEvent) (dlist : List Made) (ended : Option Reply) where
+module _ (ops : List Op) (told : Option DeviceStream) (before : ℕ) (k : ℕ) (few : k < 3) (s new : State) (made : ℕ) (names : List ℕ) (list : List Made) (has_left : Bool) (evs : List DeviceEvent) (dlist : List Made) (ended : Option Reply) where
   pub event_made : (now : Option DeviceStream) (after bound : ℕ) (over : Bool) (e : DeviceEvent) (answer : Reply) (bytes : List ℕ) → IsAnswered s new Device (device e) answer bytes
-      → RunInvariant ops turn.Device k s made names list gone (Some e) over evs dlist ended told now before after bound
-      → RunInvariant ops turn.Compositor 0 new made names list gone None over (evs ++ e ∷ []) (dlist ++ made_at (length dlist + 1) (told_of (device e) answer bytes) ∷ []) ended told now before after bound
+      → RunInvariant ops turn.Device k s made names list has_left (Some e) over evs dlist ended told now before after bound
+      → RunInvariant ops turn.Compositor 0 new made names list has_left None over (evs ++ e ∷ []) (dlist ++ made_at (length dlist + 1) (told_of (device e) answer bytes) ∷ []) ended told now before after bound
   event_made now after bound over e answer bytes call kept =
       let t : request.Exchange = told_of (device e) answer bytes in
-      let goes : Goes turn.Device (parts_of ops made names kept.clock gone (Some e) ended) (parts_of ops made names kept.clock gone None ended) s new Device (device e) answer bytes = record {
+      let goes : Goes turn.Device (parts_of ops made names kept.clock has_left (Some e) ended) (parts_of ops made names kept.clock has_left None ended) s new Device (device e) answer bytes = record {
         agenda = λ rest. events e rest;
         alone = λ rest. refl;
         of = λ rest. record { actor = refl; call = refl };
@@ -147,7 +147,7 @@ module _ (ops : List Op) (told : Option DeviceStream) (before : ℕ) (k : ℕ) (
       }
 
   pub event_waits : (now : Option DeviceStream) (after bound : ℕ) (over : Bool) (e : DeviceEvent) → ready s (asked Device (device e)) ≡ false
-      → RunInvariant ops turn.Device k s made names list gone (Some e) over evs dlist ended told now before after bound → RunInvariant ops turn.Compositor (k + 1) s made names list gone (Some e) over evs dlist ended told now before after bound
+      → RunInvariant ops turn.Device k s made names list has_left (Some e) over evs dlist ended told now before after bound → RunInvariant ops turn.Compositor (k + 1) s made names list has_left (Some e) over evs dlist ended told now before after bound
   event_waits now after bound over e waits kept = record {
     app = kept.app;
     dev = kept.dev;
@@ -164,7 +164,7 @@ module _ (ops : List Op) (told : Option DeviceStream) (before : ℕ) (k : ℕ) (
     work = kept.work;
   }
 
-  pub device_over : (now : Option DeviceStream) (after bound : ℕ) → RunInvariant ops turn.Device k s made names list gone None true evs dlist ended told now before after bound → RunInvariant ops turn.Compositor (k + 1) s made names list gone None true evs dlist ended told now before after bound
+  pub device_over : (now : Option DeviceStream) (after bound : ℕ) → RunInvariant ops turn.Device k s made names list has_left None true evs dlist ended told now before after bound → RunInvariant ops turn.Compositor (k + 1) s made names list has_left None true evs dlist ended told now before after bound
   device_over now after bound kept = record {
     app = kept.app;
     dev = kept.dev;
@@ -181,10 +181,10 @@ module _ (ops : List Op) (told : Option DeviceStream) (before : ℕ) (k : ℕ) (
     work = kept.work;
   }
 
-  pub over_from : (now : Option DeviceStream) (after bound : ℕ) (pending : Option DeviceEvent) (over : Bool) → pending ≡ None → over ≡ true → RunInvariant ops turn.Device k s made names list gone pending over evs dlist ended told now before after bound
-      → RunInvariant ops turn.Compositor (k + 1) s made names list gone pending over evs dlist ended told now before after bound
+  pub over_from : (now : Option DeviceStream) (after bound : ℕ) (pending : Option DeviceEvent) (over : Bool) → pending ≡ None → over ≡ true → RunInvariant ops turn.Device k s made names list has_left pending over evs dlist ended told now before after bound
+      → RunInvariant ops turn.Compositor (k + 1) s made names list has_left pending over evs dlist ended told now before after bound
   over_from now after bound pending over none all kept =
-      rw (none, all) (device_over now after bound (subst (λ (p : Option DeviceEvent). RunInvariant ops turn.Device k s made names list gone p true evs dlist ended told now before after bound) none (subst (λ (o : Bool). RunInvariant ops turn.Device k s made names list gone pending o evs dlist ended told now before after bound) all kept)))
+      rw (none, all) (device_over now after bound (subst (λ (p : Option DeviceEvent). RunInvariant ops turn.Device k s made names list has_left p true evs dlist ended told now before after bound) none (subst (λ (o : Bool). RunInvariant ops turn.Device k s made names list has_left pending o evs dlist ended told now before after bound) all kept)))
 
   -- the device was asked for more
   begun_more : (dev : List request.Exchange) (e : DeviceEvent) → (events_in dev ++ []) ++ e ∷ [] ≡ events_in dev ++ e ∷ []
@@ -194,7 +194,7 @@ module _ (ops : List Op) (told : Option DeviceStream) (before : ℕ) (k : ℕ) (
   given_more given dev e same = ap (λ (l : List DeviceEvent). l ++ e ∷ []) (sym (append-nil given) ∙ same ∙ append-nil (events_in dev))
 
   pub event_told : (now now2 : Option DeviceStream) (after after2 bound bound2 : ℕ) (e : DeviceEvent) → Tells now now2 (next.Event e) → IsTold e → bound2 < bound → after ≤ after2
-      → RunInvariant ops turn.Device k s made names list gone None false evs dlist ended told now before after bound → RunInvariant ops turn.Device k s made names list gone (Some e) false evs dlist ended told now2 before after2 bound2
+      → RunInvariant ops turn.Device k s made names list has_left None false evs dlist ended told now before after bound → RunInvariant ops turn.Device k s made names list has_left (Some e) false evs dlist ended told now2 before after2 bound2
   event_told now now2 after after2 bound bound2 e tells sound fewer grew kept =
       let d = kept.device in
       let work = kept.work in
@@ -227,7 +227,7 @@ module _ (ops : List Op) (told : Option DeviceStream) (before : ℕ) (k : ℕ) (
       }
 
   pub end_told : (now now2 : Option DeviceStream) (after after2 bound bound2 : ℕ) → Tells now now2 next.End → after ≤ after2
-      → RunInvariant ops turn.Device k s made names list gone None false evs dlist ended told now before after bound → RunInvariant ops turn.Device k s made names list gone None true evs dlist ended told now2 before after2 bound2
+      → RunInvariant ops turn.Device k s made names list has_left None false evs dlist ended told now before after bound → RunInvariant ops turn.Device k s made names list has_left None true evs dlist ended told now2 before after2 bound2
   end_told now now2 after after2 bound bound2 tells grew kept =
       let d = kept.device in
       let work = kept.work in
@@ -272,8 +272,8 @@ module _ (ops : List Op) (told : Option DeviceStream) (before : ℕ) (k : ℕ) (
     events_are = d.events_are;
   }
 
-  closed : (now now2 : Option DeviceStream) (after after2 bound bound2 : ℕ) (e : DeviceEvent) → after ≤ after2 → (kept : RunInvariant ops turn.Device k s made names list gone None false evs dlist ended told now before after bound)
-      → DeviceKept (Some e) true evs dlist kept.dev told now2 before after2 → RunInvariant ops turn.Device k s made names list gone (Some e) true evs dlist ended told now2 before after2 bound2
+  closed : (now now2 : Option DeviceStream) (after after2 bound bound2 : ℕ) (e : DeviceEvent) → after ≤ after2 → (kept : RunInvariant ops turn.Device k s made names list has_left None false evs dlist ended told now before after bound)
+      → DeviceKept (Some e) true evs dlist kept.dev told now2 before after2 → RunInvariant ops turn.Device k s made names list has_left (Some e) true evs dlist ended told now2 before after2 bound2
   closed now now2 after after2 bound bound2 e grew kept d =
       let work = kept.work in
       let later = kept.later in
@@ -294,14 +294,14 @@ module _ (ops : List Op) (told : Option DeviceStream) (before : ℕ) (k : ℕ) (
       }
 
   pub garbled_told : (now now2 : Option DeviceStream) (after after2 bound bound2 : ℕ) (line : ℕ) → Tells now now2 (next.Garbled line) → after ≤ after2
-      → RunInvariant ops turn.Device k s made names list gone None false evs dlist ended told now before after bound → RunInvariant ops turn.Device k s made names list gone (Some (event.Garbled line)) true evs dlist ended told now2 before after2 bound2
+      → RunInvariant ops turn.Device k s made names list has_left None false evs dlist ended told now before after bound → RunInvariant ops turn.Device k s made names list has_left (Some (event.Garbled line)) true evs dlist ended told now2 before after2 bound2
   garbled_told now now2 after after2 bound bound2 line tells grew kept =
       let d = kept.device in
       closed now now2 after after2 bound bound2 (event.Garbled line) grew kept
       (closes kept.dev now now2 after after2 (event.Garbled line) (Some (garbled_at line)) (record { checked = refl; built = refl }) d d.came.1 (gives_garbled told now now2 d.given line d.came.0 tells) refl (λ e. absurd (true≢false (sym e))))
 
   pub fault_told : (now now2 : Option DeviceStream) (after after2 bound bound2 : ℕ) → Rose after after2 → after ≤ after2
-      → RunInvariant ops turn.Device k s made names list gone None false evs dlist ended told now before after bound → RunInvariant ops turn.Device k s made names list gone (Some event.Fault) true evs dlist ended told now2 before after2 bound2
+      → RunInvariant ops turn.Device k s made names list has_left None false evs dlist ended told now before after bound → RunInvariant ops turn.Device k s made names list has_left (Some event.Fault) true evs dlist ended told now2 before after2 bound2
   fault_told now now2 after after2 bound bound2 rose grew kept =
       let d = kept.device in
       closed now now2 after after2 bound bound2 event.Fault grew kept
@@ -309,20 +309,20 @@ module _ (ops : List Op) (told : Option DeviceStream) (before : ℕ) (k : ℕ) (
 
   -- by what the function that makes the call says
   pub event_turn : (now : Option DeviceStream) (after bound : ℕ) (over : Bool) (e : DeviceEvent) (list2 : List Made) (events2 : List DeviceEvent) (pending2 : Option DeviceEvent) (went : Bool) → EventTurn e dlist evs list2 events2 pending2 s new went
-      → RunInvariant ops turn.Device k s made names list gone (Some e) over evs dlist ended told now before after bound
-      → RunInvariant ops turn.Compositor (if went then 0 else k + 1) new made names list gone pending2 over events2 list2 ended told now before after bound
+      → RunInvariant ops turn.Device k s made names list has_left (Some e) over evs dlist ended told now before after bound
+      → RunInvariant ops turn.Compositor (if went then 0 else k + 1) new made names list has_left pending2 over events2 list2 ended told now before after bound
   event_turn now after bound over e list2 events2 pending2 true m kept = rw (m.keeps, m.tells, m.next) (event_made now after bound over e m.answer m.bytes m.call kept)
   event_turn now after bound over e list2 events2 pending2 false m kept = rw (m.keeps, m.tells, m.next, m.state) (event_waits now after bound over e m.waits kept)
 
   pub event_from : (now : Option DeviceStream) (after bound : ℕ) (over over2 : Bool) (pending : Option DeviceEvent) (e : DeviceEvent) (list2 : List Made) (events2 : List DeviceEvent) (pending2 : Option DeviceEvent) (went : Bool) → pending ≡ Some e → over2 ≡ over → EventTurn e dlist evs list2 events2 pending2 s new went
-      → RunInvariant ops turn.Device k s made names list gone pending over evs dlist ended told now before after bound
-      → RunInvariant ops turn.Compositor (if went then 0 else k + 1) new made names list gone pending2 over2 events2 list2 ended told now before after bound
+      → RunInvariant ops turn.Device k s made names list has_left pending over evs dlist ended told now before after bound
+      → RunInvariant ops turn.Compositor (if went then 0 else k + 1) new made names list has_left pending2 over2 events2 list2 ended told now before after bound
   event_from now after bound over over2 pending e list2 events2 pending2 went this same m kept =
-      rw same (event_turn now after bound over e list2 events2 pending2 went m (subst (λ (p : Option DeviceEvent). RunInvariant ops turn.Device k s made names list gone p over evs dlist ended told now before after bound) this kept))
+      rw same (event_turn now after bound over e list2 events2 pending2 went m (subst (λ (p : Option DeviceEvent). RunInvariant ops turn.Device k s made names list has_left p over evs dlist ended told now before after bound) this kept))
 
   -- by what the function that asks the device says
   pub looked : (now now2 : Option DeviceStream) (after after2 bound bound2 : ℕ) (pending2 : Option DeviceEvent) (over2 : Bool) → Fetched now now2 after after2 bound bound2 pending2 over2 → after ≤ after2
-      → RunInvariant ops turn.Device k s made names list gone None false evs dlist ended told now before after bound → RunInvariant ops turn.Device k s made names list gone pending2 over2 evs dlist ended told now2 before after2 bound2
+      → RunInvariant ops turn.Device k s made names list has_left None false evs dlist ended told now before after bound → RunInvariant ops turn.Device k s made names list has_left pending2 over2 evs dlist ended told now2 before after2 bound2
   looked now now2 after after2 bound bound2 (Some e) false f grew kept = event_told now now2 after after2 bound bound2 e f.0 f.1 f.2 grew kept
   looked now now2 after after2 bound bound2 None true f grew kept = end_told now now2 after after2 bound bound2 f.0 grew kept
   looked now now2 after after2 bound bound2 (Some event.Fault) true f grew kept = fault_told now now2 after after2 bound bound2 f.0 grew kept
@@ -330,23 +330,23 @@ module _ (ops : List Op) (told : Option DeviceStream) (before : ℕ) (k : ℕ) (
   looked now now2 after after2 bound bound2 _ _ f grew kept = absurd f
 
   pub looked_from : (now now2 : Option DeviceStream) (after after2 bound bound2 : ℕ) (pending : Option DeviceEvent) (over : Bool) (pending2 : Option DeviceEvent) (over2 : Bool) → pending ≡ None → over ≡ false → Fetched now now2 after after2 bound bound2 pending2 over2 → after ≤ after2
-      → RunInvariant ops turn.Device k s made names list gone pending over evs dlist ended told now before after bound → RunInvariant ops turn.Device k s made names list gone pending2 over2 evs dlist ended told now2 before after2 bound2
+      → RunInvariant ops turn.Device k s made names list has_left pending over evs dlist ended told now before after bound → RunInvariant ops turn.Device k s made names list has_left pending2 over2 evs dlist ended told now2 before after2 bound2
   looked_from now now2 after after2 bound bound2 pending over pending2 over2 unknown open_ f grew kept =
       looked now now2 after after2 bound bound2 pending2 over2 f grew
-      (subst (λ (p : Option DeviceEvent). RunInvariant ops turn.Device k s made names list gone p false evs dlist ended told now before after bound) unknown (subst (λ (o : Bool). RunInvariant ops turn.Device k s made names list gone pending o evs dlist ended told now before after bound) open_ kept))
+      (subst (λ (p : Option DeviceEvent). RunInvariant ops turn.Device k s made names list has_left p false evs dlist ended told now before after bound) unknown (subst (λ (o : Bool). RunInvariant ops turn.Device k s made names list has_left pending o evs dlist ended told now before after bound) open_ kept))
 
 -- ---- the compositor's turn
 
 end_gives : (s new : State) (answer : Reply) → IsAnswered s new Compositor next_frame answer [] → answer.gives ≡ Ended
 end_gives s new answer call = sym (ap (λ (o : Outcome). o.reply.gives) call.outcome)
 
-module _ (ops : List Op) (told now : Option DeviceStream) (before after bound : ℕ) (k : ℕ) (few : k < 3) (s new : State) (made : ℕ) (names : List ℕ) (list : List Made) (gone : Bool) (pending : Option DeviceEvent) (over : Bool) (evs : List DeviceEvent) (dlist : List Made) where
-  pub end_made : (answer : Reply) → IsAnswered s new Compositor next_frame answer [] → RunInvariant ops turn.Compositor k s made names list gone pending over evs dlist None told now before after bound
-      → RunInvariant ops turn.Script 0 new made names list gone pending over evs dlist (Some answer) told now before after bound
+module _ (ops : List Op) (told now : Option DeviceStream) (before after bound : ℕ) (k : ℕ) (few : k < 3) (s new : State) (made : ℕ) (names : List ℕ) (list : List Made) (has_left : Bool) (pending : Option DeviceEvent) (over : Bool) (evs : List DeviceEvent) (dlist : List Made) where
+  pub end_made : (answer : Reply) → IsAnswered s new Compositor next_frame answer [] → RunInvariant ops turn.Compositor k s made names list has_left pending over evs dlist None told now before after bound
+      → RunInvariant ops turn.Script 0 new made names list has_left pending over evs dlist (Some answer) told now before after bound
   end_made answer call kept =
       let t : request.Exchange = told_of next_frame answer [] in
       let gives = end_gives s new answer call in
-      let goes : Goes turn.Compositor (parts_of ops made names kept.clock gone pending None) (parts_of ops made names kept.clock gone pending (Some answer)) s new Compositor next_frame answer [] = record {
+      let goes : Goes turn.Compositor (parts_of ops made names kept.clock has_left pending None) (parts_of ops made names kept.clock has_left pending (Some answer)) s new Compositor next_frame answer [] = record {
         agenda = λ rest. compositor;
         alone = λ rest. refl;
         of = λ rest. record { actor = refl; call = refl };
@@ -374,8 +374,8 @@ module _ (ops : List Op) (told now : Option DeviceStream) (before after bound : 
         work = rw call.leads (omega (arith, work));
       }
 
-  pub end_waits : ready s (asked Compositor next_frame) ≡ false → RunInvariant ops turn.Compositor k s made names list gone pending over evs dlist None told now before after bound
-      → RunInvariant ops turn.Script (k + 1) s made names list gone pending over evs dlist None told now before after bound
+  pub end_waits : ready s (asked Compositor next_frame) ≡ false → RunInvariant ops turn.Compositor k s made names list has_left pending over evs dlist None told now before after bound
+      → RunInvariant ops turn.Script (k + 1) s made names list has_left pending over evs dlist None told now before after bound
   end_waits waits kept = record {
     app = kept.app;
     dev = kept.dev;
@@ -392,8 +392,8 @@ module _ (ops : List Op) (told now : Option DeviceStream) (before after bound : 
     work = kept.work;
   }
 
-  pub end_over : (answer : Reply) → RunInvariant ops turn.Compositor k s made names list gone pending over evs dlist (Some answer) told now before after bound
-      → RunInvariant ops turn.Script (k + 1) s made names list gone pending over evs dlist (Some answer) told now before after bound
+  pub end_over : (answer : Reply) → RunInvariant ops turn.Compositor k s made names list has_left pending over evs dlist (Some answer) told now before after bound
+      → RunInvariant ops turn.Script (k + 1) s made names list has_left pending over evs dlist (Some answer) told now before after bound
   end_over answer kept = record {
     app = kept.app;
     dev = kept.dev;
@@ -411,16 +411,16 @@ module _ (ops : List Op) (told now : Option DeviceStream) (before after bound : 
   }
 
   -- by what the function that makes the call says
-  pub end_turn : (ended2 : Option Reply) (went : Bool) → EndTurn ended2 s new went → RunInvariant ops turn.Compositor k s made names list gone pending over evs dlist None told now before after bound
-      → RunInvariant ops turn.Script (if went then 0 else k + 1) new made names list gone pending over evs dlist ended2 told now before after bound
+  pub end_turn : (ended2 : Option Reply) (went : Bool) → EndTurn ended2 s new went → RunInvariant ops turn.Compositor k s made names list has_left pending over evs dlist None told now before after bound
+      → RunInvariant ops turn.Script (if went then 0 else k + 1) new made names list has_left pending over evs dlist ended2 told now before after bound
   end_turn ended2 true m kept = rw m.2 (end_made m.0 m.1 kept)
   end_turn ended2 false m kept = rw (m.1, m.2) (end_waits m.0 kept)
 
-  pub end_from : (ended ended2 : Option Reply) (went : Bool) → ended ≡ None → EndTurn ended2 s new went → RunInvariant ops turn.Compositor k s made names list gone pending over evs dlist ended told now before after bound
-      → RunInvariant ops turn.Script (if went then 0 else k + 1) new made names list gone pending over evs dlist ended2 told now before after bound
-  end_from ended ended2 went open_ m kept = end_turn ended2 went m (subst (λ (r : Option Reply). RunInvariant ops turn.Compositor k s made names list gone pending over evs dlist r told now before after bound) open_ kept)
+  pub end_from : (ended ended2 : Option Reply) (went : Bool) → ended ≡ None → EndTurn ended2 s new went → RunInvariant ops turn.Compositor k s made names list has_left pending over evs dlist ended told now before after bound
+      → RunInvariant ops turn.Script (if went then 0 else k + 1) new made names list has_left pending over evs dlist ended2 told now before after bound
+  end_from ended ended2 went open_ m kept = end_turn ended2 went m (subst (λ (r : Option Reply). RunInvariant ops turn.Compositor k s made names list has_left pending over evs dlist r told now before after bound) open_ kept)
 
-  pub end_told_from : (ended : Option Reply) → is_some ended ≡ true → RunInvariant ops turn.Compositor k s made names list gone pending over evs dlist ended told now before after bound
-      → RunInvariant ops turn.Script (k + 1) s made names list gone pending over evs dlist ended told now before after bound
+  pub end_told_from : (ended : Option Reply) → is_some ended ≡ true → RunInvariant ops turn.Compositor k s made names list has_left pending over evs dlist ended told now before after bound
+      → RunInvariant ops turn.Script (k + 1) s made names list has_left pending over evs dlist ended told now before after bound
   end_told_from None h kept = absurd (true≢false (sym h))
   end_told_from (Some answer) h kept = end_over answer kept

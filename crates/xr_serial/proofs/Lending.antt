@@ -7,20 +7,20 @@ use Rattle.std.proofs.lemmas.Option.{same_Some}
 use Rattle.xr_types.specs.declared.calls.Actor.{Actor}
 use Rattle.xr_types.specs.declared.calls.Gives.TheVariants.{Size}
 use Rattle.xr_types.specs.declared.calls.Reply.{Reply}
-use Rattle.xr_model.specs.Request.{Request, create_instance, destroy_instance, get_system, string_to_path, path_to_string, poll_event, create_session, destroy_session, begin_session, end_session, request_exit_session, leave, next_frame, Entry, Outcome}
-use Rattle.xr_model.specs.CoreCalls.{entry_of}
+use Rattle.xr_model.specs.machine.Request.{Request, create_instance, destroy_instance, get_system, string_to_path, path_to_string, poll_event, create_session, destroy_session, begin_session, end_session, request_exit_session, leave, next_frame, Entry, Outcome}
+use Rattle.xr_model.specs.machine.CoreCalls.{entry_of}
 use Rattle.xr_types.specs.declared.session.Event.{Event}
-use Rattle.xr_model.specs.Events.{polled}
-use Rattle.xr_model.specs.Rules.Instance.{told_event}
-use Rattle.xr_model.specs.Paths.{text_at, copied, size_at, size_of}
-use Rattle.xr_model.specs.Refusals.{Refusal, first_of}
-use Rattle.xr_model.specs.State.{CoreState, State}
-use Rattle.xr_model.specs.Rule.{Effect, refusals, unless_refused}
-use Rattle.xr_model.specs.CoreCalls.{written_over}
-use Rattle.xr_model.specs.Machine.{reads_of, step, rule, ready}
-use Rattle.xr_model.specs.CoreCalls.{FitsBuffer, Answers}
-use Rattle.xr_serial.specs.Lent.{lent_size, written_size}
-use Rattle.xr_serial.specs.Made.{IsAnswered}
+use Rattle.xr_model.specs.machine.Events.{polled}
+use Rattle.xr_model.specs.machine.Rules.Instance.{told_event}
+use Rattle.xr_model.specs.machine.Paths.{text_at, copied, size_at, size_of}
+use Rattle.xr_model.specs.machine.Refusals.{Refusal, first_of}
+use Rattle.xr_model.specs.machine.State.{CoreState, State}
+use Rattle.xr_model.specs.machine.Rule.{Effect, refusals, unless_refused}
+use Rattle.xr_model.specs.machine.CoreCalls.{written_over}
+use Rattle.xr_model.specs.machine.Machine.{reads_of, step, rule, ready}
+use Rattle.xr_model.specs.machine.CoreCalls.{FitsBuffer, Answers}
+use Rattle.xr_serial.specs.inside.Lent.{lent_size, written_size}
+use Rattle.xr_serial.specs.inside.Made.{IsAnswered}
 
 -- a refusal that holds gives nothing that fits the buffer
 abbrev GiveNone : ℕ → List Refusal → Type 0

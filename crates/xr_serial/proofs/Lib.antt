@@ -2,7 +2,7 @@ pub mod Lending
 pub mod TurnOrder
 pub mod Ops
 pub mod Steps
-pub mod Staying
+pub mod OnlyLeaveLeaves
 pub mod Keeping
 pub mod KeepingDevice
 pub mod AtStart

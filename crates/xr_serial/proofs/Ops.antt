@@ -7,21 +7,21 @@ use Rattle.xr_types.specs.declared.scenario.Op.{Op}
 use Rattle.xr_types.specs.declared.scenario.Op.TheVariants as op
 use Rattle.xr_types.specs.Device.{is_mark}
 use Rattle.xr_types.specs.Op.{call_name}
-use Rattle.xr_model.specs.Built.{is_built_op}
-use Rattle.xr_model.specs.InRange.{IsMark}
-use Rattle.xr_model.specs.ScriptForm.{IsInRange}
-use Rattle.xr_model.specs.Lists.{name_of, mark_of, start_of}
-use Rattle.xr_model.specs.Machine.{ready, is_built}
-use Rattle.xr_model.specs.CoreCalls.{HasNumbers}
-use Rattle.xr_model.specs.Scripts.{request_for, unstarted}
-use Rattle.xr_model.specs.Request.{Request, wait_image, get_boolean, get_float, get_vector, get_pose_active, image_done, is_locked}
-use Rattle.xr_model.specs.Robin.{with_start}
-use Rattle.xr_model.specs.State.{State}
-use Rattle.xr_model.specs.History.{StartsAt}
-use Rattle.xr_serial.specs.Made.{asked}
+use Rattle.xr_model.specs.scenario.Built.{is_built_op}
+use Rattle.xr_model.specs.scenario.InRange.{IsMark}
+use Rattle.xr_model.specs.scenario.ScriptForm.{IsInRange}
+use Rattle.xr_model.specs.runs.Lists.{name_of, mark_of, start_of}
+use Rattle.xr_model.specs.machine.Machine.{ready, is_built}
+use Rattle.xr_model.specs.machine.CoreCalls.{HasNumbers}
+use Rattle.xr_model.specs.runs.Scripts.{request_for, unstarted}
+use Rattle.xr_model.specs.machine.Request.{Request, wait_image, get_boolean, get_float, get_vector, get_pose_active, image_done, is_locked}
+use Rattle.xr_model.specs.runs.Robin.{with_start}
+use Rattle.xr_model.specs.machine.State.{State}
+use Rattle.xr_model.specs.machine.History.{StartsAt}
+use Rattle.xr_serial.specs.inside.Made.{asked}
 use Rattle.xr_types.specs.declared.calls.Actor.TheVariants.{App}
-use Rattle.xr_serial.specs.Lent.{lent_size}
-use Rattle.xr_serial.specs.Sides.{op_mark}
+use Rattle.xr_serial.specs.inside.Lent.{lent_size}
+use Rattle.xr_serial.specs.inside.Sides.{op_mark}
 
 pub built_at : (ops : List Op) (i : ℕ) (d : Op) → list_all is_built_op ops ≡ true → i < length ops → is_built_op (get_or ops i d) ≡ true
 built_at [] i d all h = let none : ⊥ = omega (arith, h) in absurd none

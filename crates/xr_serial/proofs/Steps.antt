@@ -6,15 +6,15 @@ use Rattle.xr_types.specs.declared.calls.Actor.TheVariants.{App, Compositor, Dev
 use Rattle.xr_types.specs.declared.calls.Reply.{Reply}
 use Rattle.xr_types.specs.declared.device.DeviceEvent.{DeviceEvent}
 use Rattle.xr_types.specs.declared.scenario.Op.{Op}
-use Rattle.xr_model.specs.Request.{Request, Entry, Outcome, Exchange, is_actor}
-use Rattle.xr_model.specs.CoreCalls.{entry_of}
-use Rattle.xr_model.specs.State.{State}
-use Rattle.xr_model.specs.History.{clock_of, clocks_after, IsLegalFrom, calls_from}
-use Rattle.xr_model.specs.Robin.{Agenda, actor_of, next_call, agenda_after, is_next_ready, IsRobinFrom, agendas_left}
-use Rattle.xr_serial.specs.Made.{IsAnswered}
-use Rattle.xr_serial.specs.Sides.{told_of}
-use Rattle.xr_serial.specs.Turns.{Parts, now_part, next_part, last_part, turn_behind, AreHeldBack, IsTurnOrder}
-use Rattle.xr_serial.specs.Continues.{IsRest, told_if, Continues}
+use Rattle.xr_model.specs.machine.Request.{Request, Entry, Outcome, Exchange, is_actor}
+use Rattle.xr_model.specs.machine.CoreCalls.{entry_of}
+use Rattle.xr_model.specs.machine.State.{State}
+use Rattle.xr_model.specs.machine.History.{clock_of, clocks_after, IsLegalFrom, calls_from}
+use Rattle.xr_model.specs.runs.Robin.{Agenda, actor_of, next_call, agenda_after, is_next_ready, IsRobinFrom, agendas_left}
+use Rattle.xr_serial.specs.inside.Made.{IsAnswered}
+use Rattle.xr_serial.specs.inside.Sides.{told_of}
+use Rattle.xr_serial.specs.inside.Turns.{Parts, now_part, next_part, last_part, turn_behind, AreHeldBack, IsTurnOrder}
+use Rattle.xr_serial.specs.inside.Continues.{IsRest, told_if, Continues}
 use Rattle.xr_serial.specs.declared.turn.Turn.{Turn}
 use Rattle.xr_serial.specs.declared.turn.Turn.TheVariants as turn
 use Rattle.xr_serial.proofs.Lending.{ready_any}

@@ -1,8 +1,8 @@
 -- The order of agendas from turn to turn.
 use Rattle.std.proofs.Common.{◌≡◌, ◌+◌, ◌<◌, ℕ, zero, suc, true, List, [], ◌∷◌, ◌++◌, Some, None, refl, sym, ap, ◌∙◌, arith, append_assoc, append-nil}
-use Rattle.xr_model.specs.State.{State}
-use Rattle.xr_model.specs.Robin.{Agenda, NextMove, is_next_ready, next_move}
-use Rattle.xr_serial.specs.Turns.{AreHeldBack, IsTurnOrder}
+use Rattle.xr_model.specs.machine.State.{State}
+use Rattle.xr_model.specs.runs.Robin.{Agenda, NextMove, is_next_ready, next_move}
+use Rattle.xr_serial.specs.inside.Turns.{AreHeldBack, IsTurnOrder}
 
 held_append : (s : State) (xs ys : List Agenda) → AreHeldBack s xs → AreHeldBack s ys → AreHeldBack s (xs ++ ys)
 held_append s [] ys a b = b

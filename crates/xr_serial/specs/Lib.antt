@@ -1,8 +1,2 @@
-pub mod Lent
-pub mod Made
-pub mod Turns
-pub mod Continues
-pub mod Sides
 pub mod Ran
-pub mod RunInvariant
-pub mod AtEnd
+pub mod inside

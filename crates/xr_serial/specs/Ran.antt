@@ -6,14 +6,14 @@ use Rattle.xr_types.specs.declared.device.DeviceEvent.{DeviceEvent}
 use Rattle.xr_types.specs.declared.made.Lists.{Lists}
 use Rattle.xr_types.specs.declared.scenario.Op.{Op}
 use Rattle.xr_types.specs.declared.scenario.Scenario.{Scenario}
-use Rattle.xr_model.specs.Request as request
-use Rattle.xr_model.specs.Request.{next_frame, Entry}
-use Rattle.xr_model.specs.State.{with_apps, opening}
-use Rattle.xr_model.specs.History.{IsLegal, calls_of}
-use Rattle.xr_model.specs.Scripts.{Follows, FollowsSoFar}
-use Rattle.xr_model.specs.DeviceText.{DeviceStream, Ending}
-use Rattle.xr_model.specs.Robin.{device_calls, first_agendas, IsRobin, agendas_left}
-use Rattle.xr_model.specs.Lists.{lists_of, events_in}
+use Rattle.xr_model.specs.machine.Request as request
+use Rattle.xr_model.specs.machine.Request.{next_frame, Entry}
+use Rattle.xr_model.specs.machine.State.{with_apps, opening}
+use Rattle.xr_model.specs.machine.History.{IsLegal, calls_of}
+use Rattle.xr_model.specs.runs.Scripts.{Follows, FollowsSoFar}
+use Rattle.xr_model.specs.device_text.DeviceText.{DeviceStream, Ending}
+use Rattle.xr_model.specs.runs.Robin.{device_calls, first_agendas, IsRobin, agendas_left}
+use Rattle.xr_model.specs.runs.Lists.{lists_of, events_in}
 
 -- These are the events that the device gave and its ending, none where it couldn't be read on. Where it told what it has
 -- to give, they are all of that, and else a front of it.

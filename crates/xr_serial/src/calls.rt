@@ -1,10 +1,10 @@
 // A call of an actor, and what it came to.
-ghost use Rattle.std.specs.Prelude.{◌≡◌, ◌≤◌, ◌<◌, ◌^◌, ◌++◌, ◌∷◌, [], pos, IfOk, OnOk, length};
-ghost use Rattle.xr_model.specs.Request.{request_of};
-ghost use Rattle.xr_model.specs.Machine.{IsPresent};
-ghost use Rattle.xr_model.specs.CoreCalls.{IsCaller, HasNumbers};
-ghost use Rattle.xr_serial.specs.Made.{AnsweredOrWaits};
-ghost use Rattle.xr_serial.specs.Lent.{lent_size, written_size};
+ghost use Rattle.std.specs.Prelude.{◌≡◌, ◌≤◌, ◌<◌, ◌^◌, ◌++◌, ◌∷◌, [], true, pos, IfOk, OnOk, length};
+ghost use Rattle.xr_model.specs.machine.Request.{request_of};
+ghost use Rattle.xr_model.specs.machine.Machine.{IsPresent, is_built};
+ghost use Rattle.xr_model.specs.machine.CoreCalls.{IsCaller, HasNumbers};
+ghost use Rattle.xr_serial.specs.inside.Made.{AnsweredOrWaits};
+ghost use Rattle.xr_serial.specs.inside.Lent.{lent_size, written_size};
 
 use std::alloc::Global;
 use xr_core::PlainCore;
@@ -37,6 +37,7 @@ pub(crate) fn make(
     buffer: &mut [u8],
 ) -> Result<Option<Answered>, NoMemory>
     requires calls { core.old.core.locked < 2 ^ 44 }
+    requires built { is_built (request_of call.now) ≡ true }
     requires caller { IsCaller who (request_of call.now) }
     requires numbers { HasNumbers (request_of call.now) }
     requires present { IsPresent core.old.core who }

@@ -7,9 +7,9 @@ ghost use Rattle.std.specs.Prelude.{◌≡◌, ◌≤◌, ◌<◌, ◌^◌, ◌�
 ghost use Rattle.std.specs.List.{list_all, list_any};
 ghost use Rattle.xr_types.specs.declared.scenario.Scenario.{Scenario};
 ghost use Rattle.xr_io.specs.Outside.{Rose};
-ghost use Rattle.xr_model.specs.Built.{is_built_op};
-ghost use Rattle.xr_model.specs.ScriptForm.{IsInForm};
-ghost use Rattle.xr_model.specs.Report.{is_fault};
+ghost use Rattle.xr_model.specs.scenario.Built.{is_built_op};
+ghost use Rattle.xr_model.specs.scenario.ScriptForm.{IsInForm};
+ghost use Rattle.xr_model.specs.report.Report.{is_fault};
 ghost use Rattle.xr_serial.specs.Ran.{Ran};
 
 mod calls;

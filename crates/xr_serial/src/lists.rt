@@ -1,8 +1,8 @@
 // What a run has made, as lists.
 ghost use Rattle.std.specs.Prelude.{◌≡◌, ◌<◌, ◌^◌, ◌++◌, [], IfOk, OnOk, map, drop, pos};
-ghost use Rattle.xr_model.specs.Lists.{waiting_of, mark_awaited};
-ghost use Rattle.xr_serial.specs.Turns.{script_part, device_part, compositor_part, parts_of};
-ghost use Rattle.xr_serial.specs.AtEnd.{next_name, list_if, in_order, lists_at};
+ghost use Rattle.xr_model.specs.runs.Lists.{waiting_of, mark_awaited};
+ghost use Rattle.xr_serial.specs.inside.Turns.{script_part, device_part, compositor_part, parts_of};
+ghost use Rattle.xr_serial.specs.inside.AtEnd.{next_name, list_if, in_order, lists_at};
 
 use crate::rounds::Run;
 use crate::script::Script;

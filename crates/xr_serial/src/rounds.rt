@@ -2,22 +2,22 @@
 ghost use Rattle.std.specs.Prelude.{◌≡◌, ◌≤◌, ◌<◌, ◌^◌, ◌+◌, ◌∷◌, ℕ, [], true, false, Option, Some, None, IfSome, IfOk, OnOk, length, if◌then◌else◌};
 ghost use Rattle.std.specs.List.{list_all};
 ghost use Rattle.xr_types.specs.declared.scenario.Op.{Op};
-ghost use Rattle.xr_model.specs.Built.{is_built_op};
-ghost use Rattle.xr_model.specs.ScriptForm.{IsInForm};
-ghost use Rattle.xr_model.specs.DeviceText.{DeviceStream};
-ghost use Rattle.xr_model.specs.State.{with_apps, opening};
-ghost use Rattle.xr_serial.specs.Sides.{IsDone, EndTurn};
-ghost use Rattle.xr_serial.specs.Turns.{turn_behind};
-ghost use Rattle.xr_serial.specs.RunInvariant.{RunKeeps};
+ghost use Rattle.xr_model.specs.scenario.Built.{is_built_op};
+ghost use Rattle.xr_model.specs.scenario.ScriptForm.{IsInForm};
+ghost use Rattle.xr_model.specs.device_text.DeviceText.{DeviceStream};
+ghost use Rattle.xr_model.specs.machine.State.{with_apps, opening};
+ghost use Rattle.xr_serial.specs.inside.Sides.{IsDone, EndTurn};
+ghost use Rattle.xr_serial.specs.inside.Turns.{turn_behind};
+ghost use Rattle.xr_serial.specs.inside.RunInvariant.{RunKeeps};
 
 use crate::calls::make;
 use crate::script::{MOST_LENT, Script, leave, make_op};
 use crate::side::{DeviceSide, look, make_event};
 use crate::turn::Turn;
 use std::alloc::Global;
-use xr_calls::{Names, Scratch};
 use xr_core::PlainCore;
 use xr_device::Device;
+use xr_scenario_calls::{Names, Scratch};
 use xr_types::{Actor, Call, NoMemory, Op, Reply};
 
 /// A run on its way: the script, the device and how the compositor ended.

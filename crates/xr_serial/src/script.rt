@@ -2,18 +2,18 @@
 ghost use Rattle.std.specs.Prelude.{◌≡◌, ◌<◌, ◌≤◌, ◌^◌, ℕ, List, true, false, IfOk, OnOk, length};
 ghost use Rattle.std.specs.List.{list_all};
 ghost use Rattle.xr_types.specs.declared.calls.Actor.TheVariants.{App};
-ghost use Rattle.xr_model.specs.Built.{is_built_op};
-ghost use Rattle.xr_model.specs.ScriptForm.{IsInForm, IsInRange};
-ghost use Rattle.xr_model.specs.Machine.{IsPresent};
-ghost use Rattle.xr_model.specs.Scripts.{request_for};
-ghost use Rattle.xr_serial.specs.Made.{AnsweredOrWaits};
-ghost use Rattle.xr_serial.specs.Lent.{lent_size};
-ghost use Rattle.xr_serial.specs.Sides.{op_mark, OpTurn, Leaves};
+ghost use Rattle.xr_model.specs.scenario.Built.{is_built_op};
+ghost use Rattle.xr_model.specs.scenario.ScriptForm.{IsInForm, IsInRange};
+ghost use Rattle.xr_model.specs.machine.Machine.{IsPresent};
+ghost use Rattle.xr_model.specs.runs.Scripts.{request_for};
+ghost use Rattle.xr_serial.specs.inside.Made.{AnsweredOrWaits};
+ghost use Rattle.xr_serial.specs.inside.Lent.{lent_size};
+ghost use Rattle.xr_serial.specs.inside.Sides.{op_mark, OpTurn, Leaves};
 
 use crate::calls::{Answered, add, make};
 use std::alloc::Global;
-use xr_calls::{Names, Scratch, call_of};
 use xr_core::PlainCore;
+use xr_scenario_calls::{Names, Scratch, call_of};
 use xr_types::{Actor, Call, CallName, Made, NoMemory, Op};
 
 /// A script on its way: how many of its ops were made, what they gave to its names, their calls, and whether it has

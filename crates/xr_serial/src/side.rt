@@ -3,10 +3,10 @@ ghost use Rattle.std.specs.Prelude.{◌≡◌, ◌≤◌, ◌<◌, ◌^◌, ℕ,
 ghost use Rattle.xr_types.specs.declared.calls.Reply.{Reply};
 ghost use Rattle.xr_types.specs.declared.made.Made.{Made};
 ghost use Rattle.xr_types.specs.declared.scenario.Op.{Op};
-ghost use Rattle.xr_model.specs.State.{State};
-ghost use Rattle.xr_model.specs.DeviceText.{DeviceStream};
-ghost use Rattle.xr_serial.specs.Sides.{IsDone, Fetched, EventTurn};
-ghost use Rattle.xr_serial.specs.RunInvariant.{RunInvariant};
+ghost use Rattle.xr_model.specs.machine.State.{State};
+ghost use Rattle.xr_model.specs.device_text.DeviceText.{DeviceStream};
+ghost use Rattle.xr_serial.specs.inside.Sides.{IsDone, Fetched, EventTurn};
+ghost use Rattle.xr_serial.specs.inside.RunInvariant.{RunInvariant};
 
 use crate::calls::{add, make};
 use crate::turn::Turn;
@@ -52,9 +52,9 @@ fn fetch<D: Device>(device: &mut D, side: &mut DeviceSide)
 /// Asks the device what comes next, where that isn't known and more may come.
 pub(crate) fn look<D: Device>(device: &mut D, side: &mut DeviceSide)
     requires done { IfSome side.old.pending IsDone }
-    ensures kept { (ops : List Op) (idle : ℕ) (s : State) (made : ℕ) (names : List ℕ) (list : List Made) (gone : Bool) (ended : Option Reply) (told : Option DeviceStream) (before : ℕ) → idle < 3
-        → RunInvariant ops Turn.Device idle s made names list gone side.old.pending side.old.over side.old.events.items side.old.list.items ended told (D.remaining device.old) before (D.faults device.old) (D.bound device.old)
-        → RunInvariant ops Turn.Device idle s made names list gone side.new.pending side.new.over side.new.events.items side.new.list.items ended told (D.remaining device.new) before (D.faults device.new) (D.bound device.new) }
+    ensures kept { (ops : List Op) (idle : ℕ) (s : State) (made : ℕ) (names : List ℕ) (list : List Made) (has_left : Bool) (ended : Option Reply) (told : Option DeviceStream) (before : ℕ) → idle < 3
+        → RunInvariant ops Turn.Device idle s made names list has_left side.old.pending side.old.over side.old.events.items side.old.list.items ended told (D.remaining device.old) before (D.faults device.old) (D.bound device.old)
+        → RunInvariant ops Turn.Device idle s made names list has_left side.new.pending side.new.over side.new.events.items side.new.list.items ended told (D.remaining device.new) before (D.faults device.new) (D.bound device.new) }
     ensures known { side.new.pending ≡ None → side.new.over ≡ true }
     ensures done { IfSome side.new.pending IsDone }
     ensures list { side.new.list ≡ side.old.list }

@@ -1,6 +1,6 @@
 // Whose turn it is.
 ghost use Rattle.std.specs.Prelude.{◌≡◌};
-ghost use Rattle.xr_serial.specs.Turns.{turn_behind};
+ghost use Rattle.xr_serial.specs.inside.Turns.{turn_behind};
 
 /// The actors in the order of their turns.
 #[derive(Clone, Copy)]

@@ -2,7 +2,7 @@
 use Rattle.std.specs.Prelude.{Option, Some, None}
 use Rattle.xr_types.specs.declared.code.Code.{Code}
 use Rattle.xr_types.specs.declared.code.Code.TheVariants.{Success}
-use Rattle.xr_model.specs.Refusals.{Refusal}
+use Rattle.xr_model.specs.machine.Refusals.{Refusal}
 
 -- the code of the refusal, or success where there is none
 abbrev pub code_by : Option Refusal → Code

@@ -1,8 +1,8 @@
 // A session's life, and what changes it.
 ghost use Rattle.std.specs.Prelude.{◌≡◌, []};
-ghost use Rattle.xr_model.specs.SessionLife as model;
-ghost use Rattle.xr_model.specs.SessionLife.{started, begin_refusals, begun, end_refusals, ended, exit_refusals, exiting, settled, losing};
-ghost use Rattle.xr_model.specs.Refusals.{first_of, unless};
+ghost use Rattle.xr_model.specs.machine.SessionLife as model;
+ghost use Rattle.xr_model.specs.machine.SessionLife.{started_session, begin_refusals, begun_session, end_refusals, ended_session, exit_refusals, exiting_session, settled_session, losing_session};
+ghost use Rattle.xr_model.specs.machine.Refusals.{first_of, unless};
 ghost use Rattle.xr_states.specs.Codes.{code_by};
 
 use crate::Changes;
@@ -22,7 +22,7 @@ pub struct Session {
 }
 
 impl Model for Session {
-    ghost use Rattle.xr_model.specs.SessionLife.{Life};
+    ghost use Rattle.xr_model.specs.machine.SessionLife.{Life};
 
     ghost Value = { Life };
 
@@ -39,8 +39,8 @@ impl Session {
     /// "Session Lifecycle".
     pub fn start(wish: Wish, out: &mut Changes) -> Session
         requires { out.old ≡ [] }
-        ensures session { result ≡ (started wish).life }
-        ensures told { out.new ≡ (started wish).through }
+        ensures session { result ≡ (started_session wish).life }
+        ensures through { out.new ≡ (started_session wish).through }
     {
         let mut session = Session {
             state: SessionState::Idle,
@@ -57,7 +57,7 @@ impl Session {
     /// (`SessionNotReady`), and any views but two (`ViewConfigurationTypeUnsupported`); each leaves all as it
     /// was. OpenXR 1.0 chapter 9, xrBeginSession.
     pub fn begin(&mut self, view: ViewConfig) -> Code
-        ensures kept { self.new ≡ unless (first_of (begin_refusals self.old view)) self.old (begun self.old) }
+        ensures kept { self.new ≡ unless (first_of (begin_refusals self.old view)) self.old (begun_session self.old) }
         ensures code { result ≡ code_by (first_of (begin_refusals self.old view)) }
     {
         if self.lost {
@@ -79,8 +79,8 @@ impl Session {
     /// (`SessionNotStopping`); each leaves all as it was and tells nothing. OpenXR 1.0 chapter 9, xrEndSession.
     pub fn end(&mut self, wish: Wish, out: &mut Changes) -> Code
         requires { out.old ≡ [] }
-        ensures kept { self.new ≡ unless (first_of (end_refusals self.old)) self.old (ended wish self.old).life }
-        ensures told { out.new ≡ unless (first_of (end_refusals self.old)) [] (ended wish self.old).through }
+        ensures kept { self.new ≡ unless (first_of (end_refusals self.old)) self.old (ended_session wish self.old).life }
+        ensures through { out.new ≡ unless (first_of (end_refusals self.old)) [] (ended_session wish self.old).through }
         ensures code { result ≡ code_by (first_of (end_refusals self.old)) }
     {
         if self.lost {
@@ -102,8 +102,8 @@ impl Session {
     /// all as it was and tells nothing. OpenXR 1.0 chapter 9, xrRequestExitSession.
     pub fn request_exit(&mut self, wish: Wish, out: &mut Changes) -> Code
         requires { out.old ≡ [] }
-        ensures kept { self.new ≡ unless (first_of (exit_refusals self.old)) self.old (exiting wish self.old).life }
-        ensures told { out.new ≡ unless (first_of (exit_refusals self.old)) [] (exiting wish self.old).through }
+        ensures kept { self.new ≡ unless (first_of (exit_refusals self.old)) self.old (exiting_session wish self.old).life }
+        ensures through { out.new ≡ unless (first_of (exit_refusals self.old)) [] (exiting_session wish self.old).through }
         ensures code { result ≡ code_by (first_of (exit_refusals self.old)) }
     {
         if self.lost {
@@ -120,8 +120,8 @@ impl Session {
     /// Settles by this wish of the device. A session whose device is lost follows it too.
     pub fn wish(&mut self, wish: Wish, out: &mut Changes)
         requires { out.old ≡ [] }
-        ensures session { self.new ≡ (settled wish self.old).life }
-        ensures told { out.new ≡ (settled wish self.old).through }
+        ensures session { self.new ≡ (settled_session wish self.old).life }
+        ensures through { out.new ≡ (settled_session wish self.old).through }
     {
         settle(&mut self.state, wish, self.exit, out);
     }
@@ -130,8 +130,8 @@ impl Session {
     /// other stays as it was.
     pub fn synced(&mut self, wish: Wish, out: &mut Changes)
         requires { out.old ≡ [] }
-        ensures session { self.new ≡ (model.synced wish self.old).life }
-        ensures told { out.new ≡ (model.synced wish self.old).through }
+        ensures session { self.new ≡ (model.synced_session wish self.old).life }
+        ensures through { out.new ≡ (model.synced_session wish self.old).through }
     {
         if matches!(self.state, SessionState::Ready) {
             enter(
@@ -147,8 +147,8 @@ impl Session {
     /// The session will be lost: it is `LossPending` from any state but that and `Exiting`, in which it stays.
     pub fn loss(&mut self, out: &mut Changes)
         requires { out.old ≡ [] }
-        ensures session { self.new ≡ (losing self.old).life }
-        ensures told { out.new ≡ (losing self.old).through }
+        ensures session { self.new ≡ (losing_session self.old).life }
+        ensures through { out.new ≡ (losing_session self.old).through }
     {
         if matches!(
             self.state,
@@ -162,7 +162,7 @@ impl Session {
 
     /// The session's device is lost, which changes no state and tells nothing.
     pub fn lose(&mut self)
-        ensures { self.new ≡ model.lost self.old }
+        ensures { self.new ≡ model.lost_session self.old }
     {
         self.lost = true;
     }

@@ -12,7 +12,7 @@
 // No row is of READY, which the first frame leaves, of STOPPING, which xrEndSession leaves, or of EXITING and
 // LOSS_PENDING, which nothing leaves. A loss takes a session from any state but these two to LOSS_PENDING.
 ghost use Rattle.std.specs.Prelude.{◌≡◌, ◌≤◌, [], ◌∷◌, ◌++◌, length};
-ghost use Rattle.xr_model.specs.SessionLife.{next_state, changes, most_changes, last_of};
+ghost use Rattle.xr_model.specs.machine.SessionLife.{next_state, changes, most_changes, last_of};
 
 use crate::Changes;
 use xr_types::{SessionState, Wish};
@@ -75,7 +75,7 @@ fn next_state(state: SessionState, wish: Wish, exit: bool) -> Option<SessionStat
 /// told.
 pub(crate) fn settle(state: &mut SessionState, wish: Wish, exit: bool, out: &mut Changes)
     requires { length out.old ≤ 1 }
-    ensures told { out.new ≡ out.old ++ changes most_changes wish exit state.old }
+    ensures through { out.new ≡ out.old ++ changes most_changes wish exit state.old }
     ensures state { state.new ≡ last_of state.old (changes most_changes wish exit state.old) }
 {
     for _ in 0..MOST_CHANGES {
@@ -96,7 +96,7 @@ pub(crate) fn enter(
     out: &mut Changes,
 )
     requires { out.old ≡ [] }
-    ensures told { out.new ≡ first ∷ changes most_changes wish exit first }
+    ensures through { out.new ≡ first ∷ changes most_changes wish exit first }
     ensures state { state.new ≡ last_of first (changes most_changes wish exit first) }
 {
     out.push(first);

@@ -3,3 +3,4 @@ pub mod Device
 pub mod Name
 pub mod Op
 pub mod Printed
+pub mod OpNumber

@@ -1,6 +1,7 @@
 // The calls by their names in scenarios and reports.
 ghost use Rattle.std.specs.Prelude.{◌≡◌, Some};
-ghost use Rattle.xr_types.specs.Op.{name_of};
+ghost use Rattle.xr_types.specs.Op.{name_of_call};
+ghost use Rattle.xr_types.specs.OpNumber.{number_of_op};
 
 use std::fmt;
 
@@ -54,7 +55,7 @@ pub enum CallName {
 impl CallName {
     /// The name as scenarios and reports write it.
     pub fn name(self) -> &'static str
-        ensures { result.now ≡ name_of self }
+        ensures { result.now ≡ name_of_call self }
     {
         match self {
             CallName::CreateInstance => "create_instance",
@@ -100,10 +101,57 @@ impl CallName {
             CallName::ImageDone => "image_done",
         }
     }
+
+    /// The number of an op, 1 to 37 in the order of the format; 0 for `leave`, `device`, `next_frame` and `image_done`,
+    /// which stand in no script.
+    pub fn number(self) -> u8
+        ensures { result ≡ number_of_op self }
+    {
+        match self {
+            CallName::CreateInstance => 1,
+            CallName::DestroyInstance => 2,
+            CallName::PollEvent => 3,
+            CallName::GetSystem => 4,
+            CallName::StringToPath => 5,
+            CallName::PathToString => 6,
+            CallName::CreateSession => 7,
+            CallName::DestroySession => 8,
+            CallName::EndSession => 9,
+            CallName::RequestExitSession => 10,
+            CallName::BeginFrame => 11,
+            CallName::BeginSession => 12,
+            CallName::CreateReferenceSpace => 13,
+            CallName::CreateActionSpace => 14,
+            CallName::DestroySpace => 15,
+            CallName::LocateSpace => 16,
+            CallName::CreateActionSet => 17,
+            CallName::DestroyActionSet => 18,
+            CallName::CreateAction => 19,
+            CallName::DestroyAction => 20,
+            CallName::SuggestBindings => 21,
+            CallName::AttachSets => 22,
+            CallName::SyncActions => 23,
+            CallName::GetBoolean => 24,
+            CallName::GetFloat => 25,
+            CallName::GetVector => 26,
+            CallName::GetPoseActive => 27,
+            CallName::CreateSwapchain => 28,
+            CallName::DestroySwapchain => 29,
+            CallName::AcquireImage => 30,
+            CallName::ReleaseImage => 31,
+            CallName::WaitImage => 32,
+            CallName::Paint => 33,
+            CallName::WaitFrame => 34,
+            CallName::EndFrame => 35,
+            CallName::Mark => 36,
+            CallName::Await => 37,
+            CallName::Leave | CallName::Device | CallName::NextFrame | CallName::ImageDone => 0,
+        }
+    }
 }
 
 impl fmt::Display for CallName {
-    ghost output = { λ call. Some (name_of call) };
+    ghost output = { λ call. Some (name_of_call call) };
 
     fn fmt<W: fmt::Write>(&self, f: &mut fmt::Formatter<W>) -> fmt::Result {
         f.write_str(self.name())

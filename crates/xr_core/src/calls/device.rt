@@ -1,11 +1,11 @@
 // What happens at the device, which is this project's own.
 ghost use Rattle.std.specs.Prelude.{◌≡◌, ◌<◌, ◌^◌, [], true};
 ghost use Rattle.xr_types.specs.Device.{checks};
-ghost use Rattle.xr_model.specs.Request as request;
-ghost use Rattle.xr_model.specs.Device.{is_built_event};
-ghost use Rattle.xr_model.specs.Machine.{is_awaiting};
-ghost use Rattle.xr_model.specs.Rules.Device.{behind_event};
-ghost use Rattle.xr_core.specs.Calls.{Makes};
+ghost use Rattle.xr_model.specs.machine.Request as request;
+ghost use Rattle.xr_model.specs.machine.Device.{is_built_event};
+ghost use Rattle.xr_model.specs.machine.Machine.{is_awaiting};
+ghost use Rattle.xr_model.specs.machine.Rules.Device.{behind_event};
+ghost use Rattle.xr_core.specs.inside.Calls.{Makes};
 
 use crate::Core;
 use crate::sessions::Change;

@@ -1,8 +1,8 @@
 // The calls on instances, their systems and their events (OpenXR 1.0 chapters 2, 4 and 5).
 ghost use Rattle.std.specs.Prelude.{◌<◌, ◌^◌, []};
-ghost use Rattle.xr_model.specs.Request.{create_instance, destroy_instance, get_system, poll_event, request_of};
-ghost use Rattle.xr_core.specs.Calls.{Makes};
-ghost use Rattle.xr_core.specs.Groups.{IsInstanceCall};
+ghost use Rattle.xr_model.specs.machine.Request.{create_instance, destroy_instance, get_system, poll_event, request_of};
+ghost use Rattle.xr_core.specs.inside.Calls.{Makes};
+ghost use Rattle.xr_core.specs.inside.Groups.{IsInstanceCall};
 
 use crate::Core;
 use xr_types::{Call, Code, Form, Gives, Kind, Reply};

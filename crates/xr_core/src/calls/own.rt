@@ -2,14 +2,14 @@
 ghost use Rattle.std.specs.Prelude.{◌≡◌, ◌<◌, ◌^◌, [], true, false, Some};
 ghost use Rattle.std.specs.List.{list_all};
 ghost use Rattle.xr_types.specs.Device.{is_mark};
-ghost use Rattle.xr_model.specs.State.{CellReads};
-ghost use Rattle.xr_model.specs.Marks.{mark_at, with_mark};
-ghost use Rattle.xr_model.specs.Request as request;
-ghost use Rattle.xr_model.specs.Request.{leave, next_frame, request_of};
-ghost use Rattle.xr_model.specs.Machine.{IsPresent, is_held_back};
-ghost use Rattle.xr_model.specs.CoreCalls.{CoreAnswers, HasNumbers, IsCaller, entry_of};
-ghost use Rattle.xr_core.specs.Calls.{Makes};
-ghost use Rattle.xr_core.specs.Groups.{IsOwnCall};
+ghost use Rattle.xr_model.specs.machine.State.{CellReads};
+ghost use Rattle.xr_model.specs.machine.Marks.{mark_at, with_mark};
+ghost use Rattle.xr_model.specs.machine.Request as request;
+ghost use Rattle.xr_model.specs.machine.Request.{leave, next_frame, request_of};
+ghost use Rattle.xr_model.specs.machine.Machine.{IsPresent, is_held_back};
+ghost use Rattle.xr_model.specs.machine.CoreCalls.{CoreAnswers, HasNumbers, IsCaller, entry_of};
+ghost use Rattle.xr_core.specs.inside.Calls.{Makes};
+ghost use Rattle.xr_core.specs.inside.Groups.{IsOwnCall};
 
 use crate::Core;
 use xr_types::{Actor, Call, Code, Gives, Reply};
@@ -53,10 +53,10 @@ impl Core {
 
     /// Whether every application has left.
     pub(crate) fn all_left(&self) -> bool
-        ensures { result ≡ list_all (λ gone. gone) self.now.left }
+        ensures { result ≡ list_all (λ has_left. has_left) self.now.left }
     {
         let apps = self.apps as usize;
-        self.left[..apps].iter().all(|gone| *gone)
+        self.left[..apps].iter().all(|has_left| *has_left)
     }
 
     /// Sets a mark, from 1, with a value.

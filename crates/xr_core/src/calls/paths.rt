@@ -1,9 +1,9 @@
 // The calls on paths (OpenXR 1.0 section 6.2).
 ghost use Rattle.std.specs.Prelude.{◌<◌, ◌^◌, [], length};
-ghost use Rattle.xr_model.specs.Request.{string_to_path, path_to_string, request_of};
-ghost use Rattle.xr_model.specs.CoreCalls.{FitsBuffer};
-ghost use Rattle.xr_core.specs.Calls.{Makes, MakesOver};
-ghost use Rattle.xr_core.specs.Groups.{IsPathCall};
+ghost use Rattle.xr_model.specs.machine.Request.{string_to_path, path_to_string, request_of};
+ghost use Rattle.xr_model.specs.machine.CoreCalls.{FitsBuffer};
+ghost use Rattle.xr_core.specs.inside.Calls.{Makes, MakesOver};
+ghost use Rattle.xr_core.specs.inside.Groups.{IsPathCall};
 
 use crate::Core;
 use xr_types::{Call, Code, Gives, Kind, Reply};

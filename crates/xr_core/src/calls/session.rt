@@ -1,15 +1,15 @@
 // The calls on sessions (OpenXR 1.0 chapter 9).
 ghost use Rattle.std.specs.Prelude.{◌≡◌, ◌≢◌, ◌<◌, ◌+◌, ◌^◌, [], length, true, false, Some};
 ghost use Rattle.xr_types.specs.declared.handles.TheConstants.{SESSIONS};
-ghost use Rattle.xr_model.specs.Handles.{has_room, was_given};
-ghost use Rattle.xr_model.specs.Request.{create_session, destroy_session, request_of};
-ghost use Rattle.xr_model.specs.CoreCalls.{given_by};
-ghost use Rattle.xr_model.specs.SessionRule.{code_on};
-ghost use Rattle.xr_model.specs.SessionLife.{started};
-ghost use Rattle.xr_model.specs.Rules.Session.{life_of, with_session};
-ghost use Rattle.xr_core.specs.Calls.{Makes};
-ghost use Rattle.xr_core.specs.Groups.{IsSessionCall};
-ghost use Rattle.xr_core.specs.Changes.{place_at, life_request, changed_life, answer_to};
+ghost use Rattle.xr_model.specs.machine.Handles.{has_room, was_given};
+ghost use Rattle.xr_model.specs.machine.Request.{create_session, destroy_session, request_of};
+ghost use Rattle.xr_model.specs.machine.CoreCalls.{given_by};
+ghost use Rattle.xr_model.specs.machine.SessionRule.{code_on};
+ghost use Rattle.xr_model.specs.machine.SessionLife.{started_session};
+ghost use Rattle.xr_model.specs.machine.Rules.Session.{life_of, with_session};
+ghost use Rattle.xr_core.specs.inside.Calls.{Makes};
+ghost use Rattle.xr_core.specs.inside.Groups.{IsSessionCall};
+ghost use Rattle.xr_core.specs.inside.Changes.{place_at, life_request, changed_life, answer_to};
 
 use crate::Core;
 use crate::calls::instance::SYSTEM;
@@ -70,7 +70,7 @@ impl Core {
         requires calls { self.old.locked < 2 ^ 44 }
         requires room { has_room self.old.handles Kind.Session ≡ true }
         requires row { length self.old.handles.sessions ≡ SESSIONS }
-        ensures kept { self.new ≡ record (with_session self.old instance (given_by result.gives) (started self.old.device.wish)) { locked = self.old.locked + 1 } }
+        ensures kept { self.new ≡ record (with_session self.old instance (given_by result.gives) (started_session self.old.device.wish)) { locked = self.old.locked + 1 } }
         ensures reply { result ≡ record { code = Code.Success; gives = Gives.Handle (given_by result.gives); place = self.old.locked + 1 } }
         ensures fresh { (given_by result.gives ≢ 0) × (was_given self.old.handles (given_by result.gives) ≡ false) }
     {

@@ -69,11 +69,11 @@ fn a_parent_takes_all_below_it(rt: HostRuntime) -> Result<(), Fail> {
         (163, 162),
     ] {
         let (mut handles, are_full) = full();
-        let mut gone: ArrayVec<u64, MOST_HANDLES> = ArrayVec::new();
-        handles.destroy(handle, &mut gone);
+        let mut destroyed: ArrayVec<u64, MOST_HANDLES> = ArrayVec::new();
+        handles.destroy(handle, &mut destroyed);
         let left = count_live(&handles);
         assert!(rt;
-            are_full && left == count && gone.len() == 162 - count,
+            are_full && left == count && destroyed.len() == 162 - count,
             "{left} left of {handle}"
         );
     }
@@ -107,8 +107,8 @@ fn a_live_handle_has_a_kind_a_parent_and_a_place(rt: HostRuntime) -> Result<(), 
 #[test]
 fn a_number_is_never_given_twice(rt: HostRuntime) -> Result<(), Fail> {
     let (mut handles, _) = full();
-    let mut gone: ArrayVec<u64, MOST_HANDLES> = ArrayVec::new();
-    handles.destroy(20, &mut gone);
+    let mut destroyed: ArrayVec<u64, MOST_HANDLES> = ArrayVec::new();
+    handles.destroy(20, &mut destroyed);
     let is_free = handles.free_place(Kind::Space) == Some(1)
         && handles.handle_at(Kind::Space, 1) == 0;
     let again = give(&mut handles, Kind::Space, 2);

@@ -1,6 +1,6 @@
 use Rattle.std.proofs.Common.{◌≡◌, ◌<◌, length, refl, ap, ◌∙◌}
 use Rattle.std.specs.Prelude.{slice_index_or}
-use Rattle.xr_core.specs.Changes.{change_by}
+use Rattle.xr_core.specs.inside.Changes.{change_by}
 use Rattle.xr_core.proofs.SessionEvents.{front_item, front_more, rest_of}
 use Rattle.xr_core.proofs.sessions.change_each.Goals as goal
 
@@ -13,5 +13,5 @@ loop-session-preserved c =
     let within : i < length xs = c.loop-session-test.true in
     let there : slice_index_or c.loop-session.sessions i d ≡ slice_index_or xs i d = ap (λ ys. slice_index_or ys i d) c.loop-session.invariant.0 ∙ front_item f xs i d within in (
       rw (c.change.ensures.life, there, c.loop-session.invariant.0) (front_more f xs i d within),
-      c.loop-session.invariant.1 ∙ rw (rest_of xs i d within, c.change.ensures.told, there) refl,
+      c.loop-session.invariant.1 ∙ rw (rest_of xs i d within, c.change.ensures.events, there) refl,
     )

@@ -1,6 +1,6 @@
 use Rattle.std.proofs.Common.{◌≡◌, drop}
-use Rattle.xr_model.specs.LiveSessions.{told_changes}
-use Rattle.xr_core.specs.Changes.{change_by}
+use Rattle.xr_model.specs.machine.LiveSessions.{told_changes}
+use Rattle.xr_core.specs.inside.Changes.{change_by}
 use Rattle.xr_core.proofs.SessionEvents.{front}
 use Rattle.xr_core.proofs.sessions.change_each.Given as goal
 

@@ -1,7 +1,7 @@
 use Rattle.std.proofs.Common.{List, ap, ◌∙◌}
 use Rattle.std.specs.Prelude.{slice_index_or}
-use Rattle.xr_model.specs.LiveSessions.{Session}
-use Rattle.xr_core.specs.Changes.{answer_to}
+use Rattle.xr_model.specs.machine.LiveSessions.{Session}
+use Rattle.xr_core.specs.inside.Changes.{answer_to}
 use Rattle.xr_core.proofs.Listed.{stands}
 use Rattle.xr_core.proofs.sessions.change_life.Goals as goal
 

@@ -1,7 +1,7 @@
 use Rattle.std.proofs.Common.{ap, ◌∙◌}
 use Rattle.xr_types.specs.declared.code.Code.TheVariants.{Success}
-use Rattle.xr_model.specs.LiveSessions.{Session}
-use Rattle.xr_model.specs.SessionRule.{code_on}
+use Rattle.xr_model.specs.machine.LiveSessions.{Session}
+use Rattle.xr_model.specs.machine.SessionRule.{code_on}
 use Rattle.xr_core.proofs.Listed.{stands}
 use Rattle.xr_core.proofs.sessions.success_of.Goals as goal
 

@@ -1,5 +1,5 @@
 use Rattle.std.proofs.Common.{◌≡◌, drop}
-use Rattle.xr_model.specs.LiveSessions.{told_states}
+use Rattle.xr_model.specs.machine.LiveSessions.{told_states}
 use Rattle.xr_core.proofs.sessions.tell.Given as goal
 
 abbrev pub invariant-loop-state : goal.invariant-loop-state

@@ -1,5 +1,5 @@
 use Rattle.std.proofs.Common.{◌<◌, ◌≤◌, ◌+◌, ◌-◌, ◌*◌, length, get_or, drop, sym, ap, ◌∙◌, arith}
-use Rattle.xr_device.specs.Said.{up_to}
+use Rattle.xr_device.specs.inside.Said.{up_to}
 use Rattle.xr_device.proofs.Numbers.{digits_step, up_to-past}
 use Rattle.xr_device.proofs.words.digits.Goals as goal
 

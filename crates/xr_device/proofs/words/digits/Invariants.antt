@@ -1,5 +1,5 @@
 use Rattle.std.proofs.Common.{◌≡◌, ◌≤◌, drop}
-use Rattle.xr_model.specs.DeviceText.{digits_behind}
+use Rattle.xr_model.specs.device_text.DeviceText.{digits_behind}
 use Rattle.xr_device.proofs.words.digits.Given as goal
 
 abbrev pub invariant-loop-b : goal.invariant-loop-b

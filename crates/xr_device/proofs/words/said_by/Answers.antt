@@ -2,7 +2,7 @@ use Rattle.std.proofs.Common.{◌≡◌, Bool, true, false, Option, Some, None, 
 use Rattle.std.specs.Prelude.{if◌then◌else◌}
 use Rattle.xr_types.specs.declared.device.DeviceEvent.{DeviceEvent}
 use Rattle.xr_types.specs.Device.{checks}
-use Rattle.xr_model.specs.DeviceText.{words_of, event_by, if_checked}
+use Rattle.xr_model.specs.device_text.DeviceText.{words_of, event_by, if_checked}
 use Rattle.xr_device.proofs.words.said_by.Goals as goal
 
 none_is_not : (e : DeviceEvent) → Some e ≡ None → ⊥
@@ -19,8 +19,8 @@ checked_is (Some f) e is = by (checks f) refl is
     by true h same = ap checks (same_event e f same) ∙ h
     by false h same = absurd (none_is_not e same)
 
-pub returns-in-Some-clause-told : goal.returns-in-Some-clause-told
-returns-in-Some-clause-told c = record {
+pub returns-in-Some-clause-sound : goal.returns-in-Some-clause-sound
+returns-in-Some-clause-sound c = record {
   checked = checked_is (event_by (words_of c.args.line.now)) c.in-Some.event c.in-Some.ensures.value;
   line = c.in-Some.ensures.line;
 }

@@ -1,6 +1,6 @@
 use Rattle.std.proofs.Common.{◌≡◌, ◌∙◌, subst, List, take, Some, IfSome}
 use Rattle.xr_types.specs.declared.device.DeviceEvent.{DeviceEvent}
-use Rattle.xr_model.specs.DeviceText.{ends, nothing_more}
+use Rattle.xr_model.specs.device_text.DeviceText.{ends, nothing_more}
 use Rattle.xr_drive.specs.Top.{MeansText}
 use Rattle.xr_drive.proofs.Runs.{means_run}
 use Rattle.xr_drive.proofs.serial.run_alone.Goals as goal

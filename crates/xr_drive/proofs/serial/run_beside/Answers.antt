@@ -1,5 +1,5 @@
 use Rattle.std.proofs.Common.{◌≡◌, ◌∙◌, ap, subst, List, ℕ, take, Option, option_map, IfSome}
-use Rattle.xr_model.specs.DeviceText.{DeviceStream, told_in}
+use Rattle.xr_model.specs.device_text.DeviceText.{DeviceStream, told_in}
 use Rattle.xr_drive.specs.Top.{MeansText}
 use Rattle.xr_drive.proofs.Runs.{means_run}
 use Rattle.xr_drive.proofs.serial.run_beside.Goals as goal

@@ -1,5 +1,5 @@
 use Rattle.std.proofs.Common.{rules, ◌≡◌, ◌∷◌, [], true, Ok}
-use Rattle.xr_model.specs.Built.{are_built, run_scenario_of}
+use Rattle.xr_model.specs.scenario.Built.{are_built, run_scenario_of}
 use Rattle.xr_drive.proofs.Runs.{run_if_built}
 use Rattle.xr_drive.proofs.serial.run_text.Goals as goal
 

@@ -1,5 +1,5 @@
 use Rattle.std.proofs.Common.{◌≡◌, ◌++◌, drop}
-use Rattle.xr_model.specs.Report.{lines_of}
+use Rattle.xr_model.specs.report.Report.{lines_of}
 use Rattle.xr_report.proofs.blocks.push_calls.Given as goal
 
 abbrev pub invariant-loop-made : goal.invariant-loop-made

@@ -1,6 +1,6 @@
 use Rattle.std.proofs.Common.{◌≡◌, ◌+◌, ◌∙◌, [], drop, length, min, rules, append-nil}
 use Rattle.std.proofs.lemmas.Slice.Zip.{zip_end}
-use Rattle.xr_model.specs.Report.{events_from}
+use Rattle.xr_model.specs.report.Report.{events_from}
 use Rattle.xr_report.proofs.Events.{events_from-past}
 use Rattle.xr_report.proofs.blocks.push_events.Goals as goal
 

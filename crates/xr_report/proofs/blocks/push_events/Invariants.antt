@@ -1,5 +1,5 @@
 use Rattle.std.proofs.Common.{◌≡◌, ◌+◌, ◌++◌, drop, length}
-use Rattle.xr_model.specs.Report.{events_from}
+use Rattle.xr_model.specs.report.Report.{events_from}
 use Rattle.xr_report.proofs.blocks.push_events.Given as goal
 
 abbrev pub invariant-loop-event : goal.invariant-loop-event

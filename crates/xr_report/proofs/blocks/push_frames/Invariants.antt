@@ -1,5 +1,5 @@
 use Rattle.std.proofs.Common.{◌≡◌, ◌++◌, drop}
-use Rattle.xr_model.specs.Report.{frames_from}
+use Rattle.xr_model.specs.report.Report.{frames_from}
 use Rattle.xr_report.proofs.blocks.push_frames.Given as goal
 
 abbrev pub invariant-loop-index : goal.invariant-loop-index

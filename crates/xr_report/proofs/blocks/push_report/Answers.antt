@@ -1,6 +1,6 @@
 use Rattle.std.proofs.Common.{rules}
 use Rattle.std.specs.Prelude.{codes}
-use Rattle.xr_model.specs.Report.{threads_from, compositor_block, device_block, stuck_block, status_line}
+use Rattle.xr_model.specs.report.Report.{threads_from, compositor_block, device_block, stuck_block, status_line}
 use Rattle.xr_report.proofs.Pieces.{six_pieces}
 use Rattle.xr_report.proofs.blocks.push_report.Goals as goal
 

@@ -1,5 +1,5 @@
 use Rattle.std.proofs.Common.{◌≡◌, ◌+◌, ◌++◌, drop}
-use Rattle.xr_model.specs.Report.{threads_from}
+use Rattle.xr_model.specs.report.Report.{threads_from}
 use Rattle.xr_report.proofs.blocks.push_threads.Given as goal
 
 abbrev pub invariant-loop-calls : goal.invariant-loop-calls

@@ -1,5 +1,5 @@
 use Rattle.std.proofs.Common.{◌≡◌, ◌++◌, drop}
-use Rattle.xr_model.specs.ReportLines.{layers_text}
+use Rattle.xr_model.specs.report.ReportLines.{layers_text}
 use Rattle.xr_report.proofs.lines.push_layers.Given as goal
 
 abbrev pub invariant-loop-layer : goal.invariant-loop-layer

@@ -1,5 +1,5 @@
 use Rattle.std.proofs.Common.{rules, ◌≡◌, Ok}
-use Rattle.xr_model.specs.Scenario.{scenario_of}
+use Rattle.xr_model.specs.scenario.Scenario.{scenario_of}
 use Rattle.xr_scenario.proofs.Few.{few_read}
 use Rattle.xr_scenario.proofs.reader.read.Goals as goal
 

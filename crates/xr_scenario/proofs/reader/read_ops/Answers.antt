@@ -1,17 +1,17 @@
 use Rattle.std.proofs.Common.{rules, ◌≡◌, ◌+◌, ◌<◌, [], ◌∷◌, ◌++◌, length, length-append, get_or, option_map, Ok, ◌∙◌}
 use Rattle.serde_json.specs.View.{view}
-use Rattle.xr_model.specs.Line.{Line}
-use Rattle.xr_model.specs.Lines.{line_of, with_name}
-use Rattle.xr_scenario.proofs.InForm.{are_of-next, in_form-next}
-use Rattle.xr_scenario.proofs.Lines.{ops_more}
+use Rattle.xr_model.specs.scenario.ReadOp.{ReadOp}
+use Rattle.xr_model.specs.scenario.OpReading.{read_op_of, with_name}
+use Rattle.xr_scenario.proofs.ScriptForm.{are_of-next, in_form-next}
+use Rattle.xr_scenario.proofs.OpReading.{ops_more}
 use Rattle.xr_scenario.proofs.reader.read_ops.Goals as goal
 
 pub loop-value-preserved : goal.loop-value-preserved
 loop-value-preserved c =
-    let l : Line = record { op = c.in-Ok.line.op; name = option_map (λ t. t.now) c.in-Ok.line.name } in
+    let l : ReadOp = record { op = c.in-Ok.read.op; name = option_map (λ t. t.now) c.in-Ok.read.name } in
     let inside : c.loop-value.value-index < length c.args.values.now = search rules in
-    let read : line_of c.loop-value.named_ops (view (get_or c.args.values.now c.loop-value.value-index c.value-item.result)) ≡ Ok l = search rules in
-    let added : c.add.new.list.items ≡ c.loop-value.ops.items ++ c.in-Ok.line.op ∷ [] = search rules in
+    let read : read_op_of c.loop-value.named_ops (view (get_or c.args.values.now c.loop-value.value-index c.value-item.result)) ≡ Ok l = search rules in
+    let added : c.add.new.list.items ≡ c.loop-value.ops.items ++ c.in-Ok.read.op ∷ [] = search rules in
     let kept : c.keep.new.named_ops ≡ with_name (c.loop-value.place + 1) l c.loop-value.named_ops = search rules in
     let place : c.loop-value.place + 1 ≡ length c.loop-value.ops.items + 1 = search rules in
     record {

@@ -1,9 +1,9 @@
 use Rattle.std.proofs.Common.{◌≡◌, ◌+◌, [], drop, length}
 use Rattle.serde_json.specs.View.{items_view}
-use Rattle.xr_model.specs.ScriptForm.{IsInForm}
-use Rattle.xr_model.specs.Scenario.{ops_from}
-use Rattle.xr_scenario.proofs.InForm.{AreOf}
-use Rattle.xr_scenario.proofs.Lines.{prepend}
+use Rattle.xr_model.specs.scenario.ScriptForm.{IsInForm}
+use Rattle.xr_model.specs.scenario.Scenario.{ops_from}
+use Rattle.xr_scenario.proofs.ScriptForm.{AreOf}
+use Rattle.xr_scenario.proofs.OpReading.{prepend}
 use Rattle.xr_scenario.proofs.reader.read_ops.Given as goal
 
 abbrev pub invariant-loop-value : goal.invariant-loop-value

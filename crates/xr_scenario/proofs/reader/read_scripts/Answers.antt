@@ -1,8 +1,8 @@
 use Rattle.std.proofs.Common.{rules, ◌≡◌, ◌+◌, ◌<◌, [], ◌∷◌, ◌++◌, length, length-append, get_or, Ok, ◌∙◌}
 use Rattle.serde_json.specs.View.{view}
-use Rattle.xr_model.specs.Scenario.{script_of}
-use Rattle.xr_scenario.proofs.InForm.{all_in_form-snoc}
-use Rattle.xr_scenario.proofs.Lines.{scripts_more}
+use Rattle.xr_model.specs.scenario.Scenario.{script_of}
+use Rattle.xr_scenario.proofs.ScriptForm.{all_in_form-snoc}
+use Rattle.xr_scenario.proofs.OpReading.{scripts_more}
 use Rattle.xr_scenario.proofs.reader.read_scripts.Goals as goal
 
 pub loop-value-preserved : goal.loop-value-preserved

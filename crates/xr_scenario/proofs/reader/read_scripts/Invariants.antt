@@ -1,8 +1,8 @@
 use Rattle.std.proofs.Common.{◌≡◌, ◌+◌, drop, length}
 use Rattle.serde_json.specs.View.{items_view}
-use Rattle.xr_model.specs.ScriptForm.{AllInForm}
-use Rattle.xr_model.specs.Scenario.{scripts_from}
-use Rattle.xr_scenario.proofs.Lines.{prepend}
+use Rattle.xr_model.specs.scenario.ScriptForm.{AllInForm}
+use Rattle.xr_model.specs.scenario.Scenario.{scripts_from}
+use Rattle.xr_scenario.proofs.OpReading.{prepend}
 use Rattle.xr_scenario.proofs.reader.read_scripts.Given as goal
 
 abbrev pub invariant-loop-value : goal.invariant-loop-value

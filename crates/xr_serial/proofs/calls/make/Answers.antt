@@ -1,6 +1,6 @@
 use Rattle.std.proofs.Common.{rules, ◌∙◌, ap, false, ◌≡◌, length}
-use Rattle.xr_model.specs.Request.{request_of}
-use Rattle.xr_serial.specs.Lent.{lent_size, written_size}
+use Rattle.xr_model.specs.machine.Request.{request_of}
+use Rattle.xr_serial.specs.inside.Lent.{lent_size, written_size}
 use Rattle.xr_serial.proofs.Lending.{made_of}
 use Rattle.xr_serial.proofs.calls.make.Goals as goal
 

@@ -1,6 +1,6 @@
 use Rattle.std.proofs.Common.{◌-◌, ◌≡◌, ◌≤◌, ◌+◌, ◌*◌, ℕ, Option, length}
-use Rattle.xr_model.specs.DeviceText.{DeviceStream}
-use Rattle.xr_serial.specs.RunInvariant.{RunKeeps}
+use Rattle.xr_model.specs.device_text.DeviceText.{DeviceStream}
+use Rattle.xr_serial.specs.inside.RunInvariant.{RunKeeps}
 use Rattle.xr_serial.specs.declared.turn.Turn.TheVariants as turn
 use Rattle.xr_serial.proofs.rounds.go_on.Given as goal
 

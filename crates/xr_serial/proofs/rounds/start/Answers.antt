@@ -1,5 +1,5 @@
 use Rattle.std.proofs.Common.{rules, ◌≡◌, length}
-use Rattle.xr_model.specs.NameValues.{no_values}
+use Rattle.xr_model.specs.runs.NameValues.{no_values}
 use Rattle.xr_serial.proofs.AtStart.{starts}
 use Rattle.xr_serial.proofs.rounds.start.Goals as goal
 

@@ -2,14 +2,14 @@ use Rattle.std.proofs.Common.{◌≡◌, ◌∙◌, ◌++◌, ◌∷◌, [], ◌
 use Rattle.xr_types.specs.declared.calls.Actor.TheVariants.{App}
 use Rattle.xr_types.specs.declared.made.Made.{Made}
 use Rattle.xr_types.specs.Op.{call_name}
-use Rattle.xr_model.specs.ScriptForm.{IsInRange}
-use Rattle.xr_model.specs.Lists.{made_at}
-use Rattle.xr_model.specs.CoreCalls.{HasNumbers}
-use Rattle.xr_model.specs.Request.{Request, request_of}
-use Rattle.xr_model.specs.Scripts.{request_for}
+use Rattle.xr_model.specs.scenario.ScriptForm.{IsInRange}
+use Rattle.xr_model.specs.runs.Lists.{made_at}
+use Rattle.xr_model.specs.machine.CoreCalls.{HasNumbers}
+use Rattle.xr_model.specs.machine.Request.{Request, request_of}
+use Rattle.xr_model.specs.runs.Scripts.{request_for}
 use Rattle.xr_model.proofs.ScriptForm.{in_range-item}
-use Rattle.xr_serial.specs.Made.{IsAnswered, AnsweredOrWaits}
-use Rattle.xr_serial.specs.Sides.{told_of, op_mark}
+use Rattle.xr_serial.specs.inside.Made.{IsAnswered, AnsweredOrWaits}
+use Rattle.xr_serial.specs.inside.Sides.{told_of, op_mark}
 use Rattle.xr_serial.specs.declared.calls.Answered.{Answered}
 use Rattle.xr_serial.proofs.Ops.{here_at, op_numbers, name_is, mark_is, no_start}
 use Rattle.xr_serial.proofs.script.make_op.Goals as goal

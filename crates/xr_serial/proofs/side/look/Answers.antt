@@ -8,6 +8,6 @@ returns-then-not-side-clause-kept g c =
     let new = c.fetch.new.side in
     let unknown : old.pending ≡ None = search rules in
     let open_ : old.over ≡ false = search rules in
-    λ ops idle s made names list gone ended told before few kept. rw (c.fetch.ensures.lists.0, c.fetch.ensures.lists.1)
-    (looked_from ops told before idle few s s made names list gone old.events.items old.list.items ended (g.D.Device.remaining c.args.device.now) (g.D.Device.remaining c.fetch.new.device) (g.D.Device.faults c.args.device.now) (g.D.Device.faults c.fetch.new.device)
+    λ ops idle s made names list has_left ended told before few kept. rw (c.fetch.ensures.lists.0, c.fetch.ensures.lists.1)
+    (looked_from ops told before idle few s s made names list has_left old.events.items old.list.items ended (g.D.Device.remaining c.args.device.now) (g.D.Device.remaining c.fetch.new.device) (g.D.Device.faults c.args.device.now) (g.D.Device.faults c.fetch.new.device)
     (g.D.Device.bound c.args.device.now) (g.D.Device.bound c.fetch.new.device) old.pending old.over new.pending new.over unknown open_ c.fetch.ensures.fetched c.fetch.ensures.later kept)

@@ -1,4 +1,4 @@
-use Rattle.xr_states.proofs.Changing.{ComesSoFar}
+use Rattle.xr_states.proofs.SessionChanges.{ComesSoFar}
 use Rattle.xr_states.proofs.table.settle.Given as goal
 
 abbrev pub invariant-loop : goal.invariant-loop

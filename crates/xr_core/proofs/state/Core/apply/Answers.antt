@@ -1,7 +1,7 @@
 use Rattle.std.proofs.Common.{refl, sym, subst, ap, []}
-use Rattle.xr_model.specs.Request.{Request, request_of}
-use Rattle.xr_core.specs.Calls.{Makes}
-use Rattle.xr_core.proofs.Answering.{held_waits, made_answers, made_over_answers, answers_over}
+use Rattle.xr_model.specs.machine.Request.{Request, request_of}
+use Rattle.xr_core.specs.inside.Calls.{Makes}
+use Rattle.xr_core.proofs.CallAnswers.{held_waits, made_answers, made_over_answers, answers_over}
 use Rattle.xr_core.proofs.state.Core.apply.Goals as goal
 
 pub returns-then-is_held_back : goal.returns-then-is_held_back

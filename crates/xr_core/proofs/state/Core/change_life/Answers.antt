@@ -1,12 +1,12 @@
 use Rattle.std.proofs.Common.{rules, ◌≡◌, false, Some, None, sym, ap, ◌∙◌}
 use Rattle.xr_types.specs.declared.code.Code.TheVariants.{Success}
 use Rattle.xr_types.specs.declared.handles.Kind.TheVariants as kind
-use Rattle.xr_model.specs.Handles.{is_live}
-use Rattle.xr_model.specs.LiveSessions.{session_at}
-use Rattle.xr_model.specs.SessionRule.{code_on}
-use Rattle.xr_model.specs.State.{CoreState}
-use Rattle.xr_model.specs.Rules.Session.{life_of}
-use Rattle.xr_core.specs.Changes.{place_at}
+use Rattle.xr_model.specs.machine.Handles.{is_live}
+use Rattle.xr_model.specs.machine.LiveSessions.{session_at}
+use Rattle.xr_model.specs.machine.SessionRule.{code_on}
+use Rattle.xr_model.specs.machine.State.{CoreState}
+use Rattle.xr_model.specs.machine.Rules.Session.{life_of}
+use Rattle.xr_core.specs.inside.Changes.{place_at}
 use Rattle.xr_core.proofs.Listed.{stands_within, found_at, live_at, stands_nowhere}
 use Rattle.xr_core.proofs.SessionCalls.{no_session, life_refused, life_done}
 use Rattle.xr_core.proofs.state.Core.change_life.Goals as goal

@@ -1,6 +1,6 @@
 use Rattle.std.proofs.Common.{◌≡◌, Some, ap, ◌∙◌}
-use Rattle.xr_model.specs.State.{CoreState}
-use Rattle.xr_core.specs.Changes.{place_at}
+use Rattle.xr_model.specs.machine.State.{CoreState}
+use Rattle.xr_core.specs.inside.Changes.{place_at}
 use Rattle.xr_core.proofs.Listed.{found_at}
 use Rattle.xr_model.proofs.Listed.{listed_lives}
 use Rattle.xr_core.proofs.SessionEvents.{changes_one}
@@ -18,4 +18,4 @@ pub returns-clause-kept : goal.returns-clause-kept
 returns-clause-kept c =
     let found : place_at c.self.inside.sessions.items c.args.session ≡ Some c.args.place = ap (λ (s : CoreState). place_at s.sessions c.args.session) c.self.view_is ∙ c.requires.found in
     let x = (found_at c.self.inside.sessions.items c.args.session c.args.place found).0 in
-    rw (c.change_life.ensures.told, c.change_life.ensures.sessions, c.wish.ensures, ← c.self.view_is) (changes_one _ c.args.session c.args.place x c.args.call found)
+    rw (c.change_life.ensures.events, c.change_life.ensures.sessions, c.wish.ensures, ← c.self.view_is) (changes_one _ c.args.session c.args.place x c.args.call found)

@@ -1,10 +1,10 @@
 use Rattle.std.proofs.Common.{rules, ◌≡◌, ◌||◌, ◌==◌, [], ◌∷◌, not, false}
 use Rattle.xr_types.specs.declared.code.Code.TheVariants.{Success}
 use Rattle.xr_types.specs.declared.handles.Kind.TheVariants as kind
-use Rattle.xr_model.specs.Handles.{no_room}
-use Rattle.xr_model.specs.Refusals.{first_of}
+use Rattle.xr_model.specs.machine.Handles.{no_room}
+use Rattle.xr_model.specs.machine.Refusals.{first_of}
 use Rattle.xr_core.proofs.Listed.{listed_instance}
-use Rattle.xr_core.proofs.Refusing.{instance_refused}
+use Rattle.xr_core.proofs.PartRefusals.{instance_refused}
 use Rattle.xr_core.proofs.state.Core.create_instance.Goals as goal
 
 pub invariant_of-self : goal.invariant_of-self

@@ -1,8 +1,8 @@
 use Rattle.std.proofs.Common.{rules, ◌≡◌, ◌==◌, length, true, false, refl, ap, ◌∙◌, arith}
 use Rattle.xr_types.specs.declared.handles.Kind.TheVariants as kind
 use Rattle.xr_types.specs.declared.handles.TheConstants.{SESSIONS}
-use Rattle.xr_model.specs.Handles.{has_room}
-use Rattle.xr_model.specs.State.{CoreState}
+use Rattle.xr_model.specs.machine.Handles.{has_room}
+use Rattle.xr_model.specs.machine.State.{CoreState}
 use Rattle.xr_core.proofs.Listed.{room_for_one, listed_give}
 use Rattle.xr_core.proofs.state.Core.give_session.Goals as goal
 

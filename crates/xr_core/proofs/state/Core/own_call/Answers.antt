@@ -1,10 +1,10 @@
 use Rattle.std.proofs.Common.{◌≡◌, ap, sym, subst, ◌∙◌, [], true, false, None, true≢false}
-use Rattle.xr_model.specs.Marks.{mark_at}
-use Rattle.xr_model.specs.Request.{Request, request_of}
-use Rattle.xr_model.specs.State.{CellReads}
-use Rattle.xr_model.specs.Machine.{is_held_back}
-use Rattle.xr_core.specs.Calls.{Makes}
-use Rattle.xr_core.proofs.Answering.{made_answers, left_answers}
+use Rattle.xr_model.specs.machine.Marks.{mark_at}
+use Rattle.xr_model.specs.machine.Request.{Request, request_of}
+use Rattle.xr_model.specs.machine.State.{CellReads}
+use Rattle.xr_model.specs.machine.Machine.{is_held_back}
+use Rattle.xr_core.specs.inside.Calls.{Makes}
+use Rattle.xr_core.proofs.CallAnswers.{made_answers, left_answers}
 use Rattle.xr_core.proofs.state.Core.own_call.Goals as goal
 
 pub unreachable-requires : goal.unreachable-requires

@@ -1,7 +1,7 @@
 use Rattle.std.proofs.Common.{ap, sym, subst, []}
-use Rattle.xr_model.specs.Request.{Request, request_of}
-use Rattle.xr_core.specs.Calls.{Makes}
-use Rattle.xr_core.proofs.Answering.{made_beside}
+use Rattle.xr_model.specs.machine.Request.{Request, request_of}
+use Rattle.xr_core.specs.inside.Calls.{Makes}
+use Rattle.xr_core.proofs.CallAnswers.{made_beside}
 use Rattle.xr_core.proofs.state.Core.path_call.Goals as goal
 
 pub returns-in-StringToPath : goal.returns-in-StringToPath

@@ -1,5 +1,5 @@
 use Rattle.std.proofs.Common.{rules}
-use Rattle.xr_core.proofs.Refusing.{copy_refused}
+use Rattle.xr_core.proofs.PartRefusals.{copy_refused}
 use Rattle.xr_core.proofs.state.Core.path_to_string.Goals as goal
 
 pub returns-in_default : goal.returns-in_default

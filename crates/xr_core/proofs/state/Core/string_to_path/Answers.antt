@@ -1,6 +1,6 @@
 use Rattle.std.proofs.Common.{rules, ◌≡◌}
 use Rattle.xr_types.specs.declared.code.Code.TheVariants.{Success}
-use Rattle.xr_core.proofs.Refusing.{intern_refused}
+use Rattle.xr_core.proofs.PartRefusals.{intern_refused}
 use Rattle.xr_core.proofs.state.Core.string_to_path.Goals as goal
 
 pub returns-then-ne : goal.returns-then-ne

@@ -1,0 +1,4 @@
+-- What only proofs and private functions need.
+pub mod Calls
+pub mod Changes
+pub mod Groups

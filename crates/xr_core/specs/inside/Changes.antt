@@ -1,0 +1,67 @@
+-- What changes sessions.
+use Rattle.std.specs.Prelude.{◌==◌, ℕ, ◌∷◌, List, [], Option, Some, None}
+use Rattle.std.specs.List.{position_from}
+use Rattle.xr_types.specs.declared.code.Code.{Code}
+use Rattle.xr_types.specs.declared.device.Wish.{Wish}
+use Rattle.xr_types.specs.declared.session.SessionState.{SessionState}
+use Rattle.xr_model.specs.machine.Refusals.{Refusal, first_of, unless}
+use Rattle.xr_model.specs.machine.Request.{Request, begin_session, end_session, request_exit_session}
+use Rattle.xr_model.specs.machine.SessionLife.{Life, Changed, unchanged, settled_session, losing_session, lost_session, is_lost, begin_checks, begun_session, end_checks, ended_session, exit_checks, exiting_session}
+use Rattle.xr_states.specs.Codes.{code_by}
+use Rattle.xr_model.specs.machine.LiveSessions.{Session, session_at}
+use Rattle.xr_model.specs.machine.State.{CoreState}
+use Rattle.xr_model.specs.machine.Rules.Session.{life_of, with_change}
+use Rattle.xr_core.specs.declared.sessions.Change.{Change}
+use Rattle.xr_core.specs.declared.sessions.Change.TheVariants.{Settle, Loss, Lost}
+use Rattle.xr_core.specs.declared.sessions.LifeCall.{LifeCall}
+use Rattle.xr_core.specs.declared.sessions.LifeCall.TheVariants.{Begin, End, RequestExit}
+
+-- what happens to all sessions does this to each
+abbrev pub change_by : Change → Life → Changed
+change_by (Settle wish) life = settled_session wish life
+change_by Loss life = losing_session life
+change_by Lost life = unchanged (lost_session life)
+
+-- ---- a call that changes one session
+
+abbrev pub life_request : ℕ → LifeCall → Request
+life_request session (Begin view) = begin_session session view
+life_request session End = end_session session
+life_request session RequestExit = request_exit_session session
+
+-- what refuses it behind a lost session, and how the session changes
+abbrev pub checks_of : LifeCall → Life → List Refusal
+checks_of (Begin view) life = begin_checks life view
+checks_of End life = end_checks life
+checks_of RequestExit life = exit_checks life
+
+abbrev pub change_of : Wish → LifeCall → Life → Changed
+change_of w (Begin view) life = unchanged (begun_session life)
+change_of w End life = ended_session w life
+change_of w RequestExit life = exiting_session w life
+
+abbrev pub refusals_of : LifeCall → Life → List Refusal
+refusals_of call life = is_lost life ∷ checks_of call life
+
+-- what is left of the life, what is told and what is answered
+unfoldable pub life_after : Wish → LifeCall → Life → Life
+life_after w call life = unless (first_of (refusals_of call life)) life (change_of w call life).life
+
+unfoldable pub told_after : Wish → LifeCall → Life → List SessionState
+told_after w call life = unless (first_of (refusals_of call life)) [] (change_of w call life).through
+
+unfoldable pub answer_to : LifeCall → Life → Code
+answer_to call life = code_by (first_of (refusals_of call life))
+
+-- the core once the call was made of the session with this handle
+unfoldable pub changed_life : CoreState → ℕ → LifeCall → CoreState
+changed_life s session call =
+    unless (first_of (refusals_of call (life_of s session))) s (with_change s (session_at s.sessions session) (change_of s.device.wish call))
+
+abbrev pub ordinal_in : Option Session → ℕ
+ordinal_in None = 0
+ordinal_in (Some x) = x.ordinal
+
+-- where a session stands, from 0
+abbrev pub place_at : List Session → ℕ → Option ℕ
+place_at xs handle = position_from (λ x. x.handle == handle) 0 xs

@@ -1,0 +1,30 @@
+-- The calls by groups: a group is a file of calls/, and one function of the core.
+use Rattle.xr_model.specs.machine.Request.{Request, create_instance, destroy_instance, get_system, poll_event, string_to_path, path_to_string, create_session, destroy_session, begin_session, end_session, request_exit_session, mark, await_mark, leave, next_frame}
+
+abbrev pub IsInstanceCall : Request → Type 0
+IsInstanceCall (create_instance major minor) = Unit {0}
+IsInstanceCall (destroy_instance instance) = Unit {0}
+IsInstanceCall (get_system instance form) = Unit {0}
+IsInstanceCall (poll_event instance) = Unit {0}
+IsInstanceCall _ = ⊥
+
+abbrev pub IsPathCall : Request → Type 0
+IsPathCall (string_to_path instance text) = Unit {0}
+IsPathCall (path_to_string instance path capacity) = Unit {0}
+IsPathCall _ = ⊥
+
+abbrev pub IsSessionCall : Request → Type 0
+IsSessionCall (create_session instance system) = Unit {0}
+IsSessionCall (destroy_session session) = Unit {0}
+IsSessionCall (begin_session session view) = Unit {0}
+IsSessionCall (end_session session) = Unit {0}
+IsSessionCall (request_exit_session session) = Unit {0}
+IsSessionCall _ = ⊥
+
+-- marks, and how applications and the compositor end
+abbrev pub IsOwnCall : Request → Type 0
+IsOwnCall (mark number value) = Unit {0}
+IsOwnCall (await_mark number) = Unit {0}
+IsOwnCall leave = Unit {0}
+IsOwnCall next_frame = Unit {0}
+IsOwnCall _ = ⊥

@@ -1,0 +1,71 @@
+-- The words that the program takes: their forms, over the statement of `clap`, which reads the words
+-- after the first.
+use Rattle.std.specs.Prelude.{ℕ, ◌&&◌, Bool, true, false, List, [], ◌∷◌, length, nat_lt, nat_le, codes, Option, Some, None, option_map, option_and_then, unwrap_or, if◌then◌else◌}
+use Rattle.std.specs.Str.{bytes_eq}
+use Rattle.clap.specs.Words.{App, Rule, Row, new_app, new_rule, with_rule, fault_of, matches_of, first_of}
+use Rattle.clap.specs.Walk.{is_empty}
+use Rattle.clap.specs.declared.builder.action.ArgAction.TheVariants.{SetTrue}
+
+-- ---- the command that reads the words of a run
+
+-- the file, which is wanted
+abbrev pub file_arg : Rule
+file_arg = record (new_rule (codes "file")) { required = true }
+
+-- the option `--device` with its file
+abbrev pub device_arg : Rule
+device_arg = record (new_rule (codes "device")) { long = Some (codes "device") }
+
+-- the flag `--places`
+abbrev pub places_arg : Rule
+places_arg = record (new_rule (codes "places")) { long = Some (codes "places"); action = Some SetTrue }
+
+abbrev pub run_app : App
+run_app = with_rule (with_rule (with_rule (new_app (codes "xrsim")) file_arg) device_arg) places_arg
+
+-- The command takes the words: by its statement it has no fault to find in them. The first word
+-- stands where a program's own name does, and isn't read. To ask for help is a fault too.
+unfoldable pub is_taken : List (List ℕ) → Bool
+is_taken words = is_empty (fault_of run_app words)
+
+-- what the command makes of words that it takes
+unfoldable pub rows_in : List (List ℕ) → List Row
+rows_in words = matches_of run_app words
+
+-- ---- the form of the words
+
+-- the files of the scenario and of the device, if there is one, and whether each line of the report ends in
+-- its reply's place
+pub record RunOptions : Type 0 where
+  pub file : List ℕ
+  pub device : Option (List ℕ)
+  pub places : Bool
+
+-- a file's name has 1 to 4095 bytes
+abbrev pub is_file : List ℕ → Bool
+is_file name = nat_lt 0 (length name) && nat_le (length name) 4095
+
+abbrev pub is_file_or_none : Option (List ℕ) → Bool
+is_file_or_none None = true
+is_file_or_none (Some name) = is_file name
+
+-- a flag is set where it has the value `true`, and not where it has its other value or none
+abbrev pub is_on : Option (List ℕ) → Bool
+is_on value = unwrap_or (option_map (λ text. bytes_eq text (codes "true")) value) false
+
+abbrev pub options_with : List Row → List ℕ → Option RunOptions
+options_with rows name =
+    if is_file name && is_file_or_none (first_of (codes "device") rows) then Some (record { file = name; device = first_of (codes "device") rows; places = is_on (first_of (codes "places") rows) })
+    else None
+
+abbrev pub options_in : List Row → Option RunOptions
+options_in rows = option_and_then (options_with rows) (first_of (codes "file") rows)
+
+abbrev pub is_serial : List (List ℕ) → Bool
+is_serial [] = false
+is_serial (first ∷ rest) = bytes_eq first (codes "serial")
+
+-- The form of the words, if they have one: `serial FILE`, with `--device FILE` and `--places` where these are
+-- wanted.
+abbrev pub options_of : List (List ℕ) → Option RunOptions
+options_of words = if is_serial words && is_taken words then options_in (rows_in words) else None

@@ -1,0 +1,21 @@
+-- The machine of one thread: what it is asked, what it keeps, what each call does, and histories.
+pub mod Request
+pub mod Refusals
+pub mod PartAnswers
+pub mod Handles
+pub mod HandlePlaces
+pub mod Events
+pub mod SessionLife
+pub mod LiveSessions
+pub mod Marks
+pub mod Device
+pub mod Paths
+pub mod State
+pub mod Destroyed
+pub mod Rule
+pub mod SessionRule
+pub mod Rules
+pub mod Machine
+pub mod CoreCalls
+pub mod History
+pub mod Positions

@@ -1,0 +1,57 @@
+-- The live sessions (OpenXR 1.0 chapter 9, "Session"), in the order of their creation, and what their changes tell.
+use Rattle.std.specs.Prelude.{ℕ, ◌==◌, false, List, [], ◌∷◌, map, Option, Some, None, if◌then◌else◌}
+use Rattle.std.specs.List.{find, filter}
+use Rattle.xr_types.specs.declared.handles.Kind.TheVariants as kind
+use Rattle.xr_types.specs.declared.session.Event.TheVariants as event
+use Rattle.xr_types.specs.declared.session.SessionState.{SessionState}
+use Rattle.xr_types.specs.declared.session.SessionState.TheVariants.{Idle}
+use Rattle.xr_model.specs.machine.Handles.{Handles, is_live}
+use Rattle.xr_model.specs.machine.Events.{Queue, pushed}
+use Rattle.xr_model.specs.machine.SessionLife.{Life, Changed}
+
+-- Its handle; its ordinal, which is the count of sessions that were created in the run, itself included; and its life.
+pub record Session : Type 0 where
+  pub handle : ℕ
+  pub ordinal : ℕ
+  pub life : Life
+
+-- the session with this handle
+abbrev pub session_at : List Session → ℕ → Option Session
+session_at xs handle = find (λ x. x.handle == handle) xs
+
+-- its life; where there is none, that of a session that was never created, which nothing tells
+abbrev pub no_life : Life
+no_life = record { state = Idle; running = false; exit = false; lost = false }
+
+abbrev pub life_in : Option Session → Life
+life_in None = no_life
+life_in (Some x) = x.life
+
+abbrev pub with_life : Life → Session → Session
+with_life life x = record x { life = life }
+
+-- the sessions once that with this handle lives so
+abbrev pub with_life_at : ℕ → Life → List Session → List Session
+with_life_at handle life [] = []
+with_life_at handle life (x ∷ xs) = if x.handle == handle then with_life life x ∷ xs else x ∷ with_life_at handle life xs
+
+-- the sessions whose handles are live
+abbrev pub still_live : Handles → List Session → List Session
+still_live h xs = filter (λ x. is_live h kind.Session x.handle) xs
+
+-- ---- what is told of a session
+
+-- a session's states, one after another
+abbrev pub told_states : Queue → ℕ → ℕ → List SessionState → Queue
+told_states q ordinal handle [] = q
+told_states q ordinal handle (state ∷ states) = told_states (pushed q (event.State ordinal handle state)) ordinal handle states
+
+-- ---- all sessions change
+
+abbrev pub each_changed : (Life → Changed) → List Session → List Session
+each_changed f xs = map (λ x. with_life (f x.life).life x) xs
+
+-- what is told of that, session by session
+abbrev pub told_changes : Queue → (Life → Changed) → List Session → Queue
+told_changes q f [] = q
+told_changes q f (x ∷ xs) = told_changes (told_states q x.ordinal x.handle (f x.life).through) f xs

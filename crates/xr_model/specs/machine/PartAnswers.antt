@@ -1,0 +1,19 @@
+-- What a part of the core answers by its refusals.
+use Rattle.std.specs.Prelude.{ℕ, Option, Some, None}
+use Rattle.xr_types.specs.declared.code.Code.TheVariants.{Success}
+use Rattle.xr_types.specs.declared.calls.Gives.{Gives}
+use Rattle.xr_types.specs.declared.calls.Gives.TheVariants.{Handle, Number, Size}
+use Rattle.xr_types.specs.declared.calls.Answer.{Answer}
+use Rattle.xr_model.specs.machine.Refusals.{Refusal}
+
+-- the number that is given, 0 where none is
+abbrev pub answered_number : Gives → ℕ
+answered_number (Handle n) = n
+answered_number (Number n) = n
+answered_number (Size n) = n
+answered_number _ = 0
+
+-- what a part answers: the number of its success, or the refusal
+abbrev pub answer_by : Option Refusal → ℕ → Answer
+answer_by None n = record { code = Success; number = n }
+answer_by (Some r) n = record { code = r.code; number = answered_number r.gives }

@@ -1,0 +1,72 @@
+-- The state of the machine: what a core keeps, and the cells beside it.
+use Rattle.std.specs.Prelude.{ℕ, ◌*◌, Option, Bool, false, replicate, List, []}
+use Rattle.xr_types.specs.declared.frames.Image.{Image}
+use Rattle.xr_types.specs.declared.handles.TheConstants.{SWAPCHAINS}
+use Rattle.xr_model.specs.machine.Handles.{Handles, no_handles}
+use Rattle.xr_model.specs.machine.Events.{Queue, no_events}
+use Rattle.xr_model.specs.machine.LiveSessions.{Session}
+use Rattle.xr_model.specs.machine.Marks.{no_marks}
+use Rattle.xr_model.specs.machine.Device.{Device, first_device}
+
+-- What a core keeps: the handles, the atoms' texts, the events that wait, the live sessions in the order of their
+-- creation, how many were created in the run, what the device has told of itself, the marks, how many applications
+-- there are, which of them have left, and how many locked calls were decided.
+pub record CoreState : Type 0 where
+  pub handles : Handles
+  pub atoms : List (List ℕ)
+  pub events : Queue
+  pub sessions : List Session
+  pub created : ℕ
+  pub device : Device
+  pub marks : List (Option ℕ)
+  pub apps : ℕ
+  pub left : List Bool
+  pub locked : ℕ
+
+-- What the cells hold beside a core: the stamp of each image, and the images of the frame taken last that are
+-- not given back, in order. An image's count is not stored: it is how many pending frames use the image, and
+-- one where it is held.
+pub record Cells : Type 0 where
+  pub stamps : List ℕ
+  pub held : List Image
+
+pub record State : Type 0 where
+  pub core : CoreState
+  pub cells : Cells
+
+-- What a call is told of the cells: whether the image that it waits for is unused, which is where its count is 0;
+-- the stamps of the images that it shows; and the images that are held.
+pub record CellReads : Type 0 where
+  pub unused : Bool
+  pub stamps : List ℕ
+  pub held : List Image
+
+-- what a run is begun with: how many applications it has
+pub record Settings : Type 0 where
+  pub apps : ℕ
+
+abbrev pub with_apps : ℕ → Settings
+with_apps n = record { apps = n }
+
+-- what a core keeps before any call
+abbrev pub opening_core : Settings → CoreState
+opening_core settings = record {
+  handles = no_handles;
+  atoms = [];
+  events = no_events;
+  sessions = [];
+  created = 0;
+  device = first_device;
+  marks = no_marks;
+  apps = settings.apps;
+  left = replicate settings.apps false;
+  locked = 0;
+}
+
+-- the cells before any call: three images for each place of a chain
+abbrev pub opening_cells : Cells
+opening_cells = record { stamps = replicate (3 * SWAPCHAINS) 0; held = [] }
+
+-- the state before any call
+abbrev pub opening : Settings → State
+opening settings = record { core = opening_core settings; cells = opening_cells }

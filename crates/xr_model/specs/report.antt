@@ -1,0 +1,4 @@
+-- What a report prints of a run.
+pub mod Report
+pub mod ReportLines
+pub mod ReportValues

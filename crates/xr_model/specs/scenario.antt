@@ -1,0 +1,11 @@
+-- Which texts are scenarios: names, fields, lists, the ops by groups, scripts, and the whole.
+pub mod Names
+pub mod Fields
+pub mod ListItems
+pub mod ReadOp
+pub mod Ops
+pub mod OpReading
+pub mod InRange
+pub mod ScriptForm
+pub mod Scenario
+pub mod Built

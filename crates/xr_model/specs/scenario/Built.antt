@@ -1,0 +1,39 @@
+-- Which scenarios are run: those of one script of ops that are built.
+use Rattle.std.specs.Prelude.{ℕ, Bool, true, false, List, [], ◌∷◌, Result, Ok, Err, if◌then◌else◌}
+use Rattle.std.specs.List.{list_all}
+use Rattle.xr_types.specs.declared.scenario.Op.{Op}
+use Rattle.xr_types.specs.declared.scenario.Op.TheVariants as op
+use Rattle.xr_types.specs.declared.scenario.Scenario.{Scenario}
+use Rattle.xr_types.specs.declared.status.Refusal.{Refusal}
+use Rattle.xr_types.specs.declared.status.Refusal.TheVariants.{Unbuilt}
+use Rattle.xr_model.specs.scenario.Scenario.{scenario_of}
+
+abbrev pub is_built_op : Op → Bool
+is_built_op (op.CreateInstance major minor) = true
+is_built_op (op.DestroyInstance instance) = true
+is_built_op (op.GetSystem instance form) = true
+is_built_op (op.StringToPath instance text) = true
+is_built_op (op.PathToString instance path capacity) = true
+is_built_op (op.PollEvent instance) = true
+is_built_op (op.CreateSession instance system) = true
+is_built_op (op.DestroySession session) = true
+is_built_op (op.BeginSession session view) = true
+is_built_op (op.EndSession session) = true
+is_built_op (op.RequestExitSession session) = true
+is_built_op (op.Mark number value) = true
+is_built_op (op.Await number) = true
+is_built_op _ = false
+
+-- there is one script, and all its ops are built
+abbrev pub are_built : List (List Op) → Bool
+are_built (ops ∷ []) = list_all is_built_op ops
+are_built _ = false
+
+abbrev pub if_built : Result Scenario Refusal → Result Scenario Refusal
+if_built (Err e) = Err e
+if_built (Ok scenario) = if are_built scenario.scripts then Ok scenario else Err Unbuilt
+
+-- The scenario of a text that is run, or why it is refused: a scenario of more scripts or of other ops
+-- isn't built.
+abbrev pub run_scenario_of : List ℕ → Result Scenario Refusal
+run_scenario_of text = if_built (scenario_of text)

@@ -1,0 +1,123 @@
+-- An op of a script: which one it is, what it says, and what its name stands for.
+use Rattle.std.specs.Prelude.{ℕ, List, codes, Option, Some, None, option_and_then, Result, Ok, Err, if◌then◌else◌}
+use Rattle.std.specs.Str.{bytes_eq}
+use Rattle.serde_json.specs.Data.{Data}
+use Rattle.serde_json.specs.Find.{get, as_str}
+use Rattle.xr_types.specs.declared.names.CallName.{CallName}
+use Rattle.xr_types.specs.declared.names.CallName.TheVariants as call
+use Rattle.xr_types.specs.declared.scenario.Sort.{Sort}
+use Rattle.xr_types.specs.declared.status.What.{What}
+use Rattle.xr_types.specs.declared.status.What.TheVariants as what
+use Rattle.xr_types.specs.Op.{sort_of}
+use Rattle.xr_model.specs.scenario.Names.{NamedOp, given}
+use Rattle.xr_model.specs.scenario.ReadOp.{ReadOp}
+use Rattle.xr_model.specs.scenario.Fields.{and_then}
+use Rattle.xr_model.specs.scenario.Ops.Session.{create_instance, destroy_instance, poll_event, get_system, string_to_path, path_to_string, create_session, destroy_session, end_session, request_exit_session, begin_session, mark, await}
+use Rattle.xr_model.specs.scenario.Ops.Input.{create_action_set, destroy_action_set, create_action, destroy_action, suggest_bindings, attach_sets, sync_actions, get_boolean, get_float, get_vector, get_pose_active}
+use Rattle.xr_model.specs.scenario.Ops.Frames.{begin_frame, create_reference_space, create_action_space, destroy_space, locate_space, create_swapchain, destroy_swapchain, acquire_image, release_image, wait_image, paint, wait_frame, end_frame}
+
+-- the op of a name
+abbrev pub op_named : List ℕ → Option CallName
+op_named t =
+    if bytes_eq t (codes "create_instance") then Some call.CreateInstance
+    else (if bytes_eq t (codes "destroy_instance") then Some call.DestroyInstance
+    else (if bytes_eq t (codes "poll_event") then Some call.PollEvent
+    else (if bytes_eq t (codes "get_system") then Some call.GetSystem
+    else (if bytes_eq t (codes "string_to_path") then Some call.StringToPath
+    else (if bytes_eq t (codes "path_to_string") then Some call.PathToString
+    else (if bytes_eq t (codes "create_session") then Some call.CreateSession
+    else (if bytes_eq t (codes "destroy_session") then Some call.DestroySession
+    else (if bytes_eq t (codes "end_session") then Some call.EndSession
+    else (if bytes_eq t (codes "request_exit_session") then Some call.RequestExitSession
+    else (if bytes_eq t (codes "begin_frame") then Some call.BeginFrame
+    else (if bytes_eq t (codes "begin_session") then Some call.BeginSession
+    else (if bytes_eq t (codes "create_reference_space") then Some call.CreateReferenceSpace
+    else (if bytes_eq t (codes "create_action_space") then Some call.CreateActionSpace
+    else (if bytes_eq t (codes "destroy_space") then Some call.DestroySpace
+    else (if bytes_eq t (codes "locate_space") then Some call.LocateSpace
+    else (if bytes_eq t (codes "create_action_set") then Some call.CreateActionSet
+    else (if bytes_eq t (codes "destroy_action_set") then Some call.DestroyActionSet
+    else (if bytes_eq t (codes "create_action") then Some call.CreateAction
+    else (if bytes_eq t (codes "destroy_action") then Some call.DestroyAction
+    else (if bytes_eq t (codes "suggest_bindings") then Some call.SuggestBindings
+    else (if bytes_eq t (codes "attach_sets") then Some call.AttachSets
+    else (if bytes_eq t (codes "sync_actions") then Some call.SyncActions
+    else (if bytes_eq t (codes "get_boolean") then Some call.GetBoolean
+    else (if bytes_eq t (codes "get_float") then Some call.GetFloat
+    else (if bytes_eq t (codes "get_vector") then Some call.GetVector
+    else (if bytes_eq t (codes "get_pose_active") then Some call.GetPoseActive
+    else (if bytes_eq t (codes "create_swapchain") then Some call.CreateSwapchain
+    else (if bytes_eq t (codes "destroy_swapchain") then Some call.DestroySwapchain
+    else (if bytes_eq t (codes "acquire_image") then Some call.AcquireImage
+    else (if bytes_eq t (codes "release_image") then Some call.ReleaseImage
+    else (if bytes_eq t (codes "wait_image") then Some call.WaitImage
+    else (if bytes_eq t (codes "paint") then Some call.Paint
+    else (if bytes_eq t (codes "wait_frame") then Some call.WaitFrame
+    else (if bytes_eq t (codes "end_frame") then Some call.EndFrame
+    else (if bytes_eq t (codes "mark") then Some call.Mark
+    else (if bytes_eq t (codes "await") then Some call.Await
+    else None))))))))))))))))))))))))))))))))))))
+
+abbrev pub named_by : Option CallName → Result CallName What
+named_by None = Err what.Op
+named_by (Some name) = Ok name
+
+-- which op an object is, if it is one
+abbrev pub op_of : Data → Option CallName
+op_of d = option_and_then op_named (option_and_then as_str (get (codes "op") d))
+
+abbrev pub op_name : Data → Result CallName What
+op_name d = named_by (op_of d)
+
+-- the op of this name
+abbrev pub line_named : List NamedOp → Data → CallName → Result ReadOp What
+line_named names d call.CreateInstance = create_instance d
+line_named names d call.DestroyInstance = destroy_instance names d
+line_named names d call.PollEvent = poll_event names d
+line_named names d call.GetSystem = get_system names d
+line_named names d call.StringToPath = string_to_path names d
+line_named names d call.PathToString = path_to_string names d
+line_named names d call.CreateSession = create_session names d
+line_named names d call.DestroySession = destroy_session names d
+line_named names d call.EndSession = end_session names d
+line_named names d call.RequestExitSession = request_exit_session names d
+line_named names d call.BeginFrame = begin_frame names d
+line_named names d call.BeginSession = begin_session names d
+line_named names d call.CreateReferenceSpace = create_reference_space names d
+line_named names d call.CreateActionSpace = create_action_space names d
+line_named names d call.DestroySpace = destroy_space names d
+line_named names d call.LocateSpace = locate_space names d
+line_named names d call.CreateActionSet = create_action_set names d
+line_named names d call.DestroyActionSet = destroy_action_set names d
+line_named names d call.CreateAction = create_action names d
+line_named names d call.DestroyAction = destroy_action names d
+line_named names d call.SuggestBindings = suggest_bindings names d
+line_named names d call.AttachSets = attach_sets names d
+line_named names d call.SyncActions = sync_actions names d
+line_named names d call.GetBoolean = get_boolean names d
+line_named names d call.GetFloat = get_float names d
+line_named names d call.GetVector = get_vector names d
+line_named names d call.GetPoseActive = get_pose_active names d
+line_named names d call.CreateSwapchain = create_swapchain names d
+line_named names d call.DestroySwapchain = destroy_swapchain names d
+line_named names d call.AcquireImage = acquire_image names d
+line_named names d call.ReleaseImage = release_image names d
+line_named names d call.WaitImage = wait_image names d
+line_named names d call.Paint = paint names d
+line_named names d call.WaitFrame = wait_frame names d
+line_named names d call.EndFrame = end_frame names d
+line_named names d call.Mark = mark names d
+line_named names d call.Await = await d
+line_named names d _ = Err what.Op
+
+-- an op of a script, after ops that gave these names, or what of it is wrong first
+abbrev pub read_op_of : List NamedOp → Data → Result ReadOp What
+read_op_of names d = and_then (op_name d) (line_named names d)
+
+abbrev pub with_name_of : ℕ → Option Sort → Option (List ℕ) → List NamedOp → List NamedOp
+with_name_of place (Some sort) (Some name) names = given name place sort names
+with_name_of place _ _ names = names
+
+-- the names after an op
+abbrev pub with_name : ℕ → ReadOp → List NamedOp → List NamedOp
+with_name place l names = with_name_of place (sort_of l.op) l.name names

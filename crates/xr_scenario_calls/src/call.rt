@@ -1,0 +1,227 @@
+// The call that an op asks for.
+ghost use Rattle.std.specs.Prelude.{◌≡◌};
+ghost use Rattle.xr_model.specs.scenario.ScriptForm.{IsInRange};
+ghost use Rattle.xr_model.specs.machine.Request.{request_of};
+ghost use Rattle.xr_model.specs.runs.Scripts.{request_for};
+
+use crate::lists::{active_sets_for, atoms_for, bindings_for, handles_for, layers_for};
+use crate::{Names, Scratch};
+use xr_types::{Call, Op};
+
+/// The call that an op asks for, where the ops before it gave these names. Its lists stand in `scratch`,
+/// its texts in the op. The start of a `WaitImage` is 0: it isn't the script's to tell.
+pub fn call_of<'a>(op: &'a Op, names: &Names, scratch: &'a mut Scratch) -> Call<'a>
+    requires { IsInRange op.now }
+    ensures { request_of result ≡ request_for names.now op.now }
+{
+    match op {
+        Op::CreateInstance { major, minor } => Call::CreateInstance {
+            major: *major,
+            minor: *minor,
+        },
+        Op::DestroyInstance { instance } => Call::DestroyInstance {
+            instance: names.value_of(*instance),
+        },
+        Op::PollEvent { instance } => Call::PollEvent {
+            instance: names.value_of(*instance),
+        },
+        Op::GetSystem { instance, form } => Call::GetSystem {
+            instance: names.value_of(*instance),
+            form: *form,
+        },
+        Op::StringToPath { instance, text } => Call::StringToPath {
+            instance: names.value_of(*instance),
+            text: text.as_slice(),
+        },
+        Op::PathToString {
+            instance,
+            path,
+            capacity,
+        } => Call::PathToString {
+            instance: names.value_of(*instance),
+            path: names.value_of(*path),
+            capacity: *capacity,
+        },
+        Op::CreateSession { instance, system } => Call::CreateSession {
+            instance: names.value_of(*instance),
+            system: names.value_of(*system),
+        },
+        Op::DestroySession { session } => Call::DestroySession {
+            session: names.value_of(*session),
+        },
+        Op::EndSession { session } => Call::EndSession {
+            session: names.value_of(*session),
+        },
+        Op::RequestExitSession { session } => Call::RequestExitSession {
+            session: names.value_of(*session),
+        },
+        Op::BeginFrame { session } => Call::BeginFrame {
+            session: names.value_of(*session),
+        },
+        Op::BeginSession { session, view } => Call::BeginSession {
+            session: names.value_of(*session),
+            view: *view,
+        },
+        Op::CreateReferenceSpace {
+            session,
+            kind,
+            offset,
+        } => Call::CreateReferenceSpace {
+            session: names.value_of(*session),
+            kind: *kind,
+            offset: *offset,
+        },
+        Op::CreateActionSpace {
+            session,
+            action,
+            sub,
+            offset,
+        } => Call::CreateActionSpace {
+            session: names.value_of(*session),
+            action: names.value_of(*action),
+            sub: names.value_of(*sub),
+            offset: *offset,
+        },
+        Op::DestroySpace { space } => Call::DestroySpace {
+            space: names.value_of(*space),
+        },
+        Op::LocateSpace { space, base, time } => Call::LocateSpace {
+            space: names.value_of(*space),
+            base: names.value_of(*base),
+            time: names.time_of(*time),
+        },
+        Op::CreateActionSet {
+            instance,
+            name,
+            localized,
+            priority,
+        } => Call::CreateActionSet {
+            instance: names.value_of(*instance),
+            name: name.as_slice(),
+            localized: localized.as_slice(),
+            priority: *priority,
+        },
+        Op::DestroyActionSet { set } => Call::DestroyActionSet {
+            set: names.value_of(*set),
+        },
+        Op::CreateAction {
+            set,
+            name,
+            kind,
+            subactions,
+            localized,
+        } => Call::CreateAction {
+            set: names.value_of(*set),
+            name: name.as_slice(),
+            kind: *kind,
+            subs: atoms_for(&mut scratch.numbers, names, subactions.as_slice()),
+            localized: localized.as_slice(),
+        },
+        Op::DestroyAction { action } => Call::DestroyAction {
+            action: names.value_of(*action),
+        },
+        Op::SuggestBindings {
+            instance,
+            profile,
+            bindings,
+        } => Call::SuggestBindings {
+            instance: names.value_of(*instance),
+            profile: names.value_of(*profile),
+            list: bindings_for(&mut scratch.bindings, names, bindings.as_slice()),
+        },
+        Op::AttachSets { session, sets } => Call::AttachSets {
+            session: names.value_of(*session),
+            sets: handles_for(&mut scratch.numbers, names, sets.as_slice()),
+        },
+        Op::SyncActions { session, active } => Call::SyncActions {
+            session: names.value_of(*session),
+            active: active_sets_for(&mut scratch.active, names, active.as_slice()),
+        },
+        Op::GetBoolean {
+            session,
+            action,
+            sub,
+        } => Call::GetBoolean {
+            session: names.value_of(*session),
+            action: names.value_of(*action),
+            sub: names.value_of(*sub),
+        },
+        Op::GetFloat {
+            session,
+            action,
+            sub,
+        } => Call::GetFloat {
+            session: names.value_of(*session),
+            action: names.value_of(*action),
+            sub: names.value_of(*sub),
+        },
+        Op::GetVector {
+            session,
+            action,
+            sub,
+        } => Call::GetVector {
+            session: names.value_of(*session),
+            action: names.value_of(*action),
+            sub: names.value_of(*sub),
+        },
+        Op::GetPoseActive {
+            session,
+            action,
+            sub,
+        } => Call::GetPoseActive {
+            session: names.value_of(*session),
+            action: names.value_of(*action),
+            sub: names.value_of(*sub),
+        },
+        Op::CreateSwapchain {
+            session,
+            format,
+            width,
+            height,
+            fixed,
+        } => Call::CreateSwapchain {
+            session: names.value_of(*session),
+            format: *format,
+            width: *width,
+            height: *height,
+            fixed: *fixed,
+        },
+        Op::DestroySwapchain { chain } => Call::DestroySwapchain {
+            chain: names.value_of(*chain),
+        },
+        Op::AcquireImage { chain } => Call::AcquireImage {
+            chain: names.value_of(*chain),
+        },
+        Op::ReleaseImage { chain } => Call::ReleaseImage {
+            chain: names.value_of(*chain),
+        },
+        Op::WaitImage { chain, timeout } => Call::WaitImage {
+            chain: names.value_of(*chain),
+            timeout: *timeout,
+            start: 0,
+        },
+        Op::Paint { chain, stamp } => Call::Paint {
+            chain: names.value_of(*chain),
+            stamp: *stamp,
+        },
+        Op::WaitFrame { session } => Call::WaitFrame {
+            session: names.value_of(*session),
+        },
+        Op::EndFrame {
+            session,
+            time,
+            blend,
+            layers,
+        } => Call::EndFrame {
+            session: names.value_of(*session),
+            time: names.time_of(*time),
+            blend: *blend,
+            layers: layers_for(&mut scratch.layers, names, layers.as_slice()),
+        },
+        Op::Mark { mark, value } => Call::Mark {
+            mark: *mark,
+            value: names.value_of(*value),
+        },
+        Op::Await { mark } => Call::AwaitMark { mark: *mark },
+    }
+}

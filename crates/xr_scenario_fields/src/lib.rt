@@ -1,0 +1,25 @@
+//! Readers of the fields, keys, names and lists of a scenario's ops, over JSON values of `serde_json`.
+//! Each tells what the definitions of the scenario format say of a value, or the first wrong place, and
+//! promises that what it reads is in form.
+#![tactic(auto)]
+
+mod fault;
+mod keys;
+mod list_items;
+mod lists;
+mod named_ops;
+mod names;
+mod numbers;
+mod reading;
+mod uses;
+mod words;
+
+pub use fault::Fault;
+pub use keys::only_keys;
+pub use lists::{ListItem, list};
+pub use named_ops::NamedOps;
+pub use names::name;
+pub use numbers::{MOST, MOST_CAPACITY, mark_number, number, small, timeout, truth};
+pub use reading::{ReadOp, read_op};
+pub use uses::{atom, handle, mark_value, system, time};
+pub use words::{action_type, blend, form, ref_kind, text, view_config};

@@ -1,0 +1,218 @@
+//! Reading the ops on action sets, actions, bindings and their states (OpenXR 1.0 chapter 11).
+//! Each reader tells what an op's object says, or the first place of it that is wrong.
+#![tactic(auto)]
+
+ghost use Rattle.std.specs.Prelude.{IfErr, IfOk};
+ghost use Rattle.serde_json.specs.View.{view};
+ghost use Rattle.xr_scenario_fields.specs.Reads.{IsWrong, ReadsOp};
+ghost use Rattle.xr_model.specs.scenario.InRange.{IsFormed};
+ghost use Rattle.xr_model.specs.scenario.ScriptForm.{IsKnownPlace};
+ghost use Rattle.xr_model.specs.scenario.Ops.Input.{create_action_set, destroy_action_set, create_action, destroy_action, suggest_bindings, attach_sets, sync_actions, get_boolean, get_float, get_vector, get_pose_active};
+
+use serde_json::Value;
+use std::alloc::Global;
+use xr_scenario_fields::{
+    Fault, NamedOps, ReadOp, action_type, atom, handle, list, name, read_op, small, text,
+};
+use xr_types::Op;
+
+/// Reads `create_action_set`: `instance`, `name`, `localized`, `priority`, `as`?.
+pub fn create_action_set<'v>(
+    alloc: Global,
+    named_ops: &NamedOps<'_>,
+    value: &'v Value,
+) -> Result<ReadOp<'v>, Fault>
+    ensures reads { ReadsOp result (create_action_set named_ops.now (view value.now)) }
+    ensures formed { IfOk result (λ l. IsFormed (IsKnownPlace named_ops.now) l.op) }
+{
+    let instance = handle(named_ops, value, "instance", 1)?;
+    let called = text(alloc, value, "name", 2)?;
+    let localized = text(alloc, value, "localized", 3)?;
+    let priority = small(value, "priority", 4)?;
+    let name = name(value, 5)?;
+    let op = Op::CreateActionSet {
+        instance,
+        name: called,
+        localized,
+        priority,
+    };
+    read_op(
+        value,
+        &["op", "instance", "name", "localized", "priority", "as"],
+        op,
+        name,
+    )
+}
+
+/// Reads `destroy_action_set`: `set`.
+pub fn destroy_action_set<'v>(
+    named_ops: &NamedOps<'_>,
+    value: &'v Value,
+) -> Result<ReadOp<'v>, Fault>
+    ensures reads { ReadsOp result (destroy_action_set named_ops.now (view value.now)) }
+    ensures formed { IfOk result (λ l. IsFormed (IsKnownPlace named_ops.now) l.op) }
+    ensures only_wrong { IfErr result IsWrong }
+{
+    let set = handle(named_ops, value, "set", 1)?;
+    let op = Op::DestroyActionSet { set };
+    read_op(value, &["op", "set"], op, None)
+}
+
+/// Reads `create_action`: `set`, `name`, `type`, `subactions`, `localized`, `as`?.
+pub fn create_action<'v>(
+    alloc: Global,
+    named_ops: &NamedOps<'_>,
+    value: &'v Value,
+) -> Result<ReadOp<'v>, Fault>
+    ensures reads { ReadsOp result (create_action named_ops.now (view value.now)) }
+    ensures formed { IfOk result (λ l. IsFormed (IsKnownPlace named_ops.now) l.op) }
+{
+    let set = handle(named_ops, value, "set", 1)?;
+    let called = text(alloc, value, "name", 2)?;
+    let kind = action_type(value, "type", 3)?;
+    let subactions = list(alloc, named_ops, value, "subactions", 4, 8)?;
+    let localized = text(alloc, value, "localized", 5)?;
+    let name = name(value, 6)?;
+    let op = Op::CreateAction {
+        set,
+        name: called,
+        kind,
+        subactions,
+        localized,
+    };
+    read_op(
+        value,
+        &["op", "set", "name", "type", "subactions", "localized", "as"],
+        op,
+        name,
+    )
+}
+
+/// Reads `destroy_action`: `action`.
+pub fn destroy_action<'v>(named_ops: &NamedOps<'_>, value: &'v Value) -> Result<ReadOp<'v>, Fault>
+    ensures reads { ReadsOp result (destroy_action named_ops.now (view value.now)) }
+    ensures formed { IfOk result (λ l. IsFormed (IsKnownPlace named_ops.now) l.op) }
+    ensures only_wrong { IfErr result IsWrong }
+{
+    let action = handle(named_ops, value, "action", 1)?;
+    let op = Op::DestroyAction { action };
+    read_op(value, &["op", "action"], op, None)
+}
+
+/// Reads `suggest_bindings`: `instance`, `profile`, `bindings`.
+pub fn suggest_bindings<'v>(
+    alloc: Global,
+    named_ops: &NamedOps<'_>,
+    value: &'v Value,
+) -> Result<ReadOp<'v>, Fault>
+    ensures reads { ReadsOp result (suggest_bindings named_ops.now (view value.now)) }
+    ensures formed { IfOk result (λ l. IsFormed (IsKnownPlace named_ops.now) l.op) }
+{
+    let instance = handle(named_ops, value, "instance", 1)?;
+    let profile = atom(named_ops, value, "profile", 2)?;
+    let bindings = list(alloc, named_ops, value, "bindings", 3, 600)?;
+    let op = Op::SuggestBindings {
+        instance,
+        profile,
+        bindings,
+    };
+    read_op(value, &["op", "instance", "profile", "bindings"], op, None)
+}
+
+/// Reads `attach_sets`: `session`, `sets`.
+pub fn attach_sets<'v>(
+    alloc: Global,
+    named_ops: &NamedOps<'_>,
+    value: &'v Value,
+) -> Result<ReadOp<'v>, Fault>
+    ensures reads { ReadsOp result (attach_sets named_ops.now (view value.now)) }
+    ensures formed { IfOk result (λ l. IsFormed (IsKnownPlace named_ops.now) l.op) }
+{
+    let session = handle(named_ops, value, "session", 1)?;
+    let sets = list(alloc, named_ops, value, "sets", 2, 32)?;
+    let op = Op::AttachSets { session, sets };
+    read_op(value, &["op", "session", "sets"], op, None)
+}
+
+/// Reads `sync_actions`: `session`, `active`.
+pub fn sync_actions<'v>(
+    alloc: Global,
+    named_ops: &NamedOps<'_>,
+    value: &'v Value,
+) -> Result<ReadOp<'v>, Fault>
+    ensures reads { ReadsOp result (sync_actions named_ops.now (view value.now)) }
+    ensures formed { IfOk result (λ l. IsFormed (IsKnownPlace named_ops.now) l.op) }
+{
+    let session = handle(named_ops, value, "session", 1)?;
+    let active = list(alloc, named_ops, value, "active", 2, 128)?;
+    let op = Op::SyncActions { session, active };
+    read_op(value, &["op", "session", "active"], op, None)
+}
+
+/// Reads `get_boolean`: `session`, `action`, `sub`.
+pub fn get_boolean<'v>(named_ops: &NamedOps<'_>, value: &'v Value) -> Result<ReadOp<'v>, Fault>
+    ensures reads { ReadsOp result (get_boolean named_ops.now (view value.now)) }
+    ensures formed { IfOk result (λ l. IsFormed (IsKnownPlace named_ops.now) l.op) }
+    ensures only_wrong { IfErr result IsWrong }
+{
+    let session = handle(named_ops, value, "session", 1)?;
+    let action = handle(named_ops, value, "action", 2)?;
+    let sub = atom(named_ops, value, "sub", 3)?;
+    let op = Op::GetBoolean {
+        session,
+        action,
+        sub,
+    };
+    read_op(value, &["op", "session", "action", "sub"], op, None)
+}
+
+/// Reads `get_float`: `session`, `action`, `sub`.
+pub fn get_float<'v>(named_ops: &NamedOps<'_>, value: &'v Value) -> Result<ReadOp<'v>, Fault>
+    ensures reads { ReadsOp result (get_float named_ops.now (view value.now)) }
+    ensures formed { IfOk result (λ l. IsFormed (IsKnownPlace named_ops.now) l.op) }
+    ensures only_wrong { IfErr result IsWrong }
+{
+    let session = handle(named_ops, value, "session", 1)?;
+    let action = handle(named_ops, value, "action", 2)?;
+    let sub = atom(named_ops, value, "sub", 3)?;
+    let op = Op::GetFloat {
+        session,
+        action,
+        sub,
+    };
+    read_op(value, &["op", "session", "action", "sub"], op, None)
+}
+
+/// Reads `get_vector`: `session`, `action`, `sub`.
+pub fn get_vector<'v>(named_ops: &NamedOps<'_>, value: &'v Value) -> Result<ReadOp<'v>, Fault>
+    ensures reads { ReadsOp result (get_vector named_ops.now (view value.now)) }
+    ensures formed { IfOk result (λ l. IsFormed (IsKnownPlace named_ops.now) l.op) }
+    ensures only_wrong { IfErr result IsWrong }
+{
+    let session = handle(named_ops, value, "session", 1)?;
+    let action = handle(named_ops, value, "action", 2)?;
+    let sub = atom(named_ops, value, "sub", 3)?;
+    let op = Op::GetVector {
+        session,
+        action,
+        sub,
+    };
+    read_op(value, &["op", "session", "action", "sub"], op, None)
+}
+
+/// Reads `get_pose_active`: `session`, `action`, `sub`.
+pub fn get_pose_active<'v>(named_ops: &NamedOps<'_>, value: &'v Value) -> Result<ReadOp<'v>, Fault>
+    ensures reads { ReadsOp result (get_pose_active named_ops.now (view value.now)) }
+    ensures formed { IfOk result (λ l. IsFormed (IsKnownPlace named_ops.now) l.op) }
+    ensures only_wrong { IfErr result IsWrong }
+{
+    let session = handle(named_ops, value, "session", 1)?;
+    let action = handle(named_ops, value, "action", 2)?;
+    let sub = atom(named_ops, value, "sub", 3)?;
+    let op = Op::GetPoseActive {
+        session,
+        action,
+        sub,
+    };
+    read_op(value, &["op", "session", "action", "sub"], op, None)
+}

@@ -1,0 +1,188 @@
+//! Reading the ops on instances, paths, events and sessions (OpenXR 1.0 chapters 2, 4, 6 and 9), and on marks.
+//! Each reader tells what an op's object says, or the first place of it that is wrong.
+#![tactic(auto)]
+
+ghost use Rattle.std.specs.Prelude.{IfErr, IfOk, List};
+ghost use Rattle.serde_json.specs.View.{view};
+ghost use Rattle.xr_scenario_fields.specs.Reads.{IsWrong, ReadsOp};
+ghost use Rattle.xr_model.specs.scenario.InRange.{IsFormed};
+ghost use Rattle.xr_model.specs.scenario.ScriptForm.{IsKnownPlace};
+ghost use Rattle.xr_model.specs.scenario.Names.{NamedOp};
+ghost use Rattle.xr_model.specs.scenario.Ops.Session.{create_instance, destroy_instance, poll_event, get_system, string_to_path, path_to_string, create_session, destroy_session, end_session, request_exit_session, begin_session, mark, await};
+
+use serde_json::Value;
+use std::alloc::Global;
+use xr_scenario_fields::{
+    Fault, MOST_CAPACITY, NamedOps, ReadOp, atom, form, handle, mark_number, mark_value, name,
+    number, read_op, small, system, text, view_config,
+};
+use xr_types::Op;
+
+/// Reads `create_instance`: `major`, `minor`, `as`?.
+pub fn create_instance<'v>(value: &'v Value) -> Result<ReadOp<'v>, Fault>
+    ensures reads { ReadsOp result (create_instance (view value.now)) }
+    ensures formed { IfOk result (λ l. (names : List NamedOp) → IsFormed (IsKnownPlace names) l.op) }
+    ensures only_wrong { IfErr result IsWrong }
+{
+    let major = small(value, "major", 1)?;
+    let minor = small(value, "minor", 2)?;
+    let name = name(value, 3)?;
+    let op = Op::CreateInstance { major, minor };
+    read_op(value, &["op", "major", "minor", "as"], op, name)
+}
+
+/// Reads `destroy_instance`: `instance`.
+pub fn destroy_instance<'v>(named_ops: &NamedOps<'_>, value: &'v Value) -> Result<ReadOp<'v>, Fault>
+    ensures reads { ReadsOp result (destroy_instance named_ops.now (view value.now)) }
+    ensures formed { IfOk result (λ l. IsFormed (IsKnownPlace named_ops.now) l.op) }
+    ensures only_wrong { IfErr result IsWrong }
+{
+    let instance = handle(named_ops, value, "instance", 1)?;
+    let op = Op::DestroyInstance { instance };
+    read_op(value, &["op", "instance"], op, None)
+}
+
+/// Reads `poll_event`: `instance`.
+pub fn poll_event<'v>(named_ops: &NamedOps<'_>, value: &'v Value) -> Result<ReadOp<'v>, Fault>
+    ensures reads { ReadsOp result (poll_event named_ops.now (view value.now)) }
+    ensures formed { IfOk result (λ l. IsFormed (IsKnownPlace named_ops.now) l.op) }
+    ensures only_wrong { IfErr result IsWrong }
+{
+    let instance = handle(named_ops, value, "instance", 1)?;
+    let op = Op::PollEvent { instance };
+    read_op(value, &["op", "instance"], op, None)
+}
+
+/// Reads `get_system`: `instance`, `form`, `as`?.
+pub fn get_system<'v>(named_ops: &NamedOps<'_>, value: &'v Value) -> Result<ReadOp<'v>, Fault>
+    ensures reads { ReadsOp result (get_system named_ops.now (view value.now)) }
+    ensures formed { IfOk result (λ l. IsFormed (IsKnownPlace named_ops.now) l.op) }
+    ensures only_wrong { IfErr result IsWrong }
+{
+    let instance = handle(named_ops, value, "instance", 1)?;
+    let form = form(value, "form", 2)?;
+    let name = name(value, 3)?;
+    let op = Op::GetSystem { instance, form };
+    read_op(value, &["op", "instance", "form", "as"], op, name)
+}
+
+/// Reads `string_to_path`: `instance`, `text`, `as`?.
+pub fn string_to_path<'v>(
+    alloc: Global,
+    named_ops: &NamedOps<'_>,
+    value: &'v Value,
+) -> Result<ReadOp<'v>, Fault>
+    ensures reads { ReadsOp result (string_to_path named_ops.now (view value.now)) }
+    ensures formed { IfOk result (λ l. IsFormed (IsKnownPlace named_ops.now) l.op) }
+{
+    let instance = handle(named_ops, value, "instance", 1)?;
+    let text = text(alloc, value, "text", 2)?;
+    let name = name(value, 3)?;
+    let op = Op::StringToPath { instance, text };
+    read_op(value, &["op", "instance", "text", "as"], op, name)
+}
+
+/// Reads `path_to_string`: `instance`, `path`, `capacity`.
+pub fn path_to_string<'v>(named_ops: &NamedOps<'_>, value: &'v Value) -> Result<ReadOp<'v>, Fault>
+    ensures reads { ReadsOp result (path_to_string named_ops.now (view value.now)) }
+    ensures formed { IfOk result (λ l. IsFormed (IsKnownPlace named_ops.now) l.op) }
+    ensures only_wrong { IfErr result IsWrong }
+{
+    let instance = handle(named_ops, value, "instance", 1)?;
+    let path = atom(named_ops, value, "path", 2)?;
+    let capacity = number(value, "capacity", 3, MOST_CAPACITY)?;
+    let op = Op::PathToString {
+        instance,
+        path,
+        capacity,
+    };
+    read_op(value, &["op", "instance", "path", "capacity"], op, None)
+}
+
+/// Reads `create_session`: `instance`, `system`, `as`?.
+pub fn create_session<'v>(named_ops: &NamedOps<'_>, value: &'v Value) -> Result<ReadOp<'v>, Fault>
+    ensures reads { ReadsOp result (create_session named_ops.now (view value.now)) }
+    ensures formed { IfOk result (λ l. IsFormed (IsKnownPlace named_ops.now) l.op) }
+    ensures only_wrong { IfErr result IsWrong }
+{
+    let instance = handle(named_ops, value, "instance", 1)?;
+    let system = system(named_ops, value, "system", 2)?;
+    let name = name(value, 3)?;
+    let op = Op::CreateSession { instance, system };
+    read_op(value, &["op", "instance", "system", "as"], op, name)
+}
+
+/// Reads `destroy_session`: `session`.
+pub fn destroy_session<'v>(named_ops: &NamedOps<'_>, value: &'v Value) -> Result<ReadOp<'v>, Fault>
+    ensures reads { ReadsOp result (destroy_session named_ops.now (view value.now)) }
+    ensures formed { IfOk result (λ l. IsFormed (IsKnownPlace named_ops.now) l.op) }
+    ensures only_wrong { IfErr result IsWrong }
+{
+    let session = handle(named_ops, value, "session", 1)?;
+    let op = Op::DestroySession { session };
+    read_op(value, &["op", "session"], op, None)
+}
+
+/// Reads `end_session`: `session`.
+pub fn end_session<'v>(named_ops: &NamedOps<'_>, value: &'v Value) -> Result<ReadOp<'v>, Fault>
+    ensures reads { ReadsOp result (end_session named_ops.now (view value.now)) }
+    ensures formed { IfOk result (λ l. IsFormed (IsKnownPlace named_ops.now) l.op) }
+    ensures only_wrong { IfErr result IsWrong }
+{
+    let session = handle(named_ops, value, "session", 1)?;
+    let op = Op::EndSession { session };
+    read_op(value, &["op", "session"], op, None)
+}
+
+/// Reads `request_exit_session`: `session`.
+pub fn request_exit_session<'v>(
+    named_ops: &NamedOps<'_>,
+    value: &'v Value,
+) -> Result<ReadOp<'v>, Fault>
+    ensures reads { ReadsOp result (request_exit_session named_ops.now (view value.now)) }
+    ensures formed { IfOk result (λ l. IsFormed (IsKnownPlace named_ops.now) l.op) }
+    ensures only_wrong { IfErr result IsWrong }
+{
+    let session = handle(named_ops, value, "session", 1)?;
+    let op = Op::RequestExitSession { session };
+    read_op(value, &["op", "session"], op, None)
+}
+
+/// Reads `begin_session`: `session`, `view`.
+pub fn begin_session<'v>(named_ops: &NamedOps<'_>, value: &'v Value) -> Result<ReadOp<'v>, Fault>
+    ensures reads { ReadsOp result (begin_session named_ops.now (view value.now)) }
+    ensures formed { IfOk result (λ l. IsFormed (IsKnownPlace named_ops.now) l.op) }
+    ensures only_wrong { IfErr result IsWrong }
+{
+    let session = handle(named_ops, value, "session", 1)?;
+    let view = view_config(value, "view", 2)?;
+    let op = Op::BeginSession { session, view };
+    read_op(value, &["op", "session", "view"], op, None)
+}
+
+/// Reads `mark`: `mark`, `value`?.
+pub fn mark<'v>(named_ops: &NamedOps<'_>, value: &'v Value) -> Result<ReadOp<'v>, Fault>
+    ensures reads { ReadsOp result (mark named_ops.now (view value.now)) }
+    ensures formed { IfOk result (λ l. IsFormed (IsKnownPlace named_ops.now) l.op) }
+    ensures only_wrong { IfErr result IsWrong }
+{
+    let mark = mark_number(value, "mark", 1)?;
+    let marked = mark_value(named_ops, value, "value", 2, mark)?;
+    let op = Op::Mark {
+        mark,
+        value: marked,
+    };
+    read_op(value, &["op", "mark", "value"], op, None)
+}
+
+/// Reads `await`: `mark`, `as`?.
+pub fn await_mark<'v>(value: &'v Value) -> Result<ReadOp<'v>, Fault>
+    ensures reads { ReadsOp result (await (view value.now)) }
+    ensures formed { IfOk result (λ l. (names : List NamedOp) → IsFormed (IsKnownPlace names) l.op) }
+    ensures only_wrong { IfErr result IsWrong }
+{
+    let mark = mark_number(value, "mark", 1)?;
+    let name = name(value, 2)?;
+    let op = Op::Await { mark };
+    read_op(value, &["op", "mark", "as"], op, name)
+}
