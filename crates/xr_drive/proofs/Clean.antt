@@ -8,16 +8,14 @@ use Rattle.xr_types.specs.declared.device.DeviceEvent.{DeviceEvent}
 use Rattle.xr_types.specs.declared.device.DeviceEvent.TheVariants as event
 use Rattle.xr_types.specs.declared.device.Wish.{Wish}
 use Rattle.xr_types.specs.declared.made.Lists.{Lists}
-use Rattle.xr_types.specs.declared.scenario.Op.{Op}
 use Rattle.xr_types.specs.declared.scenario.Scenario.{Scenario}
 use Rattle.xr_types.specs.Device.{checks}
 use Rattle.xr_model.specs.device_text.DeviceText.{Line, lines_in, line_size, is_word, most_line, most_text, Meaning, skipped, tells, malformed, event_or_none, meaning_of, words_of, number_of, wish_of, grid_by, event_by, if_checked, event_of, Ending, ends, garbled_at, DeviceStream, nothing_more, told_by, told_from, told_in}
-use Rattle.xr_model.specs.machine.State.{with_apps}
 use Rattle.xr_model.specs.machine.History.{calls_of}
 use Rattle.xr_model.specs.runs.Lists.{events_in}
-use Rattle.xr_model.specs.report.Report.{is_garbled}
+use Rattle.xr_model.specs.report.RunEnding.{is_garbled}
 use Rattle.xr_model.specs.runs.Robin.{device_calls, last_event}
-use Rattle.xr_serial.specs.Ran.{Gave, Ran}
+use Rattle.xr_serial.specs.Ran.{settings_of, Gave, Ran}
 use Rattle.xr_drive.specs.Top.{told_under}
 use Rattle.xr_drive.proofs.Status.{IsClean, clean_front, clean_both}
 
@@ -121,7 +119,7 @@ calls_clean : (told : DeviceStream) (events : List DeviceEvent) (ending : Option
 calls_clean told events None clean end gave = clean_both events (event.Fault ∷ []) (clean_front events gave.0 (subst IsClean gave.1 clean)) refl
 calls_clean told events (Some e) clean end gave = clean_both events (last_event (Some e)) (subst IsClean gave.0 clean) (last_clean e (sym end ∙ gave.1))
 
-pub run_clean : (scenario : Scenario) (ops : List Op) (told : DeviceStream) (lists : Lists) → IsClean told.events → told.ending ≡ ends → Ran scenario ops (Some told) lists → IsClean lists.events
-run_clean scenario ops told lists clean end ran =
+pub run_clean : (scenario : Scenario) (told : DeviceStream) (lists : Lists) → IsClean told.events → told.ending ≡ ends → Ran scenario (Some told) lists → IsClean lists.events
+run_clean scenario told lists clean end ran =
     let calls = calls_clean told ran.events ran.ending clean end ran.gave in
-    rw ran.made (clean_front (events_in (calls_of (with_apps 1) actor.Device ran.history)) ran.device.0 (subst IsClean ran.device.1 calls))
+    rw ran.made (clean_front (events_in (calls_of (settings_of scenario) actor.Device ran.history)) ran.device.0 (subst IsClean ran.device.1 calls))

@@ -1,5 +1,5 @@
 pub mod Pieces
-pub mod Causes
 pub mod Status
 pub mod Clean
 pub mod Runs
+pub mod Few

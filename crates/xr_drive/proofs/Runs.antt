@@ -16,10 +16,17 @@ use Rattle.xr_model.specs.scenario.Scenario.{scenario_of}
 use Rattle.xr_model.specs.scenario.Built.{are_built, if_built, run_scenario_of}
 use Rattle.xr_model.specs.device_text.DeviceText.{DeviceStream, ends}
 use Rattle.xr_drive.specs.Run.{Run}
-use Rattle.xr_drive.specs.Status.{status_by}
-use Rattle.xr_drive.specs.Top.{told_under, RunsText, Means, MeansText, MeansRun, MeansWritten, RoseIfUnwritten, HasRunCause, Faults, NoneRose, HasItsCause, IsComplete}
+use Rattle.xr_drive.specs.Top.{told_under, RunsText, EndsSo, Means, Faults, NoneRose, HasItsCause, IsComplete}
+use Rattle.xr_drive.specs.inside.Parts.{MeansText, fault_of_scenario, MeansRun, HasRunCause, status_of_fault}
+use Rattle.xr_drive.specs.declared.faults.RunFault.{RunFault}
+use Rattle.xr_drive.specs.declared.faults.RunFault.TheVariants as fault
+use Rattle.xr_scenario.specs.declared.fault.ScenarioFault.{ScenarioFault}
+use Rattle.xr_scenario.specs.declared.fault.ScenarioFault.TheVariants as scenario_fault
 use Rattle.xr_drive.proofs.Clean.{told_clean, run_clean}
-use Rattle.xr_drive.proofs.Status.{fault_of_failed, never_garbled}
+use Rattle.xr_drive.proofs.Status.{IsEnding, is_ending, fault_of_failed, never_garbled}
+use Rattle.xr_model.specs.report.RunEnding.{ending_of}
+use Rattle.xr_model.specs.report.Report.{report_of}
+use Rattle.std.specs.Io.KnownBytes.{Appends, Keeps}
 
 long_take : (n : ℕ) (bytes : List ℕ) → n < length bytes → n < length (take (n + 1) bytes)
 long_take n bytes h = grind (arith, common_steps)
@@ -86,45 +93,59 @@ refused_if_told None text why read e = tt
 refused_if_told (Some bytes) text why read e = ap if_built (sym (scenario_of-take bytes)) ∙ rw (← read) e
 
 -- what holds of the bytes that were read holds of all that there were
-pub means_run : (all : Option (List ℕ)) (text : List ℕ) (told : Option DeviceStream) (result : Result Lists Status) → IfSome all (λ bytes. text ≡ take 1048577 bytes) → MeansText text told result → MeansRun all told result
-means_run all text told (Ok lists) read run = runs_text all text told lists read run
-means_run all text told (Err (ScenarioRefused why)) read e = refused_if_told all text why read e
-means_run all text told (Err NoMemory) read e = tt
-means_run all text told (Err Done) read e = absurd e
-means_run all text told (Err Usage) read e = absurd e
-means_run all text told (Err OpenFault) read e = absurd e
-means_run all text told (Err ReadFault) read e = absurd e
-means_run all text told (Err DeviceFailed) read e = absurd e
-means_run all text told (Err (DeviceGarbled line)) read e = absurd e
-means_run all text told (Err Stuck) read e = absurd e
-means_run all text told (Err WriteFault) read e = absurd e
+pub means_ran : (all : Option (List ℕ)) (text : List ℕ) (told : Option DeviceStream) (lists : Lists) → IfSome all (λ bytes. text ≡ take 1048577 bytes) → MeansText text told (Ok lists) → MeansRun all told (Ok lists)
+means_ran all text told lists read run = runs_text all text told lists read run
 
--- ---- what a status behind a report means
-pub means_written : (words : List (List ℕ)) (bytes : List ℕ → Option (List ℕ)) (before after : Option (List ℕ)) (form : RunOptions) (lists : Lists) (status : Status) → options_of words ≡ Some form
-    → RunsText (bytes form.file) (told_under bytes form.device) lists → MeansWritten lists form.places before after status → Means words bytes before after status
-means_written words bytes before after form lists Done is run m = (form, is, (lists, run, m))
-means_written words bytes before after form lists DeviceFailed is run m = (form, is, (lists, run, m))
-means_written words bytes before after form lists (DeviceGarbled line) is run m = (form, is, (lists, run, m))
-means_written words bytes before after form lists Stuck is run m = (form, is, (lists, run, m))
-means_written words bytes before after form lists WriteFault is run m = (form, is, (lists, run, m))
-means_written words bytes before after form lists NoMemory is run m = m
-means_written words bytes before after form lists Usage is run m = absurd m
-means_written words bytes before after form lists OpenFault is run m = absurd m
-means_written words bytes before after form lists ReadFault is run m = absurd m
-means_written words bytes before after form lists (ScenarioRefused why) is run m = absurd m
+pub means_unrun : (all : Option (List ℕ)) (text : List ℕ) (told : Option DeviceStream) (fault : ScenarioFault) → IfSome all (λ bytes. text ≡ take 1048577 bytes) → MeansText text told (Err fault) → MeansRun all told (Err (fault_of_scenario fault))
+means_unrun all text told (scenario_fault.Refused why) read e = refused_if_told all text why read e
+means_unrun all text told scenario_fault.NoMemory read e = tt
 
-pub cause_written : (old new : Faults) (lists : Lists) (places : Bool) (before after : Option (List ℕ)) (status : Status) → MeansWritten lists places before after status
-    → HasRunCause old.opens old.reads new.opens new.reads (Ok lists) → RoseIfUnwritten old.writes new.writes status → HasItsCause old new status
-cause_written old new lists places before after DeviceFailed m cause rose = cause (fault_of_failed lists.events lists.next m.0)
-cause_written old new lists places before after WriteFault m cause rose = rose
-cause_written old new lists places before after Done m cause rose = tt
-cause_written old new lists places before after (DeviceGarbled line) m cause rose = tt
-cause_written old new lists places before after Stuck m cause rose = tt
-cause_written old new lists places before after NoMemory m cause rose = tt
-cause_written old new lists places before after Usage m cause rose = absurd m
-cause_written old new lists places before after OpenFault m cause rose = absurd m
-cause_written old new lists places before after ReadFault m cause rose = absurd m
-cause_written old new lists places before after (ScenarioRefused why) m cause rose = absurd m
+-- ---- what a status means
+
+pub means_fault : (words : List (List ℕ)) (bytes : List ℕ → Option (List ℕ)) (before after : Option (List ℕ)) (form : RunOptions) (told : Option DeviceStream) (why : RunFault) → options_of words ≡ Some form → MeansRun (bytes form.file) told (Err why) → Keeps before after
+    → Means words bytes before after (status_of_fault why)
+means_fault words bytes before after form told fault.OpenFault is means keeps = (form, is, keeps)
+means_fault words bytes before after form told fault.ReadFault is means keeps = (form, is, keeps)
+means_fault words bytes before after form told (fault.Refused why) is means keeps = (form, is, (means, keeps))
+means_fault words bytes before after form told fault.NoMemory is means keeps = keeps
+
+pub cause_fault : (old new : Faults) (why : RunFault) → HasRunCause old.opens old.reads new.opens new.reads (Err why) → HasItsCause old new (status_of_fault why)
+cause_fault old new fault.OpenFault cause = cause
+cause_fault old new fault.ReadFault cause = cause
+cause_fault old new (fault.Refused why) cause = tt
+cause_fault old new fault.NoMemory cause = tt
+
+-- behind a whole report
+pub means_ending : (words : List (List ℕ)) (bytes : List ℕ → Option (List ℕ)) (before after : Option (List ℕ)) (form : RunOptions) (lists : Lists) → options_of words ≡ Some form
+    → RunsText (bytes form.file) (told_under bytes form.device) lists → Appends before after (report_of lists form.places) → Means words bytes before after (ending_of lists)
+means_ending words bytes before after form lists is run written = by (ending_of lists) (is_ending lists.events lists.next) (form, is, (lists, run, (refl, written)))
+  where
+    by : (status : Status) → IsEnding status → EndsSo words bytes before after status → Means words bytes before after status
+    by Done ok so = so
+    by DeviceFailed ok so = so
+    by (DeviceGarbled line) ok so = so
+    by Stuck ok so = so
+    by Usage ok so = absurd ok
+    by OpenFault ok so = absurd ok
+    by ReadFault ok so = absurd ok
+    by (ScenarioRefused why) ok so = absurd ok
+    by WriteFault ok so = absurd ok
+    by NoMemory ok so = absurd ok
+
+pub cause_ending : (old new : Faults) (lists : Lists) → HasRunCause old.opens old.reads new.opens new.reads (Ok lists) → HasItsCause old new (ending_of lists)
+cause_ending old new lists cause = by (ending_of lists) refl (is_ending lists.events lists.next)
+  where
+    by : (status : Status) → ending_of lists ≡ status → IsEnding status → HasItsCause old new status
+    by Done is ok = tt
+    by DeviceFailed is ok = cause (fault_of_failed lists.events lists.next is)
+    by (DeviceGarbled line) is ok = tt
+    by Stuck is ok = tt
+    by Usage is ok = absurd ok
+    by OpenFault is ok = absurd ok
+    by ReadFault is ok = absurd ok
+    by (ScenarioRefused why) is ok = absurd ok
+    by WriteFault is ok = absurd ok
+    by NoMemory is ok = absurd ok
 
 -- ---- completeness
 
@@ -137,10 +158,10 @@ no_opening old new none (inr rose) = none.opens which.Device rose
 
 -- a device that is known to end at the end of its text has no line that is none
 no_garbled : (bytes : List ℕ → Option (List ℕ)) (device : Option (List ℕ)) (all : Option (List ℕ)) (told : DeviceStream) (lists : Lists) (line : ℕ) → told_under bytes device ≡ Some told → told.ending ≡ ends
-    → RunsText all (told_under bytes device) lists → status_by lists.events lists.next ≡ DeviceGarbled line → ⊥
+    → RunsText all (told_under bytes device) lists → ending_of lists ≡ DeviceGarbled line → ⊥
 no_garbled bytes device all told lists line is end runs status =
     let run : Run runs.0 (Some told) lists = subst (λ (t : Option DeviceStream). Run runs.0 t lists) is runs.2 in
-    never_garbled lists.events lists.next line (run_clean run.scenario run.ops told lists (told_clean bytes device told is) end run.ran) status
+    never_garbled lists.events lists.next line (run_clean run.scenario told lists (told_clean bytes device told is) end run.ran) status
 
 -- good words, a good text, a good device and no fault leave a run that is done or stuck, or want of memory
 pub complete : (words : List (List ℕ)) (bytes : List ℕ → Option (List ℕ)) (before after : Option (List ℕ)) (old new : Faults) (status : Status) → Means words bytes before after status → HasItsCause old new status

@@ -1,7 +1,6 @@
 -- A run of a scenario text beside a device: the one history that its report is of.
 use Rattle.std.specs.Prelude.{◌≡◌, List, ℕ, Option, Ok}
 use Rattle.xr_types.specs.declared.made.Lists.{Lists}
-use Rattle.xr_types.specs.declared.scenario.Op.{Op}
 use Rattle.xr_types.specs.declared.scenario.Scenario.{Scenario}
 use Rattle.xr_model.specs.scenario.Built.{run_scenario_of}
 use Rattle.xr_model.specs.device_text.DeviceText.{DeviceStream}
@@ -11,6 +10,5 @@ use Rattle.xr_serial.specs.Ran.{Ran}
 -- those of its history.
 pub record Run (text : List ℕ) (told : Option DeviceStream) (lists : Lists) : Type 0 where
   pub scenario : Scenario
-  pub ops : List Op
   pub reads : run_scenario_of text ≡ Ok scenario
-  pub ran : Ran scenario ops told lists
+  pub ran : Ran scenario told lists

@@ -1,6 +1,5 @@
 -- What a top call means, and why each of its answers comes.
-use Rattle.std.specs.Prelude.{◌≡◌, ◌⊎◌, ℕ, Bool, true, List, take, Option, Some, None, option_map, option_and_then, Result, Ok, Err, IfSome, ⊤}
-use Rattle.std.specs.List.{list_any}
+use Rattle.std.specs.Prelude.{◌≡◌, ◌⊎◌, ℕ, List, take, Option, Some, None, option_map, option_and_then, Ok, Err, IfSome, ⊤}
 use Rattle.std.specs.Io.KnownBytes.{Keeps, Appends}
 use Rattle.xr_io.specs.Outside.{Rose}
 use Rattle.xr_io.specs.declared.Which.{Which}
@@ -12,9 +11,9 @@ use Rattle.xr_types.specs.declared.status.Status.TheVariants.{Done, Usage, OpenF
 use Rattle.xr_model.specs.command_line.Words.{RunOptions, options_of}
 use Rattle.xr_model.specs.scenario.Built.{run_scenario_of}
 use Rattle.xr_model.specs.device_text.DeviceText.{DeviceStream, ends, nothing_more, told_in}
-use Rattle.xr_model.specs.report.Report.{is_fault, report_of}
+use Rattle.xr_model.specs.report.RunEnding.{ending_of}
+use Rattle.xr_model.specs.report.Report.{report_of}
 use Rattle.xr_drive.specs.Run.{Run}
-use Rattle.xr_drive.specs.Status.{status_by}
 
 -- The words have a form, and this is so of it.
 abbrev pub OfForm : List (List ℕ) → (RunOptions → Type 0) → Type 0
@@ -36,7 +35,7 @@ Reports bytes form P = (lists : Lists) × RunsText (bytes form.file) (told_under
 -- The run ended so, and its whole report was written.
 abbrev pub EndsSo : List (List ℕ) → (List ℕ → Option (List ℕ)) → Option (List ℕ) → Option (List ℕ) → Status → Type 0
 EndsSo words bytes before after status =
-    OfForm words (λ form. Reports bytes form (λ lists. (status_by lists.events lists.next ≡ status) × Appends before after (report_of lists form.places)))
+    OfForm words (λ form. Reports bytes form (λ lists. (ending_of lists ≡ status) × Appends before after (report_of lists form.places)))
 
 -- What each status says of the words, of the bytes under each name, and of what the sink had and has.
 abbrev pub Means : List (List ℕ) → (List ℕ → Option (List ℕ)) → Option (List ℕ) → Option (List ℕ) → Status → Type 0
@@ -112,54 +111,3 @@ pub record KeepsDevice {O : Type 0} (asked : O → Which → Option (List ℕ)) 
 abbrev pub UnlessDevice : Option (List ℕ) → Type 0 → Type 0
 UnlessDevice None P = P
 UnlessDevice (Some name) P = ⊤
-
--- ---- the parts of a top call
-
--- why a file has no bytes, with its cause
-abbrev pub IsReadFault : Status → ℕ → ℕ → Type 0
-IsReadFault ReadFault before after = Rose before after
-IsReadFault NoMemory before after = ⊤
-IsReadFault _ before after = ⊥
-
--- the lists are those of a run of the text beside a device that is known to give this, and a status says why there are none
-abbrev pub MeansText : List ℕ → Option DeviceStream → Result Lists Status → Type 0
-MeansText text told (Ok lists) = Run text told lists
-MeansText text told (Err (ScenarioRefused why)) = run_scenario_of text ≡ Err why
-MeansText text told (Err NoMemory) = ⊤
-MeansText text told (Err _) = ⊥
-
--- the same of a file of which these bytes are all, where they are told
-abbrev pub MeansRun : Option (List ℕ) → Option DeviceStream → Result Lists Status → Type 0
-MeansRun all told (Ok lists) = RunsText all told lists
-MeansRun all told (Err OpenFault) = ⊤
-MeansRun all told (Err ReadFault) = ⊤
-MeansRun all told (Err (ScenarioRefused why)) = IfSome all (λ text. run_scenario_of text ≡ Err why)
-MeansRun all told (Err NoMemory) = ⊤
-MeansRun all told (Err _) = ⊥
-
--- why the files were not run, or how the device failed, by the opener's counts of faults before and after
-abbrev pub HasRunCause : (Which → ℕ) → (Which → ℕ) → (Which → ℕ) → (Which → ℕ) → Result Lists Status → Type 0
-HasRunCause opens reads new_opens new_reads (Ok lists) = list_any is_fault lists.events ≡ true → Rose (reads which.Device) (new_reads which.Device)
-HasRunCause opens reads new_opens new_reads (Err OpenFault) = Rose (opens which.Scenario) (new_opens which.Scenario) ⊎ Rose (opens which.Device) (new_opens which.Device)
-HasRunCause opens reads new_opens new_reads (Err ReadFault) = Rose (reads which.Scenario) (new_reads which.Scenario)
-HasRunCause opens reads new_opens new_reads (Err _) = ⊤
-
--- a status, and `Done` where there is none
-abbrev pub status_in : Result Lists Status → Status
-status_in (Ok lists) = Done
-status_in (Err status) = status
-
--- what the status behind a report says of these lists and of what the sink had and has
-abbrev pub MeansWritten : Lists → Bool → Option (List ℕ) → Option (List ℕ) → Status → Type 0
-MeansWritten lists places before after Done = (status_by lists.events lists.next ≡ Done) × Appends before after (report_of lists places)
-MeansWritten lists places before after DeviceFailed = (status_by lists.events lists.next ≡ DeviceFailed) × Appends before after (report_of lists places)
-MeansWritten lists places before after (DeviceGarbled line) = (status_by lists.events lists.next ≡ DeviceGarbled line) × Appends before after (report_of lists places)
-MeansWritten lists places before after Stuck = (status_by lists.events lists.next ≡ Stuck) × Appends before after (report_of lists places)
-MeansWritten lists places before after WriteFault = (n : ℕ) × Appends before after (take n (report_of lists places))
-MeansWritten lists places before after NoMemory = Keeps before after
-MeansWritten lists places before after _ = ⊥
-
--- the count of faults of writes rose, where the status says so
-abbrev pub RoseIfUnwritten : ℕ → ℕ → Status → Type 0
-RoseIfUnwritten before after WriteFault = Rose before after
-RoseIfUnwritten before after _ = ⊤

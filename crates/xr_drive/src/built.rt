@@ -1,5 +1,5 @@
 // Which scenarios are run.
-ghost use Rattle.std.specs.Prelude.{◌≡◌, ◌∷◌, [], true, IfSome, is_some};
+ghost use Rattle.std.specs.Prelude.{◌≡◌};
 ghost use Rattle.std.specs.List.{list_all};
 ghost use Rattle.xr_model.specs.scenario.Built.{is_built_op, are_built};
 
@@ -37,15 +37,14 @@ fn all_built(ops: &[Op]) -> bool
     true
 }
 
-/// The one script, where there is one and all its ops are built.
-pub(crate) fn built_script(scripts: &[Script]) -> Option<&[Op]>
-    ensures one { IfSome result (λ ops. scripts.now ≡ ops.now ∷ []) }
-    ensures all { IfSome result (λ ops. list_all is_built_op ops.now ≡ true) }
-    ensures built { is_some result ≡ are_built scripts.now }
+/// Whether all ops of all scripts are built.
+pub(crate) fn are_built(scripts: &[Script]) -> bool
+    ensures { result ≡ are_built scripts.now }
 {
-    if scripts.len() != 1 {
-        return None;
+    for ops in scripts {
+        if !all_built(ops.as_slice()) {
+            return false;
+        }
     }
-    let ops = scripts[0].as_slice();
-    if all_built(ops) { Some(ops) } else { None }
+    true
 }

@@ -5,13 +5,13 @@
 #![tactic(auto)]
 
 mod built;
-mod ending;
 mod explanation;
+mod faults;
 mod input;
 mod output;
 mod serial;
 
-pub use ending::exit_of;
 pub use explanation::{Explanation, explanation_of};
 pub use output::write_all;
 pub use serial::run_serial;
+pub use xr_report::exit_of;

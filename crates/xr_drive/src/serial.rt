@@ -4,38 +4,30 @@ ghost use Rattle.std.specs.List.{list_any};
 ghost use Rattle.xr_io.specs.Outside.{Rose};
 ghost use Rattle.xr_io.specs.declared.Which.{Which};
 ghost use Rattle.xr_model.specs.device_text.DeviceText.{nothing_more};
-ghost use Rattle.xr_model.specs.report.Report.{is_fault};
+ghost use Rattle.xr_model.specs.report.RunEnding.{is_fault};
 ghost use Rattle.xr_model.specs.command_line.Words.{options_of};
-ghost use Rattle.xr_drive.specs.inside.Input.{status_of};
-ghost use Rattle.xr_drive.specs.Top.{Means, HasItsCause, IsComplete, IsAskedFor, IsDeviceAskedFor, device_of, faults, KeepsDevice, UnlessDevice, IsReadFault, MeansText, MeansRun, HasRunCause, MeansWritten, RoseIfUnwritten, status_in, told_under};
+ghost use Rattle.xr_drive.specs.Top.{Means, HasItsCause, IsComplete, IsAskedFor, IsDeviceAskedFor, device_of, faults, KeepsDevice, UnlessDevice, told_under};
+ghost use Rattle.xr_drive.specs.inside.Input.{RoseIfStopped};
+ghost use Rattle.xr_drive.specs.inside.Parts.{MeansText, MeansRun, HasRunCause, status_in, MeansWritten, RoseIfUnwritten};
 
-use crate::built::built_script;
-use crate::ending::status_of;
+use crate::built::are_built;
+use crate::faults::{RunFault, Unwritten};
 use crate::input::{Stop, read_all};
 use crate::output::write_all;
 use std::alloc::Global;
 use xr_command::{WordsFault, options_of};
 use xr_device::{Device, LineDevice, ListDevice};
 use xr_io::{Opener, Sink, Source, Which};
-use xr_report::report;
+use xr_report::{ending_of, report};
 use xr_scenario::{ScenarioFault, read};
 use xr_types::{Lists, Refusal, Status};
 
-fn stopped(stop: Stop) -> Status
-    ensures { result ≡ status_of stop }
-{
-    match stop {
-        Stop::Failed => Status::ReadFault,
-        Stop::NoMemory => Status::NoMemory,
-    }
-}
-
 /// The bytes of the scenario's opened file, or why there are none. The source is closed.
-fn read_text<O: Opener>(alloc: Global, opener: &mut O, source: O::S) -> Result<Vec<u8>, Status>
+fn read_text<O: Opener>(alloc: Global, opener: &mut O, source: O::S) -> Result<Vec<u8>, Stop>
     requires which { O.S.which source ≡ Which.Scenario }
     requires sound { O.S.faults source ≡ 0 }
     ensures bytes { IfOk result (λ text. IfSome (O.S.left source) (λ bytes. text.items ≡ take 1048577 bytes)) }
-    ensures cause { IfErr result (λ why. IsReadFault why (O.read_faults opener.old Which.Scenario) (O.read_faults opener.new Which.Scenario)) }
+    ensures cause { IfErr result (RoseIfStopped (O.read_faults opener.old Which.Scenario) (O.read_faults opener.new Which.Scenario)) }
     ensures asked { (which : Which) → O.asked opener.new which ≡ O.asked opener.old which }
     ensures opens { (which : Which) → O.open_faults opener.new which ≡ O.open_faults opener.old which }
     ensures reads { O.read_faults opener.new Which.Device ≡ O.read_faults opener.old Which.Device }
@@ -49,34 +41,30 @@ fn read_text<O: Opener>(alloc: Global, opener: &mut O, source: O::S) -> Result<V
         }
         Err(stop) => {
             opener.close(source);
-            Err(stopped(stop))
+            Err(stop)
         }
     }
 }
 
 /// Runs a text beside a device, or says why it isn't run.
-fn run_text<D: Device>(alloc: Global, text: &[u8], device: &mut D) -> Result<Lists, Status>
+fn run_text<D: Device>(alloc: Global, text: &[u8], device: &mut D) -> Result<Lists, ScenarioFault>
     requires fresh { D.bound device.old ≤ 16777216 }
     ensures means { MeansText text.now (D.remaining device.old) result }
     ensures fault { IfOk result (λ lists. list_any is_fault lists.events ≡ true → Rose (D.faults device.old) (D.faults device.new)) }
     ensures which { D.which device.new ≡ D.which device.old }
 {
-    let scenario = match read(alloc, text) {
-        Ok(scenario) => scenario,
-        Err(ScenarioFault::Refused(why)) => return Err(Status::ScenarioRefused(why)),
-        Err(ScenarioFault::NoMemory) => return Err(Status::NoMemory),
-    };
-    let Some(ops) = built_script(scenario.scripts.as_slice()) else {
-        return Err(Status::ScenarioRefused(Refusal::Unbuilt));
-    };
-    match xr_serial::run(alloc, ops, device) {
+    let scenario = read(alloc, text)?;
+    if !are_built(scenario.scripts.as_slice()) {
+        return Err(ScenarioFault::Refused(Refusal::Unbuilt));
+    }
+    match xr_serial::run(alloc, &scenario, device) {
         Ok(lists) => Ok(lists),
-        Err(_) => Err(Status::NoMemory),
+        Err(_) => Err(ScenarioFault::NoMemory),
     }
 }
 
 /// Runs the opened scenario beside a device of no events. The source is closed.
-fn run_alone<O: Opener>(alloc: Global, opener: &mut O, source: O::S) -> Result<Lists, Status>
+fn run_alone<O: Opener>(alloc: Global, opener: &mut O, source: O::S) -> Result<Lists, RunFault>
     requires which { O.S.which source ≡ Which.Scenario }
     requires sound { O.S.faults source ≡ 0 }
     ensures means { MeansRun (O.S.left source) (Some nothing_more) result }
@@ -87,10 +75,13 @@ fn run_alone<O: Opener>(alloc: Global, opener: &mut O, source: O::S) -> Result<L
 {
     let text = match read_text(alloc, opener, source) {
         Ok(text) => text,
-        Err(status) => return Err(status),
+        Err(stop) => return Err(RunFault::of_stop(stop)),
     };
     let mut device = ListDevice::new(Vec::new(alloc));
-    run_text(alloc, text.as_slice(), &mut device)
+    match run_text(alloc, text.as_slice(), &mut device) {
+        Ok(lists) => Ok(lists),
+        Err(fault) => Err(RunFault::of_scenario(fault)),
+    }
 }
 
 /// Runs the opened scenario beside the device of this file. Both sources are closed.
@@ -99,7 +90,7 @@ fn run_beside<O: Opener>(
     opener: &mut O,
     source: O::S,
     name: &str,
-) -> Result<Lists, Status>
+) -> Result<Lists, RunFault>
     requires which { O.S.which source ≡ Which.Scenario }
     requires sound { O.S.faults source ≡ 0 }
     requires fresh { O.asked opener.old Which.Device ≡ None }
@@ -112,19 +103,22 @@ fn run_beside<O: Opener>(
 {
     let Ok(events) = opener.open_file(Which::Device, name) else {
         opener.close(source);
-        return Err(Status::OpenFault);
+        return Err(RunFault::OpenFault);
     };
     let text = match read_text(alloc, opener, source) {
         Ok(text) => text,
-        Err(status) => {
+        Err(stop) => {
             opener.close(events);
-            return Err(status);
+            return Err(RunFault::of_stop(stop));
         }
     };
     let mut device = LineDevice::new(events);
     let lists = run_text(alloc, text.as_slice(), &mut device);
     opener.close(device.into_source());
-    lists
+    match lists {
+        Ok(lists) => Ok(lists),
+        Err(fault) => Err(RunFault::of_scenario(fault)),
+    }
 }
 
 /// Opens the scenario under a file and runs it, beside the device of a file where one is named. Every source that was
@@ -134,7 +128,7 @@ fn run_files<O: Opener>(
     opener: &mut O,
     file: &str,
     device: Option<&str>,
-) -> Result<Lists, Status>
+) -> Result<Lists, RunFault>
     requires fresh { (which : Which) → O.asked opener.old which ≡ None }
     requires short { length file.now ≤ 4095 }
     requires short_device { IfSome device (λ name. length name.now ≤ 4095) }
@@ -146,7 +140,7 @@ fn run_files<O: Opener>(
     ensures same { (name : List ℕ) → O.bytes opener.new name ≡ O.bytes opener.old name }
 {
     let Ok(source) = opener.open_file(Which::Scenario, file) else {
-        return Err(Status::OpenFault);
+        return Err(RunFault::OpenFault);
     };
     match device {
         None => run_alone(alloc, opener, source),
@@ -154,17 +148,22 @@ fn run_files<O: Opener>(
     }
 }
 
-/// Writes the report of what a run has made, with the places of replies or without, and says how the run ended.
-fn write_report<K: Sink>(alloc: Global, sink: &mut K, lists: &Lists, places: bool) -> Status
+/// Writes the report of what a run has made, with the places of replies or without.
+fn write_report<K: Sink>(
+    alloc: Global,
+    sink: &mut K,
+    lists: &Lists,
+    places: bool,
+) -> Result<(), Unwritten>
     ensures means { MeansWritten lists.now places (K.written sink.old) (K.written sink.new) result }
     ensures cause { RoseIfUnwritten (K.faults sink.old) (K.faults sink.new) result }
 {
     let Ok(report) = report(alloc, lists, places) else {
-        return Status::NoMemory;
+        return Err(Unwritten::NoMemory);
     };
     match write_all(sink, report.as_slice()) {
-        Ok(()) => status_of(lists),
-        Err(_) => Status::WriteFault,
+        Ok(()) => Ok(()),
+        Err(_) => Err(Unwritten::Failed),
     }
 }
 
@@ -178,7 +177,7 @@ fn write_report<K: Sink>(alloc: Global, sink: &mut K, lists: &Lists, places: boo
 /// text, else `Stuck` where somebody waits for ever. `Usage` comes exactly where the words have no form; `OpenFault`,
 /// `ReadFault`, `DeviceFailed` and `WriteFault` only where that object's count of faults rose; `ScenarioRefused` exactly
 /// where the text is no scenario that is run, with the reason: `TooLong`, `Json`, `BadShape` with the first wrong place,
-/// or `Unbuilt` for a scenario of more scripts than one or of other ops than those that are built. `NoMemory` is free.
+/// or `Unbuilt` for a scenario with an op that isn't built. `NoMemory` is free.
 /// Under the others nothing is written, but under `WriteFault` a first part of the report.
 pub fn run_serial<O: Opener, K: Sink>(
     alloc: Global,
@@ -209,8 +208,13 @@ pub fn run_serial<O: Opener, K: Sink>(
         Err(WordsFault::Usage) => return Status::Usage,
         Err(WordsFault::NoMemory) => return Status::NoMemory,
     };
-    match run_files(alloc, opener, form.file, form.device) {
-        Ok(lists) => write_report(alloc, sink, &lists, form.places),
-        Err(status) => status,
+    let lists = match run_files(alloc, opener, form.file, form.device) {
+        Ok(lists) => lists,
+        Err(fault) => return fault.status(),
+    };
+    match write_report(alloc, sink, &lists, form.places) {
+        Ok(()) => ending_of(&lists),
+        Err(Unwritten::Failed) => Status::WriteFault,
+        Err(Unwritten::NoMemory) => Status::NoMemory,
     }
 }

@@ -1,4 +1,5 @@
 -- What a report prints of a run.
+pub mod RunEnding
 pub mod Report
 pub mod ReportLines
 pub mod ReportValues

@@ -1,8 +1,8 @@
 // The blocks of a report.
 ghost use Rattle.std.specs.Prelude.{◌≡◌, ◌++◌, OnOk, IfOk};
-ghost use Rattle.std.specs.List.{list_any};
-ghost use Rattle.xr_model.specs.report.Report.{lines_of, threads_from, frames_from, compositor_block, events_from, device_block, waiting_lines, stuck_block, is_fault, is_garbled, status_of, status_line, report_of};
+ghost use Rattle.xr_model.specs.report.Report.{lines_of, threads_from, frames_from, compositor_block, events_from, device_block, waiting_lines, stuck_block, status_line, report_of};
 
+use crate::ending::{ending_of, exit_of};
 use crate::lines::{push_call, push_ended, push_event_line, push_frame_line, push_waiting};
 use crate::push::{push_number, push_text};
 use std::alloc::{AllocError, Global};
@@ -114,47 +114,11 @@ fn push_all_waiting(out: &mut Vec<u8>, next: &[Waiting]) -> Result<(), AllocErro
     Ok(())
 }
 
-/// Whether the device couldn't be read on.
-fn has_fault(events: &[DeviceEvent]) -> bool
-    ensures { result ≡ list_any is_fault events.now }
-{
-    events
-        .iter()
-        .any(|event| matches!(event, DeviceEvent::Fault))
-}
-
-/// Whether a line of the device is none.
-fn has_garbled(events: &[DeviceEvent]) -> bool
-    ensures { result ≡ list_any is_garbled events.now }
-{
-    events
-        .iter()
-        .any(|event| matches!(event, DeviceEvent::Garbled(_)))
-}
-
-fn status_of(events: &[DeviceEvent], next: &[Waiting]) -> u64
-    ensures { result ≡ status_of events.now next.now }
-{
-    if has_fault(events) {
-        5
-    } else if has_garbled(events) {
-        6
-    } else if next.is_empty() {
-        0
-    } else {
-        7
-    }
-}
-
-fn push_status(
-    out: &mut Vec<u8>,
-    events: &[DeviceEvent],
-    next: &[Waiting],
-) -> Result<(), AllocError>
-    ensures { OnOk result (out.new.items ≡ out.old.items ++ status_line events.now next.now) }
+fn push_status(out: &mut Vec<u8>, lists: &Lists) -> Result<(), AllocError>
+    ensures { OnOk result (out.new.items ≡ out.old.items ++ status_line lists.now) }
 {
     push_text(out, "status ")?;
-    push_number(out, status_of(events, next))?;
+    push_number(out, u64::from(exit_of(ending_of(lists))))?;
     push_text(out, "\n")
 }
 
@@ -178,7 +142,7 @@ fn push_report(out: &mut Vec<u8>, places: bool, lists: &Lists) -> Result<(), All
         lists.device.as_slice(),
     )?;
     push_stuck(out, lists.next.as_slice())?;
-    push_status(out, lists.events.as_slice(), lists.next.as_slice())?;
+    push_status(out, lists)?;
     Ok(())
 }
 

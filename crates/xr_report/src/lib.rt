@@ -3,8 +3,10 @@
 
 mod blocks;
 mod device;
+mod ending;
 mod lines;
 mod push;
 mod values;
 
 pub use blocks::report;
+pub use ending::{ending_of, exit_of};

@@ -1,50 +1,58 @@
 -- Where nobody can go on, what was made is a whole run, or one that is stuck.
-use Rattle.std.proofs.Common.{◌≡◌, ◌+◌, ℕ, ℤ, pos, Bool, true, false, List, [], ◌∷◌, ◌++◌, map, drop, Option, Some, None, refl, sym, ap, subst, ◌∙◌, append_assoc, append-nil}
+use Rattle.std.proofs.Common.{◌≡◌, ◌+◌, ◌<◌, ◌≤◌, ℕ, ℤ, zero, suc, pos, Bool, true, false, List, [], ◌∷◌, ◌++◌, length, map, drop, take, get_or, Option, Some, None, refl, sym, ap, subst, ◌∙◌, arith, append_assoc, append-nil, length-append, true≢false, add-one}
 use Rattle.std.specs.List.{list_any}
+use Rattle.std.proofs.lemmas.List.{map-append, map_more, take_all, take-append-drop}
+use Rattle.xr_types.specs.declared.calls.Actor.{Actor}
 use Rattle.xr_types.specs.declared.calls.Actor.TheVariants.{App, Compositor, Device}
 use Rattle.xr_types.specs.declared.calls.Reply.{Reply}
 use Rattle.xr_types.specs.declared.device.DeviceEvent.{DeviceEvent}
-use Rattle.xr_types.specs.declared.made.Made.{Made}
+use Rattle.xr_types.specs.declared.device.DeviceEvent.TheVariants as event
 use Rattle.xr_types.specs.declared.made.Waiting.{Waiting}
 use Rattle.xr_types.specs.declared.scenario.Op.{Op}
 use Rattle.xr_types.specs.declared.scenario.Scenario.{Scenario}
 use Rattle.xr_io.specs.Outside.{Rose}
 use Rattle.xr_model.specs.machine.Request as request
 use Rattle.xr_model.specs.machine.Request.{Request, wait_image, Entry}
-use Rattle.xr_model.specs.machine.State.{with_apps, State, opening}
+use Rattle.xr_model.specs.machine.State.{State, opening}
 use Rattle.xr_model.specs.machine.History.{calls_of}
 use Rattle.xr_model.specs.runs.Scripts.{request_for, FollowsSoFar}
-use Rattle.xr_model.specs.device_text.DeviceText.{DeviceStream}
-use Rattle.xr_model.specs.runs.Robin.{Agenda, script, with_start, device_calls, IsRobinFrom, agendas_left, in_round}
-use Rattle.xr_model.specs.report.Report.{is_fault}
-use Rattle.xr_model.specs.runs.Lists.{name_of, end_of, events_in, lists_of, waiting_of}
-use Rattle.xr_serial.specs.inside.Turns.{Parts, parts_of, device_part, compositor_part, pending_list, now_part, next_part, last_part, AreHeldBack}
-use Rattle.xr_serial.specs.inside.Continues.{first_three, IsRest}
-use Rattle.xr_serial.specs.inside.RunInvariant.{ScriptKept, EndKept, RunInvariant}
-use Rattle.xr_serial.specs.Ran.{IsEnd, IsWhole, Ran}
-use Rattle.xr_serial.specs.inside.AtEnd.{in_order, lists_at}
-use Rattle.xr_serial.specs.declared.turn.Turn.{Turn}
-use Rattle.xr_serial.proofs.TurnOrder.{none_turn}
-use Rattle.xr_serial.proofs.Ending.{Gives, gives, is_over, in_round_is}
+use Rattle.xr_model.specs.runs.Robin.{Agenda, script, with_start, device_calls, first_agendas, IsRobinFrom, agendas_left, in_round}
+use Rattle.xr_model.specs.report.RunEnding.{is_fault}
+use Rattle.xr_model.specs.runs.Lists.{name_of, end_of, events_in, lists_to, lists_of, made_from, waiting_of}
+use Rattle.xr_serial.specs.Ran.{settings_of, OfEachScript, IsEnd, IsWhole, Ran}
+use Rattle.xr_serial.specs.inside.RunState.{AppState, RunState}
+use Rattle.xr_serial.specs.inside.Sides.{Prospect}
+use Rattle.xr_serial.specs.inside.Turns.{script_part, script_parts, device_part, compositor_part, pending_list, parts_of, actors_of, from_turn, joined, AreHeldBack}
+use Rattle.xr_serial.specs.inside.Past.{IsRest}
+use Rattle.xr_serial.specs.inside.RunInvariant.{AppKept, EndKept, events_told, RunInvariant}
+use Rattle.xr_serial.specs.inside.AtEnd.{app_next, apps_next, next_name, next_calls, lists_at}
+use Rattle.xr_serial.proofs.TurnOrder.{none_turn, all_held}
+use Rattle.xr_serial.proofs.Parts.{AreAll, parts_count}
+use Rattle.xr_serial.proofs.Ops.{name_is}
+use Rattle.xr_serial.proofs.AppTurns.{all_of}
+use Rattle.xr_serial.proofs.Ending.{Gives, gives, events_sound, in_round_is, device_held}
 
 filled : (w : Waiting) (ws : List Waiting) → w ∷ ws ≡ [] → ⊥
 filled w ws h = cc
 
--- ---- the script
+-- ---- an application
 
-follows_so_far : (has_left : Bool) (ops : List Op) (made : ℕ) (names : List ℕ) (list : List Made) (app : List request.Exchange) → ScriptKept ops made names list has_left app → FollowsSoFar ops app
-follows_so_far true ops made names list app kept = kept.front refl
-follows_so_far false ops made names list app kept = subst (FollowsSoFar ops) (append-nil app) (kept.so_far [] refl tt)
+follows_so_far : (ops : List Op) (app : AppState) (calls : List request.Exchange) → AppKept ops app calls → FollowsSoFar ops calls
+follows_so_far ops app calls kept = by app.has_left refl
+  where
+    by : (left : Bool) → app.has_left ≡ left → FollowsSoFar ops calls
+    by true e = kept.front e
+    by false e = subst (FollowsSoFar ops) (append-nil calls) (kept.so_far [] e tt)
 
 -- ---- the compositor
 
-ends_so : (ended : Option Reply) (comp : List request.Exchange) → EndKept ended comp → end_of comp ≡ ended
-ends_so None comp none = rw none refl
-ends_so (Some reply) comp end = rw (end.0, end.1) refl
+ends_so : (ended : Option Reply) (calls : List request.Exchange) → EndKept ended calls → end_of calls ≡ ended
+ends_so None calls none = rw none refl
+ends_so (Some reply) calls end = rw (end.0, end.1) refl
 
-ends_once : (ended : Option Reply) (comp : List request.Exchange) → EndKept ended comp → map waiting_of (compositor_part ended) ≡ [] → IsEnd comp
-ends_once None comp none h = absurd (filled _ [] h)
-ends_once (Some reply) comp end none = rw end.0 (refl, end.1)
+ends_once : (ended : Option Reply) (calls : List request.Exchange) → EndKept ended calls → map waiting_of (compositor_part ended) ≡ [] → IsEnd calls
+ends_once None calls none h = absurd (filled _ [] h)
+ends_once (Some reply) calls end none = rw end.0 (refl, end.1)
 
 -- ---- those left
 
@@ -52,110 +60,182 @@ name_started : (clock : ℤ) (r : Request) → name_of (with_start clock r) ≡ 
 name_started clock (wait_image chain timeout start) = refl
 name_started clock _ = refl
 
--- the clock is not told
-same_script : (app place : ℕ) (ops : List Op) (values : List ℕ) (c d : ℤ) → waiting_of (script app place ops values c) ≡ waiting_of (script app place ops values d)
-same_script app place [] values c d = refl
-same_script app place (o ∷ os) values c d = rw (name_started c (request_for values o), name_started d (request_for values o)) refl
+-- what is told of an application doesn't tell its clock
+script_waits : (number place : ℕ) (ops : List Op) (values : List ℕ) (clock : ℤ) → waiting_of (script number place ops values clock) ≡ record { actor = App number; op = place; name = next_name ops }
+script_waits number place [] values clock = refl
+script_waits number place (o ∷ os) values clock = rw (name_started clock (request_for values o), name_is values o) refl
 
-same_clock : (ops : List Op) (made : ℕ) (names : List ℕ) (c d : ℤ) (has_left : Bool) (pending : Option DeviceEvent) (ended : Option Reply) (rest : List DeviceEvent)
-    → map waiting_of (in_order (parts_of ops made names c has_left pending ended rest)) ≡ map waiting_of (in_order (parts_of ops made names d has_left pending ended rest))
-same_clock ops made names c d true pending ended rest = refl
-same_clock ops made names c d false pending ended rest =
-    ap (λ (w : Waiting). w ∷ map waiting_of (device_part pending rest ++ compositor_part ended)) (same_script 1 (made + 1) (drop made ops) names c d)
+part_waits : (number : ℕ) (ops : List Op) (app : AppState) (clock : ℤ) → map waiting_of (script_part number ops app clock) ≡ app_next number ops app
+part_waits number ops app clock = by app.has_left refl
+  where
+    by : (left : Bool) → app.has_left ≡ left → map waiting_of (script_part number ops app clock) ≡ app_next number ops app
+    by true e = rw e refl
+    by false e = rw e (ap (λ (w : Waiting). w ∷ []) (script_waits number (app.made + 1) (drop app.made ops) app.names clock))
+
+parts_wait : (number : ℕ) (scripts : List (List Op)) (apps : List AppState) (clocks : List ℤ) → length apps ≡ length scripts → length clocks ≡ length scripts → map waiting_of (joined (script_parts number scripts apps clocks)) ≡ apps_next number scripts apps
+parts_wait number [] apps clocks a c = refl
+parts_wait number (ops ∷ scripts) [] clocks a c = refl
+parts_wait number (ops ∷ scripts) (app ∷ apps) [] a c = let none : ⊥ = omega (arith, c) in absurd none
+parts_wait number (ops ∷ scripts) (app ∷ apps) (clock ∷ clocks) a c =
+    map-append waiting_of (script_part number ops app clock) (joined (script_parts (number + 1) scripts apps clocks))
+    ∙ rw (part_waits number ops app clock, parts_wait (number + 1) scripts apps clocks (omega (arith, a)) (omega (arith, c))) refl
 
 -- what is still to come of a device is behind its next event
-same_waiting : (over : Bool) (ops : List Op) (made : ℕ) (names : List ℕ) (clock : ℤ) (has_left : Bool) (pending : Option DeviceEvent) (ended : Option Reply) (rest : List DeviceEvent) → IsRest over rest → (pending ≡ None → over ≡ true)
-    → map waiting_of (in_order (parts_of ops made names clock has_left pending ended rest)) ≡ map waiting_of (in_order (parts_of ops made names clock has_left pending ended []))
-same_waiting over ops made names clock has_left None ended rest ok known = rw (ok (known refl)) refl
-same_waiting over ops made names clock true (Some e) ended rest ok known = refl
-same_waiting over ops made names clock false (Some e) ended rest ok known = refl
+device_waits : (over : Bool) (pending : Option DeviceEvent) (rest : List DeviceEvent) → IsRest over rest → (pending ≡ None → over ≡ true) → map waiting_of (device_part pending rest) ≡ map waiting_of (device_part pending [])
+device_waits over None rest ok known = rw (ok (known refl)) refl
+device_waits over (Some e) rest ok known = refl
 
--- where nobody is left
-pub record NoneLeft (has_left : Bool) (pending : Option DeviceEvent) (ended : Option Reply) : Type 0 where
-  pub left : has_left ≡ true
-  pub told : pending ≡ None
-  pub end : map waiting_of (compositor_part ended) ≡ []
+-- ---- where nobody is left
 
-none_left : (ops : List Op) (made : ℕ) (names : List ℕ) (clock : ℤ) (has_left : Bool) (pending : Option DeviceEvent) (ended : Option Reply) → map waiting_of (in_order (parts_of ops made names clock has_left pending ended [])) ≡ [] → NoneLeft has_left pending ended
-none_left ops made names clock true None ended none = record { left = refl; told = refl; end = none }
-none_left ops made names clock true (Some e) ended h = absurd (filled _ _ h)
-none_left ops made names clock false pending ended h = absurd (filled _ _ h)
+front_none : (xs ys : List Waiting) → xs ++ ys ≡ [] → xs ≡ []
+front_none [] ys is = refl
+front_none (x ∷ xs) ys is = absurd (filled x (xs ++ ys) is)
+
+behind_none : (xs ys : List Waiting) → xs ++ ys ≡ [] → ys ≡ []
+behind_none [] ys is = is
+behind_none (x ∷ xs) ys is = absurd (filled x (xs ++ ys) is)
+
+app_gone : (number : ℕ) (ops : List Op) (app : AppState) → app_next number ops app ≡ [] → app.has_left ≡ true
+app_gone number ops app none = by app.has_left refl
+  where
+    by : (left : Bool) → app.has_left ≡ left → app.has_left ≡ true
+    by true e = e
+    by false e = absurd (filled _ [] (sym (part_next e) ∙ none))
+      where
+        part_next : app.has_left ≡ false → app_next number ops app ≡ record { actor = App number; op = app.made + 1; name = next_name (drop app.made ops) } ∷ []
+        part_next e = rw e refl
+
+all_gone : (number : ℕ) (scripts : List (List Op)) (apps : List AppState) (place : ℕ) (none : AppState) → length apps ≡ length scripts → apps_next number scripts apps ≡ [] → place < length scripts → (get_or apps place none).has_left ≡ true
+all_gone number [] apps place none a is within = let no : ⊥ = omega (arith, within) in absurd no
+all_gone number (ops ∷ scripts) [] place none a is within = let no : ⊥ = omega (arith, a) in absurd no
+all_gone number (ops ∷ scripts) (app ∷ apps) zero none a is within = app_gone number ops app (front_none (app_next number ops app) (apps_next (number + 1) scripts apps) is)
+all_gone number (ops ∷ scripts) (app ∷ apps) (suc place) none a is within =
+    all_gone (number + 1) scripts apps place none (omega (arith, a)) (behind_none (app_next number ops app) (apps_next (number + 1) scripts apps) is) (omega (arith, within))
+
+no_pending : (pending : Option DeviceEvent) → map waiting_of (device_part pending []) ≡ [] → pending ≡ None
+no_pending None h = refl
+no_pending (Some e) h = absurd (filled _ _ h)
+
+-- from any turn on there are as many
+as_many : (turn : ℕ) (parts : List (List Agenda)) → length (from_turn turn parts) ≡ length parts
+as_many turn parts =
+    let sum : length (take turn parts ++ drop turn parts) ≡ length (take turn parts) + length (drop turn parts) = length-append (take turn parts) (drop turn parts) in
+    let back : length (drop turn parts ++ take turn parts) ≡ length (drop turn parts) + length (take turn parts) = length-append (drop turn parts) (take turn parts) in
+    let whole : length (take turn parts ++ drop turn parts) ≡ length parts = ap length (take-append-drop turn parts) in
+    omega (arith, sum, back, whole)
 
 -- ---- the run
 
-module _ (ops : List Op) (t : Turn) (s : State) (made : ℕ) (names : List ℕ) (list : List Made) (has_left : Bool) (pending : Option DeviceEvent) (over : Bool) (evs : List DeviceEvent) (dlist : List Made) (ended : Option Reply) (told now : Option DeviceStream) (before after bound : ℕ)
-    (kept : RunInvariant ops t 3 s made names list has_left pending over evs dlist ended told now before after bound) where
-  abbrev device : Gives told over pending kept.dev before after
-  device = gives over pending evs dlist kept.dev told now before after kept.device
+abbrev nobody : AppState
+nobody = record { made = 0; names = []; calls = []; has_left = false }
+
+module _ (scenario : Scenario) (turn : ℕ) (s : State) (run : RunState) (start now : Prospect) (inv : RunInvariant scenario turn (actors_of scenario) s run start now) (within : turn < actors_of scenario) where
+  abbrev device : Gives run.side (inv.calls Device) start now
+  device = gives run.side (inv.calls Device) start now inv.kept.device
 
   abbrev history : List Entry
-  history = kept.going.past ++ []
+  history = inv.standing.so_far.past ++ []
 
-  app_calls : calls_of (with_apps 1) (App 1) history ≡ kept.app
-  app_calls = kept.going.mine [] ∙ append-nil kept.app
+  calls_are : (who : Actor) → calls_of (settings_of scenario) who history ≡ inv.calls who
+  calls_are who = inv.standing.so_far.made who [] ∙ append-nil (inv.calls who)
 
-  device_made : calls_of (with_apps 1) Device history ≡ kept.dev
-  device_made = kept.going.devices [] ∙ append-nil kept.dev
+  all : AreAll scenario run inv.clocks
+  all = all_of scenario s run inv.clocks inv.calls start now inv.kept
 
-  compositor_calls : calls_of (with_apps 1) Compositor history ≡ kept.comp
-  compositor_calls = kept.going.compositors [] ∙ append-nil kept.comp
-
-  abbrev parts : List DeviceEvent → Parts
-  parts rest = parts_of ops made names kept.clock has_left pending ended rest
-
-  abbrev told_parts : Parts
-  told_parts = parts_of ops made names (pos 0) has_left pending ended []
-
-  abbrev agendas : List Agenda
-  agendas = now_part t (parts device.rest) ++ next_part t (parts device.rest) ++ last_part t (parts device.rest)
+  abbrev left : List DeviceEvent → List Agenda
+  left rest = joined (from_turn turn (parts_of scenario run inv.clocks rest))
 
   abbrev calls : List DeviceEvent
   calls = device_calls device.events device.ending
 
-  stands : (kept.going.agendas device.rest ≡ agendas) × AreHeldBack s agendas
-  stands = kept.going.stands device.rest device.none
+  stands : (rest : List DeviceEvent) → IsRest run.side.over rest → (inv.standing.so_far.agendas rest ≡ left rest) × AreHeldBack s (left rest)
+  stands rest ok =
+      let size : length (parts_of scenario run inv.clocks rest) ≡ actors_of scenario = parts_count scenario run inv.clocks rest all in
+      let from : length (from_turn turn (parts_of scenario run inv.clocks rest)) ≡ length (parts_of scenario run inv.clocks rest) = as_many turn (parts_of scenario run inv.clocks rest) in
+      all_held s (actors_of scenario) (from_turn turn (parts_of scenario run inv.clocks rest)) (inv.standing.so_far.agendas rest) (omega (arith, size, from)) (inv.standing.order rest ok)
 
-  known : pending ≡ None → over ≡ true
-  known none =
-      is_over t s ops made names kept.clock has_left over ended
-      (λ rest ok. subst (λ (next : Option DeviceEvent). AreHeldBack s (now_part t (parts_of ops made names kept.clock has_left next ended rest) ++ next_part t (parts_of ops made names kept.clock has_left next ended rest) ++ last_part t (parts_of ops made names kept.clock has_left next ended rest))) none (kept.going.stands rest ok).1)
-
-  robin_three : IsRobinFrom (opening (with_apps 1)) (first_three ops calls) history
-  robin_three = subst (λ (c : List DeviceEvent). IsRobinFrom (opening (with_apps 1)) (first_three ops c) history) (sym device.calls) (kept.going.robin device.rest device.none [] (rw stands.0 (none_turn s [] agendas stands.1)))
-
-  left_three : agendas_left (opening (with_apps 1)) (first_three ops calls) history ≡ agendas
-  left_three = subst (λ (c : List DeviceEvent). agendas_left (opening (with_apps 1)) (first_three ops c) history ≡ agendas) (sym device.calls) (kept.going.left device.rest device.none [] ∙ stands.0)
-
-  next_three : map waiting_of (in_round 1 (agendas_left (opening (with_apps 1)) (first_three ops calls) history)) ≡ map waiting_of (in_order told_parts)
-  next_three = ap (λ (l : List Agenda). map waiting_of (in_round 1 l)) left_three ∙ ap (map waiting_of) (in_round_is t ops made names kept.clock has_left pending ended device.rest (parts device.rest) refl) ∙ same_waiting over ops made names kept.clock has_left pending ended device.rest device.none known ∙ same_clock ops made names kept.clock (pos 0) has_left pending ended []
-
-  lists_three : lists_at ops made names list has_left pending evs dlist ended ≡ lists_of (with_apps 1) history (agendas_left (opening (with_apps 1)) (first_three ops calls) history)
-  lists_three = rw (next_three, app_calls, device_made, compositor_calls, ← kept.script.list_is, ← kept.device.list_is, ← kept.device.events_are, ends_so ended kept.comp kept.end) refl
-
-  whole : map waiting_of (in_order told_parts) ≡ [] → IsWhole ops device.events device.ending history
-  whole none = by (none_left ops made names (pos 0) has_left pending ended none)
+  -- a device of which more may come is asked for it, since it could tell what can be made at once
+  known : run.side.pending ≡ None → run.side.over ≡ true
+  known none = by run.side.over refl
     where
-      by : NoneLeft has_left pending ended → IsWhole ops device.events device.ending history
-      by n = record {
-        follows = rw app_calls (kept.script.whole n.left);
-        ends = rw compositor_calls (ends_once ended kept.comp kept.end n.end);
-        device = ap events_in device_made ∙ sym (device.calls ∙ (ap (λ (l : List DeviceEvent). (events_in kept.dev ++ pending_list pending) ++ l) (device.none (known n.told)) ∙ append-nil (events_in kept.dev ++ pending_list pending) ∙ ap (λ (p : Option DeviceEvent). events_in kept.dev ++ pending_list p) n.told ∙ append-nil (events_in kept.dev)));
+      by : (over : Bool) → run.side.over ≡ over → run.side.over ≡ true
+      by true e = e
+      by false e =
+          let rest : List DeviceEvent = event.Clock (pos 0) ∷ [] in
+          let ok : IsRest run.side.over rest = λ over. absurd (true≢false (sym over ∙ e)) in
+          let held : AreHeldBack s (device_part run.side.pending rest) = device_held scenario run inv.clocks rest all turn s (stands rest ok).1 in
+          let can : AreHeldBack s (device_part None rest) = subst (λ (p : Option DeviceEvent). AreHeldBack s (device_part p rest)) none held in
+          absurd (true≢false can.0)
+
+  robin : IsRobinFrom (opening (settings_of scenario)) (first_agendas scenario calls) history
+  robin =
+      let here = stands device.rest device.none in
+      subst (λ (c : List DeviceEvent). IsRobinFrom (opening (settings_of scenario)) (first_agendas scenario c) history) (sym device.calls_are)
+      (inv.standing.so_far.robin device.rest device.none [] (rw here.0 (none_turn s [] (left device.rest) here.1)))
+
+  left_are : agendas_left (opening (settings_of scenario)) (first_agendas scenario calls) history ≡ left device.rest
+  left_are =
+      subst (λ (c : List DeviceEvent). agendas_left (opening (settings_of scenario)) (first_agendas scenario c) history ≡ left device.rest) (sym device.calls_are)
+      (inv.standing.so_far.left device.rest device.none [] ∙ (stands device.rest device.none).0)
+
+  next_are : map waiting_of (in_round (length scenario.scripts) (agendas_left (opening (settings_of scenario)) (first_agendas scenario calls) history)) ≡ next_calls scenario run
+  next_are =
+      let scripts : List Agenda = joined (script_parts 1 scenario.scripts run.apps inv.clocks) in
+      let part : List Agenda = device_part run.side.pending device.rest in
+      ap (λ (l : List Agenda). map waiting_of (in_round (length scenario.scripts) l)) left_are ∙ ap (map waiting_of) (in_round_is scenario run inv.clocks device.rest all turn)
+      ∙ map-append waiting_of (scripts ++ part) (compositor_part run.ended) ∙ ap (λ (l : List Waiting). l ++ map waiting_of (compositor_part run.ended)) (map-append waiting_of scripts part)
+      ∙ rw (parts_wait 1 scenario.scripts run.apps inv.clocks all.count all.timed, device_waits run.side.over run.side.pending device.rest device.none known) refl
+
+  kept_at : (place : ℕ) → place < length scenario.scripts → AppKept (get_or scenario.scripts place []) (get_or run.apps place nobody) (inv.calls (App (place + 1)))
+  kept_at place within = inv.kept.apps.each place nobody within
+
+  apps_are : (n : ℕ) → n ≤ length scenario.scripts → lists_to (settings_of scenario) n history ≡ map (λ (app : AppState). app.calls) (take n run.apps)
+  apps_are zero few = refl
+  apps_are (suc n) few =
+      let size = all.count in
+      let one : made_from 1 (calls_of (settings_of scenario) (App (suc n)) history) ≡ (get_or run.apps n nobody).calls = ap (made_from 1) (calls_are (App (suc n))) ∙ ap (λ (m : ℕ). made_from 1 (inv.calls (App m))) (sym (add-one n)) ∙ sym (kept_at n (omega (arith, few))).list_is in
+      rw (apps_are n (omega (arith, few)), one) (sym (map_more (λ (app : AppState). app.calls) run.apps n nobody (omega (arith, few, size))) ∙ ap (λ (m : ℕ). map (λ (app : AppState). app.calls) (take m run.apps)) (add-one n))
+
+  all_apps : lists_to (settings_of scenario) (length scenario.scripts) history ≡ map (λ (app : AppState). app.calls) run.apps
+  all_apps = let size = all.count in apps_are (length scenario.scripts) (omega arith) ∙ ap (map (λ (app : AppState). app.calls)) (take_all (length scenario.scripts) run.apps (omega (arith, size)))
+
+  lists_are : lists_at scenario run ≡ lists_of (settings_of scenario) history (agendas_left (opening (settings_of scenario)) (first_agendas scenario calls) history)
+  lists_are = rw (next_are, all_apps, calls_are Device, calls_are Compositor, ← inv.kept.device.list_is, ← inv.kept.device.events_are, ends_so run.ended (inv.calls Compositor) inv.kept.end) refl
+
+  follow_so_far : OfEachScript scenario history FollowsSoFar
+  follow_so_far place within = rw (calls_are (App (place + 1))) (follows_so_far (get_or scenario.scripts place []) (get_or run.apps place nobody) (inv.calls (App (place + 1))) (kept_at place within))
+
+  whole : next_calls scenario run ≡ [] → IsWhole scenario device.events device.ending history
+  whole none =
+      let apps : List Waiting = apps_next 1 scenario.scripts run.apps in
+      let told : List Waiting = map waiting_of (device_part run.side.pending []) in
+      let ends : List Waiting = map waiting_of (compositor_part run.ended) in
+      let both : apps ++ told ≡ [] = front_none (apps ++ told) ends none in
+      let unknown : run.side.pending ≡ None = no_pending run.side.pending (behind_none apps told both) in
+      record {
+        follow = λ place within. rw (calls_are (App (place + 1))) ((kept_at place within).whole (all_gone 1 scenario.scripts run.apps place nobody all.count (front_none apps told both) within));
+        ends = rw (calls_are Compositor) (ends_once run.ended (inv.calls Compositor) inv.kept.end (behind_none (apps ++ told) ends none));
+        device =
+            ap events_in (calls_are Device)
+            ∙ sym
+            (device.calls_are ∙ ap (λ (l : List DeviceEvent). events_told run.side (inv.calls Device) ++ l) (device.none (known unknown)) ∙ append-nil (events_told run.side (inv.calls Device))
+            ∙ ap (λ (p : Option DeviceEvent). events_in (inv.calls Device) ++ pending_list p) unknown ∙ append-nil (events_in (inv.calls Device)));
       }
 
-  pub ran : (scenario : Scenario) → scenario.scripts ≡ ops ∷ [] → Ran scenario ops told (lists_at ops made names list has_left pending evs dlist ended)
-  ran scenario one = record {
+  pub ran : Ran scenario start.remaining (lists_at scenario run)
+  ran = record {
     history = history;
     events = device.events;
     ending = device.ending;
-    one = one;
     gave = device.gave;
-    legal = kept.going.legal [] tt;
-    robin = rw one robin_three;
-    follows = rw app_calls (follows_so_far has_left ops made names list kept.app kept.script);
-    device = (pending_list pending ++ device.rest, rw device_made (device.calls ∙ append_assoc (events_in kept.dev) (pending_list pending) device.rest));
+    sound = events_sound run.side (inv.calls Device) start now inv.kept.device;
+    legal = inv.standing.so_far.legal [] tt;
+    robin = robin;
+    follow = follow_so_far;
+    device = (pending_list run.side.pending ++ device.rest, rw (calls_are Device) (device.calls_are ∙ append_assoc (events_in (inv.calls Device)) (pending_list run.side.pending) device.rest));
     whole = whole;
-    made = rw one lists_three;
+    made = lists_are;
   }
 
-  pub fault : list_any is_fault evs ≡ true → Rose before after
-  fault h = device.fault (subst (λ (l : List DeviceEvent). list_any is_fault l ≡ true) kept.device.events_are h)
+  pub fault : list_any is_fault run.side.events ≡ true → Rose start.faults now.faults
+  fault h = device.fault (subst (λ (l : List DeviceEvent). list_any is_fault l ≡ true) inv.kept.device.events_are h)

@@ -1,62 +1,120 @@
 -- What the loop keeps holds at the start.
-use Rattle.std.proofs.Common.{◌≤◌, ℕ, pos, false, List, [], length, Option, Some, None, refl, sym, arith, true≢false}
+use Rattle.std.proofs.Common.{◌≡◌, ◌≤◌, ◌+◌, ℕ, ℤ, suc, pos, false, List, [], ◌∷◌, ◌++◌, length, map, get_or, replicate, Option, Some, None, refl, sym, ap, ◌∙◌, arith, append_assoc, true≢false}
 use Rattle.std.proofs.lemmas.Grind.{common_steps}
+use Rattle.std.proofs.lemmas.List.{get_or-map}
+use Rattle.xr_types.specs.declared.calls.Actor.{Actor}
+use Rattle.xr_types.specs.declared.device.DeviceEvent.{DeviceEvent}
 use Rattle.xr_types.specs.declared.scenario.Op.{Op}
-use Rattle.xr_model.specs.machine.State.{with_apps, opening}
+use Rattle.xr_types.specs.declared.scenario.Scenario.{Scenario}
+use Rattle.xr_model.specs.machine.Request as request
+use Rattle.xr_model.specs.machine.State.{opening}
 use Rattle.xr_model.specs.machine.History.{opening_clocks}
 use Rattle.xr_model.specs.device_text.DeviceText.{DeviceStream}
 use Rattle.xr_model.specs.runs.NameValues.{no_values}
-use Rattle.xr_serial.specs.inside.Continues.{first_three}
-use Rattle.xr_serial.specs.inside.RunInvariant.{GivesMore, RunInvariant}
-use Rattle.xr_serial.specs.declared.turn.Turn.TheVariants as turn
+use Rattle.xr_model.specs.runs.Robin.{Agenda, script, script_agendas, device_agendas, compositor, first_agendas}
+use Rattle.xr_serial.specs.Ran.{settings_of}
+use Rattle.xr_serial.specs.inside.RunState.{AppState, RunState}
+use Rattle.xr_serial.specs.inside.Sides.{new_app, Prospect}
+use Rattle.xr_serial.specs.inside.Turns.{script_parts, joined, parts_of}
+use Rattle.xr_serial.specs.inside.RunInvariant.{AppKept, GivesMore, RunInvariant}
+use Rattle.xr_serial.proofs.TurnOrder.{joined-append}
+use Rattle.xr_serial.proofs.Work.{work_at_start}
+
+-- a run before its first call
+abbrev pub start_of : Scenario → RunState
+start_of scenario = record { apps = map new_app scenario.scripts; side = record { pending = None; over = false; events = []; calls = [] }; ended = None }
 
 gives_all : (told : Option DeviceStream) → GivesMore told told []
 gives_all None = tt
 gives_all (Some t) = refl
 
-pub starts : (ops : List Op) (told : Option DeviceStream) (faults bound : ℕ) → bound ≤ 16777216 → RunInvariant ops turn.Script 0 (opening (with_apps 1)) 0 (no_values (length ops)) [] false None false [] [] None told told faults faults bound
-starts ops told faults bound few = record {
-  app = [];
-  dev = [];
-  comp = [];
-  clock = pos 0;
-  going = record {
-    past = [];
-    clocks = opening_clocks (with_apps 1);
-    agendas = λ rest. first_three ops rest;
-    stands = λ rest ok. refl;
-    legal = λ more h. h;
-    robin = λ rest ok more h. h;
-    left = λ rest ok more. refl;
-    mine = λ more. refl;
-    devices = λ more. refl;
-    compositors = λ more. refl;
-  };
-  apps = refl;
-  left = refl;
-  script = record {
-    within = omega arith;
-    named = grind (arith, common_steps);
-    list_is = refl;
-    count = refl;
-    all = λ e. absurd (true≢false (sym e));
-    follows = λ more here h. h;
-    so_far = λ more here h. h;
-    whole = λ e. absurd (true≢false (sym e));
-    front = λ e. absurd (true≢false (sym e));
-  };
-  device = record {
-    given = [];
-    closing = [];
-    begun = refl;
-    came = (gives_all told, refl);
-    faultless = refl;
-    done = tt;
-    list_is = refl;
-    events_are = refl;
-  };
-  end = refl;
-  later = omega arith;
-  counted = omega arith;
-  work = omega (arith, few);
+abbrev no_calls : Actor → List request.Exchange
+no_calls who = []
+
+-- the clock of each application
+abbrev clocks_at_start : List (List Op) → List ℤ
+clocks_at_start scripts = map (λ (ops : List Op). pos 0) scripts
+
+length-map : {A B : Type 0} (f : A → B) (xs : List A) → length (map f xs) ≡ length xs
+length-map f [] = refl
+length-map f (x ∷ xs) = ap suc (length-map f xs)
+
+-- nobody has left
+none_left : (scripts : List (List Op)) → replicate (length scripts) false ≡ map (λ (a : AppState). a.has_left) (map new_app scripts)
+none_left [] = refl
+none_left (ops ∷ scripts) = ap (λ l. false ∷ l) (none_left scripts)
+
+-- each application's agenda is its whole script
+scripts_joined : (number : ℕ) (scripts : List (List Op)) → joined (script_parts number scripts (map new_app scripts) (clocks_at_start scripts)) ≡ script_agendas number scripts
+scripts_joined number [] = refl
+scripts_joined number (ops ∷ scripts) = ap (λ (l : List Agenda). script number 1 ops (no_values (length ops)) (pos 0) ∷ l) (scripts_joined (number + 1) scripts)
+
+parts_joined : (scenario : Scenario) (rest : List DeviceEvent) → first_agendas scenario rest ≡ joined (parts_of scenario (start_of scenario) (clocks_at_start scenario.scripts) rest)
+parts_joined scenario rest =
+    let scripts : List (List Agenda) = script_parts 1 scenario.scripts (map new_app scenario.scripts) (clocks_at_start scenario.scripts) in
+    sym
+    (joined-append scripts (device_agendas rest ∷ (compositor ∷ []) ∷ []) ∙ ap (λ (l : List Agenda). l ++ (device_agendas rest ++ compositor ∷ [])) (scripts_joined 1 scenario.scripts)
+    ∙ sym (append_assoc (script_agendas 1 scenario.scripts) (device_agendas rest) (compositor ∷ [])))
+
+app_starts : (ops : List Op) → AppKept ops (new_app ops) []
+app_starts ops = record {
+  within = omega arith;
+  named = grind (arith, common_steps);
+  list_is = refl;
+  count = refl;
+  follows = λ more here h. h;
+  so_far = λ more here h. h;
+  whole = λ e. absurd (true≢false (sym e));
+  front = λ e. absurd (true≢false (sym e));
 }
+
+pub starts : (scenario : Scenario) (start : Prospect) → start.bound ≤ 16777216 → RunInvariant scenario 0 0 (opening (settings_of scenario)) (start_of scenario) start start
+starts scenario start few =
+    let work = work_at_start scenario.scripts in
+    record {
+      calls = no_calls;
+      clocks = clocks_at_start scenario.scripts;
+      standing = record {
+        so_far = record {
+          past = [];
+          clocks = opening_clocks (settings_of scenario);
+          agendas = λ rest. first_agendas scenario rest;
+          legal = λ more h. h;
+          robin = λ rest ok more h. h;
+          left = λ rest ok more. refl;
+          made = λ who more. refl;
+        };
+        order = λ rest ok. record {
+          coming = parts_of scenario (start_of scenario) (clocks_at_start scenario.scripts) rest;
+          passed = [];
+          order_is = refl;
+          count = refl;
+          held = tt;
+          agendas_are = parts_joined scenario rest;
+        };
+      };
+      kept = record {
+        apps = record {
+          count = length-map new_app scenario.scripts;
+          timed = length-map (λ (ops : List Op). pos 0) scenario.scripts;
+          known = refl;
+          left = none_left scenario.scripts;
+          each = λ place none within. rw (get_or-map new_app scenario.scripts place [] none within) (app_starts (get_or scenario.scripts place []));
+        };
+        device = record {
+          given = [];
+          closing = [];
+          begun = refl;
+          came = (gives_all start.remaining, refl);
+          faultless = refl;
+          sound = tt;
+          done = tt;
+          list_is = refl;
+          events_are = refl;
+          later = omega arith;
+        };
+        end = refl;
+        counted = omega arith;
+        work = omega (arith, work, few);
+      };
+    }

@@ -1,43 +1,45 @@
--- Where nobody can go on: what the device gave, and in which order the unfinished stand.
-use Rattle.std.proofs.Common.{◌≡◌, ℕ, ℤ, Bool, true, false, pos, List, [], ◌∷◌, ◌++◌, Option, Some, None, refl, sym, ap, subst, ◌∙◌, append_assoc, append-nil, true≢false}
-use Rattle.std.specs.Prelude.{if◌then◌else◌, ◌||◌}
+-- Where nobody can go on: what the device gave, and who is left in the order of a round.
+use Rattle.std.proofs.Common.{◌≡◌, ◌⊎◌, inl, inr, ◌+◌, ◌<◌, ◌≤◌, ℕ, ℤ, zero, suc, Bool, true, false, List, [], ◌∷◌, ◌++◌, length, drop, take, get_or, Option, Some, None, refl, sym, ap, subst, ◌∙◌, arith, append_assoc, append-nil, true≢false, add-one}
+use Rattle.std.specs.Prelude.{if◌then◌else◌, ◌||◌, ◌≢◌}
+use Rattle.std.proofs.lemmas.List.{take-append-drop, take_more, take_all}
 use Rattle.std.specs.List.{list_any}
-use Rattle.std.proofs.lemmas.Bool.{or_left}
+use Rattle.std.proofs.lemmas.Bool.{or_left, ne_eqb, eq-eqb}
 use Rattle.std.proofs.lemmas.List.Folds.{list_any-append}
 use Rattle.xr_types.specs.declared.calls.Actor.{Actor}
 use Rattle.xr_types.specs.declared.calls.Actor.TheVariants.{App, Compositor, Device}
 use Rattle.xr_types.specs.declared.calls.Reply.{Reply}
 use Rattle.xr_types.specs.declared.device.DeviceEvent.{DeviceEvent}
 use Rattle.xr_types.specs.declared.device.DeviceEvent.TheVariants as event
-use Rattle.xr_types.specs.declared.made.Made.{Made}
 use Rattle.xr_types.specs.declared.scenario.Op.{Op}
+use Rattle.xr_types.specs.declared.scenario.Scenario.{Scenario}
 use Rattle.xr_io.specs.Outside.{Rose}
 use Rattle.xr_model.specs.machine.Request as request
 use Rattle.xr_model.specs.machine.Request.{is_actor}
 use Rattle.xr_model.specs.machine.State.{State}
-use Rattle.xr_model.specs.device_text.DeviceText.{DeviceStream, Ending, ends}
-use Rattle.xr_model.specs.report.Report.{is_fault}
-use Rattle.xr_model.specs.runs.Robin.{Agenda, actor_of, device_agendas, device_calls, last_event, agendas_of, in_round}
+use Rattle.xr_model.specs.device_text.DeviceText.{DeviceStream, Ending, ends, garbled_at}
+use Rattle.xr_model.specs.report.RunEnding.{is_fault}
+use Rattle.xr_model.specs.runs.Robin.{Agenda, actor_of, device_agendas, device_calls, last_event, agendas_of, scripts_to, in_round}
 use Rattle.xr_model.specs.runs.Lists.{events_in}
-use Rattle.xr_serial.specs.inside.Turns.{Parts, script_part, compositor_part, parts_of, pending_list, now_part, next_part, last_part, AreHeldBack}
-use Rattle.xr_serial.specs.inside.Continues.{IsRest}
-use Rattle.xr_serial.specs.inside.RunInvariant.{GivesMore, DeviceKept}
-use Rattle.xr_serial.specs.Ran.{Gave}
-use Rattle.xr_serial.specs.inside.AtEnd.{in_order}
-use Rattle.xr_serial.specs.declared.turn.Turn.{Turn}
-use Rattle.xr_serial.specs.declared.turn.Turn.TheVariants as turn
+use Rattle.xr_serial.specs.Ran.{Gave, IsLineEvent, AreLineEvents, AreSound}
+use Rattle.xr_serial.specs.inside.RunState.{AppState, SideState, RunState}
+use Rattle.xr_serial.specs.inside.Sides.{Prospect}
+use Rattle.xr_serial.specs.inside.Turns.{script_part, script_parts, compositor_part, device_part, pending_list, from_turn, joined, AreHeldBack}
+use Rattle.xr_serial.specs.inside.Past.{IsRest}
+use Rattle.xr_serial.specs.inside.RunInvariant.{GivesMore, Came, DeviceKept, events_told}
+use Rattle.xr_serial.proofs.TurnOrder.{held_append, joined-append, joined-snoc}
+use Rattle.xr_serial.proofs.Parts.{AreAll, length-script_parts}
 
 -- ---- what the device gave
 
 -- all that the device does, of which this is still to come
-pub record Gives (told : Option DeviceStream) (over : Bool) (pending : Option DeviceEvent) (dev : List request.Exchange) (before after : ℕ) : Type 0 where
+pub record Gives (side : SideState) (calls : List request.Exchange) (start now : Prospect) : Type 0 where
   pub rest : List DeviceEvent
-  pub none : IsRest over rest
+  pub none : IsRest side.over rest
   pub events : List DeviceEvent
   pub ending : Option Ending
-  pub gave : Gave told events ending
-  pub calls : device_calls events ending ≡ (events_in dev ++ pending_list pending) ++ rest
-  pub fault : list_any is_fault (events_in dev) ≡ true → Rose before after
+  pub gave : Gave start.remaining events ending
+  pub calls_are : device_calls events ending ≡ events_told side calls ++ rest
+  pub fault : list_any is_fault (events_in calls) ≡ true → Rose start.faults now.faults
 
 back_true : (a b : Bool) → a ≡ false → a || b ≡ true → b ≡ true
 back_true a b none h = subst (λ (x : Bool). x || b ≡ true) none h
@@ -52,70 +54,97 @@ open_calls : (given more last begun : List DeviceEvent) → given ++ [] ≡ begu
 open_calls given more last begun same = ap (λ (l : List DeviceEvent). (l ++ more) ++ last) (sym (append-nil given) ∙ same)
 
 -- a device that hasn't ended
-open_gives : (told now : Option DeviceStream) (given : List DeviceEvent) (pending : Option DeviceEvent) (dev : List request.Exchange) (before after : ℕ) → GivesMore told now given → given ++ [] ≡ events_in dev ++ pending_list pending → list_any is_fault given ≡ false → Gives told false pending dev before after
-open_gives told now given pending dev before after more begun faultless = by told now more
+open_gives : (made : SideState) (calls : List request.Exchange) (start now : Prospect) (given : List DeviceEvent) → made.over ≡ false → GivesMore start.remaining now.remaining given → given ++ [] ≡ events_told made calls → list_any is_fault given ≡ false → Gives made calls start now
+open_gives made calls start now given going more begun faultless = by start.remaining now.remaining refl more
   where
-    no_fault : list_any is_fault (events_in dev) ≡ true → Rose before after
-    no_fault h = absurd (true≢false (sym (fault_last given [] (events_in dev) (pending_list pending) begun faultless h)))
+    no_fault : list_any is_fault (events_in calls) ≡ true → Rose start.faults now.faults
+    no_fault h = absurd (true≢false (sym (fault_last given [] (events_in calls) (pending_list made.pending) begun faultless h)))
 
-    by : (told now : Option DeviceStream) → GivesMore told now given → Gives told false pending dev before after
-    by None now more = record {
+    not_over : (rest : List DeviceEvent) → IsRest made.over rest
+    not_over rest e = absurd (true≢false (sym e ∙ going))
+
+    by : (told later : Option DeviceStream) → start.remaining ≡ told → GivesMore told later given → Gives made calls start now
+    by None later is more = record {
       rest = [];
       none = λ e. refl;
       events = given;
       ending = Some ends;
-      gave = tt;
-      calls = begun ∙ sym (append-nil (events_in dev ++ pending_list pending));
+      gave = rw is tt;
+      calls_are = begun ∙ sym (append-nil (events_told made calls));
       fault = no_fault;
     }
-    by (Some t) None more = absurd more
-    by (Some t) (Some r) more = record {
+    by (Some t) None is more = absurd more
+    by (Some t) (Some r) is more = record {
       rest = r.events ++ last_event (Some r.ending);
-      none = λ e. absurd (true≢false (sym e));
+      none = not_over (r.events ++ last_event (Some r.ending));
       events = given ++ r.events;
       ending = Some r.ending;
-      gave = rw more (refl, refl);
-      calls = open_calls given r.events (last_event (Some r.ending)) (events_in dev ++ pending_list pending) begun ∙ append_assoc (events_in dev ++ pending_list pending) r.events (last_event (Some r.ending));
+      gave = rw (is, more) (refl, refl);
+      calls_are = open_calls given r.events (last_event (Some r.ending)) (events_told made calls) begun ∙ append_assoc (events_told made calls) r.events (last_event (Some r.ending));
       fault = no_fault;
     }
 
-pub gives : (over : Bool) (pending : Option DeviceEvent) (evs : List DeviceEvent) (dlist : List Made) (dev : List request.Exchange) (told now : Option DeviceStream) (before after : ℕ) → DeviceKept pending over evs dlist dev told now before after → Gives told over pending dev before after
-gives false pending evs dlist dev told now before after d =
-    open_gives told now d.given pending dev before after d.came.0 (subst (λ (c : List DeviceEvent). d.given ++ c ≡ events_in dev ++ pending_list pending) d.came.1 d.begun) d.faultless
-gives true pending evs dlist dev told now before after d = record {
-  rest = [];
-  none = λ e. refl;
-  events = d.given;
-  ending = d.came.ending;
-  gave = d.came.gave;
-  calls = ap (λ (l : List DeviceEvent). d.given ++ l) (sym d.came.last) ∙ d.begun ∙ sym (append-nil (events_in dev ++ pending_list pending));
-  fault = λ h. d.came.fault (fault_last d.given d.closing (events_in dev) (pending_list pending) d.begun d.faultless h);
-}
+pub gives : (side : SideState) (calls : List request.Exchange) (start now : Prospect) → DeviceKept side calls start now → Gives side calls start now
+gives side calls start now d = by side.over refl
+  where
+    by : (over : Bool) → side.over ≡ over → Gives side calls start now
+    by false is =
+        let came : Came start now d.given d.closing false = subst (Came start now d.given d.closing) is d.came in
+        open_gives side calls start now d.given is came.0 (subst (λ (c : List DeviceEvent). d.given ++ c ≡ events_told side calls) came.1 d.begun) d.faultless
+    by true is =
+        let came : Came start now d.given d.closing true = subst (Came start now d.given d.closing) is d.came in
+        record {
+          rest = [];
+          none = λ e. refl;
+          events = d.given;
+          ending = came.ending;
+          gave = came.gave;
+          calls_are = ap (λ (l : List DeviceEvent). d.given ++ l) (sym came.last) ∙ d.begun ∙ sym (append-nil (events_told side calls));
+          fault = λ h. came.fault (fault_last d.given d.closing (events_in calls) (pending_list side.pending) d.begun d.faultless h);
+        }
 
--- ---- nobody can
+-- ---- what is listed of it
 
-held_front : (s : State) (xs ys : List Agenda) → AreHeldBack s (xs ++ ys) → AreHeldBack s xs
-held_front s [] ys held = tt
-held_front s (x ∷ xs) ys held = (held.0, held_front s xs ys held.1)
+parts_same : (x y : DeviceEvent) (xs ys : List DeviceEvent) → x ∷ xs ≡ y ∷ ys → (x ≡ y) × (xs ≡ ys)
+parts_same x y xs ys is = (ap (λ (l : List DeviceEvent). get_or l 0 x) is, ap (λ (l : List DeviceEvent). drop 1 l) is)
 
-held_behind : (s : State) (xs ys : List Agenda) → AreHeldBack s (xs ++ ys) → AreHeldBack s ys
-held_behind s [] ys held = held
-held_behind s (x ∷ xs) ys held = held_behind s xs ys held.1
+no_event : (x : DeviceEvent) (xs : List DeviceEvent) → [] ≡ x ∷ xs → ⊥
+no_event x xs is = cc
 
-held_device : (t : Turn) (s : State) (p : Parts) → AreHeldBack s (now_part t p ++ next_part t p ++ last_part t p) → AreHeldBack s p.device
-held_device turn.Script s p held = held_behind s p.script p.device (held_front s (p.script ++ p.device) p.compositor held)
-held_device turn.Device s p held = held_front s p.device p.compositor (held_front s (p.device ++ p.compositor) p.script held)
-held_device turn.Compositor s p held = held_behind s (p.compositor ++ p.script) p.device held
+all_of_none : (xs ys : List DeviceEvent) → [] ≡ xs ++ ys → xs ≡ []
+all_of_none [] ys is = refl
+all_of_none (x ∷ xs) ys is = absurd (no_event x (xs ++ ys) is)
 
--- a device of which more may come is asked for it, since it could tell what can be made at once
-pub is_over : (t : Turn) (s : State) (ops : List Op) (made : ℕ) (names : List ℕ) (clock : ℤ) (has_left over : Bool) (ended : Option Reply)
-    → ((rest : List DeviceEvent) → IsRest over rest → AreHeldBack s (now_part t (parts_of ops made names clock has_left None ended rest) ++ next_part t (parts_of ops made names clock has_left None ended rest) ++ last_part t (parts_of ops made names clock has_left None ended rest))) → over ≡ true
-is_over t s ops made names clock has_left true ended held = refl
-is_over t s ops made names clock has_left false ended held =
-    let can = held_device t s (parts_of ops made names clock has_left None ended (event.Clock (pos 0) ∷ [])) (held (event.Clock (pos 0) ∷ []) (λ e. absurd (true≢false (sym e)))) in
-    absurd (true≢false can.0)
+-- a call behind all that were told is the last
+last_sound : (ending : Option Ending) (m : DeviceEvent) (made more : List DeviceEvent) → last_event ending ≡ m ∷ (made ++ more) → AreSound (m ∷ made)
+last_sound None m made more is =
+    let parts = parts_same event.Fault m [] (made ++ more) is in
+    record { told = []; ending = None; events_are = rw (all_of_none made more parts.1, parts.0) refl; each = tt }
+last_sound (Some ends) m made more is = absurd (no_event m (made ++ more) is)
+last_sound (Some (garbled_at line)) m made more is =
+    let parts = parts_same (event.Garbled line) m [] (made ++ more) is in
+    record { told = []; ending = Some (garbled_at line); events_are = rw (all_of_none made more parts.1, parts.0) refl; each = tt }
 
--- ---- in the order of a round
+front_sound : (given made more : List DeviceEvent) (ending : Option Ending) → given ++ last_event ending ≡ made ++ more → AreLineEvents given → AreSound made
+front_sound given [] more ending is all = record { told = []; ending = Some ends; events_are = refl; each = tt }
+front_sound [] (m ∷ made) more ending is all = last_sound ending m made more is
+front_sound (g ∷ given) (m ∷ made) more ending is all =
+    let parts = parts_same g m (given ++ last_event ending) (made ++ more) is in
+    let rest = front_sound given made more ending parts.1 all.1 in
+    record { told = m ∷ rest.told; ending = rest.ending; events_are = ap (λ (l : List DeviceEvent). m ∷ l) rest.events_are; each = (subst IsLineEvent parts.0 all.0, rest.each) }
+
+pub events_sound : (side : SideState) (calls : List request.Exchange) (start now : Prospect) → DeviceKept side calls start now → AreSound side.events
+events_sound side calls start now d = subst AreSound (sym d.events_are) (by side.over refl)
+  where
+    by : (over : Bool) → side.over ≡ over → AreSound (events_in calls)
+    by false is =
+        let came : Came start now d.given d.closing false = subst (Came start now d.given d.closing) is d.came in
+        front_sound d.given (events_in calls) (pending_list side.pending) (Some ends) (subst (λ (c : List DeviceEvent). d.given ++ c ≡ events_told side calls) came.1 d.begun) d.sound
+    by true is =
+        let came : Came start now d.given d.closing true = subst (Came start now d.given d.closing) is d.came in
+        front_sound d.given (events_in calls) (pending_list side.pending) came.ending (subst (λ (c : List DeviceEvent). d.given ++ c ≡ events_told side calls) came.last d.begun) d.sound
+
+-- ---- who is left, in the order of a round
 
 agendas-append : (who : Actor) (xs ys : List Agenda) → agendas_of who (xs ++ ys) ≡ agendas_of who xs ++ agendas_of who ys
 agendas-append who [] ys = refl
@@ -125,70 +154,213 @@ agendas-append who (x ∷ xs) ys = each (is_actor who (actor_of x)) (agendas-app
     each true more = ap (λ (l : List Agenda). x ∷ l) more
     each false more = more
 
-agendas_three : (who : Actor) (a b c : List Agenda) → agendas_of who (a ++ b ++ c) ≡ agendas_of who a ++ agendas_of who b ++ agendas_of who c
-agendas_three who a b c = agendas-append who (a ++ b) c ∙ ap (λ (l : List Agenda). l ++ agendas_of who c) (agendas-append who a b)
+abbrev of_parts : Actor → List (List Agenda) → List Agenda
+of_parts who parts = agendas_of who (joined parts)
 
-pick_first : (who : Actor) (a b c : List Agenda) → agendas_of who a ≡ a → agendas_of who b ≡ [] → agendas_of who c ≡ [] → agendas_of who (a ++ b ++ c) ≡ a
-pick_first who a b c ha hb hc = agendas_three who a b c ∙ rw (ha, hb, hc) (append-nil (a ++ []) ∙ append-nil a)
+of_parts-append : (who : Actor) (xs ys : List (List Agenda)) → of_parts who (xs ++ ys) ≡ of_parts who xs ++ of_parts who ys
+of_parts-append who xs ys = ap (agendas_of who) (joined-append xs ys) ∙ agendas-append who (joined xs) (joined ys)
 
-pick_second : (who : Actor) (a b c : List Agenda) → agendas_of who a ≡ [] → agendas_of who b ≡ b → agendas_of who c ≡ [] → agendas_of who (a ++ b ++ c) ≡ b
-pick_second who a b c ha hb hc = agendas_three who a b c ∙ rw (ha, hb, hc) (append-nil b)
+-- no part is of this actor
+abbrev NoneOf : Actor → List (List Agenda) → Type 0
+NoneOf who [] = Unit {0}
+NoneOf who (x ∷ xs) = (agendas_of who x ≡ []) × NoneOf who xs
 
-pick_third : (who : Actor) (a b c : List Agenda) → agendas_of who a ≡ [] → agendas_of who b ≡ [] → agendas_of who c ≡ c → agendas_of who (a ++ b ++ c) ≡ c
-pick_third who a b c ha hb hc = agendas_three who a b c ∙ rw (ha, hb, hc) refl
+none_of : (who : Actor) (xs : List (List Agenda)) → NoneOf who xs → of_parts who xs ≡ []
+none_of who [] none = refl
+none_of who (x ∷ xs) none = agendas-append who x (joined xs) ∙ rw (none.0, none_of who xs none.1) refl
 
--- each part is of its own actor
-record Sorted (p : Parts) : Type 0 where
-  s1 : agendas_of (App 1) p.script ≡ p.script
-  s2 : agendas_of Device p.script ≡ []
-  s3 : agendas_of Compositor p.script ≡ []
-  d1 : agendas_of (App 1) p.device ≡ []
-  d2 : agendas_of Device p.device ≡ p.device
-  d3 : agendas_of Compositor p.device ≡ []
-  c1 : agendas_of (App 1) p.compositor ≡ []
-  c2 : agendas_of Device p.compositor ≡ []
-  c3 : agendas_of Compositor p.compositor ≡ p.compositor
+none-append : (who : Actor) (xs ys : List (List Agenda)) → NoneOf who xs → NoneOf who ys → NoneOf who (xs ++ ys)
+none-append who [] ys a b = b
+none-append who (x ∷ xs) ys a b = (a.0, none-append who xs ys a.1 b)
 
-round_of : (t : Turn) (p : Parts) → Sorted p → in_round 1 (now_part t p ++ next_part t p ++ last_part t p) ≡ in_order p
-round_of turn.Script p o = rw (pick_first (App 1) p.script p.device p.compositor o.s1 o.d1 o.c1, pick_second Device p.script p.device p.compositor o.s2 o.d2 o.c2, pick_third Compositor p.script p.device p.compositor o.s3 o.d3 o.c3) refl
-round_of turn.Device p o = rw (pick_third (App 1) p.device p.compositor p.script o.d1 o.c1 o.s1, pick_first Device p.device p.compositor p.script o.d2 o.c2 o.s2, pick_second Compositor p.device p.compositor p.script o.d3 o.c3 o.s3) refl
-round_of turn.Compositor p o = rw (pick_second (App 1) p.compositor p.script p.device o.c1 o.s1 o.d1, pick_third Device p.compositor p.script p.device o.c2 o.s2 o.d2, pick_first Compositor p.compositor p.script p.device o.c3 o.s3 o.d3) refl
+none-drop : (who : Actor) (n : ℕ) (xs : List (List Agenda)) → NoneOf who xs → NoneOf who (drop n xs)
+none-drop who zero xs none = none
+none-drop who (suc n) [] none = tt
+none-drop who (suc n) (x ∷ xs) none = none-drop who n xs none.1
 
-script_own : (ops : List Op) (made : ℕ) (names : List ℕ) (clock : ℤ) (has_left : Bool) → agendas_of (App 1) (script_part ops made names clock has_left) ≡ script_part ops made names clock has_left
-script_own ops made names clock true = refl
-script_own ops made names clock false = refl
+-- all parts but one are of others
+abbrev IsOne : Actor → List (List Agenda) → Type 0
+IsOne who [] = Unit {0}
+IsOne who (x ∷ xs) = ((agendas_of who x ≡ []) × IsOne who xs) ⊎ NoneOf who xs
 
-script_none : (ops : List Op) (made : ℕ) (names : List ℕ) (clock : ℤ) (has_left : Bool) → (agendas_of Device (script_part ops made names clock has_left) ≡ []) × (agendas_of Compositor (script_part ops made names clock has_left) ≡ [])
-script_none ops made names clock true = (refl, refl)
-script_none ops made names clock false = (refl, refl)
+-- so it stands on one side of each place
+on_one_side : (who : Actor) (n : ℕ) (parts : List (List Agenda)) → IsOne who parts → (of_parts who (take n parts) ≡ []) ⊎ (of_parts who (drop n parts) ≡ [])
+on_one_side who zero parts one = inl refl
+on_one_side who (suc n) [] one = inl refl
+on_one_side who (suc n) (x ∷ xs) (inr none) = inr (none_of who (drop n xs) (none-drop who n xs none))
+on_one_side who (suc n) (x ∷ xs) (inl one) = by (on_one_side who n xs one.1)
+  where
+    by : (of_parts who (take n xs) ≡ []) ⊎ (of_parts who (drop n xs) ≡ []) → (of_parts who (x ∷ take n xs) ≡ []) ⊎ (of_parts who (drop n xs) ≡ [])
+    by (inl none) = inl (agendas-append who x (joined (take n xs)) ∙ rw (one.0, none) refl)
+    by (inr none) = inr none
+
+swapped : (a b : List Agenda) → (a ≡ []) ⊎ (b ≡ []) → b ++ a ≡ a ++ b
+swapped a b (inl none) = rw none (append-nil b)
+swapped a b (inr none) = rw none (sym (append-nil a))
+
+-- whose turn it is doesn't matter
+any_turn : (who : Actor) (turn : ℕ) (parts : List (List Agenda)) → IsOne who parts → of_parts who (from_turn turn parts) ≡ of_parts who parts
+any_turn who turn parts one =
+    of_parts-append who (drop turn parts) (take turn parts) ∙ swapped (of_parts who (take turn parts)) (of_parts who (drop turn parts)) (on_one_side who turn parts one)
+    ∙ sym (of_parts-append who (take turn parts) (drop turn parts)) ∙ ap (of_parts who) (take-append-drop turn parts)
+
+-- ---- the parts of a run
+
+part_own : (number : ℕ) (ops : List Op) (app : AppState) (clock : ℤ) → agendas_of (App number) (script_part number ops app clock) ≡ script_part number ops app clock
+part_own number ops app clock = by app.has_left refl
+  where
+    by : (left : Bool) → app.has_left ≡ left → agendas_of (App number) (script_part number ops app clock) ≡ script_part number ops app clock
+    by true e = rw e refl
+    by false e = rw (e, eq-eqb number number refl) refl
+
+part_other : (who : Actor) (number : ℕ) (ops : List Op) (app : AppState) (clock : ℤ) → is_actor who (App number) ≡ false → agendas_of who (script_part number ops app clock) ≡ []
+part_other who number ops app clock other = by app.has_left refl
+  where
+    by : (left : Bool) → app.has_left ≡ left → agendas_of who (script_part number ops app clock) ≡ []
+    by true e = rw e refl
+    by false e = rw (e, other) refl
+
+other_app : (own number : ℕ) → own ≢ number → is_actor (App own) (App number) ≡ false
+other_app own number apart = ne_eqb own number apart
+
+-- scripts from a number on are of nobody else
+scripts_none : (who : Actor) (number : ℕ) (scripts : List (List Op)) (apps : List AppState) (clocks : List ℤ) → ((n : ℕ) → number ≤ n → is_actor who (App n) ≡ false) → NoneOf who (script_parts number scripts apps clocks)
+scripts_none who number [] apps clocks other = tt
+scripts_none who number (ops ∷ scripts) [] clocks other = tt
+scripts_none who number (ops ∷ scripts) (app ∷ apps) [] other = tt
+scripts_none who number (ops ∷ scripts) (app ∷ apps) (clock ∷ clocks) other =
+    (part_other who number ops app clock (other number (omega arith)), scripts_none who (number + 1) scripts apps clocks (λ n least. other n (omega (arith, least))))
 
 device_own : (calls : List DeviceEvent) → agendas_of Device (device_agendas calls) ≡ device_agendas calls
 device_own [] = refl
 device_own (e ∷ es) = refl
 
-device_none : (calls : List DeviceEvent) → (agendas_of (App 1) (device_agendas calls) ≡ []) × (agendas_of Compositor (device_agendas calls) ≡ [])
-device_none [] = (refl, refl)
-device_none (e ∷ es) = (refl, refl)
+device_app : (n : ℕ) (calls : List DeviceEvent) → agendas_of (App n) (device_agendas calls) ≡ []
+device_app n [] = refl
+device_app n (e ∷ es) = refl
+
+device_compositor : (calls : List DeviceEvent) → agendas_of Compositor (device_agendas calls) ≡ []
+device_compositor [] = refl
+device_compositor (e ∷ es) = refl
 
 compositor_own : (ended : Option Reply) → agendas_of Compositor (compositor_part ended) ≡ compositor_part ended
 compositor_own None = refl
 compositor_own (Some reply) = refl
 
-compositor_none : (ended : Option Reply) → (agendas_of (App 1) (compositor_part ended) ≡ []) × (agendas_of Device (compositor_part ended) ≡ [])
-compositor_none None = (refl, refl)
-compositor_none (Some reply) = (refl, refl)
+compositor_app : (n : ℕ) (ended : Option Reply) → agendas_of (App n) (compositor_part ended) ≡ []
+compositor_app n None = refl
+compositor_app n (Some reply) = refl
 
--- those left stand in the order of a round
-pub in_round_is : (t : Turn) (ops : List Op) (made : ℕ) (names : List ℕ) (clock : ℤ) (has_left : Bool) (pending : Option DeviceEvent) (ended : Option Reply) (rest : List DeviceEvent) (p : Parts) → p ≡ parts_of ops made names clock has_left pending ended rest
-    → in_round 1 (now_part t p ++ next_part t p ++ last_part t p) ≡ in_order p
-in_round_is t ops made names clock has_left pending ended rest p same = round_of t p (rw same (record {
-  s1 = script_own ops made names clock has_left;
-  s2 = (script_none ops made names clock has_left).0;
-  s3 = (script_none ops made names clock has_left).1;
-  d1 = (device_none (pending_list pending ++ rest)).0;
-  d2 = device_own (pending_list pending ++ rest);
-  d3 = (device_none (pending_list pending ++ rest)).1;
-  c1 = (compositor_none ended).0;
-  c2 = (compositor_none ended).1;
-  c3 = compositor_own ended;
-}))
+compositor_device : (ended : Option Reply) → agendas_of Device (compositor_part ended) ≡ []
+compositor_device None = refl
+compositor_device (Some reply) = refl
+
+module _ (device : List DeviceEvent) (ended : Option Reply) where
+  abbrev last_two : List (List Agenda)
+  last_two = device_agendas device ∷ compositor_part ended ∷ []
+
+  app_one : (own number place : ℕ) (scripts : List (List Op)) (apps : List AppState) (clocks : List ℤ) → own ≡ number + place → IsOne (App own) (script_parts number scripts apps clocks ++ last_two)
+  app_one own number place [] apps clocks is = inl (device_app own device, inl (compositor_app own ended, tt))
+  app_one own number place (ops ∷ scripts) [] clocks is = inl (device_app own device, inl (compositor_app own ended, tt))
+  app_one own number place (ops ∷ scripts) (app ∷ apps) [] is = inl (device_app own device, inl (compositor_app own ended, tt))
+  app_one own number zero (ops ∷ scripts) (app ∷ apps) (clock ∷ clocks) is =
+      inr (none-append (App own) (script_parts (number + 1) scripts apps clocks) last_two (scripts_none (App own) (number + 1) scripts apps clocks (λ n least. other_app own n (λ same. omega (arith, least, is, same)))) (device_app own device, (compositor_app own ended, tt)))
+  app_one own number (suc place) (ops ∷ scripts) (app ∷ apps) (clock ∷ clocks) is =
+      inl (part_other (App own) number ops app clock (other_app own number (λ same. omega (arith, is, same))), app_one own (number + 1) place scripts apps clocks (omega (arith, is)))
+
+  device_one : (number : ℕ) (scripts : List (List Op)) (apps : List AppState) (clocks : List ℤ) → IsOne Device (script_parts number scripts apps clocks ++ last_two)
+  device_one number [] apps clocks = inr (compositor_device ended, tt)
+  device_one number (ops ∷ scripts) [] clocks = inr (compositor_device ended, tt)
+  device_one number (ops ∷ scripts) (app ∷ apps) [] = inr (compositor_device ended, tt)
+  device_one number (ops ∷ scripts) (app ∷ apps) (clock ∷ clocks) = inl (part_other Device number ops app clock refl, device_one (number + 1) scripts apps clocks)
+
+  compositor_one : (number : ℕ) (scripts : List (List Op)) (apps : List AppState) (clocks : List ℤ) → IsOne Compositor (script_parts number scripts apps clocks ++ last_two)
+  compositor_one number [] apps clocks = inl (device_compositor device, inr tt)
+  compositor_one number (ops ∷ scripts) [] clocks = inl (device_compositor device, inr tt)
+  compositor_one number (ops ∷ scripts) (app ∷ apps) [] = inl (device_compositor device, inr tt)
+  compositor_one number (ops ∷ scripts) (app ∷ apps) (clock ∷ clocks) = inl (part_other Compositor number ops app clock refl, compositor_one (number + 1) scripts apps clocks)
+
+-- an application's own part
+own_at : (own number place : ℕ) (scripts : List (List Op)) (apps : List AppState) (clocks : List ℤ) → own ≡ number + place → place < length (script_parts number scripts apps clocks)
+    → of_parts (App own) (script_parts number scripts apps clocks) ≡ get_or (script_parts number scripts apps clocks) place []
+own_at own number place [] apps clocks is within = let no : ⊥ = omega (arith, within) in absurd no
+own_at own number place (ops ∷ scripts) [] clocks is within = let no : ⊥ = omega (arith, within) in absurd no
+own_at own number place (ops ∷ scripts) (app ∷ apps) [] is within = let no : ⊥ = omega (arith, within) in absurd no
+own_at own number zero (ops ∷ scripts) (app ∷ apps) (clock ∷ clocks) is within =
+    let same : own ≡ number = omega (arith, is) in
+    let others : of_parts (App own) (script_parts (number + 1) scripts apps clocks) ≡ [] = none_of (App own) (script_parts (number + 1) scripts apps clocks) (scripts_none (App own) (number + 1) scripts apps clocks (λ n least. other_app own n (λ equal. omega (arith, least, is, equal)))) in
+    agendas-append (App own) (script_part number ops app clock) (joined (script_parts (number + 1) scripts apps clocks)) ∙ rw (others, same, part_own number ops app clock) (append-nil (script_part number ops app clock))
+own_at own number (suc place) (ops ∷ scripts) (app ∷ apps) (clock ∷ clocks) is within =
+    agendas-append (App own) (script_part number ops app clock) (joined (script_parts (number + 1) scripts apps clocks))
+    ∙ rw (part_other (App own) number ops app clock (other_app own number (λ same. omega (arith, is, same)))) (own_at own (number + 1) place scripts apps clocks (omega (arith, is)) (omega (arith, within)))
+
+-- ---- who is left
+
+module _ (scenario : Scenario) (run : RunState) (clocks : List ℤ) (rest : List DeviceEvent) (all : AreAll scenario run clocks) (turn : ℕ) where
+  abbrev scripts : List (List Agenda)
+  scripts = script_parts 1 scenario.scripts run.apps clocks
+
+  abbrev device : List DeviceEvent
+  device = pending_list run.side.pending ++ rest
+
+  abbrev two : List (List Agenda)
+  two = device_agendas device ∷ compositor_part run.ended ∷ []
+
+  abbrev left : List Agenda
+  left = joined (from_turn turn (scripts ++ two))
+
+  count : length scripts ≡ length scenario.scripts
+  count = length-script_parts 1 scenario.scripts run.apps clocks all.count all.timed
+
+  app_left : (place : ℕ) → place < length scenario.scripts → agendas_of (App (suc place)) left ≡ get_or scripts place []
+  app_left place within =
+      let size = count in
+      any_turn (App (suc place)) turn (scripts ++ two) (app_one device run.ended (suc place) 1 place scenario.scripts run.apps clocks (omega arith)) ∙ of_parts-append (App (suc place)) scripts two
+      ∙ rw (none_of (App (suc place)) two (device_app (suc place) device, (compositor_app (suc place) run.ended, tt)))
+      (append-nil (of_parts (App (suc place)) scripts) ∙ own_at (suc place) 1 place scenario.scripts run.apps clocks (omega arith) (omega (arith, within, size)))
+
+  scripts_left : (n : ℕ) → n ≤ length scenario.scripts → scripts_to n left ≡ joined (take n scripts)
+  scripts_left zero few = refl
+  scripts_left (suc n) few =
+      let size = count in
+      rw (scripts_left n (omega (arith, few)), app_left n (omega (arith, few)))
+      (sym (joined-snoc (take n scripts) (get_or scripts n [])) ∙ ap joined (sym (take_more scripts n [] (omega (arith, few, size))) ∙ ap (λ (m : ℕ). take m scripts) (add-one n)))
+
+  device_left : agendas_of Device left ≡ device_agendas device
+  device_left =
+      any_turn Device turn (scripts ++ two) (device_one device run.ended 1 scenario.scripts run.apps clocks) ∙ of_parts-append Device scripts two
+      ∙ rw (none_of Device scripts (scripts_none Device 1 scenario.scripts run.apps clocks (λ n least. refl)))
+      (agendas-append Device (device_agendas device) (compositor_part run.ended ++ []) ∙ rw (append-nil (compositor_part run.ended), device_own device, compositor_device run.ended) (append-nil (device_agendas device)))
+
+  compositor_left : agendas_of Compositor left ≡ compositor_part run.ended
+  compositor_left =
+      any_turn Compositor turn (scripts ++ two) (compositor_one device run.ended 1 scenario.scripts run.apps clocks) ∙ of_parts-append Compositor scripts two
+      ∙ rw (none_of Compositor scripts (scripts_none Compositor 1 scenario.scripts run.apps clocks (λ n least. refl)))
+      (agendas-append Compositor (device_agendas device) (compositor_part run.ended ++ []) ∙ rw (append-nil (compositor_part run.ended), device_compositor device, compositor_own run.ended) refl)
+
+  -- in the order of a round
+  pub in_round_is : in_round (length scenario.scripts) left ≡ joined scripts ++ device_part run.side.pending rest ++ compositor_part run.ended
+  in_round_is =
+      let size = count in
+      rw (scripts_left (length scenario.scripts) (omega arith), device_left, compositor_left) (ap (λ (l : List (List Agenda)). joined l ++ device_agendas device ++ compositor_part run.ended) (take_all (length scenario.scripts) scripts (omega (arith, size))))
+
+  -- ---- nobody can
+
+  held_front : (s : State) (xs ys : List Agenda) → AreHeldBack s (xs ++ ys) → AreHeldBack s xs
+  held_front s [] ys held = tt
+  held_front s (x ∷ xs) ys held = (held.0, held_front s xs ys held.1)
+
+  held_behind : (s : State) (xs ys : List Agenda) → AreHeldBack s (xs ++ ys) → AreHeldBack s ys
+  held_behind s [] ys held = held
+  held_behind s (x ∷ xs) ys held = held_behind s xs ys held.1
+
+  -- the device among them
+  pub device_held : (s : State) → AreHeldBack s left → AreHeldBack s (device_agendas device)
+  device_held s held =
+      let parts : List (List Agenda) = scripts ++ two in
+      let apart : AreHeldBack s (joined (drop turn parts) ++ joined (take turn parts)) = subst (AreHeldBack s) (joined-append (drop turn parts) (take turn parts)) held in
+      let again : AreHeldBack s (joined (take turn parts) ++ joined (drop turn parts)) =
+      held_append s (joined (take turn parts)) (joined (drop turn parts)) (held_behind s (joined (drop turn parts)) (joined (take turn parts)) apart) (held_front s (joined (drop turn parts)) (joined (take turn parts)) apart) in
+      let all_of_them : AreHeldBack s (joined scripts ++ joined two) =
+      subst (AreHeldBack s) (sym (joined-append (take turn parts) (drop turn parts)) ∙ ap joined (take-append-drop turn parts) ∙ joined-append scripts two) again in
+      held_front s (device_agendas device) (compositor_part run.ended ++ []) (held_behind s (joined scripts) (joined two) all_of_them)

@@ -1,11 +1,14 @@
 pub mod Lending
 pub mod TurnOrder
+pub mod Parts
 pub mod Ops
 pub mod Steps
 pub mod OnlyLeaveLeaves
-pub mod Keeping
-pub mod KeepingDevice
+pub mod Work
+pub mod Apps
+pub mod Told
+pub mod AppTurns
+pub mod DeviceTurns
 pub mod AtStart
 pub mod Ending
 pub mod AtEnd
-pub mod Measure

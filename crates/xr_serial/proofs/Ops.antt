@@ -64,9 +64,9 @@ same_request values _ = refl
 -- ---- a call and the clock at which a wait would begin
 
 -- whether a call is ready isn't decided by that clock yet
-pub ready_started : (s : State) (clock : ℤ) (r : Request) → ready s (asked (App 1) (with_start clock r)) ≡ ready s (asked (App 1) r)
-ready_started s clock (wait_image chain timeout start) = refl
-ready_started s clock _ = refl
+pub ready_started : (s : State) (number : ℕ) (clock : ℤ) (r : Request) → ready s (asked (App number) (with_start clock r)) ≡ ready s (asked (App number) r)
+ready_started s number clock (wait_image chain timeout start) = refl
+ready_started s number clock _ = refl
 
 -- no wait for an image is built
 pub built_unstarted : (clock : ℤ) (r : Request) → is_built r ≡ true → with_start clock r ≡ r

@@ -1,156 +1,179 @@
 -- A run goes on: a call is made, a turn is passed, the device tells more.
-use Rattle.std.proofs.Common.{◌≡◌, ◌+◌, ◌<◌, ℕ, Bool, true, false, List, [], ◌∷◌, ◌++◌, None, refl, sym, ap, subst, ◌∙◌, append_assoc, true≢false}
-use Rattle.std.specs.Prelude.{if◌then◌else◌}
+use Rattle.std.proofs.Common.{◌≡◌, ◌+◌, ◌<◌, ℕ, suc, Bool, true, false, List, [], ◌∷◌, ◌++◌, length, get_or, set, refl, sym, ap, subst, ◌∙◌, append_assoc, append-nil, true≢false, arith}
+use Rattle.std.specs.Prelude.{if◌then◌else◌, None}
 use Rattle.xr_types.specs.declared.calls.Actor.{Actor}
-use Rattle.xr_types.specs.declared.calls.Actor.TheVariants.{App, Compositor, Device}
 use Rattle.xr_types.specs.declared.calls.Reply.{Reply}
 use Rattle.xr_types.specs.declared.device.DeviceEvent.{DeviceEvent}
-use Rattle.xr_types.specs.declared.scenario.Op.{Op}
+use Rattle.xr_types.specs.declared.scenario.Scenario.{Scenario}
 use Rattle.xr_model.specs.machine.Request.{Request, Entry, Outcome, Exchange, is_actor}
 use Rattle.xr_model.specs.machine.CoreCalls.{entry_of}
 use Rattle.xr_model.specs.machine.State.{State}
 use Rattle.xr_model.specs.machine.History.{clock_of, clocks_after, IsLegalFrom, calls_from}
 use Rattle.xr_model.specs.runs.Robin.{Agenda, actor_of, next_call, agenda_after, is_next_ready, IsRobinFrom, agendas_left}
-use Rattle.xr_serial.specs.inside.Made.{IsAnswered}
-use Rattle.xr_serial.specs.inside.Sides.{told_of}
-use Rattle.xr_serial.specs.inside.Turns.{Parts, now_part, next_part, last_part, turn_behind, AreHeldBack, IsTurnOrder}
-use Rattle.xr_serial.specs.inside.Continues.{IsRest, told_if, Continues}
-use Rattle.xr_serial.specs.declared.turn.Turn.{Turn}
-use Rattle.xr_serial.specs.declared.turn.Turn.TheVariants as turn
+use Rattle.xr_serial.specs.inside.Made.{IsAnswered, exchange_of, calls_with}
+use Rattle.xr_serial.specs.inside.Turns.{turn_behind, others_of, from_turn, joined, AreHeldBack, IsTurnOrder}
+use Rattle.xr_serial.specs.inside.Past.{IsRest, Past, Standing}
 use Rattle.xr_serial.proofs.Lending.{ready_any}
 use Rattle.xr_serial.proofs.Ops.{built_starts}
-use Rattle.xr_serial.proofs.TurnOrder.{passed_over, takes_turn, Takes}
+use Rattle.xr_serial.proofs.TurnOrder.{Takes, takes_turn, passed_over, from_turn_is, from_turn_next, count_from, joined-snoc}
+use Rattle.std.proofs.lemmas.List.{set-get_or}
 
 -- ---- one call more in front of a history
 
-calls_more : (s new : State) (who by : Actor) (what : Request) (answer : Reply) (bytes : List ℕ) (more : List Entry) → IsAnswered s new by what answer bytes
-    → calls_from s who (entry_of by what answer ∷ more) ≡ told_if who by (told_of what answer bytes) ++ calls_from new who more
-calls_more s new who by what answer bytes more made = each (is_actor who by) refl
+calls_more : (s after : State) (calls : Actor → List Exchange) (who by : Actor) (what : Request) (answer : Reply) (bytes : List ℕ) (more : List Entry) → IsAnswered s after by what answer bytes
+    → calls who ++ calls_from s who (entry_of by what answer ∷ more) ≡ calls_with calls by (exchange_of what answer bytes) who ++ calls_from after who more
+calls_more s after calls who by what answer bytes more made = each (is_actor who by) refl
   where
-    each : (b : Bool) → is_actor who by ≡ b → calls_from s who (entry_of by what answer ∷ more) ≡ (if b then told_of what answer bytes ∷ [] else []) ++ calls_from new who more
-    each true e = rw (e, made.outcome) (ap (λ (n : State). let t : Exchange = told_of what answer bytes in t ∷ calls_from n who more) (sym made.leads))
-    each false e = rw e (ap (λ (n : State). calls_from n who more) (sym made.leads))
+    t : Exchange
+    t = exchange_of what answer bytes
+
+    each : (b : Bool) → is_actor who by ≡ b → calls who ++ calls_from s who (entry_of by what answer ∷ more) ≡ (if b then calls who ++ t ∷ [] else calls who) ++ calls_from after who more
+    each true e = rw (e, made.outcome, ← made.leads) (sym (append_assoc (calls who) (t ∷ []) (calls_from after who more)))
+    each false e = rw (e, ← made.leads) refl
 
 -- the next call of an agenda
 pub record IsAgendaOf (who : Actor) (what : Request) (x : Agenda) : Type 0 where
   pub actor : actor_of x ≡ who
   pub call : next_call x ≡ what
 
-is_ready : (s new : State) (who : Actor) (what : Request) (answer : Reply) (bytes : List ℕ) (x : Agenda) → IsAgendaOf who what x → IsAnswered s new who what answer bytes → is_next_ready s x ≡ true
-is_ready s new who what answer bytes x of made = rw (of.actor, of.call) (ready_any s who what 0 _ false _ ∙ made.is_ready)
+is_ready : (s after : State) (who : Actor) (what : Request) (answer : Reply) (bytes : List ℕ) (x : Agenda) → IsAgendaOf who what x → IsAnswered s after who what answer bytes → is_next_ready s x ≡ true
+is_ready s after who what answer bytes x of made = rw (of.actor, of.call) (ready_any s who what 0 _ false _ ∙ made.is_ready)
 
 abbrev pub outcome_of : Reply → List ℕ → Outcome
 outcome_of answer bytes = record { reply = answer; text = bytes; shown = None }
 
-robin_more : (s new : State) (who : Actor) (what : Request) (answer : Reply) (bytes : List ℕ) (x : Agenda) (y z agendas : List Agenda) (more : List Entry) → IsAgendaOf who what x → IsAnswered s new who what answer bytes → Takes s x y z agendas
-    → IsRobinFrom new ((y ++ z) ++ agenda_after x new (outcome_of answer bytes)) more → IsRobinFrom s agendas (entry_of who what answer ∷ more)
-robin_more s new who what answer bytes x y z agendas more of made t goes =
-    rw (t.found, made.outcome, t.others, t.agenda) ((sym of.actor, sym of.call), subst (λ (n : State). IsRobinFrom n ((y ++ z) ++ agenda_after x n (outcome_of answer bytes)) more) made.leads goes)
+robin_more : (s after : State) (who : Actor) (what : Request) (answer : Reply) (bytes : List ℕ) (x : Agenda) (others agendas : List Agenda) (more : List Entry) → IsAgendaOf who what x → IsAnswered s after who what answer bytes → Takes s x others agendas
+    → IsRobinFrom after (others ++ agenda_after x after (outcome_of answer bytes)) more → IsRobinFrom s agendas (entry_of who what answer ∷ more)
+robin_more s after who what answer bytes x others agendas more of made t goes =
+    rw (t.found, made.outcome, t.others_are, t.agenda) ((sym of.actor, sym of.call), subst (λ (n : State). IsRobinFrom n (others ++ agenda_after x n (outcome_of answer bytes)) more) made.leads goes)
 
-left_more : (s new : State) (who : Actor) (what : Request) (answer : Reply) (bytes : List ℕ) (x : Agenda) (y z agendas : List Agenda) (more : List Entry) → IsAnswered s new who what answer bytes → Takes s x y z agendas
-    → agendas_left s agendas (entry_of who what answer ∷ more) ≡ agendas_left new ((y ++ z) ++ agenda_after x new (outcome_of answer bytes)) more
-left_more s new who what answer bytes x y z agendas more made t =
-    rw (t.found, made.outcome, t.others, t.agenda) (ap (λ (n : State). agendas_left n ((y ++ z) ++ agenda_after x n (outcome_of answer bytes)) more) (sym made.leads))
-
--- ---- the parts in the turn behind
-
-now_behind : (t : Turn) (p : Parts) → now_part (turn_behind t) p ≡ next_part t p
-now_behind turn.Script p = refl
-now_behind turn.Device p = refl
-now_behind turn.Compositor p = refl
-
-next_behind : (t : Turn) (p : Parts) → next_part (turn_behind t) p ≡ last_part t p
-next_behind turn.Script p = refl
-next_behind turn.Device p = refl
-next_behind turn.Compositor p = refl
-
-last_behind : (t : Turn) (p : Parts) → last_part (turn_behind t) p ≡ now_part t p
-last_behind turn.Script p = refl
-last_behind turn.Device p = refl
-last_behind turn.Compositor p = refl
+left_more : (s after : State) (who : Actor) (what : Request) (answer : Reply) (bytes : List ℕ) (x : Agenda) (others agendas : List Agenda) (more : List Entry) → IsAnswered s after who what answer bytes → Takes s x others agendas
+    → agendas_left s agendas (entry_of who what answer ∷ more) ≡ agendas_left after (others ++ agenda_after x after (outcome_of answer bytes)) more
+left_more s after who what answer bytes x others agendas more made t =
+    rw (t.found, made.outcome, t.others_are, t.agenda) (ap (λ (n : State). agendas_left n (others ++ agenda_after x n (outcome_of answer bytes)) more) (sym made.leads))
 
 -- ---- a run goes on
 
--- The actor whose turn it is makes its call: what it is, and what is left of the three behind it.
-pub record Goes (t : Turn) (parts later : List DeviceEvent → Parts) (s new : State) (who : Actor) (what : Request) (answer : Reply) (bytes : List ℕ) : Type 0 where
+-- the actor whose turn it is makes its call
+pub record Goes (turn : ℕ) (parts : List DeviceEvent → List (List Agenda)) (s after : State) (who : Actor) (what : Request) (answer : Reply) (bytes : List ℕ) : Type 0 where
   pub agenda : List DeviceEvent → Agenda
-  pub alone : (rest : List DeviceEvent) → now_part t (parts rest) ≡ agenda rest ∷ []
+  pub alone : (rest : List DeviceEvent) → get_or (parts rest) turn [] ≡ agenda rest ∷ []
   pub of : (rest : List DeviceEvent) → IsAgendaOf who what (agenda rest)
-  pub after : (rest : List DeviceEvent) → now_part t (later rest) ≡ agenda_after (agenda rest) new (outcome_of answer bytes)
-  pub next : (rest : List DeviceEvent) → next_part t (later rest) ≡ next_part t (parts rest)
-  pub last : (rest : List DeviceEvent) → last_part t (later rest) ≡ last_part t (parts rest)
-  pub made : IsAnswered s new who what answer bytes
+  pub made : IsAnswered s after who what answer bytes
 
-pub made_turn : (ops : List Op) (t : Turn) (k : ℕ) (s new : State) (parts later : List DeviceEvent → Parts) (over : Bool) (begun : List DeviceEvent) (app dev comp : List Exchange) (who : Actor) (what : Request) (answer : Reply) (bytes : List ℕ) → k < 3
-    → Goes t parts later s new who what answer bytes → Continues ops t k s parts over begun app dev comp
-    → Continues ops (turn_behind t) 0 new later over begun (app ++ told_if (App 1) who (told_of what answer bytes)) (dev ++ told_if Device who (told_of what answer bytes)) (comp ++ told_if Compositor who (told_of what answer bytes))
-made_turn ops t k s new parts later over begun app dev comp who what answer bytes few goes g = record {
-  past = g.past ++ e ∷ [];
-  clocks = clocks_after g.clocks e new;
-  agendas = λ rest. (next_part t (parts rest) ++ last_part t (parts rest)) ++ agenda_after (goes.agenda rest) new (outcome_of answer bytes);
-  stands = λ rest ok. rw (now_behind t (later rest), next_behind t (later rest), last_behind t (later rest), goes.after rest, goes.next rest, goes.last rest) refl;
-  legal = λ more h. rw append_assoc (g.legal (e ∷ more) (goes.made.allowed, built_starts (clock_of g.clocks who) what goes.made.allowed.built, goes.made.is_ready, subst (λ (n : State). IsLegalFrom n (clocks_after g.clocks e n) more) goes.made.leads h));
-  robin = λ rest ok more h. rw append_assoc (g.robin rest ok (e ∷ more) (robin_more s new who what answer bytes (goes.agenda rest) (next_part t (parts rest)) (last_part t (parts rest)) (g.agendas rest) more (goes.of rest) goes.made (takes rest ok) h));
-  left = λ rest ok more. rw append_assoc (g.left rest ok (e ∷ more) ∙ left_more s new who what answer bytes (goes.agenda rest) (next_part t (parts rest)) (last_part t (parts rest)) (g.agendas rest) more goes.made (takes rest ok));
-  mine = λ more. rw append_assoc (g.mine (e ∷ more) ∙ ap (λ (ts : List Exchange). app ++ ts) (calls_more s new (App 1) who what answer bytes more goes.made) ∙ sym (append_assoc app (told_if (App 1) who (told_of what answer bytes)) (calls_from new (App 1) more)));
-  devices = λ more. rw append_assoc (g.devices (e ∷ more) ∙ ap (λ (ts : List Exchange). dev ++ ts) (calls_more s new Device who what answer bytes more goes.made) ∙ sym (append_assoc dev (told_if Device who (told_of what answer bytes)) (calls_from new Device more)));
-  compositors = λ more. rw append_assoc (g.compositors (e ∷ more) ∙ ap (λ (ts : List Exchange). comp ++ ts) (calls_more s new Compositor who what answer bytes more goes.made) ∙ sym (append_assoc comp (told_if Compositor who (told_of what answer bytes)) (calls_from new Compositor more)));
-}
-  where
-    e : Entry
-    e = entry_of who what answer
+-- so many actors, and this turn's is one of them
+pub record AreSo (actors turn idle : ℕ) (parts : List DeviceEvent → List (List Agenda)) : Type 0 where
+  pub count : (rest : List DeviceEvent) → length (parts rest) ≡ actors
+  pub within : turn < actors
+  pub few : idle < actors
 
-    takes : (rest : List DeviceEvent) → IsRest over rest → Takes s (goes.agenda rest) (next_part t (parts rest)) (last_part t (parts rest)) (g.agendas rest)
-    takes rest ok =
-        takes_turn k s (goes.agenda rest) (next_part t (parts rest)) (last_part t (parts rest)) (g.agendas rest) few
-        (subst (λ (now : List Agenda). IsTurnOrder k s now (next_part t (parts rest)) (last_part t (parts rest)) (g.agendas rest)) (goes.alone rest) (g.stands rest ok))
-        (is_ready s new who what answer bytes (goes.agenda rest) (goes.of rest) goes.made)
+turn_in : (actors turn idle : ℕ) (parts : List DeviceEvent → List (List Agenda)) (rest : List DeviceEvent) → AreSo actors turn idle parts → turn < length (parts rest)
+turn_in actors turn idle parts rest are = let count = are.count rest in let within = are.within in omega (arith, count, within)
 
--- it has nothing left, or can't make its call
-pub passed_turn : (ops : List Op) (t : Turn) (k : ℕ) (s : State) (parts : List DeviceEvent → Parts) (over : Bool) (begun : List DeviceEvent) (app dev comp : List Exchange) → k < 3
-    → ((rest : List DeviceEvent) → IsRest over rest → AreHeldBack s (now_part t (parts rest))) → Continues ops t k s parts over begun app dev comp → Continues ops (turn_behind t) (k + 1) s parts over begun app dev comp
-passed_turn ops t k s parts over begun app dev comp few held g = record {
-  past = g.past;
-  clocks = g.clocks;
-  agendas = g.agendas;
-  stands = λ rest ok. rw (now_behind t (parts rest), next_behind t (parts rest), last_behind t (parts rest)) (passed_over k s (now_part t (parts rest)) (next_part t (parts rest)) (last_part t (parts rest)) (g.agendas rest) few (g.stands rest ok) (held rest ok));
-  legal = g.legal;
-  robin = g.robin;
-  left = g.left;
-  mine = g.mine;
-  devices = g.devices;
-  compositors = g.compositors;
-}
+idle_in : (actors turn idle : ℕ) (parts : List DeviceEvent → List (List Agenda)) (rest : List DeviceEvent) → AreSo actors turn idle parts → idle < suc (length (others_of turn (parts rest)))
+idle_in actors turn idle parts rest are =
+    let size : length (parts rest) ≡ suc (length (others_of turn (parts rest))) = count_from turn (parts rest) (turn_in actors turn idle parts rest are) in
+    let count = are.count rest in
+    let few = are.few in
+    omega (arith, size, count, few)
+
+module _ (scenario : Scenario) (turn idle : ℕ) (s after : State) (over : Bool) (begun : List DeviceEvent) (parts : List DeviceEvent → List (List Agenda)) where
+  -- the parts are those, whatever may come
+  pub same_parts : (calls : Actor → List Exchange) (others : List DeviceEvent → List (List Agenda)) → ((rest : List DeviceEvent) → IsRest over rest → parts rest ≡ others rest) → Standing scenario turn idle s over begun parts calls
+      → Standing scenario turn idle s over begun others calls
+  same_parts calls others same g = record {
+    so_far = g.so_far;
+    order = λ rest ok. subst (λ (p : List (List Agenda)). IsTurnOrder s idle (from_turn turn p) (g.so_far.agendas rest)) (same rest ok) (g.order rest ok);
+  }
+
+  pub made_turn : (actors : ℕ) (calls : Actor → List Exchange) (who : Actor) (what : Request) (answer : Reply) (bytes : List ℕ) → AreSo actors turn idle parts → (goes : Goes turn parts s after who what answer bytes) → Standing scenario turn idle s over begun parts calls
+      → Standing scenario (turn_behind turn actors) 0 after over begun (λ rest. set (parts rest) turn (agenda_after (goes.agenda rest) after (outcome_of answer bytes))) (calls_with calls who (exchange_of what answer bytes))
+  made_turn actors calls who what answer bytes are goes g = record {
+    so_far = record {
+      past = p.past ++ e ∷ [];
+      clocks = clocks_after p.clocks e after;
+      agendas = λ rest. joined (others_of turn (parts rest)) ++ later rest;
+      legal = λ more h. rw (append_assoc p.past (e ∷ []) more) (p.legal (e ∷ more) (goes.made.allowed, built_starts (clock_of p.clocks who) what goes.made.allowed.built, goes.made.is_ready, subst (λ (n : State). IsLegalFrom n (clocks_after p.clocks e n) more) goes.made.leads h));
+      robin = λ rest ok more h. rw (append_assoc p.past (e ∷ []) more) (p.robin rest ok (e ∷ more) (robin_more s after who what answer bytes (goes.agenda rest) (joined (others_of turn (parts rest))) (p.agendas rest) more (goes.of rest) goes.made (takes rest ok) h));
+      left = λ rest ok more. rw (append_assoc p.past (e ∷ []) more) (p.left rest ok (e ∷ more) ∙ left_more s after who what answer bytes (goes.agenda rest) (joined (others_of turn (parts rest))) (p.agendas rest) more goes.made (takes rest ok));
+      made = λ other more. rw (append_assoc p.past (e ∷ []) more) (p.made other (e ∷ more) ∙ calls_more s after calls other who what answer bytes more goes.made);
+    };
+    order = λ rest ok. record {
+      coming = others_of turn (parts rest) ++ later rest ∷ [];
+      passed = [];
+      order_is = subst (λ (n : ℕ). from_turn (turn_behind turn n) (set (parts rest) turn (later rest)) ≡ others_of turn (parts rest) ++ later rest ∷ []) (are.count rest) (from_turn_next turn (parts rest) (later rest) (turn_in actors turn idle parts rest are)) ∙ sym (append-nil (others_of turn (parts rest) ++ later rest ∷ []));
+      count = refl;
+      held = tt;
+      agendas_are = sym (joined-snoc (others_of turn (parts rest)) (later rest));
+    };
+  }
+    where
+      p : Past scenario s over begun calls
+      p = g.so_far
+
+      e : Entry
+      e = entry_of who what answer
+
+      later : List DeviceEvent → List Agenda
+      later rest = agenda_after (goes.agenda rest) after (outcome_of answer bytes)
+
+      takes : (rest : List DeviceEvent) → IsRest over rest → Takes s (goes.agenda rest) (joined (others_of turn (parts rest))) (p.agendas rest)
+      takes rest ok =
+          let here : from_turn turn (parts rest) ≡ (goes.agenda rest ∷ []) ∷ others_of turn (parts rest) = from_turn_is turn (parts rest) (turn_in actors turn idle parts rest are) ∙ ap (λ (x : List Agenda). x ∷ others_of turn (parts rest)) (goes.alone rest) in
+          takes_turn s idle (goes.agenda rest) (others_of turn (parts rest)) (p.agendas rest) (idle_in actors turn idle parts rest are)
+          (subst (λ (order : List (List Agenda)). IsTurnOrder s idle order (p.agendas rest)) here (g.order rest ok))
+          (is_ready s after who what answer bytes (goes.agenda rest) (goes.of rest) goes.made)
+
+  -- it has nothing left, or can't make its call
+  pub passed_turn : (actors : ℕ) (calls : Actor → List Exchange) → AreSo actors turn idle parts → ((rest : List DeviceEvent) → IsRest over rest → AreHeldBack s (get_or (parts rest) turn [])) → Standing scenario turn idle s over begun parts calls
+      → Standing scenario (turn_behind turn actors) (idle + 1) s over begun parts calls
+  passed_turn actors calls are held g = record {
+    so_far = g.so_far;
+    order = λ rest ok.
+        let here : from_turn turn (parts rest) ≡ get_or (parts rest) turn [] ∷ others_of turn (parts rest) = from_turn_is turn (parts rest) (turn_in actors turn idle parts rest are) in
+        let next : from_turn (turn_behind turn actors) (parts rest) ≡ others_of turn (parts rest) ++ get_or (parts rest) turn [] ∷ [] =
+        subst (λ (n : ℕ). from_turn (turn_behind turn n) (parts rest) ≡ others_of turn (parts rest) ++ get_or (parts rest) turn [] ∷ []) (are.count rest)
+        (ap (λ (l : List (List Agenda)). from_turn (turn_behind turn (length (parts rest))) l) (sym (set-get_or (parts rest) turn [])) ∙ from_turn_next turn (parts rest) (get_or (parts rest) turn []) (turn_in actors turn idle parts rest are)) in
+        subst (λ (order : List (List Agenda)). IsTurnOrder s (idle + 1) order (g.so_far.agendas rest)) (sym next)
+        (passed_over s idle (get_or (parts rest) turn []) (others_of turn (parts rest)) (g.so_far.agendas rest) (idle_in actors turn idle parts rest are)
+        (subst (λ (order : List (List Agenda)). IsTurnOrder s idle order (g.so_far.agendas rest)) here (g.order rest ok)) (held rest ok));
+  }
 
 not_over : (rest : List DeviceEvent) → IsRest false rest
 not_over rest e = absurd (true≢false (sym e))
 
 -- the device tells its next event, or how it ends, and nothing more may come then
-pub device_tells : (ops : List Op) (t : Turn) (k : ℕ) (s : State) (parts : List DeviceEvent → Parts) (over : Bool) (begun : List DeviceEvent) (app dev comp : List Exchange) (event : DeviceEvent) → Continues ops t k s parts false begun app dev comp
-    → Continues ops t k s (λ rest. parts (event ∷ rest)) over (begun ++ event ∷ []) app dev comp
-device_tells ops t k s parts over begun app dev comp event g = record {
-  past = g.past;
-  clocks = g.clocks;
-  agendas = λ rest. g.agendas (event ∷ rest);
-  stands = λ rest ok. g.stands (event ∷ rest) (not_over (event ∷ rest));
-  legal = g.legal;
-  robin = λ rest ok more h. rw (append_assoc begun (event ∷ []) rest) (g.robin (event ∷ rest) (not_over (event ∷ rest)) more h);
-  left = λ rest ok more. rw (append_assoc begun (event ∷ []) rest) (g.left (event ∷ rest) (not_over (event ∷ rest)) more);
-  mine = g.mine;
-  devices = g.devices;
-  compositors = g.compositors;
+pub device_tells : (scenario : Scenario) (turn idle : ℕ) (s : State) (parts : List DeviceEvent → List (List Agenda)) (over : Bool) (begun : List DeviceEvent) (calls : Actor → List Exchange) (event : DeviceEvent) → Standing scenario turn idle s false begun parts calls
+    → Standing scenario turn idle s over (begun ++ event ∷ []) (λ rest. parts (event ∷ rest)) calls
+device_tells scenario turn idle s parts over begun calls event g = record {
+  so_far = record {
+    past = p.past;
+    clocks = p.clocks;
+    agendas = λ rest. p.agendas (event ∷ rest);
+    legal = p.legal;
+    robin = λ rest ok more h. rw (append_assoc begun (event ∷ []) rest) (p.robin (event ∷ rest) (not_over (event ∷ rest)) more h);
+    left = λ rest ok more. rw (append_assoc begun (event ∷ []) rest) (p.left (event ∷ rest) (not_over (event ∷ rest)) more);
+    made = p.made;
+  };
+  order = λ rest ok. g.order (event ∷ rest) (not_over (event ∷ rest));
 }
+  where
+    p : Past scenario s false begun calls
+    p = g.so_far
 
-pub device_ends : (ops : List Op) (t : Turn) (k : ℕ) (s : State) (parts : List DeviceEvent → Parts) (begun : List DeviceEvent) (app dev comp : List Exchange) → Continues ops t k s parts false begun app dev comp → Continues ops t k s parts true begun app dev comp
-device_ends ops t k s parts begun app dev comp g = record {
-  past = g.past;
-  clocks = g.clocks;
-  agendas = g.agendas;
-  stands = λ rest ok. g.stands rest (not_over rest);
-  legal = g.legal;
-  robin = λ rest ok. g.robin rest (not_over rest);
-  left = λ rest ok. g.left rest (not_over rest);
-  mine = g.mine;
-  devices = g.devices;
-  compositors = g.compositors;
+pub device_ends : (scenario : Scenario) (turn idle : ℕ) (s : State) (parts : List DeviceEvent → List (List Agenda)) (begun : List DeviceEvent) (calls : Actor → List Exchange) → Standing scenario turn idle s false begun parts calls → Standing scenario turn idle s true begun parts calls
+device_ends scenario turn idle s parts begun calls g = record {
+  so_far = record {
+    past = p.past;
+    clocks = p.clocks;
+    agendas = p.agendas;
+    legal = p.legal;
+    robin = λ rest ok. p.robin rest (not_over rest);
+    left = λ rest ok. p.left rest (not_over rest);
+    made = p.made;
+  };
+  order = λ rest ok. g.order rest (not_over rest);
 }
+  where
+    p : Past scenario s false begun calls
+    p = g.so_far

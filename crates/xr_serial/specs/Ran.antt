@@ -1,5 +1,5 @@
--- A run of one script beside a device: the one history that its lists are of.
-use Rattle.std.specs.Prelude.{◌≡◌, List, [], ◌∷◌, ◌++◌, Option, Some, None}
+-- A run of a scenario beside a device: the one history that its lists are of.
+use Rattle.std.specs.Prelude.{◌≡◌, ◌<◌, ◌+◌, ℕ, true, false, List, [], ◌∷◌, ◌++◌, length, slice_index_or, Option, Some, None}
 use Rattle.xr_types.specs.declared.calls.Actor.TheVariants.{App, Compositor, Device}
 use Rattle.xr_types.specs.declared.calls.Gives.TheVariants.{Ended}
 use Rattle.xr_types.specs.declared.device.DeviceEvent.{DeviceEvent}
@@ -8,12 +8,19 @@ use Rattle.xr_types.specs.declared.scenario.Op.{Op}
 use Rattle.xr_types.specs.declared.scenario.Scenario.{Scenario}
 use Rattle.xr_model.specs.machine.Request as request
 use Rattle.xr_model.specs.machine.Request.{next_frame, Entry}
-use Rattle.xr_model.specs.machine.State.{with_apps, opening}
+use Rattle.xr_types.specs.Device.{checks}
+use Rattle.xr_model.specs.machine.Device.{is_built_event}
+use Rattle.xr_model.specs.machine.State.{Settings, with_apps, opening}
 use Rattle.xr_model.specs.machine.History.{IsLegal, calls_of}
 use Rattle.xr_model.specs.runs.Scripts.{Follows, FollowsSoFar}
 use Rattle.xr_model.specs.device_text.DeviceText.{DeviceStream, Ending}
-use Rattle.xr_model.specs.runs.Robin.{device_calls, first_agendas, IsRobin, agendas_left}
+use Rattle.xr_model.specs.runs.Robin.{device_calls, last_event, first_agendas, IsRobin, agendas_left}
 use Rattle.xr_model.specs.runs.Lists.{lists_of, events_in}
+use Rattle.xr_model.specs.report.RunEnding.{is_fault, is_garbled}
+
+-- a machine of as many applications as the scenario has scripts
+abbrev pub settings_of : Scenario → Settings
+settings_of scenario = with_apps (length scenario.scripts)
 
 -- These are the events that the device gave and its ending, none where it couldn't be read on. Where it told what it has
 -- to give, they are all of that, and else a front of it.
@@ -22,31 +29,55 @@ Gave None events ending = Unit {0}
 Gave (Some t) events None = (rest : List DeviceEvent) × (t.events ≡ events ++ rest)
 Gave (Some t) events (Some ending) = (t.events ≡ events) × (t.ending ≡ ending)
 
+-- an event that a line of the device's text tells: its numbers are in range, it is built, and it is neither a fault nor a
+-- malformed line
+pub record IsLineEvent (e : DeviceEvent) : Type 0 where
+  pub checked : checks e ≡ true
+  pub built : is_built_event e ≡ true
+  pub faultless : is_fault e ≡ false
+  pub formed : is_garbled e ≡ false
+
+abbrev pub AreLineEvents : List DeviceEvent → Type 0
+AreLineEvents [] = Unit {0}
+AreLineEvents (e ∷ es) = IsLineEvent e × AreLineEvents es
+
+-- all of these are such events, but that a fault or a malformed line may be the last
+pub record AreSound (events : List DeviceEvent) : Type 0 where
+  pub told : List DeviceEvent
+  pub ending : Option Ending
+  pub events_are : events ≡ told ++ last_event ending
+  pub each : AreLineEvents told
+
+-- the calls of each application have this to do with its script
+abbrev pub OfEachScript : Scenario → List Entry → (List Op → List request.Exchange → Type 0) → Type 0
+OfEachScript scenario history P =
+    (place : ℕ) → place < length scenario.scripts → P (slice_index_or scenario.scripts place []) (calls_of (settings_of scenario) (App (place + 1)) history)
+
 -- the compositor asked once and was told the end
 abbrev pub IsEnd : List request.Exchange → Type 0
 IsEnd [] = ⊥
 IsEnd (t ∷ []) = (t.request ≡ next_frame) × (t.outcome.reply.gives ≡ Ended)
 IsEnd (t ∷ u ∷ ts) = ⊥
 
--- All has come to its end: the script's calls are all of its ops and then `leave`, the compositor was told the end, and
--- the device did all that it had to do.
-pub record IsWhole (ops : List Op) (events : List DeviceEvent) (ending : Option Ending) (history : List Entry) : Type 0 where
-  pub follows : Follows ops (calls_of (with_apps 1) (App 1) history)
-  pub ends : IsEnd (calls_of (with_apps 1) Compositor history)
-  pub device : events_in (calls_of (with_apps 1) Device history) ≡ device_calls events ending
+-- All has come to its end: each application's calls are all of its script's ops and then `leave`, the compositor was told
+-- the end, and the device did all that it had to do.
+pub record IsWhole (scenario : Scenario) (events : List DeviceEvent) (ending : Option Ending) (history : List Entry) : Type 0 where
+  pub follow : OfEachScript scenario history Follows
+  pub ends : IsEnd (calls_of (settings_of scenario) Compositor history)
+  pub device : events_in (calls_of (settings_of scenario) Device history) ≡ device_calls events ending
 
--- A run of a scenario of one script: a legal history of the machine of one thread, the round robin's beside this device,
--- in which the application's calls follow the script. The lists are those of this history, so each reply is the machine's
--- at its call's place; they tell next calls exactly where the run can't go on.
-pub record Ran (scenario : Scenario) (ops : List Op) (told : Option DeviceStream) (lists : Lists) : Type 0 where
+-- A run of a scenario: a legal history of the machine of one thread, the round robin's beside this device, in which each
+-- application's calls follow its script. The lists are those of this history, so each reply is the machine's at its call's
+-- place; they tell next calls exactly where the run can't go on.
+pub record Ran (scenario : Scenario) (told : Option DeviceStream) (lists : Lists) : Type 0 where
   pub history : List Entry
   pub events : List DeviceEvent
   pub ending : Option Ending
-  pub one : scenario.scripts ≡ ops ∷ []
   pub gave : Gave told events ending
-  pub legal : IsLegal (with_apps 1) history
-  pub robin : IsRobin (with_apps 1) scenario (device_calls events ending) history
-  pub follows : FollowsSoFar ops (calls_of (with_apps 1) (App 1) history)
-  pub device : (rest : List DeviceEvent) × (device_calls events ending ≡ events_in (calls_of (with_apps 1) Device history) ++ rest)
-  pub whole : lists.next ≡ [] → IsWhole ops events ending history
-  pub made : lists ≡ lists_of (with_apps 1) history (agendas_left (opening (with_apps 1)) (first_agendas scenario (device_calls events ending)) history)
+  pub sound : AreSound lists.events
+  pub legal : IsLegal (settings_of scenario) history
+  pub robin : IsRobin (settings_of scenario) scenario (device_calls events ending) history
+  pub follow : OfEachScript scenario history FollowsSoFar
+  pub device : (rest : List DeviceEvent) × (device_calls events ending ≡ events_in (calls_of (settings_of scenario) Device history) ++ rest)
+  pub whole : lists.next ≡ [] → IsWhole scenario events ending history
+  pub made : lists ≡ lists_of (settings_of scenario) history (agendas_left (opening (settings_of scenario)) (first_agendas scenario (device_calls events ending)) history)

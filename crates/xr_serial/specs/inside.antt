@@ -1,8 +1,9 @@
 -- What only proofs and private functions need.
 pub mod Lent
 pub mod Made
+pub mod RunState
 pub mod Turns
-pub mod Continues
 pub mod Sides
+pub mod Past
 pub mod RunInvariant
 pub mod AtEnd

@@ -1,15 +1,18 @@
 // What a run has made, as lists.
-ghost use Rattle.std.specs.Prelude.{◌≡◌, ◌<◌, ◌^◌, ◌++◌, [], IfOk, OnOk, map, drop, pos};
+ghost use Rattle.std.specs.Prelude.{◌≡◌, ◌≤◌, ◌++◌, [], IfOk, OnOk, map, drop, length};
 ghost use Rattle.xr_model.specs.runs.Lists.{waiting_of, mark_awaited};
-ghost use Rattle.xr_serial.specs.inside.Turns.{script_part, device_part, compositor_part, parts_of};
-ghost use Rattle.xr_serial.specs.inside.AtEnd.{next_name, list_if, in_order, lists_at};
+ghost use Rattle.xr_serial.specs.inside.Turns.{device_part, compositor_part};
+ghost use Rattle.xr_serial.specs.inside.AtEnd.{next_name, list_if, app_next, apps_next, next_calls, lists_at};
 
+use crate::application::Application;
 use crate::rounds::Run;
-use crate::script::Script;
 use std::alloc::Global;
-use xr_types::{Actor, CallName, DeviceEvent, Lists, NoMemory, Op, Reply, Several, Waiting};
+use xr_types::{
+    Actor, CallName, DeviceEvent, Lists, MadeList, NoMemory, Op, Reply, Scenario, Script, Several,
+    Waiting,
+};
 
-/// The name of the script's next call.
+/// The name of a script's next call.
 fn next_name(ops: &[Op], made: usize) -> CallName
     ensures { result ≡ next_name (drop made ops.now) }
 {
@@ -20,18 +23,17 @@ fn next_name(ops: &[Op], made: usize) -> CallName
     }
 }
 
-/// The script's next call, unless it has left.
-fn script_next(ops: &[Op], script: &Script) -> Option<Waiting>
-    requires few { script.now.made < 2 ^ 20 }
-    ensures { list_if result ≡ map waiting_of (script_part ops.now script.now.made script.now.names (pos 0) script.now.has_left) }
+/// An application's next call, unless it has left.
+fn app_next(number: u8, ops: &[Op], app: &Application) -> Option<Waiting>
+    ensures { list_if result ≡ app_next number ops.now app.now }
 {
-    if script.has_left {
+    if app.has_left {
         return None;
     }
     Some(Waiting {
-        actor: Actor::App(1),
-        op: script.made as u32 + 1,
-        name: next_name(ops, script.made),
+        actor: Actor::App(number),
+        op: app.made as u32 + 1,
+        name: next_name(ops, app.made),
     })
 }
 
@@ -84,36 +86,61 @@ fn add_next(list: &mut Vec<Waiting>, next: Option<Waiting>) -> Result<(), NoMemo
     }
 }
 
+/// Keeps the next calls of the applications that haven't left.
+fn add_apps(
+    list: &mut Vec<Waiting>,
+    scripts: &[Script],
+    apps: &[Application],
+) -> Result<(), NoMemory>
+    requires most { length scripts.now ≤ 8 }
+    requires count { length apps.now ≡ length scripts.now }
+    ensures { OnOk result (list.new.items ≡ list.old.items ++ apps_next 1 scripts.now apps.now) }
+{
+    for (place, ops) in scripts.iter().enumerate() {
+        let number = place as u8 + 1;
+        add_next(list, app_next(number, ops.as_slice(), &apps[place]))?;
+    }
+    Ok(())
+}
+
 /// The next calls of those that have not finished, in the order of a round.
-fn waiting(alloc: Global, ops: &[Op], run: &Run) -> Result<Vec<Waiting>, NoMemory>
-    requires few { run.now.script.made < 2 ^ 20 }
-    ensures { IfOk result (λ next. next.items ≡ map waiting_of (in_order (parts_of ops.now run.now.script.made run.now.script.names (pos 0) run.now.script.has_left run.now.side.pending run.now.ended []))) }
+fn waiting(alloc: Global, scenario: &Scenario, run: &Run) -> Result<Vec<Waiting>, NoMemory>
+    requires most { length scenario.now.scripts ≤ 8 }
+    requires count { length run.now.apps ≡ length scenario.now.scripts }
+    ensures { IfOk result (λ next. next.items ≡ next_calls scenario.now run.now) }
 {
     let mut next = Vec::new(alloc);
-    add_next(&mut next, script_next(ops, &run.script))?;
+    add_apps(&mut next, scenario.scripts.as_slice(), run.apps.as_slice())?;
     add_next(&mut next, device_next(run.side.pending))?;
     add_next(&mut next, compositor_next(&run.ended))?;
     Ok(next)
 }
 
-/// What a run has made, where nobody can go on.
-pub(crate) fn lists(alloc: Global, ops: &[Op], run: Run) -> Result<Lists, NoMemory>
-    requires few { run.script.made < 2 ^ 20 }
-    ensures { IfOk result (λ lists. lists ≡ lists_at ops.now run.script.made run.script.names run.script.list.items run.script.has_left run.side.pending run.side.events.items run.side.list.items run.ended) }
+/// The calls of each application.
+fn calls_of(alloc: Global, apps: Vec<Application>) -> Result<Vec<MadeList>, NoMemory>
+    ensures { IfOk result (λ lists. lists.items ≡ map (λ app. app.calls) apps.items) }
 {
-    let next = waiting(alloc, ops, &run)?;
-    let Run {
-        script,
-        side,
-        ended,
-    } = run;
-    let mut apps = Vec::new(alloc);
-    let Ok(()) = apps.push(Several::new(script.list)) else {
-        return Err(NoMemory);
-    };
+    let mut lists = Vec::new(alloc);
+    for app in apps {
+        let Ok(()) = lists.push(Several::new(app.calls)) else {
+            return Err(NoMemory);
+        };
+    }
+    Ok(lists)
+}
+
+/// What a run has made, where nobody can go on.
+pub(crate) fn lists(alloc: Global, scenario: &Scenario, run: Run) -> Result<Lists, NoMemory>
+    requires most { length scenario.now.scripts ≤ 8 }
+    requires count { length run.apps ≡ length scenario.now.scripts }
+    ensures { IfOk result (λ lists. lists ≡ lists_at scenario.now run) }
+{
+    let next = waiting(alloc, scenario, &run)?;
+    let Run { apps, side, ended } = run;
+    let apps = calls_of(alloc, apps)?;
     Ok(Lists {
         apps: Several::new(apps),
-        device: Several::new(side.list),
+        device: Several::new(side.calls),
         compositor: Several::new(Vec::new(alloc)),
         ended,
         shown: Several::new(Vec::new(alloc)),

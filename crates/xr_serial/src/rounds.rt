@@ -1,131 +1,139 @@
-// The rounds of a run: turn by turn, until no unfinished actor can make its call.
-ghost use Rattle.std.specs.Prelude.{◌≡◌, ◌≤◌, ◌<◌, ◌^◌, ◌+◌, ◌∷◌, ℕ, [], true, false, Option, Some, None, IfSome, IfOk, OnOk, length, if◌then◌else◌};
-ghost use Rattle.std.specs.List.{list_all};
-ghost use Rattle.xr_types.specs.declared.scenario.Op.{Op};
+// A run on its way, turn by turn, until no unfinished actor can make its call.
+ghost use Rattle.std.specs.Prelude.{◌≡◌, ◌≤◌, ◌<◌, ◌^◌, ◌+◌, ℕ, [], true, false, None, IfOk, OnOk, length, map, if◌then◌else◌};
+ghost use Rattle.std.specs.List.{list_all, sum_by};
 ghost use Rattle.xr_model.specs.scenario.Built.{is_built_op};
-ghost use Rattle.xr_model.specs.scenario.ScriptForm.{IsInForm};
-ghost use Rattle.xr_model.specs.device_text.DeviceText.{DeviceStream};
-ghost use Rattle.xr_model.specs.machine.State.{with_apps, opening};
-ghost use Rattle.xr_serial.specs.inside.Sides.{IsDone, EndTurn};
-ghost use Rattle.xr_serial.specs.inside.Turns.{turn_behind};
-ghost use Rattle.xr_serial.specs.inside.RunInvariant.{RunKeeps};
+ghost use Rattle.xr_model.specs.scenario.ScriptForm.{AllInForm};
+ghost use Rattle.xr_model.specs.machine.State.{opening};
+ghost use Rattle.xr_serial.specs.Ran.{settings_of};
+ghost use Rattle.xr_serial.specs.inside.Sides.{Prospect, prospect, new_app, EndTurn};
+ghost use Rattle.xr_serial.specs.inside.Turns.{actors_of, turn_behind};
+ghost use Rattle.xr_serial.specs.inside.RunInvariant.{RunInvariant};
 
-use crate::calls::make;
-use crate::script::{MOST_LENT, Script, leave, make_op};
-use crate::side::{DeviceSide, look, make_event};
-use crate::turn::Turn;
+use crate::application::Application;
+use crate::machine::Machine;
+use crate::side::DeviceSide;
 use std::alloc::Global;
-use xr_core::PlainCore;
+use std::marker::Model;
 use xr_device::Device;
-use xr_scenario_calls::{Names, Scratch};
-use xr_types::{Actor, Call, NoMemory, Op, Reply};
+use xr_types::{Actor, Call, NoMemory, Reply, Scenario, Script};
 
-/// A run on its way: the script, the device and how the compositor ended.
+/// A run on its way: its applications, the device, and the reply that told the compositor the end.
 #[derive(Drop)]
 pub(crate) struct Run {
-    pub(crate) script: Script,
+    pub(crate) apps: Vec<Application>,
     pub(crate) side: DeviceSide,
     pub(crate) ended: Option<Reply>,
 }
 
-/// As many turns in a row make no call where nobody can.
-const ALL: u8 = 3;
+impl Model for Run {
+    ghost use Rattle.xr_serial.specs.inside.RunState.{RunState};
+
+    ghost Value = { RunState };
+
+    ghost view = { λ run. record { apps = run.apps.items; side = run.side; ended = run.ended } };
+}
+
+/// The applications of these scripts before their first calls.
+fn start_apps(alloc: Global, scripts: &[Script]) -> Result<Vec<Application>, NoMemory>
+    ensures { IfOk result (λ apps. apps.items ≡ map new_app scripts.now) }
+{
+    let mut apps = Vec::new(alloc);
+    for ops in scripts {
+        let app = Application::start(alloc, ops.as_slice())?;
+        let Ok(()) = apps.push(app) else {
+            return Err(NoMemory);
+        };
+    }
+    Ok(apps)
+}
 
 /// A run before its first call.
-pub(crate) fn start(alloc: Global, ops: &[Op]) -> Result<Run, NoMemory>
-    ensures { IfOk result (λ run. (told : Option DeviceStream) (faults bound : ℕ) → bound ≤ 16777216
-        → RunKeeps ops.now Turn.Script 0 (opening (with_apps 1)) run told told faults faults bound) }
+pub(crate) fn start(alloc: Global, scenario: &Scenario) -> Result<Run, NoMemory>
+    ensures { IfOk result (λ run. run ≡ record { apps = map new_app scenario.now.scripts; side = record { pending = None; over = false; events = []; calls = [] }; ended = None }) }
 {
-    let names = Names::start(alloc, ops.len())?;
-    let script = Script {
-        made: 0,
-        names,
-        list: Vec::new(alloc),
-        has_left: false,
-        scratch: Scratch::new(),
-        buffer: [0; MOST_LENT],
-    };
-    let side = DeviceSide {
-        pending: None,
-        over: false,
-        events: Vec::new(alloc),
-        list: Vec::new(alloc),
-    };
+    let apps = start_apps(alloc, scenario.scripts.as_slice())?;
     Ok(Run {
-        script,
-        side,
+        apps,
+        side: DeviceSide::new(alloc),
         ended: None,
     })
 }
 
-/// The script's turn; whether it made a call.
-fn script_turn(
-    alloc: Global,
-    core: &mut PlainCore,
-    ops: &[Op],
-    run: &mut Run,
-    idle: u8,
-) -> Result<bool, NoMemory>
-    requires calls { core.old.core.locked < 2 ^ 44 }
-    requires apps { core.old.core.apps ≡ 1 }
-    requires left { core.old.core.left ≡ run.old.script.has_left ∷ [] }
-    requires few { length ops.now < 2 ^ 20 }
-    requires formed { IsInForm ops.now }
-    requires built { list_all is_built_op ops.now ≡ true }
-    requires within { run.old.script.made ≤ length ops.now }
-    requires names { length run.old.script.names ≡ length ops.now }
-    requires idle { idle < 3 }
-    ensures kept { IfOk result (λ went. (told now : Option DeviceStream) (before after bound : ℕ)
-        → RunKeeps ops.now Turn.Script idle core.old run.old told now before after bound
-        → RunKeeps ops.now Turn.Device (if went then 0 else idle + 1) core.new run.new told now before after bound) }
-    ensures counts { IfOk result (λ went. core.new.core.locked ≡ core.old.core.locked + (if went then 1 else 0)) }
+/// The turn behind this one, of so many actors.
+fn behind(turn: usize, actors: usize) -> usize
+    requires within { turn < actors }
+    ensures { result ≡ turn_behind turn actors }
 {
-    if run.script.has_left {
+    if turn + 1 < actors { turn + 1 } else { 0 }
+}
+
+/// An application's turn; whether it made a call.
+fn app_turn(
+    alloc: Global,
+    machine: &mut Machine,
+    scenario: &Scenario,
+    place: usize,
+    run: &mut Run,
+) -> Result<bool, NoMemory>
+    requires most { length scenario.now.scripts ≤ 8 }
+    requires few { sum_by length scenario.now.scripts < 2 ^ 22 }
+    requires formed { AllInForm scenario.now.scripts }
+    requires built { list_all (list_all is_built_op) scenario.now.scripts ≡ true }
+    requires within { place < length scenario.now.scripts }
+    requires kept { (idle : ℕ) × (start : Prospect) × (now : Prospect) × (idle < actors_of scenario.now) × RunInvariant scenario.now place idle machine.old run.old start now }
+    ensures kept { IfOk result (λ went. (idle : ℕ) (start now : Prospect) → idle < actors_of scenario.now
+        → RunInvariant scenario.now place idle machine.old run.old start now
+        → RunInvariant scenario.now (turn_behind place (actors_of scenario.now)) (if went then 0 else idle + 1) machine.new run.new start now) }
+    ensures counts { IfOk result (λ went. machine.new.core.locked ≡ machine.old.core.locked + (if went then 1 else 0)) }
+{
+    let ops = scenario.scripts.as_slice()[place].as_slice();
+    let number = place as u8 + 1;
+    let app = &mut run.apps[place];
+    if app.has_left {
         return Ok(false);
     }
-    if run.script.made < ops.len() {
-        let went = make_op(alloc, core, ops, &mut run.script)?;
+    if app.made < ops.len() {
+        let went = app.make_op(alloc, machine, number, ops)?;
         return Ok(went);
     }
-    leave(alloc, core, &mut run.script)?;
+    app.leave(alloc, machine, number)?;
     Ok(true)
 }
 
 /// The device's turn; whether it made a call.
 fn device_turn<D: Device>(
     alloc: Global,
-    core: &mut PlainCore,
-    ops: &[Op],
+    machine: &mut Machine,
+    scenario: &Scenario,
     device: &mut D,
     run: &mut Run,
-    idle: u8,
 ) -> Result<bool, NoMemory>
-    requires calls { core.old.core.locked < 2 ^ 44 }
-    requires done { IfSome run.old.side.pending IsDone }
-    requires few { length run.old.side.list.items < 2 ^ 31 }
-    requires idle { idle < 3 }
-    ensures kept { IfOk result (λ went. (told : Option DeviceStream) (before : ℕ)
-        → RunKeeps ops.now Turn.Device idle core.old run.old told (D.remaining device.old) before (D.faults device.old) (D.bound device.old)
-        → RunKeeps ops.now Turn.Compositor (if went then 0 else idle + 1) core.new run.new told (D.remaining device.new) before (D.faults device.new) (D.bound device.new)) }
-    ensures counts { IfOk result (λ went. core.new.core.locked ≡ core.old.core.locked + (if went then 1 else 0)) }
+    requires most { length scenario.now.scripts ≤ 8 }
+    requires few { sum_by length scenario.now.scripts < 2 ^ 22 }
+    requires kept { (idle : ℕ) × (start : Prospect) × (idle < actors_of scenario.now)
+        × RunInvariant scenario.now (length scenario.now.scripts) idle machine.old run.old start (prospect (D.remaining device.old) (D.faults device.old) (D.bound device.old)) }
+    ensures kept { IfOk result (λ went. (idle : ℕ) (start : Prospect) → idle < actors_of scenario.now
+        → RunInvariant scenario.now (length scenario.now.scripts) idle machine.old run.old start (prospect (D.remaining device.old) (D.faults device.old) (D.bound device.old))
+        → RunInvariant scenario.now (turn_behind (length scenario.now.scripts) (actors_of scenario.now)) (if went then 0 else idle + 1) machine.new run.new start (prospect (D.remaining device.new) (D.faults device.new) (D.bound device.new))) }
+    ensures counts { IfOk result (λ went. machine.new.core.locked ≡ machine.old.core.locked + (if went then 1 else 0)) }
     ensures later { D.faults device.old ≤ D.faults device.new }
     ensures which { D.which device.new ≡ D.which device.old }
 {
-    look(device, &mut run.side);
+    run.side.look(device);
     let Some(event) = run.side.pending else {
         return Ok(false);
     };
-    let went = make_event(alloc, core, &mut run.side, event)?;
+    let went = run.side.make_event(alloc, machine, event)?;
     Ok(went)
 }
 
 /// The compositor asks for a frame and is told the end, unless it has to wait; whether it was told.
-fn end(alloc: Global, core: &mut PlainCore, ended: &mut Option<Reply>) -> Result<bool, NoMemory>
-    requires calls { core.old.core.locked < 2 ^ 44 }
+fn end(alloc: Global, machine: &mut Machine, ended: &mut Option<Reply>) -> Result<bool, NoMemory>
+    requires calls { machine.old.core.locked < 2 ^ 44 }
     requires open { ended.old ≡ None }
-    ensures { IfOk result (λ went. EndTurn ended.new core.old core.new went) }
+    ensures { IfOk result (λ went. EndTurn ended.new machine.old machine.new went) }
 {
-    let Some(answered) = make(alloc, core, Actor::Compositor, &Call::NextFrame, &mut [])? else {
+    let Some(answered) = machine.make(alloc, Actor::Compositor, &Call::NextFrame)? else {
         return Ok(false);
     };
     *ended = Some(answered.reply);
@@ -135,84 +143,85 @@ fn end(alloc: Global, core: &mut PlainCore, ended: &mut Option<Reply>) -> Result
 /// The compositor's turn; whether it made a call.
 fn compositor_turn(
     alloc: Global,
-    core: &mut PlainCore,
-    ops: &[Op],
+    machine: &mut Machine,
+    scenario: &Scenario,
     run: &mut Run,
-    idle: u8,
 ) -> Result<bool, NoMemory>
-    requires calls { core.old.core.locked < 2 ^ 44 }
-    requires idle { idle < 3 }
-    ensures kept { IfOk result (λ went. (told now : Option DeviceStream) (before after bound : ℕ)
-        → RunKeeps ops.now Turn.Compositor idle core.old run.old told now before after bound
-        → RunKeeps ops.now Turn.Script (if went then 0 else idle + 1) core.new run.new told now before after bound) }
-    ensures counts { IfOk result (λ went. core.new.core.locked ≡ core.old.core.locked + (if went then 1 else 0)) }
+    requires most { length scenario.now.scripts ≤ 8 }
+    requires few { sum_by length scenario.now.scripts < 2 ^ 22 }
+    requires kept { (idle : ℕ) × (start : Prospect) × (now : Prospect) × (idle < actors_of scenario.now) × RunInvariant scenario.now (length scenario.now.scripts + 1) idle machine.old run.old start now }
+    ensures kept { IfOk result (λ went. (idle : ℕ) (start now : Prospect) → idle < actors_of scenario.now
+        → RunInvariant scenario.now (length scenario.now.scripts + 1) idle machine.old run.old start now
+        → RunInvariant scenario.now (turn_behind (length scenario.now.scripts + 1) (actors_of scenario.now)) (if went then 0 else idle + 1) machine.new run.new start now) }
+    ensures counts { IfOk result (λ went. machine.new.core.locked ≡ machine.old.core.locked + (if went then 1 else 0)) }
 {
     if run.ended.is_some() {
         return Ok(false);
     }
-    let went = end(alloc, core, &mut run.ended)?;
+    let went = end(alloc, machine, &mut run.ended)?;
     Ok(went)
 }
 
 /// One turn; whether a call was made.
 fn one_turn<D: Device>(
     alloc: Global,
-    core: &mut PlainCore,
-    ops: &[Op],
+    machine: &mut Machine,
+    scenario: &Scenario,
     device: &mut D,
     run: &mut Run,
-    turn: Turn,
-    idle: u8,
+    turn: usize,
 ) -> Result<bool, NoMemory>
-    requires calls { core.old.core.locked < 2 ^ 44 }
-    requires apps { core.old.core.apps ≡ 1 }
-    requires left { core.old.core.left ≡ run.old.script.has_left ∷ [] }
-    requires few { length ops.now < 2 ^ 20 }
-    requires formed { IsInForm ops.now }
-    requires built { list_all is_built_op ops.now ≡ true }
-    requires within { run.old.script.made ≤ length ops.now }
-    requires names { length run.old.script.names ≡ length ops.now }
-    requires done { IfSome run.old.side.pending IsDone }
-    requires fewer { length run.old.side.list.items < 2 ^ 31 }
-    requires idle { idle < 3 }
-    ensures kept { IfOk result (λ went. (told : Option DeviceStream) (before : ℕ)
-        → RunKeeps ops.now turn idle core.old run.old told (D.remaining device.old) before (D.faults device.old) (D.bound device.old)
-        → RunKeeps ops.now (turn_behind turn) (if went then 0 else idle + 1) core.new run.new told (D.remaining device.new) before (D.faults device.new) (D.bound device.new)) }
-    ensures counts { IfOk result (λ went. core.new.core.locked ≡ core.old.core.locked + (if went then 1 else 0)) }
+    requires most { length scenario.now.scripts ≤ 8 }
+    requires few { sum_by length scenario.now.scripts < 2 ^ 22 }
+    requires formed { AllInForm scenario.now.scripts }
+    requires built { list_all (list_all is_built_op) scenario.now.scripts ≡ true }
+    requires within { turn < actors_of scenario.now }
+    requires kept { (idle : ℕ) × (start : Prospect) × (idle < actors_of scenario.now)
+        × RunInvariant scenario.now turn idle machine.old run.old start (prospect (D.remaining device.old) (D.faults device.old) (D.bound device.old)) }
+    ensures kept { IfOk result (λ went. (idle : ℕ) (start : Prospect) → idle < actors_of scenario.now
+        → RunInvariant scenario.now turn idle machine.old run.old start (prospect (D.remaining device.old) (D.faults device.old) (D.bound device.old))
+        → RunInvariant scenario.now (turn_behind turn (actors_of scenario.now)) (if went then 0 else idle + 1) machine.new run.new start (prospect (D.remaining device.new) (D.faults device.new) (D.bound device.new))) }
+    ensures counts { IfOk result (λ went. machine.new.core.locked ≡ machine.old.core.locked + (if went then 1 else 0)) }
     ensures later { D.faults device.old ≤ D.faults device.new }
     ensures which { D.which device.new ≡ D.which device.old }
 {
-    match turn {
-        Turn::Script => script_turn(alloc, core, ops, run, idle),
-        Turn::Device => device_turn(alloc, core, ops, device, run, idle),
-        Turn::Compositor => compositor_turn(alloc, core, ops, run, idle),
+    let apps = scenario.scripts.as_slice().len();
+    if turn < apps {
+        return app_turn(alloc, machine, scenario, turn, run);
     }
+    if turn == apps {
+        return device_turn(alloc, machine, scenario, device, run);
+    }
+    let went = compositor_turn(alloc, machine, scenario, run)?;
+    Ok(went)
 }
 
 /// Goes on turn by turn, until no unfinished actor can make its call.
 pub(crate) fn go_on<D: Device>(
     alloc: Global,
-    core: &mut PlainCore,
-    ops: &[Op],
+    machine: &mut Machine,
+    scenario: &Scenario,
     device: &mut D,
     run: &mut Run,
 ) -> Result<(), NoMemory>
-    requires few { length ops.now < 2 ^ 20 }
-    requires formed { IsInForm ops.now }
-    requires built { list_all is_built_op ops.now ≡ true }
-    requires kept { (told : Option DeviceStream) × (before : ℕ) × RunKeeps ops.now Turn.Script 0 core.old run.old told (D.remaining device.old) before (D.faults device.old) (D.bound device.old) }
-    ensures kept { OnOk result ((told : Option DeviceStream) (before : ℕ)
-        → RunKeeps ops.now Turn.Script 0 core.old run.old told (D.remaining device.old) before (D.faults device.old) (D.bound device.old)
-        → (turn : Turn) × RunKeeps ops.now turn 3 core.new run.new told (D.remaining device.new) before (D.faults device.new) (D.bound device.new)) }
+    requires most { length scenario.now.scripts ≤ 8 }
+    requires few { sum_by length scenario.now.scripts < 2 ^ 22 }
+    requires formed { AllInForm scenario.now.scripts }
+    requires built { list_all (list_all is_built_op) scenario.now.scripts ≡ true }
+    requires kept { (start : Prospect) × RunInvariant scenario.now 0 0 machine.old run.old start (prospect (D.remaining device.old) (D.faults device.old) (D.bound device.old)) }
+    ensures kept { OnOk result ((start : Prospect)
+        → RunInvariant scenario.now 0 0 machine.old run.old start (prospect (D.remaining device.old) (D.faults device.old) (D.bound device.old))
+        → (turn : ℕ) × (turn < actors_of scenario.now) × RunInvariant scenario.now turn (actors_of scenario.now) machine.new run.new start (prospect (D.remaining device.new) (D.faults device.new) (D.bound device.new))) }
     ensures later { D.faults device.old ≤ D.faults device.new }
     ensures which { D.which device.new ≡ D.which device.old }
 {
-    let mut turn = Turn::Script;
-    let mut idle = 0u8;
-    while idle < ALL {
-        let went = one_turn(alloc, core, ops, device, run, turn, idle)?;
+    let actors = scenario.scripts.as_slice().len() + 2;
+    let mut turn = 0;
+    let mut idle = 0;
+    while idle < actors {
+        let went = one_turn(alloc, machine, scenario, device, run, turn)?;
         idle = if went { 0 } else { idle + 1 };
-        turn = turn.behind();
+        turn = behind(turn, actors);
     }
     Ok(())
 }

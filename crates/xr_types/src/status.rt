@@ -43,7 +43,7 @@ pub enum Refusal {
         name: Option<CallName>,
         what: What,
     },
-    /// The text is a scenario, and it has more than one script or an op that isn't built.
+    /// The text is a scenario, and it has an op that isn't built.
     Unbuilt,
 }
 

@@ -2,33 +2,40 @@
 
 /// How the program is called, printed by `--help`.
 pub(crate) const HELP: &str = "\
-xrsim runs a scenario of OpenXR calls on a runtime core without graphics and prints a report.
+xrsim runs a scenario of OpenXR calls on a runtime core without graphics and
+prints a report.
 
 usage:
   xrsim serial FILE [--device FILE] [--places]
-                    run the scenario under FILE on one thread and print its report
+                    run the scenario under FILE on one thread, print its report
   xrsim --help      print this
   xrsim --version   print the version
 
-A FILE has 1 to 4095 bytes; one that begins with '-' is given as ./-x, and a device's as --device=-x too. The
-scenario's holds a JSON object of at most 1,048,576 bytes: a version, 1, and scripts of ops, which
-docs/scenario.schema.json describes. One script of these ops is run: create_instance, destroy_instance,
-get_system, string_to_path, path_to_string, poll_event, create_session, destroy_session, begin_session,
-end_session, request_exit_session, mark and await. What is more isn't built yet.
-With --device the events of the device are read from a text, one on a line; without it there are none.
-With --places each line of a call ends in '@' and its reply's place, the count of calls up to it.
+A FILE has 1 to 4095 bytes; one that begins with '-' is given as ./-x, and a
+device's as --device=-x too. The scenario's holds a JSON object of at most
+1,048,576 bytes: a version, 1, and one to eight scripts of ops, which
+docs/scenario.schema.json describes. Each script is an application, and they
+take turns. These ops are run: create_instance, destroy_instance, get_system,
+string_to_path, path_to_string, poll_event, create_session, destroy_session,
+begin_session, end_session, request_exit_session, mark and await. What is more
+isn't built yet.
+With --device the events of the device are read from a text, one on a line;
+without it there are none.
+With --places each line of a call ends in '@' and its reply's place, the count
+of calls up to it.
 
 example:
-  {\"version\":1,\"scripts\":[[{\"op\":\"create_instance\",\"major\":1,\"minor\":0,\"as\":\"i\"},
-    {\"op\":\"string_to_path\",\"instance\":\"i\",\"text\":\"/user/hand/left\",\"as\":\"p\"},
-    {\"op\":\"path_to_string\",\"instance\":\"i\",\"path\":\"p\",\"capacity\":16}]]}
+  {\"version\":1,\"scripts\":[[
+    {\"op\":\"create_instance\",\"major\":1,\"minor\":0,\"as\":\"i\"},
+    {\"op\":\"string_to_path\",\"instance\":\"i\",\"text\":\"/user/hand/left\"}]]}
 
 exit status, with one line on standard error for each but 0:
   0  all was read and the whole report was written
   1  the words aren't of a form above
   2  a file couldn't be opened
   3  the scenario couldn't be read
-  4  the text is no scenario that is run; the line tells the script, the op and the field
+  4  the text is no scenario that is run; the line tells the script, the op and
+     the field
   5  the device couldn't be read on; the report is whole
   6  a line of the device's text is malformed; the report is whole
   7  the run can't go on; the report tells the next calls
@@ -39,13 +46,20 @@ exit status, with one line on standard error for each but 0:
 /// Printed by `--version`.
 pub(crate) const VERSION: &str = "xrsim 0.1.0\n";
 
-/// The text that these words ask for, if they ask for one.
+/// The text that these words ask for, if they ask for one: `--help` or `-h` anywhere before `--`, and `--version` or `-V`
+/// alone.
 pub(crate) fn text_for(words: &[String]) -> Option<&'static str> {
+    for word in words {
+        match word.as_str() {
+            "--" => break,
+            "--help" | "-h" => return Some(HELP),
+            _ => {}
+        }
+    }
     if words.len() != 1 {
         return None;
     }
     match words[0].as_str() {
-        "--help" | "-h" => Some(HELP),
         "--version" | "-V" => Some(VERSION),
         _ => None,
     }

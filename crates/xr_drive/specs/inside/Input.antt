@@ -1,8 +1,6 @@
 -- Why a reading stops.
 use Rattle.std.specs.Prelude.{◌≤◌, ℕ, Result, Ok, Err}
 use Rattle.xr_io.specs.Outside.{Rose}
-use Rattle.xr_types.specs.declared.status.Status.{Status}
-use Rattle.xr_types.specs.declared.status.Status.TheVariants as status
 use Rattle.xr_drive.specs.declared.input.Stop.{Stop}
 use Rattle.xr_drive.specs.declared.input.Stop.TheVariants.{Failed, NoMemory}
 
@@ -18,7 +16,3 @@ RoseIfFailed before now (Err stop) = RoseIfStopped before now stop
 pub record HasReadCause {T : Type 0} (before now : ℕ) (result : Result T Stop) : Type 0 where
   pub later : before ≤ now
   pub failed : RoseIfFailed before now result
-
-abbrev pub status_of : Stop → Status
-status_of Failed = status.ReadFault
-status_of NoMemory = status.NoMemory

@@ -1,13 +1,12 @@
 -- The bytes of a report.
-use Rattle.std.specs.Prelude.{ℕ, ◌+◌, Bool, true, false, List, [], ◌∷◌, ◌++◌, slice_get, codes, decimal, Option, if◌then◌else◌}
-use Rattle.std.specs.List.{list_any}
+use Rattle.std.specs.Prelude.{ℕ, ◌+◌, Bool, List, [], ◌∷◌, ◌++◌, slice_get, codes, decimal, Option}
 use Rattle.xr_types.specs.declared.calls.Reply.{Reply}
 use Rattle.xr_types.specs.declared.device.DeviceEvent.{DeviceEvent}
-use Rattle.xr_types.specs.declared.device.DeviceEvent.TheVariants.{Fault, Garbled}
 use Rattle.xr_types.specs.declared.frames.Shown.{Shown}
 use Rattle.xr_types.specs.declared.made.Lists.{Lists}
 use Rattle.xr_types.specs.declared.made.Made.{Made}
 use Rattle.xr_types.specs.declared.made.Waiting.{Waiting}
+use Rattle.xr_model.specs.report.RunEnding.{ending_of, exit_of}
 use Rattle.xr_model.specs.report.ReportLines.{call_line, frame_line, ended_line, event_line, waiting_line}
 
 abbrev pub lines_of : Bool → List Made → List ℕ
@@ -44,24 +43,9 @@ abbrev pub stuck_block : List Waiting → List ℕ
 stuck_block [] = []
 stuck_block (w ∷ ws) = codes "stuck\n" ++ waiting_lines (w ∷ ws)
 
-abbrev pub is_fault : DeviceEvent → Bool
-is_fault Fault = true
-is_fault _ = false
-
-abbrev pub is_garbled : DeviceEvent → Bool
-is_garbled (Garbled line) = true
-is_garbled _ = false
-
-abbrev pub stuck_status : List Waiting → ℕ
-stuck_status [] = 0
-stuck_status _ = 7
-
--- 5 where the device couldn't be read on, 6 where a line of it is none, 7 where the run can't go on, else 0
-abbrev pub status_of : List DeviceEvent → List Waiting → ℕ
-status_of events next = if list_any is_fault events then 5 else if list_any is_garbled events then 6 else stuck_status next
-
-abbrev pub status_line : List DeviceEvent → List Waiting → List ℕ
-status_line events next = codes "status " ++ decimal (status_of events next) ++ codes "\n"
+-- how the run ended, by the number of that ending
+abbrev pub status_line : Lists → List ℕ
+status_line lists = codes "status " ++ decimal (exit_of (ending_of lists)) ++ codes "\n"
 
 -- The report of what a run has made, with or without the places of the replies.
 abbrev pub report_of : Lists → Bool → List ℕ
@@ -71,4 +55,4 @@ report_of lists places =
     ++ compositor_block places lists.compositor lists.shown lists.ended
     ++ device_block places lists.events lists.device
     ++ stuck_block lists.next
-    ++ status_line lists.events lists.next
+    ++ status_line lists

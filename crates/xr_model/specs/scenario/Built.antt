@@ -1,4 +1,4 @@
--- Which scenarios are run: those of one script of ops that are built.
+-- Which scenarios are run: those whose ops are all built.
 use Rattle.std.specs.Prelude.{ℕ, Bool, true, false, List, [], ◌∷◌, Result, Ok, Err, if◌then◌else◌}
 use Rattle.std.specs.List.{list_all}
 use Rattle.xr_types.specs.declared.scenario.Op.{Op}
@@ -24,16 +24,14 @@ is_built_op (op.Mark number value) = true
 is_built_op (op.Await number) = true
 is_built_op _ = false
 
--- there is one script, and all its ops are built
+-- all ops of all scripts are built
 abbrev pub are_built : List (List Op) → Bool
-are_built (ops ∷ []) = list_all is_built_op ops
-are_built _ = false
+are_built scripts = list_all (list_all is_built_op) scripts
 
 abbrev pub if_built : Result Scenario Refusal → Result Scenario Refusal
 if_built (Err e) = Err e
 if_built (Ok scenario) = if are_built scenario.scripts then Ok scenario else Err Unbuilt
 
--- The scenario of a text that is run, or why it is refused: a scenario of more scripts or of other ops
--- isn't built.
+-- The scenario of a text that is run, or why it is refused: a scenario with an op that isn't built is `Unbuilt`.
 abbrev pub run_scenario_of : List ℕ → Result Scenario Refusal
 run_scenario_of text = if_built (scenario_of text)

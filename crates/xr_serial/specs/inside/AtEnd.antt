@@ -1,17 +1,16 @@
 -- What a run has made, where nobody can go on.
-use Rattle.std.specs.Prelude.{ℕ, pos, Bool, List, [], ◌∷◌, ◌++◌, map, Option, Some, None}
-use Rattle.xr_types.specs.declared.calls.Reply.{Reply}
-use Rattle.xr_types.specs.declared.device.DeviceEvent.{DeviceEvent}
+use Rattle.std.specs.Prelude.{ℕ, ◌+◌, List, [], ◌∷◌, ◌++◌, map, drop, Option, Some, None, if◌then◌else◌}
+use Rattle.xr_types.specs.declared.calls.Actor.TheVariants.{App}
 use Rattle.xr_types.specs.declared.made.Lists.{Lists}
-use Rattle.xr_types.specs.declared.made.Made.{Made}
 use Rattle.xr_types.specs.declared.made.Waiting.{Waiting}
 use Rattle.xr_types.specs.declared.names.CallName.{CallName}
 use Rattle.xr_types.specs.declared.names.CallName.TheVariants as call
 use Rattle.xr_types.specs.declared.scenario.Op.{Op}
+use Rattle.xr_types.specs.declared.scenario.Scenario.{Scenario}
 use Rattle.xr_types.specs.Op.{call_name}
-use Rattle.xr_model.specs.runs.Robin.{Agenda}
 use Rattle.xr_model.specs.runs.Lists.{waiting_of}
-use Rattle.xr_serial.specs.inside.Turns.{Parts, parts_of}
+use Rattle.xr_serial.specs.inside.RunState.{AppState, RunState}
+use Rattle.xr_serial.specs.inside.Turns.{device_part, compositor_part}
 
 -- the name of the next call of a script with these ops left
 abbrev pub next_name : List Op → CallName
@@ -22,20 +21,27 @@ abbrev pub list_if : Option Waiting → List Waiting
 list_if None = []
 list_if (Some one) = one ∷ []
 
--- in the order of a round
-abbrev pub in_order : Parts → List Agenda
-in_order p = p.script ++ p.device ++ p.compositor
+-- an application's next call, unless it has left
+abbrev pub app_next : ℕ → List Op → AppState → List Waiting
+app_next number ops app = if app.has_left then [] else record { actor = App number; op = app.made + 1; name = next_name (drop app.made ops) } ∷ []
 
--- The lists of one script, a device of which nothing more is known, and the compositor. What is told of those that
--- can't go on doesn't tell the clock.
-abbrev pub lists_at : List Op → ℕ → List ℕ → List Made → Bool → Option DeviceEvent → List DeviceEvent → List Made → Option Reply → Lists
-lists_at ops made names list has_left pending events dlist ended = record {
-  apps = list ∷ [];
-  device = dlist;
+-- those of the applications from this number on
+abbrev pub apps_next : ℕ → List (List Op) → List AppState → List Waiting
+apps_next number (ops ∷ scripts) (app ∷ apps) = app_next number ops app ++ apps_next (number + 1) scripts apps
+apps_next number _ _ = []
+
+-- of all that haven't finished, in the order of a round
+abbrev pub next_calls : Scenario → RunState → List Waiting
+next_calls scenario run = apps_next 1 scenario.scripts run.apps ++ map waiting_of (device_part run.side.pending []) ++ map waiting_of (compositor_part run.ended)
+
+abbrev pub lists_at : Scenario → RunState → Lists
+lists_at scenario run = record {
+  apps = map (λ app. app.calls) run.apps;
+  device = run.side.calls;
   compositor = [];
-  ended = ended;
+  ended = run.ended;
   shown = [];
   done = [];
-  events = events;
-  next = map waiting_of (in_order (parts_of ops made names (pos 0) has_left pending ended []));
+  events = run.side.events;
+  next = next_calls scenario run;
 }

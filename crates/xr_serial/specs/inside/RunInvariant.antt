@@ -1,11 +1,13 @@
 -- What the loop of a run keeps from turn to turn.
-use Rattle.std.specs.Prelude.{◌≡◌, ◌≤◌, ℕ, ℤ, ◌+◌, ◌-◌, Bool, true, false, List, [], ◌∷◌, ◌++◌, length, drop, Option, Some, None, IfSome, is_some, if◌then◌else◌}
-use Rattle.std.specs.List.{list_any}
+use Rattle.std.specs.Prelude.{◌≡◌, ◌≤◌, ◌<◌, ℕ, ℤ, ◌+◌, ◌-◌, Bool, true, false, List, [], ◌∷◌, ◌++◌, length, drop, map, Option, Some, None, IfSome, is_some, slice_index_or, if◌then◌else◌}
+use Rattle.std.specs.List.{list_any, sum_by}
+use Rattle.xr_types.specs.declared.calls.Actor.{Actor}
+use Rattle.xr_types.specs.declared.calls.Actor.TheVariants.{App, Compositor, Device}
 use Rattle.xr_types.specs.declared.calls.Gives.TheVariants.{Ended}
 use Rattle.xr_types.specs.declared.calls.Reply.{Reply}
 use Rattle.xr_types.specs.declared.device.DeviceEvent.{DeviceEvent}
-use Rattle.xr_types.specs.declared.made.Made.{Made}
 use Rattle.xr_types.specs.declared.scenario.Op.{Op}
+use Rattle.xr_types.specs.declared.scenario.Scenario.{Scenario}
 use Rattle.xr_io.specs.Outside.{Rose}
 use Rattle.xr_model.specs.machine.Request as request
 use Rattle.xr_model.specs.machine.Request.{next_frame}
@@ -13,28 +15,35 @@ use Rattle.xr_model.specs.machine.State.{State}
 use Rattle.xr_model.specs.runs.Scripts.{FollowsFrom, Follows, FollowsSoFarFrom, FollowsSoFar}
 use Rattle.xr_model.specs.device_text.DeviceText.{DeviceStream, Ending}
 use Rattle.xr_model.specs.runs.Robin.{last_event}
-use Rattle.xr_model.specs.report.Report.{is_fault}
+use Rattle.xr_model.specs.report.RunEnding.{is_fault}
 use Rattle.xr_model.specs.runs.Lists.{made_from, events_in}
-use Rattle.xr_serial.specs.inside.Sides.{IsDone, told_of}
+use Rattle.xr_serial.specs.inside.Made.{exchange_of}
+use Rattle.xr_serial.specs.inside.RunState.{AppState, SideState, RunState}
+use Rattle.xr_serial.specs.inside.Sides.{IsDone, Prospect}
 use Rattle.xr_serial.specs.inside.Turns.{parts_of, pending_list}
-use Rattle.xr_serial.specs.inside.Continues.{Continues}
-use Rattle.xr_serial.specs.Ran.{Gave}
-use Rattle.xr_serial.specs.declared.rounds.Run.{Run}
-use Rattle.xr_serial.specs.declared.turn.Turn.{Turn}
+use Rattle.xr_serial.specs.inside.Past.{Standing}
+use Rattle.xr_serial.specs.Ran.{Gave, AreLineEvents}
 
--- ---- the script
+-- ---- an application
 
--- so many of its ops were made, with these calls, and gave these values
-pub record ScriptKept (ops : List Op) (made : ℕ) (names : List ℕ) (list : List Made) (has_left : Bool) (app : List request.Exchange) : Type 0 where
-  pub within : made ≤ length ops
-  pub named : length names ≡ length ops
-  pub list_is : list ≡ made_from 1 app
-  pub count : length app ≡ made + (if has_left then 1 else 0)
-  pub all : has_left ≡ true → made ≡ length ops
-  pub follows : (more : List request.Exchange) → has_left ≡ false → FollowsFrom (made + 1) names (drop made ops) more → Follows ops (app ++ more)
-  pub so_far : (more : List request.Exchange) → has_left ≡ false → FollowsSoFarFrom (made + 1) names (drop made ops) more → FollowsSoFar ops (app ++ more)
-  pub whole : has_left ≡ true → Follows ops app
-  pub front : has_left ≡ true → FollowsSoFar ops app
+-- so many ops of its script were made, by these calls, and gave these values
+pub record AppKept (ops : List Op) (app : AppState) (calls : List request.Exchange) : Type 0 where
+  pub within : app.made ≤ length ops
+  pub named : length app.names ≡ length ops
+  pub list_is : app.calls ≡ made_from 1 calls
+  pub count : length calls ≡ app.made + (if app.has_left then 1 else 0)
+  pub follows : (more : List request.Exchange) → app.has_left ≡ false → FollowsFrom (app.made + 1) app.names (drop app.made ops) more → Follows ops (calls ++ more)
+  pub so_far : (more : List request.Exchange) → app.has_left ≡ false → FollowsSoFarFrom (app.made + 1) app.names (drop app.made ops) more → FollowsSoFar ops (calls ++ more)
+  pub whole : app.has_left ≡ true → Follows ops calls
+  pub front : app.has_left ≡ true → FollowsSoFar ops calls
+
+-- each of them, and the state knows who has left
+pub record AppsKept (scripts : List (List Op)) (s : State) (apps : List AppState) (clocks : List ℤ) (calls : Actor → List request.Exchange) : Type 0 where
+  pub count : length apps ≡ length scripts
+  pub timed : length clocks ≡ length scripts
+  pub known : s.core.apps ≡ length scripts
+  pub left : s.core.left ≡ map (λ app. app.has_left) apps
+  pub each : (place : ℕ) (none : AppState) → place < length scripts → AppKept (slice_index_or scripts place []) (slice_index_or apps place none) (calls (App (place + 1)))
 
 -- ---- the device
 
@@ -51,51 +60,64 @@ pub record GaveAll (told : Option DeviceStream) (given closing : List DeviceEven
   pub last : closing ≡ last_event ending
   pub fault : list_any is_fault closing ≡ true → Rose before now
 
-abbrev pub Came : Option DeviceStream → Option DeviceStream → List DeviceEvent → List DeviceEvent → ℕ → ℕ → Bool → Type 0
-Came told now given closing before after true = GaveAll told given closing before after
-Came told now given closing before after false = GivesMore told now given × (closing ≡ [])
+abbrev pub Came : Prospect → Prospect → List DeviceEvent → List DeviceEvent → Bool → Type 0
+Came start now given closing true = GaveAll start.remaining given closing start.faults now.faults
+Came start now given closing false = GivesMore start.remaining now.remaining given × (closing ≡ [])
 
 -- its calls, and what it has told of which the call isn't made yet
-pub record DeviceKept (pending : Option DeviceEvent) (over : Bool) (events : List DeviceEvent) (list : List Made) (dev : List request.Exchange) (told now : Option DeviceStream) (before after : ℕ) : Type 0 where
+pub record DeviceKept (side : SideState) (calls : List request.Exchange) (start now : Prospect) : Type 0 where
   pub given : List DeviceEvent
   pub closing : List DeviceEvent
-  pub begun : given ++ closing ≡ events_in dev ++ pending_list pending
-  pub came : Came told now given closing before after over
+  pub begun : given ++ closing ≡ events_in calls ++ pending_list side.pending
+  pub came : Came start now given closing side.over
   pub faultless : list_any is_fault given ≡ false
-  pub done : IfSome pending IsDone
-  pub list_is : list ≡ made_from 1 dev
-  pub events_are : events ≡ events_in dev
+  pub sound : AreLineEvents given
+  pub done : IfSome side.pending IsDone
+  pub list_is : side.calls ≡ made_from 1 calls
+  pub events_are : side.events ≡ events_in calls
+  pub later : start.faults ≤ now.faults
 
 -- ---- the compositor
 
 abbrev pub EndKept : Option Reply → List request.Exchange → Type 0
-EndKept None comp = comp ≡ []
-EndKept (Some reply) comp = (comp ≡ told_of next_frame reply [] ∷ []) × (reply.gives ≡ Ended)
+EndKept None calls = calls ≡ []
+EndKept (Some reply) calls = (calls ≡ exchange_of next_frame reply [] ∷ []) × (reply.gives ≡ Ended)
 
--- ---- all three
+-- ---- all
 
--- how many calls are still to come at most: of the script with its `leave`, of the device, and of the compositor
-abbrev pub work_left : ℕ → ℕ → Bool → Option DeviceEvent → Bool → ℕ → Option Reply → ℕ
-work_left ops made has_left pending over bound ended =
-    (ops - made) + (if has_left then 0 else 1) + (if is_some pending then 1 else 0) + (if over then 0 else bound + 1) + (if is_some ended then 0 else 1)
+-- how many calls of an application are still to come, `leave` among them
+abbrev pub app_work : List Op → AppState → ℕ
+app_work ops app = (length ops - app.made) + (if app.has_left then 0 else 1)
 
-pub record RunInvariant (ops : List Op) (turn : Turn) (idle : ℕ) (s : State) (made : ℕ) (names : List ℕ) (list : List Made) (has_left : Bool) (pending : Option DeviceEvent) (over : Bool) (events : List DeviceEvent) (dlist : List Made) (ended : Option Reply)
-    (told now : Option DeviceStream) (before after bound : ℕ) : Type 0 where
-  pub app : List request.Exchange
-  pub dev : List request.Exchange
-  pub comp : List request.Exchange
-  pub clock : ℤ
-  pub going : Continues ops turn idle s (parts_of ops made names clock has_left pending ended) over (events_in dev ++ pending_list pending) app dev comp
-  pub apps : s.core.apps ≡ 1
-  pub left : s.core.left ≡ has_left ∷ []
-  pub script : ScriptKept ops made names list has_left app
-  pub device : DeviceKept pending over events dlist dev told now before after
-  pub end : EndKept ended comp
-  pub later : before ≤ after
-  pub counted : length dlist ≤ s.core.locked
-  pub work : s.core.locked + work_left (length ops) made has_left pending over bound ended ≤ length ops + 16777216 + 3
+abbrev pub apps_work : List (List Op) → List AppState → ℕ
+apps_work (ops ∷ scripts) (app ∷ apps) = app_work ops app + apps_work scripts apps
+apps_work _ _ = 0
 
--- the same of a run on its way
-abbrev pub RunKeeps : List Op → Turn → ℕ → State → Run → Option DeviceStream → Option DeviceStream → ℕ → ℕ → ℕ → Type 0
-RunKeeps ops turn idle s run told now before after bound =
-    RunInvariant ops turn idle s run.script.made run.script.names run.script.list.items run.script.has_left run.side.pending run.side.over run.side.events.items run.side.list.items run.ended told now before after bound
+-- how many of the device at most
+abbrev pub side_work : SideState → ℕ → ℕ
+side_work side bound = (if is_some side.pending then 1 else 0) + (if side.over then 0 else bound + 1)
+
+abbrev pub end_work : Option Reply → ℕ
+end_work ended = if is_some ended then 0 else 1
+
+-- how many calls a run has at most
+abbrev pub most_calls : List (List Op) → ℕ
+most_calls scripts = sum_by length scripts + length scripts + 16777218
+
+-- What a turn that makes no call keeps whole: what each actor has made, and how many calls are still to come at most.
+pub record RunKept (scenario : Scenario) (s : State) (run : RunState) (clocks : List ℤ) (calls : Actor → List request.Exchange) (start now : Prospect) : Type 0 where
+  pub apps : AppsKept scenario.scripts s run.apps clocks calls
+  pub device : DeviceKept run.side (calls Device) start now
+  pub end : EndKept run.ended (calls Compositor)
+  pub counted : length run.side.calls ≤ s.core.locked
+  pub work : s.core.locked + (apps_work scenario.scripts run.apps + side_work run.side now.bound + end_work run.ended) ≤ most_calls scenario.scripts
+
+-- the events of the calls that the device has made, and what it has told beside them
+abbrev pub events_told : SideState → List request.Exchange → List DeviceEvent
+events_told side calls = events_in calls ++ pending_list side.pending
+
+pub record RunInvariant (scenario : Scenario) (turn idle : ℕ) (s : State) (run : RunState) (start now : Prospect) : Type 0 where
+  pub calls : Actor → List request.Exchange
+  pub clocks : List ℤ
+  pub standing : Standing scenario turn idle s run.side.over (events_told run.side (calls Device)) (parts_of scenario run clocks) calls
+  pub kept : RunKept scenario s run clocks calls start now

@@ -1,46 +1,24 @@
--- The turns of the script, the device and the compositor: which of them are unfinished, and in which order their agendas
--- stand.
-use Rattle.std.specs.Prelude.{◌≡◌, zero, suc, ℕ, ℤ, ◌+◌, Bool, false, List, [], ◌∷◌, ◌++◌, drop, Option, Some, None, if◌then◌else◌}
+-- What each actor has still to do, and in which order the agendas stand from turn to turn.
+use Rattle.std.specs.Prelude.{◌≡◌, ℕ, ℤ, ◌+◌, false, nat_lt, List, [], ◌∷◌, ◌++◌, length, drop, take, Option, Some, None, if◌then◌else◌}
+use Rattle.std.specs.List.{flat_map}
 use Rattle.xr_types.specs.declared.calls.Reply.{Reply}
 use Rattle.xr_types.specs.declared.device.DeviceEvent.{DeviceEvent}
 use Rattle.xr_types.specs.declared.scenario.Op.{Op}
+use Rattle.xr_types.specs.declared.scenario.Scenario.{Scenario}
 use Rattle.xr_model.specs.machine.State.{State}
 use Rattle.xr_model.specs.runs.Robin.{Agenda, script, compositor, device_agendas, is_next_ready}
-use Rattle.xr_serial.specs.declared.turn.Turn.{Turn}
-use Rattle.xr_serial.specs.declared.turn.Turn.TheVariants.{Script, Device, Compositor}
+use Rattle.xr_serial.specs.inside.RunState.{AppState, RunState}
 
--- the agendas of each of the three; one that is finished has none
-pub record Parts : Type 0 where
-  pub script : List Agenda
-  pub device : List Agenda
-  pub compositor : List Agenda
+-- ---- what is left of each actor: its agenda, or nothing where it has finished
 
--- of the one whose turn it is, of the next, and of the last before its turn comes again
-abbrev pub now_part : Turn → Parts → List Agenda
-now_part Script p = p.script
-now_part Device p = p.device
-now_part Compositor p = p.compositor
+-- an application of this number, by its script and the clock after its last locked call
+abbrev pub script_part : ℕ → List Op → AppState → ℤ → List Agenda
+script_part number ops app clock = if app.has_left then [] else script number (app.made + 1) (drop app.made ops) app.names clock ∷ []
 
-abbrev pub next_part : Turn → Parts → List Agenda
-next_part Script p = p.device
-next_part Device p = p.compositor
-next_part Compositor p = p.script
-
-abbrev pub last_part : Turn → Parts → List Agenda
-last_part Script p = p.compositor
-last_part Device p = p.script
-last_part Compositor p = p.device
-
-abbrev pub turn_behind : Turn → Turn
-turn_behind Script = Device
-turn_behind Device = Compositor
-turn_behind Compositor = Script
-
--- ---- what is left of each
-
--- a script of which so many ops were made, unless it has left
-abbrev pub script_part : List Op → ℕ → List ℕ → ℤ → Bool → List Agenda
-script_part ops made values clock has_left = if has_left then [] else script 1 (made + 1) (drop made ops) values clock ∷ []
+-- the applications from this number on
+abbrev pub script_parts : ℕ → List (List Op) → List AppState → List ℤ → List (List Agenda)
+script_parts number (ops ∷ scripts) (app ∷ apps) (clock ∷ clocks) = script_part number ops app clock ∷ script_parts (number + 1) scripts apps clocks
+script_parts number _ _ _ = []
 
 abbrev pub pending_list : Option DeviceEvent → List DeviceEvent
 pending_list None = []
@@ -55,19 +33,42 @@ abbrev pub compositor_part : Option Reply → List Agenda
 compositor_part None = compositor ∷ []
 compositor_part (Some ended) = []
 
-abbrev pub parts_of : List Op → ℕ → List ℕ → ℤ → Bool → Option DeviceEvent → Option Reply → List DeviceEvent → Parts
-parts_of ops made values clock has_left pending ended rest = record { script = script_part ops made values clock has_left; device = device_part pending rest; compositor = compositor_part ended }
+-- all actors in the order of a round
+abbrev pub parts_of : Scenario → RunState → List ℤ → List DeviceEvent → List (List Agenda)
+parts_of scenario run clocks rest = script_parts 1 scenario.scripts run.apps clocks ++ device_part run.side.pending rest ∷ compositor_part run.ended ∷ []
 
--- ---- the order of agendas
+-- ---- turns
+
+-- how many actors there are
+abbrev pub actors_of : Scenario → ℕ
+actors_of scenario = length scenario.scripts + 2
+
+-- the turn behind this one
+abbrev pub turn_behind : ℕ → ℕ → ℕ
+turn_behind turn actors = if nat_lt (turn + 1) actors then turn + 1 else 0
+
+-- those behind the actor whose turn it is, round to the one before it
+abbrev pub others_of : ℕ → List (List Agenda) → List (List Agenda)
+others_of turn parts = drop (turn + 1) parts ++ take turn parts
+
+-- all, from the actor whose turn it is on
+abbrev pub from_turn : ℕ → List (List Agenda) → List (List Agenda)
+from_turn turn parts = drop turn parts ++ take turn parts
+
+abbrev pub joined : List (List Agenda) → List Agenda
+joined parts = flat_map (λ part. part) parts
 
 -- none of these can make its call
 abbrev pub AreHeldBack : State → List Agenda → Type 0
 AreHeldBack s [] = Unit {0}
 AreHeldBack s (x ∷ xs) = (is_next_ready s x ≡ false) × AreHeldBack s xs
 
--- How the agendas stand in a turn, where so many turns before it made no call. Where three made none, nobody can.
-abbrev pub IsTurnOrder : ℕ → State → List Agenda → List Agenda → List Agenda → List Agenda → Type 0
-IsTurnOrder zero s now next last agendas = agendas ≡ now ++ next ++ last
-IsTurnOrder (suc zero) s now next last agendas = (agendas ≡ last ++ now ++ next) × AreHeldBack s last
-IsTurnOrder (suc (suc zero)) s now next last agendas = (agendas ≡ next ++ last ++ now) × AreHeldBack s (next ++ last)
-IsTurnOrder (suc (suc (suc n))) s now next last agendas = (agendas ≡ now ++ next ++ last) × AreHeldBack s (now ++ next ++ last)
+-- How the agendas stand in a turn, where so many turns before it made no call: first those that were passed over in these,
+-- none of whom can make its call, then those whose turn is to come.
+pub record IsTurnOrder (s : State) (idle : ℕ) (order : List (List Agenda)) (agendas : List Agenda) : Type 0 where
+  pub coming : List (List Agenda)
+  pub passed : List (List Agenda)
+  pub order_is : order ≡ coming ++ passed
+  pub count : length passed ≡ idle
+  pub held : AreHeldBack s (joined passed)
+  pub agendas_are : agendas ≡ joined passed ++ joined coming

@@ -1,11 +1,17 @@
-use Rattle.std.proofs.Common.{rules, ◌≡◌, ◌∷◌, [], true, Ok}
+use Rattle.std.proofs.Common.{rules, ◌≡◌, true, Ok, arith}
 use Rattle.xr_model.specs.scenario.Built.{are_built, run_scenario_of}
+use Rattle.xr_drive.proofs.Few.{total_is}
 use Rattle.xr_drive.proofs.Runs.{run_if_built}
 use Rattle.xr_drive.proofs.serial.run_text.Goals as goal
 
-pub returns-in-Ok-run-clause-means : goal.returns-in-Ok-run-clause-means
-returns-in-Ok-run-clause-means g c =
-    let built : are_built c.in-Ok.scenario.scripts ≡ true = search rules in
-    let reads : run_scenario_of c.args.text.now ≡ Ok c.in-Ok.scenario = run_if_built c.args.text.now c.in-Ok.scenario c.in-Ok.ensures.reads built in
-    let one : c.in-Ok.scenario.scripts ≡ c.in-Some.ops.now ∷ [] = search rules in
-    record { scenario = c.in-Ok.scenario; ops = c.in-Some.ops.now; reads = reads; ran = c.in-Ok-run.ensures.ran c.in-Ok.scenario one }
+pub run-requires-clause-few : goal.run-requires-clause-few
+run-requires-clause-few g c =
+    let few = c.in_ok-scenario.ensures.few in
+    let same = total_is c.in_ok-scenario.scenario.scripts in
+    omega (arith, few, same)
+
+pub returns-in-Ok-clause-means : goal.returns-in-Ok-clause-means
+returns-in-Ok-clause-means g c =
+    let built : are_built c.in_ok-scenario.scenario.scripts ≡ true = search rules in
+    let reads : run_scenario_of c.args.text.now ≡ Ok c.in_ok-scenario.scenario = run_if_built c.args.text.now c.in_ok-scenario.scenario c.in_ok-scenario.ensures.reads built in
+    record { scenario = c.in_ok-scenario.scenario; reads = reads; ran = c.in-Ok.ensures.ran }

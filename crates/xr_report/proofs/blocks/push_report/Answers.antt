@@ -10,5 +10,5 @@ returns c =
     (codes "xrsim report 1\n") (threads_from c.args.places 1 c.args.lists.now.apps)
     (compositor_block c.args.places c.args.lists.now.compositor c.args.lists.now.shown c.args.lists.now.ended)
     (device_block c.args.places c.args.lists.now.events c.args.lists.now.device)
-    (stuck_block c.args.lists.now.next) (status_line c.args.lists.now.events c.args.lists.now.next)
+    (stuck_block c.args.lists.now.next) (status_line c.args.lists.now)
     c.in_ok-push_text.ensures (search rules) (search rules) (search rules) (search rules) (search rules)

@@ -1,18 +1,13 @@
-use Rattle.std.proofs.Common.{rules, ◌≡◌, None}
-use Rattle.std.specs.Prelude.{is_some, true}
-use Rattle.xr_serial.proofs.KeepingDevice.{end_from, end_told_from}
+use Rattle.std.proofs.Common.{rules, ◌≡◌, true, None, is_some}
+use Rattle.xr_serial.proofs.DeviceTurns.{end_over, end_turn}
 use Rattle.xr_serial.proofs.rounds.compositor_turn.Goals as goal
 
 pub returns-then-is_some-clause-kept : goal.returns-then-is_some-clause-kept
 returns-then-is_some-clause-kept c =
-    let run = c.args.run.now in
-    let told_end : is_some run.ended ≡ true = search rules in
-    λ told now before after bound kept. end_told_from c.args.ops.now told now before after bound c.args.idle c.requires.idle c.args.core.now c.args.core.now run.script.made run.script.names run.script.list.items run.script.has_left run.side.pending run.side.over run.side.events.items run.side.list.items
-    run.ended told_end kept
+    let told : is_some c.args.run.now.ended ≡ true = search rules in
+    λ idle start now few kept. end_over c.args.scenario.now idle c.args.machine.now c.args.machine.now c.args.run.now start now few told kept
 
 pub returns-clause-kept : goal.returns-clause-kept
 returns-clause-kept c =
-    let run = c.args.run.now in
-    let open_ : run.ended ≡ None = search rules in
-    λ told now before after bound kept. end_from c.args.ops.now told now before after bound c.args.idle c.requires.idle c.args.core.now c.end.new.core run.script.made run.script.names run.script.list.items run.script.has_left run.side.pending run.side.over run.side.events.items run.side.list.items
-    run.ended c.end.new.ended c.in_ok-went.went open_ c.in_ok-went.ensures kept
+    let unended : c.run.inside.ended ≡ None = search rules in
+    rw (← c.run.view_is) (λ idle start now few kept. end_turn c.args.scenario.now idle c.args.machine.now c.end.new.machine _ start now few c.end.new.ended c.in_ok-went.went unended c.in_ok-went.ensures kept)

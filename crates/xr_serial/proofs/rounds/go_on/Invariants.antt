@@ -1,19 +1,19 @@
-use Rattle.std.proofs.Common.{◌-◌, ◌≡◌, ◌≤◌, ◌+◌, ◌*◌, ℕ, Option, length}
-use Rattle.xr_model.specs.device_text.DeviceText.{DeviceStream}
-use Rattle.xr_serial.specs.inside.RunInvariant.{RunKeeps}
-use Rattle.xr_serial.specs.declared.turn.Turn.TheVariants as turn
+use Rattle.std.proofs.Common.{◌-◌, ◌≡◌, ◌≤◌, ◌<◌, ◌+◌, ◌*◌}
+use Rattle.xr_serial.specs.inside.Sides.{Prospect, prospect}
+use Rattle.xr_serial.specs.inside.RunInvariant.{most_calls, RunInvariant}
 use Rattle.xr_serial.proofs.rounds.go_on.Given as goal
 
 abbrev pub invariant-loop-idle : goal.invariant-loop-idle
 invariant-loop-idle g l = record {
-  most : l.idle ≤ 3;
-  kept : (told : Option DeviceStream) (before : ℕ)
-      → RunKeeps l.ops turn.Script 0 l.fn.core l.fn.run told (g.D.Device.remaining l.fn.device) before (g.D.Device.faults l.fn.device) (g.D.Device.bound l.fn.device)
-      → RunKeeps l.ops l.turn l.idle l.core l.run told (g.D.Device.remaining l.device) before (g.D.Device.faults l.device) (g.D.Device.bound l.device);
+  most : l.idle ≤ l.actors;
+  turn : l.turn < l.actors;
+  kept : (start : Prospect)
+      → RunInvariant l.scenario 0 0 l.fn.machine l.fn.run start (prospect (g.D.Device.remaining l.fn.device) (g.D.Device.faults l.fn.device) (g.D.Device.bound l.fn.device))
+      → RunInvariant l.scenario l.turn l.idle l.machine l.run start (prospect (g.D.Device.remaining l.device) (g.D.Device.faults l.device) (g.D.Device.bound l.device));
   later : g.D.Device.faults l.fn.device ≤ g.D.Device.faults l.device;
   which : g.D.Device.which l.device ≡ g.D.Device.which l.fn.device;
 }
 
--- a call that is made takes one of those that are to come; three turns at most behind it make none
+-- a call that is made takes one of those that are to come; a round at most behind it makes none
 abbrev pub decreases-loop-idle : goal.decreases-loop-idle
-decreases-loop-idle g l = 4 * (length l.ops + 16777216 + 3 - l.core.core.locked) + (3 - l.idle)
+decreases-loop-idle g l = 11 * (most_calls l.scenario.scripts - l.machine.core.locked) + (l.actors - l.idle)

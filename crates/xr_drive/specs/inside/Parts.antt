@@ -1,0 +1,80 @@
+-- What the parts of a top call say.
+use Rattle.std.specs.Prelude.{◌≡◌, ◌⊎◌, ℕ, Bool, true, List, take, Option, Result, Ok, Err, IfSome, ⊤}
+use Rattle.std.specs.List.{list_any}
+use Rattle.std.specs.Io.KnownBytes.{Keeps, Appends}
+use Rattle.xr_io.specs.Outside.{Rose}
+use Rattle.xr_io.specs.declared.Which.{Which}
+use Rattle.xr_io.specs.declared.Which.TheVariants as which
+use Rattle.xr_types.specs.declared.made.Lists.{Lists}
+use Rattle.xr_types.specs.declared.status.Status.{Status}
+use Rattle.xr_types.specs.declared.status.Status.TheVariants as status
+use Rattle.xr_model.specs.scenario.Built.{run_scenario_of}
+use Rattle.xr_model.specs.device_text.DeviceText.{DeviceStream}
+use Rattle.xr_model.specs.report.RunEnding.{is_fault}
+use Rattle.xr_model.specs.report.Report.{report_of}
+use Rattle.xr_scenario.specs.declared.fault.ScenarioFault.{ScenarioFault}
+use Rattle.xr_scenario.specs.declared.fault.ScenarioFault.TheVariants as scenario_fault
+use Rattle.xr_drive.specs.Run.{Run}
+use Rattle.xr_drive.specs.Top.{RunsText}
+use Rattle.xr_drive.specs.declared.input.Stop.{Stop}
+use Rattle.xr_drive.specs.declared.input.Stop.TheVariants as stop
+use Rattle.xr_drive.specs.declared.faults.RunFault.{RunFault}
+use Rattle.xr_drive.specs.declared.faults.RunFault.TheVariants.{OpenFault, ReadFault, Refused, NoMemory}
+use Rattle.xr_drive.specs.declared.faults.Unwritten.{Unwritten}
+use Rattle.xr_drive.specs.declared.faults.Unwritten.TheVariants as unwritten
+
+-- ---- a text
+
+-- the lists are those of a run of the text beside a device that is known to give this, or the text is refused
+abbrev pub MeansText : List ℕ → Option DeviceStream → Result Lists ScenarioFault → Type 0
+MeansText text told (Ok lists) = Run text told lists
+MeansText text told (Err (scenario_fault.Refused why)) = run_scenario_of text ≡ Err why
+MeansText text told (Err scenario_fault.NoMemory) = ⊤
+
+-- ---- files
+
+abbrev pub fault_of_stop : Stop → RunFault
+fault_of_stop stop.Failed = ReadFault
+fault_of_stop stop.NoMemory = NoMemory
+
+abbrev pub fault_of_scenario : ScenarioFault → RunFault
+fault_of_scenario (scenario_fault.Refused why) = Refused why
+fault_of_scenario scenario_fault.NoMemory = NoMemory
+
+-- the same of a file of which these bytes are all, where they are told
+abbrev pub MeansRun : Option (List ℕ) → Option DeviceStream → Result Lists RunFault → Type 0
+MeansRun all told (Ok lists) = RunsText all told lists
+MeansRun all told (Err (Refused why)) = IfSome all (λ text. run_scenario_of text ≡ Err why)
+MeansRun all told (Err _) = ⊤
+
+-- why the files were not run, or how the device failed, by the opener's counts of faults before and after
+abbrev pub HasRunCause : (Which → ℕ) → (Which → ℕ) → (Which → ℕ) → (Which → ℕ) → Result Lists RunFault → Type 0
+HasRunCause opens reads new_opens new_reads (Ok lists) = list_any is_fault lists.events ≡ true → Rose (reads which.Device) (new_reads which.Device)
+HasRunCause opens reads new_opens new_reads (Err OpenFault) = Rose (opens which.Scenario) (new_opens which.Scenario) ⊎ Rose (opens which.Device) (new_opens which.Device)
+HasRunCause opens reads new_opens new_reads (Err ReadFault) = Rose (reads which.Scenario) (new_reads which.Scenario)
+HasRunCause opens reads new_opens new_reads (Err _) = ⊤
+
+abbrev pub status_of_fault : RunFault → Status
+status_of_fault OpenFault = status.OpenFault
+status_of_fault ReadFault = status.ReadFault
+status_of_fault (Refused why) = status.ScenarioRefused why
+status_of_fault NoMemory = status.NoMemory
+
+-- the status of what wasn't run, and `Done` where it was
+abbrev pub status_in : Result Lists RunFault → Status
+status_in (Ok lists) = status.Done
+status_in (Err fault) = status_of_fault fault
+
+-- ---- the report
+
+-- what was written of the report of these lists
+abbrev pub MeansWritten : {T : Type 0} → Lists → Bool → Option (List ℕ) → Option (List ℕ) → Result T Unwritten → Type 0
+MeansWritten lists places before after (Ok written) = Appends before after (report_of lists places)
+MeansWritten lists places before after (Err unwritten.Failed) = (n : ℕ) × Appends before after (take n (report_of lists places))
+MeansWritten lists places before after (Err unwritten.NoMemory) = Keeps before after
+
+-- a write fault comes only where the count rose
+abbrev pub RoseIfUnwritten : {T : Type 0} → ℕ → ℕ → Result T Unwritten → Type 0
+RoseIfUnwritten before after (Ok written) = ⊤
+RoseIfUnwritten before after (Err unwritten.Failed) = Rose before after
+RoseIfUnwritten before after (Err unwritten.NoMemory) = ⊤

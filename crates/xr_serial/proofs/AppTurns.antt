@@ -1,0 +1,236 @@
+-- What the loop keeps in an application's turn.
+use Rattle.std.proofs.Common.{◌≡◌, ◌+◌, ◌-◌, ◌<◌, ◌≤◌, ℕ, ℤ, pos, Bool, true, false, List, [], ◌∷◌, ◌++◌, length, drop, map, get_or, set, refl, sym, ap, subst, ◌∙◌, arith}
+use Rattle.std.specs.Prelude.{if◌then◌else◌, zero, suc, Some, option_map}
+use Rattle.std.specs.List.{list_all}
+use Rattle.std.proofs.lemmas.Bool.{and_parts}
+use Rattle.std.proofs.lemmas.Option.{slice_get-map, slice_get-get_or}
+use Rattle.std.proofs.lemmas.List.{map-set, set-get_or, drop_all, get_or_default}
+use Rattle.std.proofs.Math.Seq.{map-set_same}
+use Rattle.xr_types.specs.declared.calls.Actor.{Actor}
+use Rattle.xr_types.specs.declared.calls.Actor.TheVariants.{App, Device}
+use Rattle.xr_types.specs.declared.calls.Reply.{Reply}
+use Rattle.xr_types.specs.declared.device.DeviceEvent.{DeviceEvent}
+use Rattle.xr_types.specs.declared.scenario.Op.{Op}
+use Rattle.xr_types.specs.declared.scenario.Scenario.{Scenario}
+use Rattle.xr_model.specs.machine.Request as request
+use Rattle.xr_model.specs.machine.Request.{Request, leave}
+use Rattle.xr_model.specs.machine.CoreCalls.{entry_of}
+use Rattle.xr_model.specs.machine.State.{State}
+use Rattle.xr_model.specs.machine.Machine.{IsPresent}
+use Rattle.xr_model.specs.scenario.Built.{is_built_op}
+use Rattle.xr_model.specs.scenario.ScriptForm.{IsInForm, AllInForm}
+use Rattle.xr_model.specs.runs.Scripts.{request_for}
+use Rattle.xr_model.specs.runs.Robin.{Agenda, script, agenda_after, clock_behind}
+use Rattle.xr_serial.specs.inside.Made.{IsAnswered, exchange_of, calls_with}
+use Rattle.xr_serial.specs.inside.RunState.{AppState, RunState}
+use Rattle.xr_serial.specs.inside.Sides.{Prospect, app_with, app_left, OpMade, OpWaits, OpTurn, Leaves}
+use Rattle.xr_serial.specs.inside.Turns.{script_part, parts_of, actors_of, turn_behind, AreHeldBack}
+use Rattle.xr_serial.specs.inside.Past.{IsRest}
+use Rattle.xr_serial.specs.inside.RunInvariant.{AppKept, app_work, apps_work, events_told, RunKept, RunInvariant}
+use Rattle.xr_serial.proofs.Ops.{ready_started, built_unstarted, built_locked}
+use Rattle.xr_serial.proofs.OnlyLeaveLeaves.{call_keeps, op_stays}
+use Rattle.xr_serial.proofs.Parts.{AreAll, parts_count, app_at, app_set}
+use Rattle.xr_serial.proofs.Steps.{IsAgendaOf, outcome_of, Goes, AreSo, made_turn, passed_turn, same_parts}
+use Rattle.xr_serial.proofs.Work.{work_set}
+use Rattle.xr_serial.proofs.Apps.{op_more, leave_more, one_more}
+
+-- the lists of a run that is kept have the lengths of its scenario
+pub all_of : (scenario : Scenario) (s : State) (run : RunState) (clocks : List ℤ) (calls : Actor → List request.Exchange) (start now : Prospect) → RunKept scenario s run clocks calls start now → AreAll scenario run clocks
+all_of scenario s run clocks calls start now kept = record { count = kept.apps.count; timed = kept.apps.timed }
+
+pub are_so : (scenario : Scenario) (turn idle : ℕ) (run : RunState) (clocks : List ℤ) → AreAll scenario run clocks → turn < actors_of scenario → idle < actors_of scenario → AreSo (actors_of scenario) turn idle (parts_of scenario run clocks)
+are_so scenario turn idle run clocks all within few = record { count = λ rest. parts_count scenario run clocks rest all; within = within; few = few }
+
+-- a turn that makes no call
+pub passes : (scenario : Scenario) (turn idle : ℕ) (s : State) (run : RunState) (start now : Prospect) → turn < actors_of scenario → idle < actors_of scenario → (kept : RunInvariant scenario turn idle s run start now)
+    → ((rest : List DeviceEvent) → IsRest run.side.over rest → AreHeldBack s (get_or (parts_of scenario run kept.clocks rest) turn [])) → RunInvariant scenario (turn_behind turn (actors_of scenario)) (idle + 1) s run start now
+passes scenario turn idle s run start now within few kept held = record {
+  calls = kept.calls;
+  clocks = kept.clocks;
+  standing =
+      passed_turn scenario turn idle s s run.side.over _ (parts_of scenario run kept.clocks) (actors_of scenario) kept.calls
+      (are_so scenario turn idle run kept.clocks (all_of scenario s run kept.clocks kept.calls start now kept.kept) within few) held kept.standing;
+  kept = kept.kept;
+}
+
+none_left : (ops : List Op) (made : ℕ) → made ≡ length ops → drop made ops ≡ []
+none_left ops made all = drop_all made ops (omega (arith, all))
+
+-- an application that is as it was
+same_apps : (run : RunState) (old : AppState) (place : ℕ) → ((none : AppState) → get_or run.apps place none ≡ old) → set run.apps place old ≡ run.apps
+same_apps run old place here = ap (set run.apps place) (sym (here old)) ∙ set-get_or run.apps place old
+
+-- ---- one application
+
+module _ (scenario : Scenario) (place idle : ℕ) (s after : State) (run : RunState) (start now : Prospect) (old : AppState) (within : place < length scenario.scripts) (few : idle < actors_of scenario) (here : (none : AppState) → get_or run.apps place none ≡ old) where
+  abbrev ops : List Op
+  ops = get_or scenario.scripts place []
+
+  turn_within : place < actors_of scenario
+  turn_within = omega (arith, within)
+
+  old_kept : (kept : RunInvariant scenario place idle s run start now) → AppKept ops old (kept.calls (App (place + 1)))
+  old_kept kept = subst (λ (app : AppState). AppKept ops app (kept.calls (App (place + 1)))) (here old) (kept.kept.apps.each place old within)
+
+  -- it makes a call
+  goes_on : (what : Request) (answer : Reply) (bytes : List ℕ) (app : AppState) (agenda : Agenda) (clock : ℤ) (kept : RunInvariant scenario place idle s run start now) → IsAnswered s after (App (place + 1)) what answer bytes
+      → script_part (place + 1) ops old (get_or kept.clocks place (pos 0)) ≡ agenda ∷ [] → IsAgendaOf (App (place + 1)) what agenda → agenda_after agenda after (outcome_of answer bytes) ≡ script_part (place + 1) ops app clock
+      → AppKept ops app (kept.calls (App (place + 1)) ++ exchange_of what answer bytes ∷ []) → after.core.apps ≡ s.core.apps → after.core.left ≡ map (λ (a : AppState). a.has_left) (set run.apps place app) → after.core.locked ≡ s.core.locked + 1
+      → app_work ops app + 1 ≤ app_work ops old → RunInvariant scenario (turn_behind place (actors_of scenario)) 0 after (record run { apps = set run.apps place app }) start now
+  goes_on what answer bytes app agenda clock kept call alone of next more known left locks less =
+      let t : request.Exchange = exchange_of what answer bytes in
+      let all : AreAll scenario run kept.clocks = all_of scenario s run kept.clocks kept.calls start now kept.kept in
+      let goes : Goes place (parts_of scenario run kept.clocks) s after (App (place + 1)) what answer bytes = record {
+        agenda = λ rest. agenda;
+        alone = λ rest. app_at scenario run kept.clocks rest all place old within ∙ ap (λ (a : AppState). script_part (place + 1) ops a (get_or kept.clocks place (pos 0))) (here old) ∙ alone;
+        of = λ rest. of;
+        made = call;
+      } in
+      let work = kept.kept.work in
+      let counted = kept.kept.counted in
+      let set_work : apps_work scenario.scripts (set run.apps place app) + app_work ops old ≡ apps_work scenario.scripts run.apps + app_work ops app =
+      ap (λ (a : AppState). apps_work scenario.scripts (set run.apps place app) + app_work ops a) (sym (here old)) ∙ work_set scenario.scripts run.apps place app old kept.kept.apps.count within in
+      record {
+        calls = calls_with kept.calls (App (place + 1)) t;
+        clocks = set kept.clocks place clock;
+        standing =
+            same_parts scenario (turn_behind place (actors_of scenario)) 0 after after run.side.over (events_told run.side (kept.calls Device)) _ (calls_with kept.calls (App (place + 1)) t)
+            (parts_of scenario (record run { apps = set run.apps place app }) (set kept.clocks place clock))
+            (λ rest ok. ap (set (parts_of scenario run kept.clocks rest) place) next ∙ app_set scenario run kept.clocks rest all place app clock within)
+            (made_turn scenario place idle s after run.side.over (events_told run.side (kept.calls Device)) (parts_of scenario run kept.clocks) (actors_of scenario) kept.calls (App (place + 1)) what answer bytes
+            (are_so scenario place idle run kept.clocks all turn_within few) goes kept.standing);
+        kept = record {
+          apps = one_more scenario.scripts s after run.apps kept.clocks kept.calls place app clock t within kept.kept.apps known left more;
+          device = kept.kept.device;
+          end = kept.kept.end;
+          counted = omega (arith, counted, locks);
+          work = omega (arith, work, set_work, less, locks);
+        };
+      }
+
+  -- the call of its next op
+  pub op_made : (app : AppState) → OpMade (place + 1) ops old app s after → old.made < length ops → old.has_left ≡ false → RunInvariant scenario place idle s run start now
+      → RunInvariant scenario (turn_behind place (actors_of scenario)) 0 after (record run { apps = set run.apps place app }) start now
+  op_made app m more stays kept =
+      let what : Request = request_for old.names m.op in
+      let clock : ℤ = get_or kept.clocks place (pos 0) in
+      let t : request.Exchange = exchange_of what m.answer m.bytes in
+      let e = entry_of (App (place + 1)) what m.answer in
+      let same_left : after.core.left ≡ s.core.left = rw m.call.leads (call_keeps s e (op_stays old.names m.op)) in
+      rw m.app
+      (goes_on what m.answer m.bytes (app_with old m.op t) (script (place + 1) (old.made + 1) (drop old.made ops) old.names clock) (clock_behind clock what after) kept m.call
+      (rw stays refl)
+      (record { actor = refl; call = rw m.here (built_unstarted clock what m.call.allowed.built) })
+      (rw (m.here, stays) refl)
+      (op_more ops old (kept.calls (App (place + 1))) m.op m.answer m.bytes more m.here stays (old_kept kept))
+      (rw m.call.leads refl)
+      (same_left ∙ kept.kept.apps.left ∙ sym (map-set_same (λ (a : AppState). a.has_left) run.apps place (app_with old m.op t) old (ap (λ (a : AppState). a.has_left) (sym (here old)))))
+      (rw (m.call.leads, built_locked what m.call.allowed.built) refl)
+      (rw stays (omega (arith, more))))
+
+  -- `leave`
+  pub leaves : (app : AppState) → Leaves (place + 1) old app s after → old.made ≡ length ops → old.has_left ≡ false → RunInvariant scenario place idle s run start now
+      → RunInvariant scenario (turn_behind place (actors_of scenario)) 0 after (record run { apps = set run.apps place app }) start now
+  leaves app m all stays kept =
+      let clock : ℤ = get_or kept.clocks place (pos 0) in
+      let t : request.Exchange = exchange_of leave m.answer m.bytes in
+      let none : drop old.made ops ≡ [] = none_left ops old.made all in
+      let own : place + 1 - 1 ≡ place = omega arith in
+      rw m.app
+      (goes_on leave m.answer m.bytes (app_left old t) (script (place + 1) (old.made + 1) (drop old.made ops) old.names clock) clock kept m.call
+      (rw stays refl)
+      (record { actor = refl; call = rw none refl })
+      (rw none refl)
+      (leave_more ops old (kept.calls (App (place + 1))) m.answer m.bytes all stays (old_kept kept))
+      (rw m.call.leads refl)
+      (rw (m.call.leads, own, kept.kept.apps.left) (sym (map-set (λ (a : AppState). a.has_left) run.apps place (app_left old t))))
+      (rw m.call.leads refl)
+      (rw stays (omega arith)))
+
+  -- it has to wait
+  pub op_waits : (app : AppState) → OpWaits (place + 1) ops old app s after → old.has_left ≡ false → RunInvariant scenario place idle s run start now
+      → RunInvariant scenario (turn_behind place (actors_of scenario)) (idle + 1) after (record run { apps = set run.apps place app }) start now
+  op_waits app m stays kept =
+      let clock : ℤ = get_or kept.clocks place (pos 0) in
+      let all : AreAll scenario run kept.clocks = all_of scenario s run kept.clocks kept.calls start now kept.kept in
+      let part : (rest : List DeviceEvent) → get_or (parts_of scenario run kept.clocks rest) place [] ≡ script (place + 1) (old.made + 1) (drop old.made ops) old.names clock ∷ [] =
+      λ rest. app_at scenario run kept.clocks rest all place old within ∙ ap (λ (a : AppState). script_part (place + 1) ops a clock) (here old) ∙ rw stays refl in
+      rw (m.same, m.app, same_apps run old place here)
+      (passes scenario place idle s run start now turn_within few kept
+      (λ rest ok. subst (AreHeldBack s) (sym (part rest)) (rw m.here (ready_started s (place + 1) clock (request_for old.names m.op) ∙ m.waits), tt)))
+
+  -- it has left
+  pub has_left : old.has_left ≡ true → RunInvariant scenario place idle s run start now → RunInvariant scenario (turn_behind place (actors_of scenario)) (idle + 1) s (record run { apps = set run.apps place old }) start now
+  has_left gone kept =
+      let gone_part : (clock : ℤ) → script_part (place + 1) ops old clock ≡ [] = λ clock. rw gone refl in
+      let clock : ℤ = get_or kept.clocks place (pos 0) in
+      let all : AreAll scenario run kept.clocks = all_of scenario s run kept.clocks kept.calls start now kept.kept in
+      rw (same_apps run old place here)
+      (passes scenario place idle s run start now turn_within few kept
+      (λ rest ok. subst (AreHeldBack s) (sym (app_at scenario run kept.clocks rest all place old within ∙ ap (λ (a : AppState). script_part (place + 1) ops a clock) (here old) ∙ gone_part clock)) tt))
+
+  -- by what the function that makes the call says
+  pub op_turn : (app : AppState) (went : Bool) → OpTurn (place + 1) ops old app s after went → old.made < length ops → old.has_left ≡ false → RunInvariant scenario place idle s run start now
+      → RunInvariant scenario (turn_behind place (actors_of scenario)) (if went then 0 else idle + 1) after (record run { apps = set run.apps place app }) start now
+  op_turn app true m more stays kept = op_made app m more stays kept
+  op_turn app false m more stays kept = op_waits app m stays kept
+
+-- ---- by what the code finds
+
+-- the application in this place
+pub app_here : (scenario : Scenario) (place idle : ℕ) (s : State) (run : RunState) (start now : Prospect) (old : AppState) → place < length scenario.scripts → old ≡ get_or run.apps place old → RunInvariant scenario place idle s run start now
+    → (none : AppState) → get_or run.apps place none ≡ old
+app_here scenario place idle s run start now old within is kept none = let size = kept.kept.apps.count in get_or_default run.apps place none old (omega (arith, within, size)) ∙ sym is
+
+-- it may make a call
+pub is_present : (scenario : Scenario) (place idle : ℕ) (s : State) (run : RunState) (start now : Prospect) (old : AppState) → place < length scenario.scripts → old ≡ get_or run.apps place old → old.has_left ≡ false → RunInvariant scenario place idle s run start now
+    → IsPresent s.core (App (place + 1))
+is_present scenario place idle s run start now old within is stays kept =
+    let size = kept.kept.apps.count in
+    let known = kept.kept.apps.known in
+    let own : place + 1 - 1 ≡ place = omega arith in (
+      omega arith,
+      omega (arith, within, known),
+      rw (own, kept.kept.apps.left)
+          (slice_get-map (λ (a : AppState). a.has_left) run.apps place ∙ ap (option_map (λ (a : AppState). a.has_left)) (slice_get-get_or run.apps place old (omega (arith, within, size)) ∙ ap Some (sym is)) ∙ ap Some stays),
+    )
+
+-- how far it is, and what its names stand for
+pub app_found : (scenario : Scenario) (place idle : ℕ) (s : State) (run : RunState) (start now : Prospect) (old : AppState) (ops : List Op) → place < length scenario.scripts → old ≡ get_or run.apps place old → ops ≡ get_or scenario.scripts place ops
+    → RunInvariant scenario place idle s run start now → (old.made ≤ length ops) × (length old.names ≡ length ops)
+app_found scenario place idle s run start now old ops within is are kept =
+    let there : get_or scenario.scripts place [] ≡ ops = get_or_default scenario.scripts place [] ops within ∙ sym are in
+    let app : AppKept (get_or scenario.scripts place []) old (kept.calls (App (place + 1))) = subst (λ (app : AppState). AppKept (get_or scenario.scripts place []) app (kept.calls (App (place + 1)))) (app_here scenario place idle s run start now old within is kept old) (kept.kept.apps.each place old within) in
+    subst (λ (l : List Op). (old.made ≤ length l) × (length old.names ≡ length l)) there (app.within, app.named)
+
+pub op_turn_from : (scenario : Scenario) (place idle : ℕ) (s after : State) (run : RunState) (start now : Prospect) (old app : AppState) (ops : List Op) (went : Bool) → place < length scenario.scripts → idle < actors_of scenario → old ≡ get_or run.apps place old
+    → ops ≡ get_or scenario.scripts place ops → OpTurn (place + 1) ops old app s after went → old.made < length ops → old.has_left ≡ false → RunInvariant scenario place idle s run start now
+    → RunInvariant scenario (turn_behind place (actors_of scenario)) (if went then 0 else idle + 1) after (record run { apps = set run.apps place app }) start now
+op_turn_from scenario place idle s after run start now old app ops went within few is are m more stays kept =
+    let there : ops ≡ get_or scenario.scripts place [] = are ∙ get_or_default scenario.scripts place ops [] within in
+    op_turn scenario place idle s after run start now old within few (app_here scenario place idle s run start now old within is kept) app went
+    (subst (λ (l : List Op). OpTurn (place + 1) l old app s after went) there m) (subst (λ (l : List Op). old.made < length l) there more) stays kept
+
+pub leaves_from : (scenario : Scenario) (place idle : ℕ) (s after : State) (run : RunState) (start now : Prospect) (old app : AppState) (ops : List Op) → place < length scenario.scripts → idle < actors_of scenario → old ≡ get_or run.apps place old
+    → ops ≡ get_or scenario.scripts place ops → Leaves (place + 1) old app s after → length ops ≤ old.made → old.has_left ≡ false → RunInvariant scenario place idle s run start now
+    → RunInvariant scenario (turn_behind place (actors_of scenario)) 0 after (record run { apps = set run.apps place app }) start now
+leaves_from scenario place idle s after run start now old app ops within few is are m all stays kept =
+    let there : ops ≡ get_or scenario.scripts place [] = are ∙ get_or_default scenario.scripts place ops [] within in
+    let found = (app_found scenario place idle s run start now old ops within is are kept).0 in
+    let made : old.made ≡ length ops = omega (arith, all, found) in
+    leaves scenario place idle s after run start now old within few (app_here scenario place idle s run start now old within is kept) app m (made ∙ ap length there) stays kept
+
+pub has_left_from : (scenario : Scenario) (place idle : ℕ) (s : State) (run : RunState) (start now : Prospect) (old : AppState) → place < length scenario.scripts → idle < actors_of scenario → old ≡ get_or run.apps place old → old.has_left ≡ true → RunInvariant scenario place idle s run start now
+    → RunInvariant scenario (turn_behind place (actors_of scenario)) (idle + 1) s (record run { apps = set run.apps place old }) start now
+has_left_from scenario place idle s run start now old within few is gone kept = has_left scenario place idle s s run start now old within few (app_here scenario place idle s run start now old within is kept) gone kept
+
+-- each script is in form, and has only ops that are built
+pub in_form_at : (scripts : List (List Op)) (place : ℕ) → AllInForm scripts → place < length scripts → IsInForm (get_or scripts place [])
+in_form_at [] place all within = let no : ⊥ = omega (arith, within) in absurd no
+in_form_at (ops ∷ scripts) zero all within = all.0
+in_form_at (ops ∷ scripts) (suc place) all within = in_form_at scripts place all.1 (omega (arith, within))
+
+pub built_in : (scripts : List (List Op)) (place : ℕ) → list_all (list_all is_built_op) scripts ≡ true → place < length scripts → list_all is_built_op (get_or scripts place []) ≡ true
+built_in [] place all within = let no : ⊥ = omega (arith, within) in absurd no
+built_in (ops ∷ scripts) zero all within = (and_parts (list_all is_built_op ops) (list_all (list_all is_built_op) scripts) all).0
+built_in (ops ∷ scripts) (suc place) all within = built_in scripts place (and_parts (list_all is_built_op ops) (list_all (list_all is_built_op) scripts) all).1 (omega (arith, within))

@@ -1,0 +1,114 @@
+-- What is kept of the applications.
+use Rattle.std.proofs.Common.{◌≡◌, ◌+◌, ◌-◌, ◌<◌, ℕ, ℤ, suc, Bool, true, false, List, [], ◌∷◌, ◌++◌, length, drop, map, get_or, set, refl, sym, ap, ◌∙◌, arith, append_assoc, length-append, length-set, true≢false}
+use Rattle.std.specs.Prelude.{if◌then◌else◌, ◌==◌}
+use Rattle.std.proofs.lemmas.Bool.{eqb-true, eqb-false, eq-eqb, ne_eqb}
+use Rattle.std.proofs.lemmas.List.{get_or-set_same, get_or-set_other}
+use Rattle.std.proofs.lemmas.Grind.{common_steps}
+use Rattle.xr_types.specs.declared.calls.Actor.{Actor}
+use Rattle.xr_types.specs.declared.calls.Actor.TheVariants.{App}
+use Rattle.xr_types.specs.declared.calls.Reply.{Reply}
+use Rattle.xr_types.specs.declared.made.Made.{Made}
+use Rattle.xr_types.specs.declared.scenario.Op.{Op}
+use Rattle.xr_model.specs.machine.Request as request
+use Rattle.xr_model.specs.machine.Request.{Request, leave}
+use Rattle.xr_model.specs.machine.State.{State}
+use Rattle.xr_model.specs.runs.NameValues.{value_given}
+use Rattle.xr_model.specs.runs.Scripts.{request_for}
+use Rattle.xr_model.specs.runs.Lists.{made_at, made_from}
+use Rattle.xr_serial.specs.inside.Made.{exchange_of, calls_with}
+use Rattle.xr_serial.specs.inside.RunState.{AppState}
+use Rattle.xr_serial.specs.inside.Sides.{app_with, app_left}
+use Rattle.xr_serial.specs.inside.RunInvariant.{AppKept, AppsKept}
+use Rattle.xr_serial.proofs.Ops.{same_request}
+
+pub made_snoc : (place : ℕ) (calls : List request.Exchange) (t : request.Exchange) → made_from place (calls ++ t ∷ []) ≡ made_from place calls ++ made_at (place + length calls) t ∷ []
+made_snoc place [] t = let same : place ≡ place + 0 = omega arith in rw (← same) refl
+made_snoc place (u ∷ calls) t = let same : place + suc (length calls) ≡ place + 1 + length calls = omega arith in rw same (ap (λ (ms : List Made). made_at place u ∷ ms) (made_snoc (place + 1) calls t))
+
+drop_all : (ops : List Op) → drop (length ops) ops ≡ []
+drop_all ops = grind (arith, common_steps)
+
+-- ---- one application
+
+-- it hasn't left yet
+left_no_calls : (app : AppState) (calls : List request.Exchange) → app.has_left ≡ false → length calls ≡ app.made + (if app.has_left then 1 else 0) → length calls ≡ app.made + 0
+left_no_calls app calls stays count = count ∙ rw stays refl
+
+pub op_more : (ops : List Op) (app : AppState) (calls : List request.Exchange) (o : Op) (answer : Reply) (bytes : List ℕ) → app.made < length ops → drop app.made ops ≡ o ∷ drop (app.made + 1) ops → app.has_left ≡ false → AppKept ops app calls
+    → AppKept ops (app_with app o (exchange_of (request_for app.names o) answer bytes)) (calls ++ exchange_of (request_for app.names o) answer bytes ∷ [])
+op_more ops app calls o answer bytes within here stays kept =
+    let t : request.Exchange = exchange_of (request_for app.names o) answer bytes in
+    let count : length calls ≡ app.made + 0 = left_no_calls app calls stays kept.count in
+    let place : 1 + length calls ≡ app.made + 1 = omega (arith, count) in
+    record {
+      within = omega (arith, within);
+      named = length-set app.names (app.made + 1 - 1) (value_given o answer.gives) ∙ kept.named;
+      list_is = sym (made_snoc 1 calls t ∙ rw (place, ← kept.list_is) refl);
+      count = length-append calls (t ∷ []) ∙ rw stays (omega (arith, count));
+      follows = λ more here_yet h. rw append_assoc (kept.follows (t ∷ more) stays (rw here (same_request app.names o, h)));
+      so_far = λ more here_yet h. rw append_assoc (kept.so_far (t ∷ more) stays (rw here (same_request app.names o, h)));
+      whole = λ e. absurd (true≢false (sym e ∙ stays));
+      front = λ e. absurd (true≢false (sym e ∙ stays));
+    }
+
+pub leave_more : (ops : List Op) (app : AppState) (calls : List request.Exchange) (answer : Reply) (bytes : List ℕ) → app.made ≡ length ops → app.has_left ≡ false → AppKept ops app calls
+    → AppKept ops (app_left app (exchange_of leave answer bytes)) (calls ++ exchange_of leave answer bytes ∷ [])
+leave_more ops app calls answer bytes all stays kept =
+    let t : request.Exchange = exchange_of leave answer bytes in
+    let none : drop app.made ops ≡ [] = rw all (drop_all ops) in
+    let count : length calls ≡ app.made + 0 = left_no_calls app calls stays kept.count in
+    let place : 1 + length calls ≡ app.made + 1 = omega (arith, count) in
+    record {
+      within = kept.within;
+      named = kept.named;
+      list_is = sym (made_snoc 1 calls t ∙ rw (place, ← kept.list_is) refl);
+      count = length-append calls (t ∷ []) ∙ omega (arith, count);
+      follows = λ more e. absurd (true≢false e);
+      so_far = λ more e. absurd (true≢false e);
+      whole = λ e. kept.follows (t ∷ []) stays (rw none refl);
+      front = λ e. kept.so_far (t ∷ []) stays (rw none refl);
+    }
+
+-- ---- all of them, where one has made a call
+
+-- the calls of the one
+own_calls : (calls : Actor → List request.Exchange) (place : ℕ) (t : request.Exchange) → calls_with calls (App (place + 1)) t (App (place + 1)) ≡ calls (App (place + 1)) ++ t ∷ []
+own_calls calls place t = rw (eq-eqb (place + 1) (place + 1) refl) refl
+
+other_place : (i place : ℕ) → (i ≡ place → ⊥) → (i + 1 == place + 1) ≡ false
+other_place i place apart = ne_eqb (i + 1) (place + 1) (λ same. apart (omega (arith, same)))
+
+-- the calls of another
+other_calls : (calls : Actor → List request.Exchange) (i place : ℕ) (t : request.Exchange) → (i ≡ place → ⊥) → calls_with calls (App (place + 1)) t (App (i + 1)) ≡ calls (App (i + 1))
+other_calls calls i place t apart = rw (other_place i place apart) refl
+
+pub one_more : (scripts : List (List Op)) (s after : State) (apps : List AppState) (clocks : List ℤ) (calls : Actor → List request.Exchange) (place : ℕ) (app : AppState) (clock : ℤ) (t : request.Exchange) → place < length scripts → AppsKept scripts s apps clocks calls
+    → after.core.apps ≡ s.core.apps → after.core.left ≡ map (λ (a : AppState). a.has_left) (set apps place app) → AppKept (get_or scripts place []) app (calls (App (place + 1)) ++ t ∷ [])
+    → AppsKept scripts after (set apps place app) (set clocks place clock) (calls_with calls (App (place + 1)) t)
+one_more scripts s after apps clocks calls place app clock t within kept known left here = record {
+  count = length-set apps place app ∙ kept.count;
+  timed = length-set clocks place clock ∙ kept.timed;
+  known = known ∙ kept.known;
+  left = left;
+  each = λ i none there. by i none there (i == place) refl;
+}
+  where
+    by : (i : ℕ) (none : AppState) → i < length scripts → (b : Bool) → (i == place) ≡ b → AppKept (get_or scripts i []) (get_or (set apps place app) i none) (calls_with calls (App (place + 1)) t (App (i + 1)))
+    by i none there true e =
+        let same : i ≡ place = eqb-true i place e in
+        let size = kept.count in
+        rw (same, get_or-set_same apps place app none (omega (arith, within, size)), own_calls calls place t) here
+    by i none there false e =
+        let apart : i ≡ place → ⊥ = eqb-false i place e in
+        rw (get_or-set_other apps place i app none apart, other_calls calls i place t apart) (kept.each i none there)
+
+-- all, where somebody else has made a call
+pub others_more : (scripts : List (List Op)) (s after : State) (apps : List AppState) (clocks : List ℤ) (calls more : Actor → List request.Exchange) → AppsKept scripts s apps clocks calls
+    → after.core.apps ≡ s.core.apps → after.core.left ≡ s.core.left → ((place : ℕ) → more (App (place + 1)) ≡ calls (App (place + 1))) → AppsKept scripts after apps clocks more
+others_more scripts s after apps clocks calls more kept known left same = record {
+  count = kept.count;
+  timed = kept.timed;
+  known = known ∙ kept.known;
+  left = left ∙ kept.left;
+  each = λ place none within. rw (same place) (kept.each place none within);
+}

@@ -1,0 +1,19 @@
+use Rattle.std.proofs.Common.{◌≤◌, length, arith}
+use Rattle.std.proofs.lemmas.Grind.{common_steps}
+use Rattle.xr_serial.proofs.Ops.{op_lent}
+use Rattle.xr_serial.proofs.machine.ask.Goals as goal
+
+pub slice_bounds-lent-end : goal.slice_bounds-lent-end
+slice_bounds-lent-end c =
+    let small = op_lent c.args.names.now c.args.op.now c.requires.ranged in
+    let size = c.lent_size.ensures c.args.names.now in
+    let room = c.requires.size in
+    omega (arith, small, size, room)
+
+pub slice_bounds-lent-end-2 : goal.slice_bounds-lent-end-2
+slice_bounds-lent-end-2 c =
+    let small = op_lent c.args.names.now c.args.op.now c.requires.ranged in
+    let size = c.lent_size.ensures c.args.names.now in
+    let room = c.requires.size in
+    let within : c.lent_size.result ≤ length c.args.buffer.now = omega (arith, small, size, room) in
+    grind (arith, common_steps, within)

@@ -1,0 +1,26 @@
+-- What a run keeps of each actor, as contracts see it.
+use Rattle.std.specs.Prelude.{ℕ, Bool, List, Option}
+use Rattle.xr_types.specs.declared.calls.Reply.{Reply}
+use Rattle.xr_types.specs.declared.device.DeviceEvent.{DeviceEvent}
+use Rattle.xr_types.specs.declared.made.Made.{Made}
+
+-- An application: how many ops of its script were made, what its names stand for, its calls, and whether it has left.
+pub record AppState : Type 0 where
+  pub made : ℕ
+  pub names : List ℕ
+  pub calls : List Made
+  pub has_left : Bool
+
+-- The device: its next event, where that is known, whether nothing more will come behind it, and the events whose calls
+-- were made, with these.
+pub record SideState : Type 0 where
+  pub pending : Option DeviceEvent
+  pub over : Bool
+  pub events : List DeviceEvent
+  pub calls : List Made
+
+-- all actors; of the compositor the reply that told it the end
+pub record RunState : Type 0 where
+  pub apps : List AppState
+  pub side : SideState
+  pub ended : Option Reply

@@ -1,0 +1,110 @@
+// An application of a run: how far it is in its script, and what its calls gave.
+ghost use Rattle.std.specs.Prelude.{◌≡◌, ◌<◌, ◌≤◌, ◌^◌, false, true, IfOk, OnOk, length};
+ghost use Rattle.std.specs.List.{list_all};
+ghost use Rattle.xr_types.specs.declared.calls.Actor.TheVariants.{App};
+ghost use Rattle.xr_model.specs.scenario.Built.{is_built_op};
+ghost use Rattle.xr_model.specs.scenario.ScriptForm.{IsInForm};
+ghost use Rattle.xr_model.specs.machine.Machine.{IsPresent};
+ghost use Rattle.xr_serial.specs.inside.Sides.{op_mark, new_app, OpTurn, Leaves};
+
+use crate::calls::add;
+use crate::machine::Machine;
+use std::alloc::Global;
+use std::marker::Model;
+use xr_scenario_calls::Names;
+use xr_types::{Actor, Call, CallName, Made, NoMemory, Op};
+
+/// An application on its way: how many ops of its script were made, what its names stand for, its calls, and whether it
+/// has left.
+#[derive(Drop)]
+pub(crate) struct Application {
+    pub(crate) made: usize,
+    names: Names,
+    pub(crate) calls: Vec<Made>,
+    pub(crate) has_left: bool,
+}
+
+impl Model for Application {
+    ghost use Rattle.std.specs.Prelude.{◌<◌, ◌^◌};
+    ghost use Rattle.xr_serial.specs.inside.RunState.{AppState};
+
+    ghost Value = { AppState };
+
+    ghost view = { λ app. record { made = app.made; names = app.names; calls = app.calls.items; has_left = app.has_left } };
+
+    ghost invariant = { λ app. app.made < 2 ^ 22 };
+}
+
+/// The mark that an op awaits, else 0.
+fn op_mark(op: &Op) -> u8
+    ensures { result ≡ op_mark op.now }
+{
+    match op {
+        Op::Await { mark } => *mark,
+        _ => 0,
+    }
+}
+
+impl Application {
+    /// An application before its first call.
+    pub(crate) fn start(alloc: Global, ops: &[Op]) -> Result<Application, NoMemory>
+        ensures { IfOk result (λ app. app ≡ new_app ops.now) }
+    {
+        let names = Names::start(alloc, ops.len())?;
+        Ok(Application {
+            made: 0,
+            names,
+            calls: Vec::new(alloc),
+            has_left: false,
+        })
+    }
+
+    /// Makes the call of the next op, unless it has to wait; whether it was made.
+    pub(crate) fn make_op(
+        &mut self,
+        alloc: Global,
+        machine: &mut Machine,
+        number: u8,
+        ops: &[Op],
+    ) -> Result<bool, NoMemory>
+        requires calls { machine.old.core.locked < 2 ^ 44 }
+        requires present { IsPresent machine.old.core (App number) }
+        requires few { length ops.now < 2 ^ 22 }
+        requires formed { IsInForm ops.now }
+        requires built { list_all is_built_op ops.now ≡ true }
+        requires within { self.old.made < length ops.now }
+        requires names { length self.old.names ≡ length ops.now }
+        ensures { IfOk result (λ went. OpTurn number ops.now self.old self.new machine.old machine.new went) }
+    {
+        let op = &ops[self.made];
+        let Some(answered) = machine.make_op(alloc, number, op, &self.names)? else {
+            return Ok(false);
+        };
+        let place = self.made as u32 + 1;
+        self.names.learn(place, op, &answered.reply);
+        add(&mut self.calls, place, op.name(), op_mark(op), answered)?;
+        self.made += 1;
+        Ok(true)
+    }
+
+    /// Leaves, once all ops are made.
+    pub(crate) fn leave(
+        &mut self,
+        alloc: Global,
+        machine: &mut Machine,
+        number: u8,
+    ) -> Result<(), NoMemory>
+        requires calls { machine.old.core.locked < 2 ^ 44 }
+        requires present { IsPresent machine.old.core (App number) }
+        ensures { OnOk result (Leaves number self.old self.new machine.old machine.new) }
+    {
+        let answered = match machine.make(alloc, Actor::App(number), &Call::Leave)? {
+            Some(answered) => answered,
+            None => unreachable!(),
+        };
+        let place = self.made as u32 + 1;
+        add(&mut self.calls, place, CallName::Leave, 0, answered)?;
+        self.has_left = true;
+        Ok(())
+    }
+}

@@ -1,0 +1,131 @@
+// The core, and what its calls are lent.
+ghost use Rattle.std.specs.Prelude.{◌≡◌, ◌<◌, ◌≤◌, ◌^◌, ℕ, List, true, IfOk, length};
+ghost use Rattle.xr_types.specs.declared.calls.Actor.TheVariants.{App};
+ghost use Rattle.xr_model.specs.machine.Machine.{IsPresent, is_built};
+ghost use Rattle.xr_model.specs.machine.CoreCalls.{IsCaller, HasNumbers};
+ghost use Rattle.xr_model.specs.machine.Request.{request_of};
+ghost use Rattle.xr_model.specs.machine.State.{with_apps, opening};
+ghost use Rattle.xr_model.specs.scenario.Built.{is_built_op};
+ghost use Rattle.xr_model.specs.scenario.ScriptForm.{IsInRange};
+ghost use Rattle.xr_model.specs.runs.Scripts.{request_for};
+ghost use Rattle.xr_serial.specs.inside.Made.{AnsweredOrWaits};
+ghost use Rattle.xr_serial.specs.inside.Lent.{lent_size};
+
+use crate::calls::{Answered, make};
+use std::alloc::Global;
+use std::marker::Model;
+use xr_core::PlainCore;
+use xr_scenario_calls::{Names, Scratch, call_of};
+use xr_types::{Actor, Call, NoMemory, Op};
+
+/// How many bytes a call of a script is lent at most: the largest `capacity` of the format.
+const MOST_LENT: usize = 1024;
+
+/// The core, with the room where the lists of a call stand while it is made and the buffer that it is lent, so that a
+/// turn that waits costs little. Contracts see it as the machine's state.
+#[derive(Drop)]
+pub(crate) struct Machine {
+    core: PlainCore,
+    scratch: Scratch,
+    buffer: [u8; MOST_LENT],
+}
+
+impl Model for Machine {
+    ghost use Rattle.xr_model.specs.machine.State.{State};
+
+    ghost Value = { State };
+
+    ghost view = { λ m. m.core };
+}
+
+/// How many bytes the call of an op is lent.
+fn lent_size(op: &Op) -> u64
+    ensures { (values : List ℕ) → result ≡ lent_size (request_for values op.now) }
+{
+    match op {
+        Op::PathToString {
+            instance: _,
+            path: _,
+            capacity,
+        } => *capacity,
+        _ => 0,
+    }
+}
+
+/// Makes the call of an op, or says by nothing that it has to wait.
+fn ask(
+    alloc: Global,
+    core: &mut PlainCore,
+    number: u8,
+    op: &Op,
+    names: &Names,
+    scratch: &mut Scratch,
+    buffer: &mut [u8],
+) -> Result<Option<Answered>, NoMemory>
+    requires calls { core.old.core.locked < 2 ^ 44 }
+    requires present { IsPresent core.old.core (App number) }
+    requires ranged { IsInRange op.now }
+    requires built { is_built_op op.now ≡ true }
+    requires size { 1024 ≤ length buffer.old }
+    ensures { IfOk result (λ answered. AnsweredOrWaits core.old core.new (App number) (request_for names.now op.now) answered) }
+{
+    let lent = &mut buffer[..lent_size(op) as usize];
+    let call = call_of(op, names, scratch);
+    make(alloc, core, Actor::App(number), &call, lent)
+}
+
+impl Machine {
+    /// A machine of 1 to 8 applications before any call.
+    pub(crate) fn start(alloc: Global, apps: u8) -> Result<Machine, NoMemory>
+        requires some { 1 ≤ apps }
+        requires few { apps ≤ 8 }
+        ensures { IfOk result (λ machine. machine ≡ opening (with_apps apps)) }
+    {
+        let core = PlainCore::start(alloc, apps)?;
+        Ok(Machine {
+            core,
+            scratch: Scratch::new(),
+            buffer: [0; MOST_LENT],
+        })
+    }
+
+    /// Makes a call that is lent nothing, or says by nothing that it has to wait.
+    pub(crate) fn make(
+        &mut self,
+        alloc: Global,
+        who: Actor,
+        call: &Call<'_>,
+    ) -> Result<Option<Answered>, NoMemory>
+        requires calls { self.old.core.locked < 2 ^ 44 }
+        requires built { is_built (request_of call.now) ≡ true }
+        requires caller { IsCaller who (request_of call.now) }
+        requires numbers { HasNumbers (request_of call.now) }
+        requires present { IsPresent self.old.core who }
+        requires size { lent_size (request_of call.now) ≡ 0 }
+        ensures { IfOk result (λ answered. AnsweredOrWaits self.old self.new who (request_of call.now) answered) }
+    {
+        make(alloc, &mut self.core, who, call, &mut [])
+    }
+
+    /// Makes the call of an application's op, or says by nothing that it has to wait.
+    pub(crate) fn make_op(
+        &mut self,
+        alloc: Global,
+        number: u8,
+        op: &Op,
+        names: &Names,
+    ) -> Result<Option<Answered>, NoMemory>
+        requires calls { self.old.core.locked < 2 ^ 44 }
+        requires present { IsPresent self.old.core (App number) }
+        requires ranged { IsInRange op.now }
+        requires built { is_built_op op.now ≡ true }
+        ensures { IfOk result (λ answered. AnsweredOrWaits self.old self.new (App number) (request_for names.now op.now) answered) }
+    {
+        let Machine {
+            core,
+            scratch,
+            buffer,
+        } = self;
+        ask(alloc, core, number, op, names, scratch, buffer)
+    }
+}
