@@ -31,6 +31,13 @@ OnFailed next.End P = Unit {0}
 OnFailed (next.Garbled line) P = Unit {0}
 OnFailed next.Failed P = P
 
+-- what holds unless the device couldn't be read on
+abbrev pub UnlessFailed : Next → Type 0 → Type 0
+UnlessFailed (next.Event e) P = P
+UnlessFailed next.End P = P
+UnlessFailed (next.Garbled line) P = P
+UnlessFailed next.Failed P = Unit {0}
+
 -- ---- events
 
 -- an event that a device may tell: its numbers are in range, and a line tells it

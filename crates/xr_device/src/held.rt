@@ -1,5 +1,5 @@
 // The bytes of a source that were read and not yet used.
-ghost use Rattle.std.specs.Prelude.{◌≡◌, ◌≤◌, ◌<◌, ◌+◌, ◌++◌, ℕ, List, [], length, drop, IfOk, OnErr};
+ghost use Rattle.std.specs.Prelude.{◌≡◌, ◌≤◌, ◌<◌, ◌+◌, ◌++◌, ℕ, List, [], length, drop, IfOk, OnOk, OnErr};
 ghost use Rattle.std.specs.Io.KnownBytes.{Keeps, Consumes, IsAtEnd};
 ghost use Rattle.xr_io.specs.Outside.{HasCause};
 
@@ -70,6 +70,7 @@ impl Held {
         ensures kept { OnErr result ((self.new ≡ self.old) × Keeps (S.left source.old) (S.left source.new)) }
         ensures which { S.which source.new ≡ S.which source.old }
         ensures cause { HasCause (S.faults source.old) (S.faults source.new) result }
+        ensures count { OnOk result (S.faults source.new ≡ S.faults source.old) }
     {
         let (start, end) = (self.start, self.end);
         let held = end - start;

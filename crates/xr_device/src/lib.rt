@@ -6,7 +6,7 @@ ghost use Rattle.std.specs.Prelude.{◌≡◌, ◌≤◌, ◌<◌, ℕ, Bool, tr
 ghost use Rattle.xr_io.specs.declared.Which.{Which};
 ghost use Rattle.xr_io.specs.Outside.{Rose};
 ghost use Rattle.xr_model.specs.device_text.DeviceText.{DeviceStream, nothing_more};
-ghost use Rattle.xr_device.specs.Answers.{Tells, IsTold, OnEvent, UnlessEvent, OnFailed};
+ghost use Rattle.xr_device.specs.Answers.{Tells, IsTold, OnEvent, UnlessEvent, OnFailed, UnlessFailed};
 
 mod bytes;
 mod held;
@@ -42,7 +42,8 @@ pub trait Device {
     /// At most so many events are still to come.
     ghost bound: { Self → ℕ };
 
-    /// How often a read has failed. It never falls, and stops at the largest u64.
+    /// How often a read has failed. It never falls, changes only where the device answers `Failed`, and stops at the largest
+    /// u64.
     ghost faults: { Self → ℕ };
 
     /// Which of the two files it is read from.
@@ -66,6 +67,7 @@ pub trait Device {
         ensures most { bound self.new ≤ 16777216 }
 
         ensures later { faults self.old ≤ faults self.new }
+        ensures kept { UnlessFailed result (faults self.new ≡ faults self.old) }
         ensures cause { OnFailed result (Rose (faults self.old) (faults self.new)) }
         ensures which { which self.new ≡ which self.old };
 }

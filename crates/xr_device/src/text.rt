@@ -3,7 +3,7 @@ ghost use Rattle.std.specs.Prelude.{◌≡◌, ◌≤◌, ◌<◌, ◌+◌, fals
 ghost use Rattle.xr_io.specs.Outside.{Rose};
 ghost use Rattle.xr_model.specs.device_text.DeviceText.{told_in};
 ghost use Rattle.xr_device.specs.Answers.{IsTold, OnEvent, OnFailed};
-ghost use Rattle.xr_device.specs.inside.Steps.{OnGoing, OnAnswer, Steps};
+ghost use Rattle.xr_device.specs.inside.Steps.{OnGoing, OnAnswer, Steps, UnlessStepFailed};
 ghost use Rattle.xr_device.specs.Texts.{told_at, IsFrontLine, IsUndecided, IsReadTo, steps_left};
 
 use crate::Next;
@@ -68,6 +68,7 @@ impl<S: Source> Text<S> {
         ensures event { OnAnswer result (λ a. OnEvent a (λ _. self.old.used < self.new.used)) }
         ensures later { S.faults self.old.source ≤ S.faults self.new.source }
         ensures cause { OnAnswer result (λ a. OnFailed a (Rose (S.faults self.old.source) (S.faults self.new.source))) }
+        ensures kept { UnlessStepFailed result (S.faults self.new.source ≡ S.faults self.old.source) }
         ensures which { S.which self.new.source ≡ S.which self.old.source }
     {
         match front_of(self.held.as_slice(), self.used, self.ended) {
@@ -120,6 +121,7 @@ impl<S: Source> Text<S> {
         ensures failed { OnAnswer result (λ a. a ≡ Next.Failed) }
         ensures later { S.faults self.old.source ≤ S.faults self.new.source }
         ensures cause { OnAnswer result (λ _. Rose (S.faults self.old.source) (S.faults self.new.source)) }
+        ensures kept { OnGoing result (S.faults self.new.source ≡ S.faults self.old.source) }
         ensures which { S.which self.new.source ≡ S.which self.old.source }
     {
         let held = self.held.as_slice().len();

@@ -3,3 +3,4 @@ pub mod Status
 pub mod Clean
 pub mod Runs
 pub mod Few
+pub mod Counts

@@ -17,16 +17,14 @@ use Rattle.xr_model.specs.scenario.Built.{are_built, if_built, run_scenario_of}
 use Rattle.xr_model.specs.device_text.DeviceText.{DeviceStream, ends}
 use Rattle.xr_drive.specs.Run.{Run}
 use Rattle.xr_drive.specs.Top.{told_under, RunsText, EndsSo, Means, Faults, NoneRose, HasItsCause, IsComplete}
-use Rattle.xr_drive.specs.inside.Parts.{MeansText, fault_of_scenario, MeansRun, HasRunCause, status_of_fault}
-use Rattle.xr_drive.specs.declared.faults.RunFault.{RunFault}
-use Rattle.xr_drive.specs.declared.faults.RunFault.TheVariants as fault
+use Rattle.xr_drive.specs.inside.Parts.{MeansText, fault_of_scenario, MeansRun, HasRunCause}
 use Rattle.xr_scenario.specs.declared.fault.ScenarioFault.{ScenarioFault}
 use Rattle.xr_scenario.specs.declared.fault.ScenarioFault.TheVariants as scenario_fault
 use Rattle.xr_drive.proofs.Clean.{told_clean, run_clean}
 use Rattle.xr_drive.proofs.Status.{IsEnding, is_ending, fault_of_failed, never_garbled}
 use Rattle.xr_model.specs.report.RunEnding.{ending_of}
 use Rattle.xr_model.specs.report.Report.{report_of}
-use Rattle.std.specs.Io.KnownBytes.{Appends, Keeps}
+use Rattle.std.specs.Io.KnownBytes.{Appends}
 
 long_take : (n : ℕ) (bytes : List ℕ) → n < length bytes → n < length (take (n + 1) bytes)
 long_take n bytes h = grind (arith, common_steps)
@@ -101,19 +99,6 @@ means_unrun all text told (scenario_fault.Refused why) read e = refused_if_told 
 means_unrun all text told scenario_fault.NoMemory read e = tt
 
 -- ---- what a status means
-
-pub means_fault : (words : List (List ℕ)) (bytes : List ℕ → Option (List ℕ)) (before after : Option (List ℕ)) (form : RunOptions) (told : Option DeviceStream) (why : RunFault) → options_of words ≡ Some form → MeansRun (bytes form.file) told (Err why) → Keeps before after
-    → Means words bytes before after (status_of_fault why)
-means_fault words bytes before after form told fault.OpenFault is means keeps = (form, is, keeps)
-means_fault words bytes before after form told fault.ReadFault is means keeps = (form, is, keeps)
-means_fault words bytes before after form told (fault.Refused why) is means keeps = (form, is, (means, keeps))
-means_fault words bytes before after form told fault.NoMemory is means keeps = keeps
-
-pub cause_fault : (old new : Faults) (why : RunFault) → HasRunCause old.opens old.reads new.opens new.reads (Err why) → HasItsCause old new (status_of_fault why)
-cause_fault old new fault.OpenFault cause = cause
-cause_fault old new fault.ReadFault cause = cause
-cause_fault old new (fault.Refused why) cause = tt
-cause_fault old new fault.NoMemory cause = tt
 
 -- behind a whole report
 pub means_ending : (words : List (List ℕ)) (bytes : List ℕ → Option (List ℕ)) (before after : Option (List ℕ)) (form : RunOptions) (lists : Lists) → options_of words ≡ Some form

@@ -1,5 +1,5 @@
 -- What a top call means, and why each of its answers comes.
-use Rattle.std.specs.Prelude.{◌≡◌, ◌⊎◌, ℕ, List, take, Option, Some, None, option_map, option_and_then, Ok, Err, IfSome, ⊤}
+use Rattle.std.specs.Prelude.{◌≡◌, ◌⊎◌, ℕ, Bool, true, false, List, take, Option, Some, None, option_map, option_and_then, Ok, Err, IfSome, ⊤}
 use Rattle.std.specs.Io.KnownBytes.{Keeps, Appends}
 use Rattle.xr_io.specs.Outside.{Rose}
 use Rattle.xr_io.specs.declared.Which.{Which}
@@ -68,6 +68,49 @@ HasItsCause old new ReadFault = Rose (old.reads which.Scenario) (new.reads which
 HasItsCause old new DeviceFailed = Rose (old.reads which.Device) (new.reads which.Device)
 HasItsCause old new WriteFault = Rose old.writes new.writes
 HasItsCause old new _ = ⊤
+
+-- ---- counts that stay
+
+-- the counts of both files
+abbrev pub SameCounts : (Which → ℕ) → (Which → ℕ) → Type 0
+SameCounts old new = (which : Which) → new which ≡ old which
+
+abbrev pub is_open_fault : Status → Bool
+is_open_fault OpenFault = true
+is_open_fault _ = false
+
+abbrev pub is_read_fault : Status → Bool
+is_read_fault ReadFault = true
+is_read_fault _ = false
+
+abbrev pub is_write_fault : Status → Bool
+is_write_fault WriteFault = true
+is_write_fault _ = false
+
+-- the device may have failed: so it is told, or a fault of the output or want of memory came behind it
+abbrev pub may_hide_device : Status → Bool
+may_hide_device DeviceFailed = true
+may_hide_device WriteFault = true
+may_hide_device NoMemory = true
+may_hide_device _ = false
+
+-- Each count stays as it was, unless the status is its fault.
+pub record OnlyItsFault (old new : Faults) (status : Status) : Type 0 where
+  pub opens : is_open_fault status ≡ false → SameCounts old.opens new.opens
+  pub scenario : is_read_fault status ≡ false → new.reads which.Scenario ≡ old.reads which.Scenario
+  pub device : may_hide_device status ≡ false → new.reads which.Device ≡ old.reads which.Device
+  pub writes : is_write_fault status ≡ false → new.writes ≡ old.writes
+
+-- Of two openings that which failed is the scenario's, and then the device was not asked for, or it is the device's.
+abbrev pub IsOpenedInTurn : Option (List ℕ) → (Which → ℕ) → (Which → ℕ) → Type 0
+IsOpenedInTurn asked old new = ((asked ≡ None) × Rose (old which.Scenario) (new which.Scenario)) ⊎ ((new which.Scenario ≡ old which.Scenario) × Rose (old which.Device) (new which.Device))
+
+-- so where a file couldn't be opened
+abbrev pub OpensInTurn : Option (List ℕ) → (Which → ℕ) → (Which → ℕ) → Status → Type 0
+OpensInTurn asked old new OpenFault = IsOpenedInTurn asked old new
+OpensInTurn asked old new _ = ⊤
+
+-- ---- completeness
 
 -- no count rose
 pub record NoneRose (old new : Faults) : Type 0 where

@@ -1,14 +1,14 @@
 // The top call of one thread.
-ghost use Rattle.std.specs.Prelude.{◌≡◌, ◌≤◌, ℕ, true, List, map, take, IfOk, IfErr, IfSome, Some, None, length, string_bytes, option_map};
+ghost use Rattle.std.specs.Prelude.{◌≡◌, ◌≤◌, ℕ, true, false, List, map, take, IfOk, IfErr, IfSome, Some, None, length, string_bytes, option_map};
 ghost use Rattle.std.specs.List.{list_any};
 ghost use Rattle.xr_io.specs.Outside.{Rose};
 ghost use Rattle.xr_io.specs.declared.Which.{Which};
 ghost use Rattle.xr_model.specs.device_text.DeviceText.{nothing_more};
 ghost use Rattle.xr_model.specs.report.RunEnding.{is_fault};
 ghost use Rattle.xr_model.specs.command_line.Words.{options_of};
-ghost use Rattle.xr_drive.specs.Top.{Means, HasItsCause, IsComplete, IsAskedFor, IsDeviceAskedFor, device_of, faults, KeepsDevice, UnlessDevice, told_under};
-ghost use Rattle.xr_drive.specs.inside.Input.{RoseIfStopped};
-ghost use Rattle.xr_drive.specs.inside.Parts.{MeansText, MeansRun, HasRunCause, status_in, MeansWritten, RoseIfUnwritten};
+ghost use Rattle.xr_drive.specs.Top.{Means, HasItsCause, OnlyItsFault, IsComplete, OpensInTurn, IsAskedFor, IsDeviceAskedFor, device_of, faults, KeepsDevice, UnlessDevice, told_under};
+ghost use Rattle.xr_drive.specs.inside.Input.{RoseIfStopped, KeptUnlessFailed};
+ghost use Rattle.xr_drive.specs.inside.Parts.{MeansText, MeansRun, HasRunCause, KeepsCounts, KeptIfRefused, OpenedInTurn, status_in, MeansWritten, RoseIfUnwritten, KeptUnlessUnwritten};
 
 use crate::built::are_built;
 use crate::faults::{RunFault, Unwritten};
@@ -31,6 +31,7 @@ fn read_text<O: Opener>(alloc: Global, opener: &mut O, source: O::S) -> Result<V
     ensures asked { (which : Which) → O.asked opener.new which ≡ O.asked opener.old which }
     ensures opens { (which : Which) → O.open_faults opener.new which ≡ O.open_faults opener.old which }
     ensures reads { O.read_faults opener.new Which.Device ≡ O.read_faults opener.old Which.Device }
+    ensures kept { KeptUnlessFailed (O.read_faults opener.old Which.Scenario) (O.read_faults opener.new Which.Scenario) result }
     ensures same { (name : List ℕ) → O.bytes opener.new name ≡ O.bytes opener.old name }
 {
     let mut source = source;
@@ -51,6 +52,8 @@ fn run_text<D: Device>(alloc: Global, text: &[u8], device: &mut D) -> Result<Lis
     requires fresh { D.bound device.old ≤ 16777216 }
     ensures means { MeansText text.now (D.remaining device.old) result }
     ensures fault { IfOk result (λ lists. list_any is_fault lists.events ≡ true → Rose (D.faults device.old) (D.faults device.new)) }
+    ensures unfailed { IfOk result (λ lists. list_any is_fault lists.events ≡ false → D.faults device.new ≡ D.faults device.old) }
+    ensures refused { IfErr result (KeptIfRefused (D.faults device.old) (D.faults device.new)) }
     ensures which { D.which device.new ≡ D.which device.old }
 {
     let scenario = read(alloc, text)?;
@@ -69,7 +72,9 @@ fn run_alone<O: Opener>(alloc: Global, opener: &mut O, source: O::S) -> Result<L
     requires sound { O.S.faults source ≡ 0 }
     ensures means { MeansRun (O.S.left source) (Some nothing_more) result }
     ensures cause { HasRunCause (O.open_faults opener.old) (O.read_faults opener.old) (O.open_faults opener.new) (O.read_faults opener.new) result }
+    ensures counts { KeepsCounts (O.open_faults opener.old) (O.read_faults opener.old) (O.open_faults opener.new) (O.read_faults opener.new) result }
     ensures asked { (which : Which) → O.asked opener.new which ≡ O.asked opener.old which }
+    ensures turn { OpenedInTurn (O.asked opener.new Which.Device) (O.open_faults opener.old) (O.open_faults opener.new) result }
     ensures device { KeepsDevice O.asked O.open_faults O.read_faults opener.old opener.new }
     ensures same { (name : List ℕ) → O.bytes opener.new name ≡ O.bytes opener.old name }
 {
@@ -97,7 +102,9 @@ fn run_beside<O: Opener>(
     requires short { length name.now ≤ 4095 }
     ensures means { MeansRun (O.S.left source) (told_under (O.bytes opener.old) (Some name.now)) result }
     ensures cause { HasRunCause (O.open_faults opener.old) (O.read_faults opener.old) (O.open_faults opener.new) (O.read_faults opener.new) result }
+    ensures counts { KeepsCounts (O.open_faults opener.old) (O.read_faults opener.old) (O.open_faults opener.new) (O.read_faults opener.new) result }
     ensures asked { O.asked opener.new Which.Scenario ≡ O.asked opener.old Which.Scenario }
+    ensures turn { OpenedInTurn (O.asked opener.new Which.Device) (O.open_faults opener.old) (O.open_faults opener.new) result }
     ensures device { O.asked opener.new Which.Device ≡ Some name.now }
     ensures same { (name : List ℕ) → O.bytes opener.new name ≡ O.bytes opener.old name }
 {
@@ -134,7 +141,9 @@ fn run_files<O: Opener>(
     requires short_device { IfSome device (λ name. length name.now ≤ 4095) }
     ensures means { MeansRun (O.bytes opener.old file.now) (told_under (O.bytes opener.old) (option_map (λ name. name.now) device.entry)) result }
     ensures cause { HasRunCause (O.open_faults opener.old) (O.read_faults opener.old) (O.open_faults opener.new) (O.read_faults opener.new) result }
+    ensures counts { KeepsCounts (O.open_faults opener.old) (O.read_faults opener.old) (O.open_faults opener.new) (O.read_faults opener.new) result }
     ensures asked { O.asked opener.new Which.Scenario ≡ Some file.now }
+    ensures turn { OpenedInTurn (O.asked opener.new Which.Device) (O.open_faults opener.old) (O.open_faults opener.new) result }
     ensures device { IsDeviceAskedFor (option_map (λ name. name.now) device.entry) (O.asked opener.new Which.Device) (status_in result) }
     ensures alone { UnlessDevice (option_map (λ name. name.now) device.entry) (KeepsDevice O.asked O.open_faults O.read_faults opener.old opener.new) }
     ensures same { (name : List ℕ) → O.bytes opener.new name ≡ O.bytes opener.old name }
@@ -157,6 +166,7 @@ fn write_report<K: Sink>(
 ) -> Result<(), Unwritten>
     ensures means { MeansWritten lists.now places (K.written sink.old) (K.written sink.new) result }
     ensures cause { RoseIfUnwritten (K.faults sink.old) (K.faults sink.new) result }
+    ensures kept { KeptUnlessUnwritten (K.faults sink.old) (K.faults sink.new) result }
 {
     let Ok(report) = report(alloc, lists, places) else {
         return Err(Unwritten::NoMemory);
@@ -190,8 +200,10 @@ pub fn run_serial<O: Opener, K: Sink>(
     // What the status says of the words, the files' bytes and what was written.
     ensures means { Means (map string_bytes words.now) (O.bytes opener.old) (K.written sink.old) (K.written sink.new) result }
 
-    // Why a fault comes, and that good input is run where none does.
+    // Why a fault comes, that no other count changes, and that good input is run where none does.
     ensures causes { HasItsCause (faults (O.open_faults opener.old) (O.read_faults opener.old) (K.faults sink.old))
+        (faults (O.open_faults opener.new) (O.read_faults opener.new) (K.faults sink.new)) result }
+    ensures counts { OnlyItsFault (faults (O.open_faults opener.old) (O.read_faults opener.old) (K.faults sink.old))
         (faults (O.open_faults opener.new) (O.read_faults opener.new) (K.faults sink.new)) result }
     ensures complete { IsComplete (map string_bytes words.now) (O.bytes opener.old)
         (faults (O.open_faults opener.old) (O.read_faults opener.old) (K.faults sink.old))
@@ -201,6 +213,7 @@ pub fn run_serial<O: Opener, K: Sink>(
     ensures asked { IsAskedFor (options_of (map string_bytes words.now)) (O.asked opener.new Which.Scenario) result }
     ensures device { IsDeviceAskedFor (device_of (options_of (map string_bytes words.now))) (O.asked opener.new Which.Device) result
         × UnlessDevice (device_of (options_of (map string_bytes words.now))) (KeepsDevice O.asked O.open_faults O.read_faults opener.old opener.new) }
+    ensures turn { OpensInTurn (O.asked opener.new Which.Device) (O.open_faults opener.old) (O.open_faults opener.new) result }
     ensures same { (name : List ℕ) → O.bytes opener.new name ≡ O.bytes opener.old name }
 {
     let form = match options_of(alloc, words) {

@@ -1,6 +1,6 @@
 // Files and standard output behind the traits. These few lines are trusted to pass on what the
 // system does: they tell no bytes, and count each error. A count stops at the largest u64.
-ghost use Rattle.std.specs.Prelude.{◌≡◌, ◌≢◌, ◌≤◌, ◌<◌, length, Some, None, IfOk, is_err};
+ghost use Rattle.std.specs.Prelude.{◌≡◌, ◌≢◌, ◌≤◌, ◌<◌, length, Some, None, IfOk, OnOk, is_err};
 ghost use Rattle.std.specs.Io.{ReadsAtMost, WritesAtMost};
 ghost use Rattle.std.specs.Io.KnownBytes.{ReadConsumes, WriteAppends};
 ghost use Rattle.xr_io.specs.declared.Which.{Which};
@@ -54,6 +54,7 @@ impl<F: Read> Source for FileSource<F> {
         ensures bytes { ReadConsumes no_bytes no_bytes result buf.new }
         ensures which { self.new.opened_as ≡ self.old.opened_as }
         ensures cause { HasCause self.old.faults self.new.faults result }
+        ensures kept { OnOk result (self.new.faults ≡ self.old.faults) }
         ensures rises { self.new.faults ≡ raised_if (is_err result) self.old.faults }
     {
         if let Ok(count) = self.file.read(buf) {
@@ -131,6 +132,7 @@ impl<'r, R: Files> Opener for FileOpener<'r, R> {
 
         ensures cause { HasCause (open_faults_of self.old which)
             (open_faults_of self.new which) result }
+        ensures kept { OnOk result (open_faults_of self.new which ≡ open_faults_of self.old which) }
         ensures opens { (w : Which) → w ≢ which →
             open_faults_of self.new w ≡ open_faults_of self.old w }
         ensures reads { (w : Which) → read_faults_of self.new w ≡ read_faults_of self.old w }
@@ -214,6 +216,8 @@ impl<'r, P: Print> Sink for StdSink<'r, P> {
         ensures bytes { WriteAppends no_bytes no_bytes result piece.now }
         ensures none { IfOk result (λ n. n ≡ 0 → 0 < length piece.now → Rose self.old self.new) }
         ensures cause { HasCause self.old self.new result }
+        ensures kept { IfOk result (λ n. 0 < n → self.new ≡ self.old) }
+        ensures empty { OnOk result (length piece.now ≡ 0 → self.new ≡ self.old) }
         ensures rises { self.new ≡ raised_if (is_write_fault result (length piece.now)) self.old }
     {
         let Ok(count) = self.out.write_some(piece) else {

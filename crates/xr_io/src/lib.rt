@@ -4,7 +4,7 @@
 //! and real files with standard output. Nothing here knows what the bytes mean.
 #![tactic(auto)]
 
-ghost use Rattle.std.specs.Prelude.{◌≡◌, ◌≢◌, ◌<◌, ◌≤◌, ℕ, List, length, Option, Some, None, IfOk};
+ghost use Rattle.std.specs.Prelude.{◌≡◌, ◌≢◌, ◌<◌, ◌≤◌, ℕ, List, length, Option, Some, None, IfOk, OnOk};
 ghost use Rattle.std.specs.Io.{ReadsAtMost, WritesAtMost};
 ghost use Rattle.std.specs.Io.KnownBytes.{ReadConsumes, WriteAppends};
 ghost use Rattle.xr_io.specs.declared.Which.{Which};
@@ -42,12 +42,14 @@ pub trait Source {
     ghost faults: { Self → ℕ };
 
     /// Puts the next bytes at the front of a buffer and says how many. 0 into a buffer that has
-    /// room is the end. `Failed` comes only where `faults` rose, and takes no byte that is told.
+    /// room is the end. `Failed` comes only where `faults` rose, and takes no byte that is told; nothing else changes the
+    /// count.
     fn read(&mut self, buf: &mut [u8]) -> Result<usize, Failed>
         ensures bound { ReadsAtMost result buf.new }
         ensures bytes { ReadConsumes (left self.old) (left self.new) result buf.new }
         ensures which { which self.new ≡ which self.old }
-        ensures cause { HasCause (faults self.old) (faults self.new) result };
+        ensures cause { HasCause (faults self.old) (faults self.new) result }
+        ensures kept { OnOk result (faults self.new ≡ faults self.old) };
 }
 
 /// A place to write to.
@@ -66,7 +68,11 @@ pub trait Sink {
         ensures bytes { WriteAppends (written self.old) (written self.new) result piece.now }
         ensures none { IfOk result (λ n.
             n ≡ 0 → 0 < length piece.now → Rose (faults self.old) (faults self.new)) }
-        ensures cause { HasCause (faults self.old) (faults self.new) result };
+        ensures cause { HasCause (faults self.old) (faults self.new) result }
+
+        // Nothing else changes the count.
+        ensures kept { IfOk result (λ n. 0 < n → faults self.new ≡ faults self.old) }
+        ensures empty { OnOk result (length piece.now ≡ 0 → faults self.new ≡ faults self.old) };
 }
 
 /// What opens files by name, each of the two at most once.
@@ -88,7 +94,7 @@ pub trait Opener {
     ghost asked: { Self → Which → Option (List ℕ) };
 
     /// Opens the file of a name as one of the two, which was not asked for before. The name counts
-    /// as asked for also where the call failed. `Failed` comes only where `open_faults` rose.
+    /// as asked for also where the call failed. `Failed` comes only where `open_faults` rose, and else that count stays.
     fn open_file(&mut self, which: Which, name: &str) -> Result<Self::S, Failed>
         requires first { asked self.old which ≡ None }
         requires short { length name.now ≤ MOST_NAME }
@@ -103,6 +109,7 @@ pub trait Opener {
             (Self.S.which source ≡ which) × (Self.S.faults source ≡ 0)) }
 
         ensures cause { HasCause (open_faults self.old which) (open_faults self.new which) result }
+        ensures kept { OnOk result (open_faults self.new which ≡ open_faults self.old which) }
         ensures opens { (w : Which) → w ≢ which → open_faults self.new w ≡ open_faults self.old w }
         ensures reads { (w : Which) → read_faults self.new w ≡ read_faults self.old w };
 

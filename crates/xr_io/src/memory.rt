@@ -1,6 +1,6 @@
 // Files and output in memory, whose calls fail where a list says so. Nothing here touches the
 // outside. Calls are numbered from 0, and a count stops at the largest u64.
-ghost use Rattle.std.specs.Prelude.{◌≡◌, ◌≢◌, ◌≤◌, ◌<◌, ◌↔◌, ℕ, List, [], length, Some, None, IsTrue, IsErr, IfOk, option_map};
+ghost use Rattle.std.specs.Prelude.{◌≡◌, ◌≢◌, ◌≤◌, ◌<◌, ◌↔◌, ℕ, List, [], length, Some, None, IsTrue, IsErr, IfOk, OnOk, option_map};
 ghost use Rattle.std.specs.Io.{ReadsAtMost, WritesAtMost};
 ghost use Rattle.std.specs.Io.KnownBytes.{ReadConsumes, WriteAppends};
 ghost use Rattle.xr_io.specs.declared.Which.{Which};
@@ -87,6 +87,7 @@ impl<'a> Source for MemorySource<'a> {
         ensures bytes { ReadConsumes (Some self.old.left) (Some self.new.left) result buf.new }
         ensures which { self.new.opened_as ≡ self.old.opened_as }
         ensures cause { HasCause self.old.faults self.new.faults result }
+        ensures kept { OnOk result (self.new.faults ≡ self.old.faults) }
 
         // All of that, exactly.
         ensures fails { IsErr result ↔ IsTrue (fails_to_read self.old) }
@@ -197,6 +198,8 @@ impl<'a> Sink for MemorySink<'a> {
         ensures none { IfOk result (λ n.
             n ≡ 0 → 0 < length piece.now → Rose self.old.faults self.new.faults) }
         ensures cause { HasCause self.old.faults self.new.faults result }
+        ensures kept { IfOk result (λ n. 0 < n → self.new.faults ≡ self.old.faults) }
+        ensures empty { OnOk result (length piece.now ≡ 0 → self.new.faults ≡ self.old.faults) }
 
         // All of that, exactly.
         ensures fails { IsErr result ↔ IsTrue (fails_to_write self.old) }
@@ -346,6 +349,7 @@ impl<'a> Opener for MemoryOpener<'a> {
             (open_faults_of self.old.requests which)
             (open_faults_of self.new.requests which)
             result }
+        ensures kept { OnOk result (open_faults_of self.new.requests which ≡ open_faults_of self.old.requests which) }
         ensures opens { (w : Which) → w ≢ which →
             open_faults_of self.new.requests w ≡ open_faults_of self.old.requests w }
         ensures reads { (w : Which) →

@@ -1,6 +1,8 @@
 -- Where nobody can go on, what was made is a whole run, or one that is stuck.
 use Rattle.std.proofs.Common.{◌≡◌, ◌+◌, ◌<◌, ◌≤◌, ℕ, ℤ, zero, suc, pos, Bool, true, false, List, [], ◌∷◌, ◌++◌, length, map, drop, take, get_or, Option, Some, None, refl, sym, ap, subst, ◌∙◌, arith, append_assoc, append-nil, length-append, true≢false, add-one}
 use Rattle.std.specs.List.{list_any}
+use Rattle.std.proofs.lemmas.Bool.{or_parts}
+use Rattle.std.proofs.lemmas.List.Folds.{list_any-append}
 use Rattle.std.proofs.lemmas.List.{map-append, map_more, take_all, take-append-drop}
 use Rattle.xr_types.specs.declared.calls.Actor.{Actor}
 use Rattle.xr_types.specs.declared.calls.Actor.TheVariants.{App, Compositor, Device}
@@ -115,6 +117,11 @@ all_gone number (ops ∷ scripts) (app ∷ apps) (suc place) none a is within =
 no_pending : (pending : Option DeviceEvent) → map waiting_of (device_part pending []) ≡ [] → pending ≡ None
 no_pending None h = refl
 no_pending (Some e) h = absurd (filled _ _ h)
+
+pending_faultless : (pending : Option DeviceEvent) → (pending ≡ Some event.Fault → ⊥) → list_any is_fault (pending_list pending) ≡ false
+pending_faultless None none = refl
+pending_faultless (Some event.Fault) none = absurd (none refl)
+pending_faultless (Some _) none = refl
 
 -- from any turn on there are as many
 as_many : (turn : ℕ) (parts : List (List Agenda)) → length (from_turn turn parts) ≡ length parts
@@ -239,3 +246,18 @@ module _ (scenario : Scenario) (turn : ℕ) (s : State) (run : RunState) (start 
 
   pub fault : list_any is_fault run.side.events ≡ true → Rose start.faults now.faults
   fault h = device.fault (subst (λ (l : List DeviceEvent). list_any is_fault l ≡ true) inv.kept.device.events_are h)
+
+  -- a fault is never left, since its call can always be made
+  no_fault_left : run.side.pending ≡ Some event.Fault → ⊥
+  no_fault_left is =
+      let held : AreHeldBack s (device_part run.side.pending device.rest) = device_held scenario run inv.clocks device.rest all turn s (stands device.rest device.none).1 in
+      let can : AreHeldBack s (device_part (Some event.Fault) device.rest) = subst (λ (p : Option DeviceEvent). AreHeldBack s (device_part p device.rest)) is held in
+      true≢false can.0
+
+  pub unfailed : list_any is_fault run.side.events ≡ false → now.faults ≡ start.faults
+  unfailed h =
+      let d = inv.kept.device in
+      let made : list_any is_fault (events_in (inv.calls Device)) ≡ false = subst (λ (l : List DeviceEvent). list_any is_fault l ≡ false) d.events_are h in
+      let all_made : list_any is_fault (d.given ++ d.closing) ≡ false =
+      ap (list_any is_fault) d.begun ∙ list_any-append is_fault (events_in (inv.calls Device)) (pending_list run.side.pending) ∙ rw (made, pending_faultless run.side.pending no_fault_left) refl in
+      d.unfailed (or_parts (list_any is_fault d.given) (list_any is_fault d.closing) (sym (list_any-append is_fault d.given d.closing) ∙ all_made)).1

@@ -112,6 +112,7 @@ starts scenario start few =
           list_is = refl;
           events_are = refl;
           later = omega arith;
+          unfailed = λ e. refl;
         };
         end = refl;
         counted = omega arith;

@@ -103,8 +103,12 @@ module _ (side : SideState) (calls : List request.Exchange) (start now now2 : Pr
   later : start.faults ≤ now2.faults
   later = let before = d.later in omega (arith, before, grew)
 
-  pub tells_event : (e : DeviceEvent) → Tells now.remaining now2.remaining (next.Event e) → IsTold e → DeviceKept (side_asked side (Some e) false) calls start now2
-  tells_event e tells sound = record {
+  -- no read has failed yet
+  same_faults : now2.faults ≡ now.faults → now2.faults ≡ start.faults
+  same_faults same = same ∙ d.unfailed (subst (λ (c : List DeviceEvent). list_any is_fault c ≡ false) (sym d.came.1) refl)
+
+  pub tells_event : (e : DeviceEvent) → Tells now.remaining now2.remaining (next.Event e) → IsTold e → now2.faults ≡ now.faults → DeviceKept (side_asked side (Some e) false) calls start now2
+  tells_event e tells sound same = record {
     given = d.given ++ e ∷ [];
     closing = [];
     begun = append-nil (d.given ++ e ∷ []) ∙ given_more d.given calls e open_begun;
@@ -115,10 +119,11 @@ module _ (side : SideState) (calls : List request.Exchange) (start now now2 : Pr
     list_is = d.list_is;
     events_are = d.events_are;
     later = later;
+    unfailed = λ e. same_faults same;
   }
 
-  pub tells_end : Tells now.remaining now2.remaining next.End → DeviceKept (side_asked side None true) calls start now2
-  tells_end tells = record {
+  pub tells_end : Tells now.remaining now2.remaining next.End → now2.faults ≡ now.faults → DeviceKept (side_asked side None true) calls start now2
+  tells_end tells same = record {
     given = d.given;
     closing = [];
     begun = open_begun;
@@ -129,11 +134,12 @@ module _ (side : SideState) (calls : List request.Exchange) (start now now2 : Pr
     list_is = d.list_is;
     events_are = d.events_are;
     later = later;
+    unfailed = λ e. same_faults same;
   }
 
   -- it has ended early, which is its last call
-  closes : (e : DeviceEvent) (ending : Option Ending) → IsDone e → Gave start.remaining d.given ending → e ∷ [] ≡ last_event ending → (is_fault e || false ≡ true → Rose start.faults now2.faults) → DeviceKept (side_asked side (Some e) true) calls start now2
-  closes e ending done gave last fault = record {
+  closes : (e : DeviceEvent) (ending : Option Ending) → IsDone e → Gave start.remaining d.given ending → e ∷ [] ≡ last_event ending → (is_fault e || false ≡ true → Rose start.faults now2.faults) → (is_fault e || false ≡ false → now2.faults ≡ start.faults) → DeviceKept (side_asked side (Some e) true) calls start now2
+  closes e ending done gave last fault unfailed = record {
     given = d.given;
     closing = e ∷ [];
     begun = given_more d.given calls e open_begun;
@@ -144,15 +150,16 @@ module _ (side : SideState) (calls : List request.Exchange) (start now now2 : Pr
     list_is = d.list_is;
     events_are = d.events_are;
     later = later;
+    unfailed = unfailed;
   }
 
-  pub tells_garbled : (line : ℕ) → Tells now.remaining now2.remaining (next.Garbled line) → DeviceKept (side_asked side (Some (event.Garbled line)) true) calls start now2
-  tells_garbled line tells =
-      closes (event.Garbled line) (Some (garbled_at line)) (record { checked = refl; built = refl }) (gives_garbled start.remaining now.remaining now2.remaining d.given line d.came.0 tells) refl (λ e. absurd (true≢false (sym e)))
+  pub tells_garbled : (line : ℕ) → Tells now.remaining now2.remaining (next.Garbled line) → now2.faults ≡ now.faults → DeviceKept (side_asked side (Some (event.Garbled line)) true) calls start now2
+  tells_garbled line tells same =
+      closes (event.Garbled line) (Some (garbled_at line)) (record { checked = refl; built = refl }) (gives_garbled start.remaining now.remaining now2.remaining d.given line d.came.0 tells) refl (λ e. absurd (true≢false (sym e))) (λ e. same_faults same)
 
   pub tells_fault : Rose now.faults now2.faults → DeviceKept (side_asked side (Some event.Fault) true) calls start now2
   tells_fault rose =
-      closes event.Fault None (record { checked = refl; built = refl }) (gives_front start.remaining now.remaining d.given d.came.0) refl (λ e. rose_later start.faults now.faults now2.faults d.later rose)
+      closes event.Fault None (record { checked = refl; built = refl }) (gives_front start.remaining now.remaining d.given d.came.0) refl (λ e. rose_later start.faults now.faults now2.faults d.later rose) (λ e. absurd (true≢false e))
 
 -- the call of its next event was made
 pub event_kept : (side : SideState) (calls : List request.Exchange) (start now : Prospect) (e : DeviceEvent) (answer : Reply) (bytes : List ℕ) → side.pending ≡ Some e → DeviceKept side calls start now
@@ -172,4 +179,5 @@ event_kept side calls start now e answer bytes this d =
       list_is = sym (made_snoc 1 calls t ∙ rw (place, ← d.list_is) refl);
       events_are = rw (events_snoc calls e answer bytes, d.events_are) refl;
       later = d.later;
+      unfailed = d.unfailed;
     }

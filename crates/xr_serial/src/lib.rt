@@ -3,7 +3,7 @@
 //! bytes of scenarios, devices or reports.
 #![tactic(auto)]
 
-ghost use Rattle.std.specs.Prelude.{◌≡◌, ◌≤◌, ◌<◌, ◌^◌, true, IfOk, length};
+ghost use Rattle.std.specs.Prelude.{◌≡◌, ◌≤◌, ◌<◌, ◌^◌, true, false, IfOk, length};
 ghost use Rattle.std.specs.List.{list_all, list_any, sum_by};
 ghost use Rattle.xr_io.specs.Outside.{Rose};
 ghost use Rattle.xr_model.specs.scenario.Built.{is_built_op};
@@ -43,6 +43,7 @@ pub fn run<D: Device>(alloc: Global, scenario: &Scenario, device: &mut D) -> Res
     requires fresh { D.bound device.old ≤ 16777216 }
     ensures ran { IfOk result (λ lists. Ran scenario.now (D.remaining device.old) lists) }
     ensures fault { IfOk result (λ lists. list_any is_fault lists.events ≡ true → Rose (D.faults device.old) (D.faults device.new)) }
+    ensures unfailed { IfOk result (λ lists. list_any is_fault lists.events ≡ false → D.faults device.new ≡ D.faults device.old) }
     ensures later { D.faults device.old ≤ D.faults device.new }
     ensures which { D.which device.new ≡ D.which device.old }
 {

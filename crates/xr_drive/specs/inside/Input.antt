@@ -1,5 +1,5 @@
 -- Why a reading stops.
-use Rattle.std.specs.Prelude.{◌≤◌, ℕ, Result, Ok, Err}
+use Rattle.std.specs.Prelude.{◌≡◌, ◌≤◌, ℕ, Result, Ok, Err}
 use Rattle.xr_io.specs.Outside.{Rose}
 use Rattle.xr_drive.specs.declared.input.Stop.{Stop}
 use Rattle.xr_drive.specs.declared.input.Stop.TheVariants.{Failed, NoMemory}
@@ -12,7 +12,14 @@ abbrev pub RoseIfFailed : {T : Type 0} → ℕ → ℕ → Result T Stop → Typ
 RoseIfFailed before now (Ok x) = Unit {0}
 RoseIfFailed before now (Err stop) = RoseIfStopped before now stop
 
+-- any other end of a reading leaves the count as it was
+abbrev pub KeptUnlessFailed : {T : Type 0} → ℕ → ℕ → Result T Stop → Type 0
+KeptUnlessFailed before now (Ok x) = now ≡ before
+KeptUnlessFailed before now (Err Failed) = Unit {0}
+KeptUnlessFailed before now (Err NoMemory) = now ≡ before
+
 -- a failed read comes only where the count rose
 pub record HasReadCause {T : Type 0} (before now : ℕ) (result : Result T Stop) : Type 0 where
   pub later : before ≤ now
   pub failed : RoseIfFailed before now result
+  pub kept : KeptUnlessFailed before now result

@@ -1,5 +1,5 @@
 -- What the parts of a top call say.
-use Rattle.std.specs.Prelude.{◌≡◌, ◌⊎◌, ℕ, Bool, true, List, take, Option, Result, Ok, Err, IfSome, ⊤}
+use Rattle.std.specs.Prelude.{◌≡◌, ◌⊎◌, ℕ, Bool, true, false, List, take, Option, Result, Ok, Err, IfSome, ⊤}
 use Rattle.std.specs.List.{list_any}
 use Rattle.std.specs.Io.KnownBytes.{Keeps, Appends}
 use Rattle.xr_io.specs.Outside.{Rose}
@@ -15,7 +15,7 @@ use Rattle.xr_model.specs.report.Report.{report_of}
 use Rattle.xr_scenario.specs.declared.fault.ScenarioFault.{ScenarioFault}
 use Rattle.xr_scenario.specs.declared.fault.ScenarioFault.TheVariants as scenario_fault
 use Rattle.xr_drive.specs.Run.{Run}
-use Rattle.xr_drive.specs.Top.{RunsText}
+use Rattle.xr_drive.specs.Top.{RunsText, SameCounts, IsOpenedInTurn}
 use Rattle.xr_drive.specs.declared.input.Stop.{Stop}
 use Rattle.xr_drive.specs.declared.input.Stop.TheVariants as stop
 use Rattle.xr_drive.specs.declared.faults.RunFault.{RunFault}
@@ -54,6 +54,24 @@ HasRunCause opens reads new_opens new_reads (Err OpenFault) = Rose (opens which.
 HasRunCause opens reads new_opens new_reads (Err ReadFault) = Rose (reads which.Scenario) (new_reads which.Scenario)
 HasRunCause opens reads new_opens new_reads (Err _) = ⊤
 
+-- each count is as it was, but for that of the fault; a device that failed may be behind want of memory
+abbrev pub KeepsCounts : (Which → ℕ) → (Which → ℕ) → (Which → ℕ) → (Which → ℕ) → Result Lists RunFault → Type 0
+KeepsCounts opens reads new_opens new_reads (Ok lists) = SameCounts opens new_opens × (new_reads which.Scenario ≡ reads which.Scenario) × (list_any is_fault lists.events ≡ false → new_reads which.Device ≡ reads which.Device)
+KeepsCounts opens reads new_opens new_reads (Err OpenFault) = SameCounts reads new_reads
+KeepsCounts opens reads new_opens new_reads (Err ReadFault) = SameCounts opens new_opens × (new_reads which.Device ≡ reads which.Device)
+KeepsCounts opens reads new_opens new_reads (Err (Refused why)) = SameCounts opens new_opens × SameCounts reads new_reads
+KeepsCounts opens reads new_opens new_reads (Err NoMemory) = SameCounts opens new_opens × (new_reads which.Scenario ≡ reads which.Scenario)
+
+-- a text that is refused leaves the device alone
+abbrev pub KeptIfRefused : ℕ → ℕ → ScenarioFault → Type 0
+KeptIfRefused before after (scenario_fault.Refused why) = after ≡ before
+KeptIfRefused before after scenario_fault.NoMemory = ⊤
+
+-- Where a file couldn't be opened it is the scenario's, and then the device was not asked for, or the device's.
+abbrev pub OpenedInTurn : Option (List ℕ) → (Which → ℕ) → (Which → ℕ) → Result Lists RunFault → Type 0
+OpenedInTurn asked opens new_opens (Err OpenFault) = IsOpenedInTurn asked opens new_opens
+OpenedInTurn asked opens new_opens _ = ⊤
+
 abbrev pub status_of_fault : RunFault → Status
 status_of_fault OpenFault = status.OpenFault
 status_of_fault ReadFault = status.ReadFault
@@ -72,6 +90,12 @@ abbrev pub MeansWritten : {T : Type 0} → Lists → Bool → Option (List ℕ) 
 MeansWritten lists places before after (Ok written) = Appends before after (report_of lists places)
 MeansWritten lists places before after (Err unwritten.Failed) = (n : ℕ) × Appends before after (take n (report_of lists places))
 MeansWritten lists places before after (Err unwritten.NoMemory) = Keeps before after
+
+-- the count of write faults is as it was, but where a write failed
+abbrev pub KeptUnlessUnwritten : {T : Type 0} → ℕ → ℕ → Result T Unwritten → Type 0
+KeptUnlessUnwritten before after (Ok written) = after ≡ before
+KeptUnlessUnwritten before after (Err unwritten.Failed) = ⊤
+KeptUnlessUnwritten before after (Err unwritten.NoMemory) = after ≡ before
 
 -- a write fault comes only where the count rose
 abbrev pub RoseIfUnwritten : {T : Type 0} → ℕ → ℕ → Result T Unwritten → Type 0

@@ -76,6 +76,7 @@ pub record DeviceKept (side : SideState) (calls : List request.Exchange) (start 
   pub list_is : side.calls ≡ made_from 1 calls
   pub events_are : side.events ≡ events_in calls
   pub later : start.faults ≤ now.faults
+  pub unfailed : list_any is_fault closing ≡ false → now.faults ≡ start.faults
 
 -- ---- the compositor
 

@@ -86,10 +86,10 @@ prospect remaining faults bound = record { remaining = remaining; faults = fault
 
 -- What the device was asked for its next event came to: an event, its end, a line that is none, or a fault.
 abbrev pub Fetched : Prospect → Prospect → Option DeviceEvent → Bool → Type 0
-Fetched old new (Some e) false = Tells old.remaining new.remaining (next.Event e) × IsTold e × (new.bound < old.bound)
-Fetched old new None true = Tells old.remaining new.remaining next.End × (new.bound ≤ old.bound)
+Fetched old new (Some e) false = Tells old.remaining new.remaining (next.Event e) × IsTold e × (new.bound < old.bound) × (new.faults ≡ old.faults)
+Fetched old new None true = Tells old.remaining new.remaining next.End × (new.bound ≤ old.bound) × (new.faults ≡ old.faults)
 Fetched old new (Some event.Fault) true = Rose old.faults new.faults × (new.bound ≤ old.bound)
-Fetched old new (Some (event.Garbled line)) true = Tells old.remaining new.remaining (next.Garbled line) × (new.bound ≤ old.bound)
+Fetched old new (Some (event.Garbled line)) true = Tells old.remaining new.remaining (next.Garbled line) × (new.bound ≤ old.bound) × (new.faults ≡ old.faults)
 Fetched old new _ _ = ⊥
 
 -- the device's side once it was asked

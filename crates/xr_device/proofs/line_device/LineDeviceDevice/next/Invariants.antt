@@ -9,7 +9,7 @@ invariant-loop-answer g l =
       read : IsReadTo text.number text.used text.held text.ended (g.S.Source.left text.source);
       told : KeepsTold (told_at begun.number begun.used begun.held (g.S.Source.left begun.source)) (told_at text.number text.used text.held (g.S.Source.left text.source));
       used : begun.used ≤ text.used;
-      later : g.S.Source.faults begun.source ≤ g.S.Source.faults text.source;
+      faults : g.S.Source.faults text.source ≡ g.S.Source.faults begun.source;
       which : g.S.Source.which text.source ≡ g.S.Source.which begun.source;
       over : l.self-inside.over ≡ false;
     }
