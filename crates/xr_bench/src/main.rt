@@ -1,13 +1,15 @@
 //! `xr_bench` measures how many calls a second the core answers, beside how many ops a second `serde_json`
-//! reads of the same calls as a scenario, and how many lines a second a device text is read. A measure and no
-//! test. It touches the clock and standard output.
+//! reads of the same calls as a scenario, how many lines a second a device text is read, and how many calls and turns
+//! a second a run of eight scripts makes. A measure and no test. It touches the clock and standard output.
 #![tactic(auto)]
 
 mod lines;
 mod round;
+mod runs;
 
 use lines::{read_lines, text_of_lines};
 use round::{CALLS, TEXT, round};
+use runs::{TURNS, text_of_passes, text_of_waits, time_runs};
 use serde_json::Value;
 use std::alloc::Global;
 use std::io::Print;
@@ -21,7 +23,9 @@ xr_bench ROUNDS
 Makes ROUNDS rounds of calls, 1 to 100000000, on a core of one application, and prints how many calls a
 second it answers. Then it reads the calls of a round as a scenario with serde_json, a tenth as often and at
 most 100000 times, and prints how many ops a second are read; and then a device text of 16777208 bytes, and
-prints how many lines a second are read.
+prints how many lines a second are read. Last it runs eight scripts that pass marks round, 20 times, and prints
+how many calls a second these make; and seven scripts that wait for an eighth, and prints how many turns a
+second there are.
 ";
 
 /// So many things in so many microseconds, a second.
@@ -93,13 +97,39 @@ fn measure_lines<R: Clock + Print>(rt: &R, alloc: Global) -> io::Result<bool> {
     Ok(true)
 }
 
-/// Measures all three; whether memory was found.
+/// Measures runs of eight scripts.
+fn measure_runs<R: Clock + Print>(rt: &R, alloc: Global) -> io::Result<bool> {
+    let (Ok(passes), Ok(waits)) = (text_of_passes(alloc), text_of_waits(alloc)) else {
+        return Ok(false);
+    };
+    let Some(passing) = time_runs(rt, alloc, passes.as_slice())? else {
+        return Ok(false);
+    };
+    println!(rt;
+        "passing marks: {} calls in {} microseconds, {} a second",
+        passing.calls,
+        passing.micros,
+        rate(passing.calls, passing.micros)
+    )?;
+    let Some(waiting) = time_runs(rt, alloc, waits.as_slice())? else {
+        return Ok(false);
+    };
+    println!(rt;
+        "seven wait: {TURNS} turns in {} microseconds, {} a second",
+        waiting.micros,
+        rate(TURNS, waiting.micros)
+    )?;
+    Ok(true)
+}
+
+/// Measures all four; whether memory was found.
 fn measure<R: Clock + Print>(rt: &R, alloc: Global, rounds: u64) -> io::Result<bool> {
     let readings = (rounds / 10).min(100_000);
     let core = measure_core(rt, alloc, rounds)?;
     let reading = measure_reading(rt, alloc, readings)?;
     let lines = measure_lines(rt, alloc)?;
-    Ok(core && reading && lines)
+    let runs = measure_runs(rt, alloc)?;
+    Ok(core && reading && lines && runs)
 }
 
 /// The rounds that the words ask for.

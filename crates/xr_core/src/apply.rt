@@ -1,6 +1,8 @@
 // One call of the machine: whether it has to wait, and then the group that it belongs to, a file of `calls` each.
-ghost use Rattle.std.specs.Prelude.{◌≡◌, ◌<◌, ◌^◌, length};
+ghost use Rattle.std.specs.Prelude.{◌≡◌, ◌<◌, ◌^◌, length, not};
+ghost use Rattle.std.specs.List.{list_all};
 ghost use Rattle.xr_model.specs.machine.Request.{request_of};
+ghost use Rattle.xr_model.specs.machine.Marks.{is_set};
 ghost use Rattle.xr_model.specs.machine.State.{CellReads};
 ghost use Rattle.xr_model.specs.machine.Machine.{is_held_back};
 ghost use Rattle.xr_model.specs.machine.CoreCalls.{MayMake, CoreApplies};
@@ -9,14 +11,28 @@ use crate::Core;
 use xr_types::{Actor, Call, Step};
 
 impl Core {
+    /// Whether `AwaitMark` of this mark, from 1 to 64, has to wait: it isn't set yet.
+    pub fn await_waits(&self, mark: u8) -> bool
+        ensures { result ≡ not (is_set self.now.marks mark) }
+    {
+        self.mark_value(mark).is_none()
+    }
+
+    /// Whether the compositor's `NextFrame` has to wait: some application hasn't left.
+    pub fn next_frame_waits(&self) -> bool
+        ensures { result ≡ not (list_all (λ has_left. has_left) self.now.left) }
+    {
+        !self.all_left()
+    }
+
     /// Whether a call that would succeed has to wait.
     fn is_held_back(&self, call: &Call<'_>) -> bool
         ensures { (reads : CellReads) → result ≡ is_held_back self.now reads (request_of call.now) }
     {
         match call {
-            Call::AwaitMark { mark } => self.mark_value(*mark).is_none(),
+            Call::AwaitMark { mark } => self.await_waits(*mark),
             Call::Device(event) => self.is_waiting(*event),
-            Call::NextFrame => !self.all_left(),
+            Call::NextFrame => self.next_frame_waits(),
             _ => false,
         }
     }

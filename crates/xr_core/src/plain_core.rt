@@ -1,6 +1,8 @@
 // A core and plain cells as one value, seen as the whole state. It knows no call.
-ghost use Rattle.std.specs.Prelude.{◌≡◌, ◌≤◌, ◌<◌, ◌^◌, ◌↔◌, IfOk, IsTrue, length};
+ghost use Rattle.std.specs.Prelude.{◌≡◌, ◌≤◌, ◌<◌, ◌^◌, ◌↔◌, IfOk, IsTrue, length, not};
+ghost use Rattle.std.specs.List.{list_all};
 ghost use Rattle.xr_model.specs.machine.Request.{request_of};
+ghost use Rattle.xr_model.specs.machine.Marks.{is_set};
 ghost use Rattle.xr_model.specs.machine.State.{with_apps, opening};
 ghost use Rattle.xr_model.specs.machine.Machine.{IsPresent};
 ghost use Rattle.xr_model.specs.machine.CoreCalls.{MayMake, Applies};
@@ -58,6 +60,20 @@ impl PlainCore {
         ensures { result ≡ self.now.core.device.clock }
     {
         self.core.clock()
+    }
+
+    /// Whether `AwaitMark` of this mark, from 1 to 64, has to wait: it isn't set yet.
+    pub fn await_waits(&self, mark: u8) -> bool
+        ensures { result ≡ not (is_set self.now.core.marks mark) }
+    {
+        self.core.await_waits(mark)
+    }
+
+    /// Whether the compositor's `NextFrame` has to wait: some application hasn't left.
+    pub fn next_frame_waits(&self) -> bool
+        ensures { result ≡ not (list_all (λ has_left. has_left) self.now.core.left) }
+    {
+        self.core.next_frame_waits()
     }
 
     /// Makes a call that is built, or says that it has to wait and leaves all as it was. `text` is the buffer that

@@ -1,7 +1,6 @@
 -- What the answers of a device say.
-use Rattle.std.specs.Prelude.{◌≡◌, ℕ, ◌&&◌, Bool, true, false, [], ◌∷◌, Option, Some, None}
+use Rattle.std.specs.Prelude.{◌≡◌, ℕ, ◌+◌, ◌&&◌, Bool, true, [], ◌∷◌, Option, Some, None}
 use Rattle.xr_types.specs.declared.device.DeviceEvent.{DeviceEvent}
-use Rattle.xr_types.specs.declared.device.DeviceEvent.TheVariants as event
 use Rattle.xr_types.specs.Device.{checks}
 use Rattle.xr_model.specs.laws.DeviceLaws.{is_of_line}
 use Rattle.xr_model.specs.device_text.DeviceText.{DeviceStream, nothing_more, garbled_at}
@@ -39,6 +38,13 @@ UnlessFailed (next.Garbled line) P = P
 UnlessFailed next.Failed P = Unit {0}
 
 -- ---- events
+
+-- how many events were given, with this answer
+abbrev pub given_with : Next → ℕ → ℕ
+given_with (next.Event e) given = given + 1
+given_with next.End given = given
+given_with (next.Garbled line) given = given
+given_with next.Failed given = given
 
 -- an event that a device may tell: its numbers are in range, and a line tells it
 pub record IsTold (e : DeviceEvent) : Type 0 where

@@ -1,5 +1,6 @@
 pub mod Answers
 pub mod FirstByte
 pub mod Texts
-pub mod Outlook
+pub mod Prospect
+pub mod Kinds
 pub mod inside

@@ -2,11 +2,11 @@
 //! line, or from a list. It knows the form of device texts, and nothing of what the events do.
 #![tactic(auto)]
 
-ghost use Rattle.std.specs.Prelude.{◌≡◌, ◌≤◌, ◌<◌, ℕ, Bool, true, Option, Some};
-ghost use Rattle.xr_io.specs.declared.Which.{Which};
+ghost use Rattle.std.specs.Prelude.{◌≡◌, ◌≤◌, ◌<◌, true, Some};
 ghost use Rattle.xr_io.specs.Outside.{Rose};
-ghost use Rattle.xr_model.specs.device_text.DeviceText.{DeviceStream, nothing_more};
-ghost use Rattle.xr_device.specs.Answers.{Tells, IsTold, OnEvent, UnlessEvent, OnFailed, UnlessFailed};
+ghost use Rattle.xr_model.specs.device_text.DeviceText.{nothing_more};
+ghost use Rattle.xr_device.specs.Prospect.{Prospect};
+ghost use Rattle.xr_device.specs.Answers.{Tells, IsTold, given_with, OnEvent, UnlessEvent, OnFailed, UnlessFailed};
 
 mod bytes;
 mod held;
@@ -33,41 +33,32 @@ pub enum Next {
     Failed,
 }
 
-/// What tells events, one after another, at most 16,777,216 of them. After any answer but an event it answers `End` for
-/// ever.
+/// What tells events, one after another. After any answer but an event it answers `End` for ever.
 pub trait Device {
-    /// What is still to come, where it tells that.
-    ghost remaining: { Self → Option DeviceStream };
-
-    /// At most so many events are still to come.
-    ghost bound: { Self → ℕ };
-
-    /// How often a read has failed. It never falls, changes only where the device answers `Failed`, and stops at the largest
-    /// u64.
-    ghost faults: { Self → ℕ };
-
-    /// Which of the two files it is read from.
-    ghost which: { Self → Which };
-
-    /// Whether it answers `End` for ever. `remaining` alone can't say that, since a text of which nothing is to come
-    /// may still fail to be read to its end.
-    ghost over: { Self → Bool };
+    /// What is known of it. `remaining` is what is still to come, where it tells that. `over` says that it answers `End` for
+    /// ever: `remaining` alone can't, since a text of which nothing is to come may still fail to be read to its end.
+    /// `given` is how many events it has given, and `bound` how many are still to come at most: never more than
+    /// 16,777,216, as the law `few` says. `faults` is how often a read has failed: it never falls, changes only where the
+    /// device answers `Failed`, and stops at the largest u64. `which` is the file that it is read from.
+    ghost prospect: { Self → Prospect };
 
     /// The next event, or why there is none.
     fn next(&mut self) -> Next
-        ensures remaining { Tells (remaining self.old) (remaining self.new) result }
+        ensures remaining { Tells (prospect self.old).remaining (prospect self.new).remaining result }
         ensures sound { OnEvent result (λ e. IsTold e) }
+        ensures given { (prospect self.new).given ≡ given_with result (prospect self.old).given }
 
         // After any answer but an event nothing is to come, and the answer is `End` from then on.
-        ensures last { UnlessEvent result ((remaining self.new ≡ Some nothing_more) × (over self.new ≡ true)) }
-        ensures over { over self.old ≡ true → result ≡ Next.End }
+        ensures last { UnlessEvent result (((prospect self.new).remaining ≡ Some nothing_more) × ((prospect self.new).over ≡ true)) }
+        ensures over { (prospect self.old).over ≡ true → result ≡ Next.End }
 
-        ensures fewer { OnEvent result (λ e. bound self.new < bound self.old) }
-        ensures bound { bound self.new ≤ bound self.old }
-        ensures most { bound self.new ≤ 16777216 }
+        ensures fewer { OnEvent result (λ e. (prospect self.new).bound < (prospect self.old).bound) }
+        ensures bound { (prospect self.new).bound ≤ (prospect self.old).bound }
 
-        ensures later { faults self.old ≤ faults self.new }
-        ensures kept { UnlessFailed result (faults self.new ≡ faults self.old) }
-        ensures cause { OnFailed result (Rose (faults self.old) (faults self.new)) }
-        ensures which { which self.new ≡ which self.old };
+        ensures later { (prospect self.old).faults ≤ (prospect self.new).faults }
+        ensures kept { UnlessFailed result ((prospect self.new).faults ≡ (prospect self.old).faults) }
+        ensures cause { OnFailed result (Rose (prospect self.old).faults (prospect self.new).faults) }
+        ensures which { (prospect self.new).which ≡ (prospect self.old).which };
+
+    ghost few: { (device : Self) → (prospect device).bound ≤ 16777216 };
 }

@@ -1,6 +1,10 @@
 // The device that reads a text.
-ghost use Rattle.std.specs.Prelude.{◌≡◌, ◌≤◌, false, option_map};
-ghost use Rattle.xr_model.specs.device_text.DeviceText.{told_in};
+ghost use Rattle.std.specs.Prelude.{◌≡◌, ◌≤◌, ◌<◌, true, false, [], Some, option_map};
+ghost use Rattle.xr_io.specs.Outside.{Rose};
+ghost use Rattle.xr_model.specs.device_text.DeviceText.{told_in, nothing_more};
+ghost use Rattle.xr_device.specs.Answers.{Tells, IsTold, given_with, OnEvent, UnlessEvent, OnFailed, UnlessFailed};
+ghost use Rattle.xr_device.specs.Kinds.{of_text};
+ghost use Rattle.xr_device.specs.Texts.{KeepsTold, IsUndecided};
 
 use crate::text::{Step, Text};
 use crate::{Device, Next};
@@ -13,37 +17,47 @@ use xr_io::Source;
 pub struct LineDevice<S: Source> {
     text: Text<S>,
     over: bool,
+    given: u64,
 }
 
 impl<S: Source> Model for LineDevice<S> {
-    ghost use Rattle.xr_device.specs.Outlook.{Outlook, told_unless, bound_behind};
+    ghost use Rattle.std.specs.Prelude.{◌≤◌};
+    ghost use Rattle.xr_device.specs.Kinds.{TextReading};
     ghost use Rattle.xr_device.specs.Texts.{told_at, IsReadTo};
 
-    ghost Value = { Outlook };
+    ghost Value = { TextReading };
 
     ghost view = { λ d. record {
-      remaining = told_unless d.over (told_at d.text.number d.text.used d.text.held (S.left d.text.source));
-      bound = bound_behind d.over d.text.used;
+      text = told_at d.text.number d.text.used d.text.held (S.left d.text.source);
+      over = d.over;
+      given = d.given;
+      held = d.text.held;
+      used = d.text.used;
       faults = S.faults d.text.source;
       which = S.which d.text.source;
-      over = d.over;
     } };
 
-    ghost invariant = { λ d. IsReadTo d.text.number d.text.used d.text.held d.text.ended (S.left d.text.source) };
+    ghost invariant = { λ d. IsReadTo d.text.number d.text.used d.text.held d.text.ended (S.left d.text.source) × (d.given ≤ d.text.used) };
 }
 
 impl<S: Source> LineDevice<S> {
     /// A device over a source, of which nothing was read yet.
     pub fn new(source: S) -> LineDevice<S>
-        ensures remaining { result.remaining ≡ option_map told_in (S.left source) }
-        ensures bound { result.bound ≤ 16777216 }
-        ensures faults { result.faults ≡ S.faults source }
-        ensures which { result.which ≡ S.which source }
-        ensures over { result.over ≡ false }
+        ensures remaining { (of_text result).remaining ≡ option_map told_in (S.left source) }
+        ensures new { result ≡ record {
+          text = option_map told_in (S.left source);
+          over = false;
+          given = 0;
+          held = [];
+          used = 0;
+          faults = S.faults source;
+          which = S.which source;
+        } }
     {
         LineDevice {
             text: Text::new(source),
             over: false,
+            given: 0,
         }
     }
 
@@ -52,36 +66,55 @@ impl<S: Source> LineDevice<S> {
         ensures faults { S.faults result ≡ self.faults }
         ensures which { S.which result ≡ self.which }
     {
-        let LineDevice { text, over: _ } = self;
+        let LineDevice { text, .. } = self;
         text.into_source()
     }
 }
 
 impl<S: Source> Device for LineDevice<S> {
-    ghost remaining = { λ d. d.remaining };
+    ghost use Rattle.std.proofs.Common.{rules};
 
-    ghost bound = { λ d. d.bound };
-
-    ghost faults = { λ d. d.faults };
-
-    ghost which = { λ d. d.which };
-
-    ghost over = { λ d. d.over };
+    ghost prospect = { of_text };
 
     /// Lines that came whole are told before a read that fails: the source is asked for more only where the held bytes
     /// decide no line.
-    fn next(&mut self) -> Next {
+    fn next(&mut self) -> Next
+        ensures remaining { Tells (of_text self.old).remaining (of_text self.new).remaining result }
+        ensures sound { OnEvent result (λ e. IsTold e) }
+        ensures given { self.new.given ≡ given_with result self.old.given }
+
+        ensures last { UnlessEvent result (((of_text self.new).remaining ≡ Some nothing_more) × (self.new.over ≡ true)) }
+        ensures over { self.old.over ≡ true → result ≡ Next.End }
+
+        ensures fewer { OnEvent result (λ e. (of_text self.new).bound < (of_text self.old).bound) }
+        ensures bound { (of_text self.new).bound ≤ (of_text self.old).bound }
+
+        ensures later { self.old.faults ≤ self.new.faults }
+        ensures kept { UnlessFailed result (self.new.faults ≡ self.old.faults) }
+        ensures cause { OnFailed result (Rose self.old.faults self.new.faults) }
+        ensures which { self.new.which ≡ self.old.which }
+
+        // Where a read failed, no line of the text was lost, and the held bytes decide none.
+        ensures whole { OnFailed result (KeepsTold self.old.text self.new.text) }
+        ensures undecided { OnFailed result (IsUndecided self.new.used self.new.held) }
+    {
         if self.over {
             return Next::End;
         }
         loop {
             match self.text.step() {
                 Step::GoesOn => {}
-                Step::Answer(answer) => {
-                    self.over = !matches!(answer, Next::Event(_));
-                    return answer;
+                Step::Answer(Next::Event(event)) => {
+                    self.given += 1;
+                    return Next::Event(event);
+                }
+                Step::Answer(last) => {
+                    self.over = true;
+                    return last;
                 }
             }
         }
     }
+
+    ghost few = { Prim.search rules };
 }

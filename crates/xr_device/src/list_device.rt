@@ -26,7 +26,7 @@ pub fn may_tell(event: &DeviceEvent) -> bool
 }
 
 /// A device that gives the events of a list in their order, seen by contracts as the list of those that are still to
-/// come.
+/// come and the count of those that it has given.
 #[derive(Drop)]
 pub struct ListDevice {
     events: Vec<DeviceEvent>,
@@ -34,14 +34,14 @@ pub struct ListDevice {
 }
 
 impl Model for ListDevice {
-    ghost use Rattle.std.specs.Prelude.{◌≡◌, ◌≤◌, true, List, length, drop};
+    ghost use Rattle.std.specs.Prelude.{◌≡◌, ◌≤◌, true, length, drop};
     ghost use Rattle.std.specs.List.{list_all};
-    ghost use Rattle.xr_types.specs.declared.device.DeviceEvent.{DeviceEvent};
     ghost use Rattle.xr_device.specs.Answers.{may_tell};
+    ghost use Rattle.xr_device.specs.Kinds.{Stored};
 
-    ghost Value = { List DeviceEvent };
+    ghost Value = { Stored };
 
-    ghost view = { λ d. drop d.next d.events.items };
+    ghost view = { λ d. record { events = drop d.next d.events.items; given = d.next } };
 
     ghost invariant = { λ d. (d.next ≤ length d.events.items) × (length d.events.items ≤ 16777216) × (list_all may_tell d.events.items ≡ true) };
 }
@@ -51,26 +51,17 @@ impl ListDevice {
     pub fn new(events: Vec<DeviceEvent>) -> ListDevice
         requires few { length events.items ≤ 16777216 }
         requires all { list_all may_tell events.items ≡ true }
-        ensures { result ≡ events.items }
+        ensures { result ≡ record { events = events.items; given = 0 } }
     {
         ListDevice { events, next: 0 }
     }
 }
 
 impl Device for ListDevice {
-    ghost use Rattle.std.specs.Prelude.{◌==◌, Some, length};
-    ghost use Rattle.xr_io.specs.declared.Which.TheVariants.{Device};
-    ghost use Rattle.xr_model.specs.device_text.DeviceText.{ends};
+    ghost use Rattle.std.proofs.Common.{rules, arith};
+    ghost use Rattle.xr_device.specs.Kinds.{of_list};
 
-    ghost remaining = { λ d. Some (record { events = d; ending = ends }) };
-
-    ghost bound = { λ d. length d };
-
-    ghost faults = { λ d. 0 };
-
-    ghost which = { λ d. Device };
-
-    ghost over = { λ d. length d == 0 };
+    ghost prospect = { of_list };
 
     fn next(&mut self) -> Next {
         if self.next == self.events.len() {
@@ -80,4 +71,6 @@ impl Device for ListDevice {
         self.next += 1;
         Next::Event(event)
     }
+
+    ghost few = { Prim.search (rules, arith) };
 }

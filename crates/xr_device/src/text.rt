@@ -1,10 +1,10 @@
 // A device text that is read line by line.
-ghost use Rattle.std.specs.Prelude.{◌≡◌, ◌≤◌, ◌<◌, ◌+◌, false, option_map};
+ghost use Rattle.std.specs.Prelude.{◌≡◌, ◌≤◌, ◌<◌, ◌+◌, false, [], option_map};
 ghost use Rattle.xr_io.specs.Outside.{Rose};
 ghost use Rattle.xr_model.specs.device_text.DeviceText.{told_in};
-ghost use Rattle.xr_device.specs.Answers.{IsTold, OnEvent, OnFailed};
-ghost use Rattle.xr_device.specs.inside.Steps.{OnGoing, OnAnswer, Steps, UnlessStepFailed};
-ghost use Rattle.xr_device.specs.Texts.{told_at, IsFrontLine, IsUndecided, IsReadTo, steps_left};
+ghost use Rattle.xr_device.specs.Answers.{IsTold, OnEvent};
+ghost use Rattle.xr_device.specs.inside.Steps.{OnGoing, OnAnswer, OnStepFailed, Steps, UnlessStepFailed};
+ghost use Rattle.xr_device.specs.Texts.{told_at, KeepsTold, IsFrontLine, IsUndecided, IsReadTo, steps_left};
 
 use crate::Next;
 use crate::held::{Held, ROOM};
@@ -34,6 +34,8 @@ impl<S: Source> Text<S> {
     /// Nothing was read of the source yet.
     pub(crate) fn new(source: S) -> Text<S>
         ensures source { result.source ≡ source }
+        ensures held { result.held ≡ [] }
+        ensures used { result.used ≡ 0 }
         ensures read { IsReadTo result.number result.used result.held result.ended (S.left result.source) }
         ensures remaining { told_at result.number result.used result.held (S.left result.source) ≡ option_map told_in (S.left source) }
     {
@@ -67,8 +69,12 @@ impl<S: Source> Text<S> {
         ensures used { self.old.used ≤ self.new.used }
         ensures event { OnAnswer result (λ a. OnEvent a (λ _. self.old.used < self.new.used)) }
         ensures later { S.faults self.old.source ≤ S.faults self.new.source }
-        ensures cause { OnAnswer result (λ a. OnFailed a (Rose (S.faults self.old.source) (S.faults self.new.source))) }
+        ensures cause { OnStepFailed result (Rose (S.faults self.old.source) (S.faults self.new.source)) }
         ensures kept { UnlessStepFailed result (S.faults self.new.source ≡ S.faults self.old.source) }
+        ensures whole { OnStepFailed result (KeepsTold
+            (told_at self.old.number self.old.used self.old.held (S.left self.old.source))
+            (told_at self.new.number self.new.used self.new.held (S.left self.new.source))) }
+        ensures undecided { OnStepFailed result (IsUndecided self.new.used self.new.held) }
         ensures which { S.which self.new.source ≡ S.which self.old.source }
     {
         match front_of(self.held.as_slice(), self.used, self.ended) {
@@ -91,7 +97,7 @@ impl<S: Source> Text<S> {
         ensures sound { OnAnswer result (λ a. OnEvent a (λ e. IsTold e)) }
         ensures fewer { steps_left self.new.used self.new.held self.new.ended < steps_left self.old.used self.old.held self.old.ended }
         ensures used { self.old.used < self.new.used }
-        ensures unfailed { OnAnswer result (λ a. OnFailed a (Rose (S.faults self.old.source) (S.faults self.new.source))) }
+        ensures unfailed { OnStepFailed result ⊥ }
         ensures source { self.new.source ≡ self.old.source }
     {
         let said = said_by(&self.held.as_slice()[..bytes]);
@@ -122,6 +128,10 @@ impl<S: Source> Text<S> {
         ensures later { S.faults self.old.source ≤ S.faults self.new.source }
         ensures cause { OnAnswer result (λ _. Rose (S.faults self.old.source) (S.faults self.new.source)) }
         ensures kept { OnGoing result (S.faults self.new.source ≡ S.faults self.old.source) }
+        ensures whole { OnAnswer result (λ _. KeepsTold
+            (told_at self.old.number self.old.used self.old.held (S.left self.old.source))
+            (told_at self.new.number self.new.used self.new.held (S.left self.new.source))) }
+        ensures undecided { OnAnswer result (λ _. IsUndecided self.new.used self.new.held) }
         ensures which { S.which self.new.source ≡ S.which self.old.source }
     {
         let held = self.held.as_slice().len();

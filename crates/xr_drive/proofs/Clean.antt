@@ -115,11 +115,11 @@ last_clean : (e : Ending) → ends ≡ e → IsClean (last_event (Some e))
 last_clean e is = subst (λ (e : Ending). IsClean (last_event (Some e))) is refl
 
 -- a device that is known to end at the end of its text does nothing that is garbled
-calls_clean : (told : DeviceStream) (events : List DeviceEvent) (ending : Option Ending) → IsClean told.events → told.ending ≡ ends → Gave (Some told) events ending → IsClean (device_calls events ending)
-calls_clean told events None clean end gave = clean_both events (event.Fault ∷ []) (clean_front events gave.0 (subst IsClean gave.1 clean)) refl
-calls_clean told events (Some e) clean end gave = clean_both events (last_event (Some e)) (subst IsClean gave.0 clean) (last_clean e (sym end ∙ gave.1))
+calls_clean : (told : DeviceStream) (count : ℕ) (events : List DeviceEvent) (ending : Option Ending) → IsClean told.events → told.ending ≡ ends → Gave (Some told) count events ending → IsClean (device_calls events ending)
+calls_clean told count events None clean end gave = clean_both events (event.Fault ∷ []) (clean_front events gave.0 (subst IsClean gave.1 clean)) refl
+calls_clean told count events (Some e) clean end gave = clean_both events (last_event (Some e)) (subst IsClean gave.0 clean) (last_clean e (sym end ∙ gave.1))
 
-pub run_clean : (scenario : Scenario) (told : DeviceStream) (lists : Lists) → IsClean told.events → told.ending ≡ ends → Ran scenario (Some told) lists → IsClean lists.events
-run_clean scenario told lists clean end ran =
-    let calls = calls_clean told ran.events ran.ending clean end ran.gave in
+pub run_clean : (scenario : Scenario) (told : DeviceStream) (count : ℕ) (lists : Lists) → IsClean told.events → told.ending ≡ ends → Ran scenario (Some told) count lists → IsClean lists.events
+run_clean scenario told count lists clean end ran =
+    let calls = calls_clean told count ran.events ran.ending clean end ran.gave in
     rw ran.made (clean_front (events_in (calls_of (settings_of scenario) actor.Device ran.history)) ran.device.0 (subst IsClean ran.device.1 calls))

@@ -146,7 +146,7 @@ no_garbled : (bytes : List ℕ → Option (List ℕ)) (device : Option (List ℕ
     → RunsText all (told_under bytes device) lists → ending_of lists ≡ DeviceGarbled line → ⊥
 no_garbled bytes device all told lists line is end runs status =
     let run : Run runs.0 (Some told) lists = subst (λ (t : Option DeviceStream). Run runs.0 t lists) is runs.2 in
-    never_garbled lists.events lists.next line (run_clean run.scenario told lists (told_clean bytes device told is) end run.ran) status
+    never_garbled lists.events lists.next line (run_clean run.scenario told run.count lists (told_clean bytes device told is) end run.ran) status
 
 -- good words, a good text, a good device and no fault leave a run that is done or stuck, or want of memory
 pub complete : (words : List (List ℕ)) (bytes : List ℕ → Option (List ℕ)) (before after : Option (List ℕ)) (old new : Faults) (status : Status) → Means words bytes before after status → HasItsCause old new status

@@ -11,7 +11,7 @@ use Rattle.xr_types.specs.declared.status.Status.TheVariants.{Done, Usage, OpenF
 use Rattle.xr_model.specs.command_line.Words.{RunOptions, options_of}
 use Rattle.xr_model.specs.scenario.Built.{run_scenario_of}
 use Rattle.xr_model.specs.device_text.DeviceText.{DeviceStream, ends, nothing_more, told_in}
-use Rattle.xr_model.specs.report.RunEnding.{ending_of}
+use Rattle.xr_model.specs.report.RunEnding.{ending_of, exit_of}
 use Rattle.xr_model.specs.report.Report.{report_of}
 use Rattle.xr_drive.specs.Run.{Run}
 
@@ -110,6 +110,12 @@ abbrev pub OpensInTurn : Option (List ℕ) → (Which → ℕ) → (Which → �
 OpensInTurn asked old new OpenFault = IsOpenedInTurn asked old new
 OpensInTurn asked old new _ = ⊤
 
+-- ---- sources
+
+-- No source is left open: one that is open now was so before.
+abbrev pub NoneLeftOpen : (Which → Bool) → (Which → Bool) → Type 0
+NoneLeftOpen old new = (which : Which) → new which ≡ true → old which ≡ true
+
 -- ---- completeness
 
 -- no count rose
@@ -124,6 +130,17 @@ abbrev pub IsComplete : List (List ℕ) → (List ℕ → Option (List ℕ)) →
 IsComplete words bytes old new status =
     (form : RunOptions) (text : List ℕ) (scenario : Scenario) (told : DeviceStream) → options_of words ≡ Some form → bytes form.file ≡ Some text → run_scenario_of text ≡ Ok scenario
     → told_under bytes form.device ≡ Some told → told.ending ≡ ends → NoneRose old new → (status ≡ Done) ⊎ ((status ≡ Stuck) ⊎ (status ≡ NoMemory))
+
+-- What a status says, all of it: what it means, why it comes, that no other count changed, and that good input is run.
+pub record IsAnswer (words : List (List ℕ)) (bytes : List ℕ → Option (List ℕ)) (before after : Option (List ℕ)) (old new : Faults) (status : Status) : Type 0 where
+  pub means : Means words bytes before after status
+  pub causes : HasItsCause old new status
+  pub counts : OnlyItsFault old new status
+  pub complete : IsComplete words bytes old new status
+
+-- Some status is the answer, and a program ends with its number.
+abbrev pub EndsWith : List (List ℕ) → (List ℕ → Option (List ℕ)) → Option (List ℕ) → Option (List ℕ) → Faults → Faults → ℕ → Type 0
+EndsWith words bytes before after old new number = (status : Status) × (number ≡ exit_of status) × IsAnswer words bytes before after old new status
 
 -- ---- what was asked for
 

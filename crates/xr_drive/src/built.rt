@@ -37,8 +37,8 @@ fn all_built(ops: &[Op]) -> bool
     true
 }
 
-/// Whether all ops of all scripts are built.
-pub(crate) fn are_built(scripts: &[Script]) -> bool
+/// Whether all ops of all scripts are built: whether such scripts are run.
+pub fn are_built(scripts: &[Script]) -> bool
     ensures { result ≡ are_built scripts.now }
 {
     for ops in scripts {

@@ -1,4 +1,7 @@
 // How a run ended that isn't done, in one line of words.
+ghost use Rattle.std.specs.Prelude.{◌≡◌, ◌≢◌, MatchOption};
+ghost use Rattle.xr_types.specs.declared.status.Status.{Status};
+
 use std::fmt;
 use xr_types::{CallName, Refusal, Status, What};
 
@@ -88,8 +91,10 @@ pub struct Explanation {
     status: Status,
 }
 
-/// The line that tells this status. `Done` has none.
-pub fn explanation_of(status: Status) -> Option<Explanation> {
+/// The line that tells this status. `Done` alone has none.
+pub fn explanation_of(status: Status) -> Option<Explanation>
+    ensures { MatchOption result (status ≡ Status.Done) (λ line. (line.status ≡ status) × (status ≢ Status.Done)) }
+{
     match status {
         Status::Done => None,
         _ => Some(Explanation { status }),

@@ -1,5 +1,5 @@
 // Reading all of a source.
-ghost use Rattle.std.specs.Prelude.{◌≡◌, ◌≤◌, ◌<◌, ◌+◌, ◌++◌, ℕ, List, take, IfOk, IfSome, vec_len};
+ghost use Rattle.std.specs.Prelude.{◌≡◌, ◌≤◌, ◌<◌, ◌+◌, ◌++◌, ℕ, List, length, take, IfOk, IfSome, vec_len};
 ghost use Rattle.std.specs.Io.KnownBytes.{Consumes, IsAtEnd};
 ghost use Rattle.xr_drive.specs.inside.Input.{HasReadCause};
 
@@ -38,9 +38,12 @@ fn read_piece<S: Source>(source: &mut S, text: &mut Vec<u8>, room: usize) -> Res
     Ok(count)
 }
 
-/// Reads a source to its end, or to its limit. It ends after 1,048,577 bytes whatever the source does.
+/// Reads a source to its end, or to its limit. It takes just the bytes that it gives, and ends after 1,048,577 of them
+/// whatever the source does.
 pub(crate) fn read_all<S: Source>(alloc: Global, source: &mut S) -> Result<Vec<u8>, Stop>
     ensures bytes { IfOk result (λ text. IfSome (S.left source.old) (λ bytes. text.items ≡ take 1048577 bytes)) }
+    ensures consumed { IfOk result (λ text. Consumes (S.left source.old) (S.left source.new) text.items) }
+    ensures most { IfOk result (λ text. length text.items ≤ 1048577) }
     ensures which { S.which source.new ≡ S.which source.old }
     ensures cause { HasReadCause (S.faults source.old) (S.faults source.new) result }
 {

@@ -6,7 +6,7 @@ ghost use Rattle.xr_io.specs.declared.Which.{Which};
 ghost use Rattle.xr_model.specs.device_text.DeviceText.{nothing_more};
 ghost use Rattle.xr_model.specs.report.RunEnding.{is_fault};
 ghost use Rattle.xr_model.specs.command_line.Words.{options_of};
-ghost use Rattle.xr_drive.specs.Top.{Means, HasItsCause, OnlyItsFault, IsComplete, OpensInTurn, IsAskedFor, IsDeviceAskedFor, device_of, faults, KeepsDevice, UnlessDevice, told_under};
+ghost use Rattle.xr_drive.specs.Top.{Means, HasItsCause, OnlyItsFault, IsComplete, OpensInTurn, IsAskedFor, IsDeviceAskedFor, device_of, faults, KeepsDevice, UnlessDevice, NoneLeftOpen, told_under};
 ghost use Rattle.xr_drive.specs.inside.Input.{RoseIfStopped, KeptUnlessFailed};
 ghost use Rattle.xr_drive.specs.inside.Parts.{MeansText, MeansRun, HasRunCause, KeepsCounts, KeptIfRefused, OpenedInTurn, status_in, MeansWritten, RoseIfUnwritten, KeptUnlessUnwritten};
 
@@ -32,6 +32,8 @@ fn read_text<O: Opener>(alloc: Global, opener: &mut O, source: O::S) -> Result<V
     ensures opens { (which : Which) → O.open_faults opener.new which ≡ O.open_faults opener.old which }
     ensures reads { O.read_faults opener.new Which.Device ≡ O.read_faults opener.old Which.Device }
     ensures kept { KeptUnlessFailed (O.read_faults opener.old Which.Scenario) (O.read_faults opener.new Which.Scenario) result }
+    ensures closed { O.is_open opener.new Which.Scenario ≡ false }
+    ensures stays { O.is_open opener.new Which.Device ≡ O.is_open opener.old Which.Device }
     ensures same { (name : List ℕ) → O.bytes opener.new name ≡ O.bytes opener.old name }
 {
     let mut source = source;
@@ -49,12 +51,11 @@ fn read_text<O: Opener>(alloc: Global, opener: &mut O, source: O::S) -> Result<V
 
 /// Runs a text beside a device, or says why it isn't run.
 fn run_text<D: Device>(alloc: Global, text: &[u8], device: &mut D) -> Result<Lists, ScenarioFault>
-    requires fresh { D.bound device.old ≤ 16777216 }
-    ensures means { MeansText text.now (D.remaining device.old) result }
-    ensures fault { IfOk result (λ lists. list_any is_fault lists.events ≡ true → Rose (D.faults device.old) (D.faults device.new)) }
-    ensures unfailed { IfOk result (λ lists. list_any is_fault lists.events ≡ false → D.faults device.new ≡ D.faults device.old) }
-    ensures refused { IfErr result (KeptIfRefused (D.faults device.old) (D.faults device.new)) }
-    ensures which { D.which device.new ≡ D.which device.old }
+    ensures means { MeansText text.now (D.prospect device.old).remaining result }
+    ensures fault { IfOk result (λ lists. list_any is_fault lists.events ≡ true → Rose (D.prospect device.old).faults (D.prospect device.new).faults) }
+    ensures unfailed { IfOk result (λ lists. list_any is_fault lists.events ≡ false → (D.prospect device.new).faults ≡ (D.prospect device.old).faults) }
+    ensures refused { IfErr result (KeptIfRefused (D.prospect device.old).faults (D.prospect device.new).faults) }
+    ensures which { (D.prospect device.new).which ≡ (D.prospect device.old).which }
 {
     let scenario = read(alloc, text)?;
     if !are_built(scenario.scripts.as_slice()) {
@@ -76,6 +77,8 @@ fn run_alone<O: Opener>(alloc: Global, opener: &mut O, source: O::S) -> Result<L
     ensures asked { (which : Which) → O.asked opener.new which ≡ O.asked opener.old which }
     ensures turn { OpenedInTurn (O.asked opener.new Which.Device) (O.open_faults opener.old) (O.open_faults opener.new) result }
     ensures device { KeepsDevice O.asked O.open_faults O.read_faults opener.old opener.new }
+    ensures closed { O.is_open opener.new Which.Scenario ≡ false }
+    ensures stays { O.is_open opener.new Which.Device ≡ O.is_open opener.old Which.Device }
     ensures same { (name : List ℕ) → O.bytes opener.new name ≡ O.bytes opener.old name }
 {
     let text = match read_text(alloc, opener, source) {
@@ -106,6 +109,8 @@ fn run_beside<O: Opener>(
     ensures asked { O.asked opener.new Which.Scenario ≡ O.asked opener.old Which.Scenario }
     ensures turn { OpenedInTurn (O.asked opener.new Which.Device) (O.open_faults opener.old) (O.open_faults opener.new) result }
     ensures device { O.asked opener.new Which.Device ≡ Some name.now }
+    ensures closed { O.is_open opener.new Which.Scenario ≡ false }
+    ensures device_closed { O.is_open opener.new Which.Device ≡ true → O.is_open opener.old Which.Device ≡ true }
     ensures same { (name : List ℕ) → O.bytes opener.new name ≡ O.bytes opener.old name }
 {
     let Ok(events) = opener.open_file(Which::Device, name) else {
@@ -146,6 +151,7 @@ fn run_files<O: Opener>(
     ensures turn { OpenedInTurn (O.asked opener.new Which.Device) (O.open_faults opener.old) (O.open_faults opener.new) result }
     ensures device { IsDeviceAskedFor (option_map (λ name. name.now) device.entry) (O.asked opener.new Which.Device) (status_in result) }
     ensures alone { UnlessDevice (option_map (λ name. name.now) device.entry) (KeepsDevice O.asked O.open_faults O.read_faults opener.old opener.new) }
+    ensures closed { NoneLeftOpen (O.is_open opener.old) (O.is_open opener.new) }
     ensures same { (name : List ℕ) → O.bytes opener.new name ≡ O.bytes opener.old name }
 {
     let Ok(source) = opener.open_file(Which::Scenario, file) else {
@@ -214,6 +220,7 @@ pub fn run_serial<O: Opener, K: Sink>(
     ensures device { IsDeviceAskedFor (device_of (options_of (map string_bytes words.now))) (O.asked opener.new Which.Device) result
         × UnlessDevice (device_of (options_of (map string_bytes words.now))) (KeepsDevice O.asked O.open_faults O.read_faults opener.old opener.new) }
     ensures turn { OpensInTurn (O.asked opener.new Which.Device) (O.open_faults opener.old) (O.open_faults opener.new) result }
+    ensures closed { NoneLeftOpen (O.is_open opener.old) (O.is_open opener.new) }
     ensures same { (name : List ℕ) → O.bytes opener.new name ≡ O.bytes opener.old name }
 {
     let form = match options_of(alloc, words) {

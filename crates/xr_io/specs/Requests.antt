@@ -1,13 +1,14 @@
 -- What an opener was asked for.
-use Rattle.std.specs.Prelude.{ℕ, nat_lt, Bool, List, Option, None, Some}
+use Rattle.std.specs.Prelude.{ℕ, nat_lt, Bool, true, false, List, Option, None, Some, if◌then◌else◌}
 use Rattle.xr_io.specs.declared.Which.{Which}
 use Rattle.xr_io.specs.declared.Which.TheVariants.{Scenario, Device}
 use Rattle.xr_io.specs.Outside.{raised_if}
 
--- the name that was asked for, if one was; how often opening it failed; and how many closed
--- sources of it had a fault
+-- the name that was asked for, if one was; whether its source is open; how often opening it failed;
+-- and how many closed sources of it had a fault
 pub record Request : Type 0 where
   pub name : Option (List ℕ)
+  pub is_open : Bool
   pub open_faults : ℕ
   pub read_faults : ℕ
 
@@ -18,7 +19,7 @@ pub record BothRequests : Type 0 where
 
 -- nothing was asked for as one of the two
 abbrev pub no_request : Request
-no_request = record { name = None; open_faults = 0; read_faults = 0 }
+no_request = record { name = None; is_open = false; open_faults = 0; read_faults = 0 }
 
 -- nothing was asked for
 abbrev pub no_requests : BothRequests
@@ -32,6 +33,10 @@ request_of both Device = both.device
 -- the name that was asked for as one of the two
 abbrev pub name_of : BothRequests → Which → Option (List ℕ)
 name_of both which = (request_of both which).name
+
+-- whether the source of one of the two is open
+abbrev pub is_open_of : BothRequests → Which → Bool
+is_open_of both which = (request_of both which).is_open
 
 -- how often opening one of the two failed
 abbrev pub open_faults_of : BothRequests → Which → ℕ
@@ -50,6 +55,7 @@ with_request both Device request = record { scenario = both.scenario; device = r
 abbrev pub opened_request : Request → List ℕ → Bool → Request
 opened_request request name failed = record {
   name = Some name;
+  is_open = if failed then request.is_open else true;
   open_faults = raised_if failed request.open_faults;
   read_faults = request.read_faults;
 }
@@ -58,6 +64,7 @@ opened_request request name failed = record {
 abbrev pub closed_request : Request → ℕ → Request
 closed_request request faults = record {
   name = request.name;
+  is_open = false;
   open_faults = request.open_faults;
   read_faults = raised_if (nat_lt 0 faults) request.read_faults;
 }

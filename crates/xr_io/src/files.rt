@@ -1,11 +1,11 @@
 // Files and standard output behind the traits. These few lines are trusted to pass on what the
 // system does: they tell no bytes, and count each error. A count stops at the largest u64.
-ghost use Rattle.std.specs.Prelude.{◌≡◌, ◌≢◌, ◌≤◌, ◌<◌, length, Some, None, IfOk, OnOk, is_err};
+ghost use Rattle.std.specs.Prelude.{◌≡◌, ◌≢◌, ◌≤◌, ◌<◌, true, false, length, Some, None, IfOk, OnOk, OnErr, is_err};
 ghost use Rattle.std.specs.Io.{ReadsAtMost, WritesAtMost};
 ghost use Rattle.std.specs.Io.KnownBytes.{ReadConsumes, WriteAppends};
 ghost use Rattle.xr_io.specs.declared.Which.{Which};
 ghost use Rattle.xr_io.specs.Outside.{Rose, HasCause, raised_if};
-ghost use Rattle.xr_io.specs.Requests.{name_of, open_faults_of, read_faults_of, no_requests, after_opening, after_closing};
+ghost use Rattle.xr_io.specs.Requests.{name_of, is_open_of, open_faults_of, read_faults_of, no_requests, after_opening, after_closing};
 ghost use Rattle.xr_io.specs.Files.{no_bytes, is_write_fault};
 
 use crate::requests::Requests;
@@ -85,6 +85,7 @@ impl<'r, R: Files> FileOpener<'r, R> {
     pub fn new(files: &'r R) -> FileOpener<'r, R>
         ensures new { result ≡ no_requests }
         ensures asked { (w : Which) → name_of result w ≡ None }
+        ensures closed { (w : Which) → is_open_of result w ≡ false }
     {
         FileOpener {
             files,
@@ -118,6 +119,8 @@ impl<'r, R: Files> Opener for FileOpener<'r, R> {
 
     ghost asked = { name_of };
 
+    ghost is_open = { is_open_of };
+
     /// `Failed` comes where the system opens no file of this name, and there alone the count rises.
     fn open_file(&mut self, which: Which, name: &str) -> Result<FileSource<R::File>, Failed>
         requires first { name_of self.old which ≡ None }
@@ -129,6 +132,10 @@ impl<'r, R: Files> Opener for FileOpener<'r, R> {
         // Neither the opener nor the source tells bytes.
         ensures left { IfOk result (λ source. no_bytes ≡ no_bytes) }
         ensures source { IfOk result (λ source. (source.opened_as ≡ which) × (source.faults ≡ 0)) }
+
+        ensures opened { OnOk result (is_open_of self.new which ≡ true) }
+        ensures unopened { OnErr result (is_open_of self.new which ≡ is_open_of self.old which) }
+        ensures stays { (w : Which) → w ≢ which → is_open_of self.new w ≡ is_open_of self.old w }
 
         ensures cause { HasCause (open_faults_of self.old which)
             (open_faults_of self.new which) result }
@@ -153,6 +160,9 @@ impl<'r, R: Files> Opener for FileOpener<'r, R> {
     }
 
     fn close(&mut self, source: FileSource<R::File>)
+        ensures closed { is_open_of self.new source.opened_as ≡ false }
+        ensures stays { (w : Which) → w ≢ source.opened_as → is_open_of self.new w ≡ is_open_of self.old w }
+
         ensures asked { (w : Which) → name_of self.new w ≡ name_of self.old w }
         ensures opens { (w : Which) → open_faults_of self.new w ≡ open_faults_of self.old w }
 

@@ -4,7 +4,7 @@
 //! and real files with standard output. Nothing here knows what the bytes mean.
 #![tactic(auto)]
 
-ghost use Rattle.std.specs.Prelude.{◌≡◌, ◌≢◌, ◌<◌, ◌≤◌, ℕ, List, length, Option, Some, None, IfOk, OnOk};
+ghost use Rattle.std.specs.Prelude.{◌≡◌, ◌≢◌, ◌<◌, ◌≤◌, ℕ, Bool, true, false, List, length, Option, Some, None, IfOk, OnOk, OnErr};
 ghost use Rattle.std.specs.Io.{ReadsAtMost, WritesAtMost};
 ghost use Rattle.std.specs.Io.KnownBytes.{ReadConsumes, WriteAppends};
 ghost use Rattle.xr_io.specs.declared.Which.{Which};
@@ -93,6 +93,9 @@ pub trait Opener {
     /// The name that was asked for as this one, if it was.
     ghost asked: { Self → Which → Option (List ℕ) };
 
+    /// Whether the source of this one is open: it was opened and not closed since.
+    ghost is_open: { Self → Which → Bool };
+
     /// Opens the file of a name as one of the two, which was not asked for before. The name counts
     /// as asked for also where the call failed. `Failed` comes only where `open_faults` rose, and else that count stays.
     fn open_file(&mut self, which: Which, name: &str) -> Result<Self::S, Failed>
@@ -108,14 +111,21 @@ pub trait Opener {
         ensures source { IfOk result (λ source.
             (Self.S.which source ≡ which) × (Self.S.faults source ≡ 0)) }
 
+        ensures opened { OnOk result (is_open self.new which ≡ true) }
+        ensures unopened { OnErr result (is_open self.new which ≡ is_open self.old which) }
+        ensures stays { (w : Which) → w ≢ which → is_open self.new w ≡ is_open self.old w }
+
         ensures cause { HasCause (open_faults self.old which) (open_faults self.new which) result }
         ensures kept { OnOk result (open_faults self.new which ≡ open_faults self.old which) }
         ensures opens { (w : Which) → w ≢ which → open_faults self.new w ≡ open_faults self.old w }
         ensures reads { (w : Which) → read_faults self.new w ≡ read_faults self.old w };
 
-    /// Closes a source. `read_faults` of the source's own file rises exactly where the source has a
+    /// Closes a source; the other file stays as it is. `read_faults` of the source's own file rises exactly where the source has a
     /// fault.
     fn close(&mut self, source: Self::S)
+        ensures closed { is_open self.new (Self.S.which source) ≡ false }
+        ensures stays { (w : Which) → w ≢ Self.S.which source → is_open self.new w ≡ is_open self.old w }
+
         ensures asked { (w : Which) → asked self.new w ≡ asked self.old w }
         ensures bytes { (n : List ℕ) → bytes self.new n ≡ bytes self.old n }
         ensures opens { (w : Which) → open_faults self.new w ≡ open_faults self.old w }

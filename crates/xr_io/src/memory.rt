@@ -1,11 +1,11 @@
 // Files and output in memory, whose calls fail where a list says so. Nothing here touches the
 // outside. Calls are numbered from 0, and a count stops at the largest u64.
-ghost use Rattle.std.specs.Prelude.{◌≡◌, ◌≢◌, ◌≤◌, ◌<◌, ◌↔◌, ℕ, List, [], length, Some, None, IsTrue, IsErr, IfOk, OnOk, option_map};
+ghost use Rattle.std.specs.Prelude.{◌≡◌, ◌≢◌, ◌≤◌, ◌<◌, ◌↔◌, ℕ, List, [], true, false, length, Some, None, IsTrue, IsErr, IfOk, OnOk, OnErr, option_map};
 ghost use Rattle.std.specs.Io.{ReadsAtMost, WritesAtMost};
 ghost use Rattle.std.specs.Io.KnownBytes.{ReadConsumes, WriteAppends};
 ghost use Rattle.xr_io.specs.declared.Which.{Which};
 ghost use Rattle.xr_io.specs.Outside.{Rose, HasCause};
-ghost use Rattle.xr_io.specs.Requests.{name_of, open_faults_of, read_faults_of, no_requests, after_opening, after_closing};
+ghost use Rattle.xr_io.specs.Requests.{name_of, is_open_of, open_faults_of, read_faults_of, no_requests, after_opening, after_closing};
 ghost use Rattle.xr_io.specs.Memory.{is_listed, given_count, fails_to_read, buffer_after_read, after_read, taken_count, fails_to_write, after_write, bytes_under, failing_of, fails_to_open, with_requests};
 ghost use Rattle.xr_io.specs.Held.{held_files, failing_calls};
 
@@ -295,6 +295,7 @@ impl<'a> MemoryOpener<'a> {
           requests = no_requests;
         } }
         ensures asked { (w : Which) → name_of result.requests w ≡ None }
+        ensures closed { (w : Which) → is_open_of result.requests w ≡ false }
     {
         MemoryOpener {
             files,
@@ -330,6 +331,8 @@ impl<'a> Opener for MemoryOpener<'a> {
 
     ghost asked = { λ opener which. name_of opener.requests which };
 
+    ghost is_open = { λ opener which. is_open_of opener.requests which };
+
     /// `Failed` comes exactly where this one's opening is to fail or no file has the name, and
     /// there alone the count rises.
     fn open_file(&mut self, which: Which, name: &str) -> Result<MemorySource<'a>, Failed>
@@ -344,6 +347,11 @@ impl<'a> Opener for MemoryOpener<'a> {
         ensures left { IfOk result (λ source.
             Some source.left ≡ bytes_under self.old.files name.now) }
         ensures source { IfOk result (λ source. (source.opened_as ≡ which) × (source.faults ≡ 0)) }
+
+        ensures opened { OnOk result (is_open_of self.new.requests which ≡ true) }
+        ensures unopened { OnErr result (is_open_of self.new.requests which ≡ is_open_of self.old.requests which) }
+        ensures stays { (w : Which) → w ≢ which →
+            is_open_of self.new.requests w ≡ is_open_of self.old.requests w }
 
         ensures cause { HasCause
             (open_faults_of self.old.requests which)
@@ -379,6 +387,10 @@ impl<'a> Opener for MemoryOpener<'a> {
     }
 
     fn close(&mut self, source: MemorySource<'a>)
+        ensures closed { is_open_of self.new.requests source.entry.opened_as ≡ false }
+        ensures stays { (w : Which) → w ≢ source.entry.opened_as →
+            is_open_of self.new.requests w ≡ is_open_of self.old.requests w }
+
         ensures asked { (w : Which) → name_of self.new.requests w ≡ name_of self.old.requests w }
         ensures bytes { (n : List ℕ) → bytes_under self.new.files n ≡ bytes_under self.old.files n }
         ensures opens { (w : Which) →

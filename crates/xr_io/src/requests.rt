@@ -11,6 +11,7 @@ use std::marker::Model;
 #[derive(Drop)]
 struct Kept {
     name: Option<ArrayVec<u8, MOST_NAME>>,
+    is_open: bool,
     open_faults: u64,
     read_faults: u64,
 }
@@ -23,6 +24,7 @@ impl Model for Kept {
 
     ghost view = { λ kept. record {
       name = option_map (λ name. name.items) kept.name;
+      is_open = kept.is_open;
       open_faults = kept.open_faults;
       read_faults = kept.read_faults;
     } };
@@ -36,6 +38,7 @@ impl Kept {
     {
         Kept {
             name: None,
+            is_open: false,
             open_faults: 0,
             read_faults: 0,
         }
@@ -48,6 +51,8 @@ impl Kept {
         self.name = Some(name);
         if failed {
             self.open_faults = self.open_faults.saturating_add(1);
+        } else {
+            self.is_open = true;
         }
     }
 
@@ -55,6 +60,7 @@ impl Kept {
         ensures request { self.new ≡ closed_request self.old faults }
         ensures later { self.old.read_faults ≤ self.new.read_faults }
     {
+        self.is_open = false;
         if faults > 0 {
             self.read_faults = self.read_faults.saturating_add(1);
         }

@@ -1,5 +1,7 @@
 -- A text holds fewer ops than bytes.
-use Rattle.std.proofs.Common.{◌≡◌, ℕ, ◌+◌, ◌<◌, ◌≤◌, Bool, true, false, List, [], length, Option, Some, None, option_and_then, Result, Ok, Err, Ordering, Less, Equal, Greater, refl, subst, arith}
+use Rattle.std.proofs.Common.{◌≡◌, ℕ, ◌+◌, ◌<◌, ◌≤◌, Bool, true, false, List, [], ◌∷◌, length, Option, Some, None, option_and_then, Result, Ok, Err, Ordering, Less, Equal, Greater, refl, sym, ap, ◌∙◌, subst, arith}
+use Rattle.std.specs.List.{sum_by}
+use Rattle.std.proofs.lemmas.List.Sums.{sum_by-cons}
 use Rattle.std.proofs.lemmas.Bool.{ltb-false}
 use Rattle.std.specs.Prelude.{⊤, codes, nat_lt, if◌then◌else◌}
 use Rattle.std.specs.Str.{is_utf8}
@@ -17,7 +19,7 @@ use Rattle.xr_model.specs.scenario.ReadOp.{ReadOp}
 use Rattle.xr_model.specs.scenario.OpReading.{op_of, read_op_of, with_name}
 use Rattle.xr_model.specs.scenario.Scenario.{and_first, after_op, ops_from, script_of, after_script, scripts_from, scripts_by, scripts_in, has_version, scenario_by, scenario_in, scenario_if, scenario_of}
 use Rattle.xr_scenario.specs.Size.{size, items_size, members_size}
-use Rattle.xr_scenario.specs.Few.{total, FewOps}
+use Rattle.xr_scenario.specs.Few.{FewOps}
 use Rattle.xr_scenario.proofs.Sizes.{holds_less}
 use Rattle.xr_scenario.proofs.OpReading.{size-positive}
 
@@ -26,6 +28,15 @@ AtMost f n (Ok x) = f x ≤ n
 AtMost f n (Err e) = ⊤
 
 -- ---- ops and scripts
+
+-- how many ops there are, script by script
+abbrev total : List (List Op) → ℕ
+total [] = 0
+total (ops ∷ more) = length ops + total more
+
+total_is : (scripts : List (List Op)) → total scripts ≡ sum_by length scripts
+total_is [] = refl
+total_is (ops ∷ scripts) = ap (λ n. length ops + n) (total_is scripts) ∙ sym (sum_by-cons length ops scripts)
 
 more_ops : (op : Op) (n m : ℕ) (r : Result (List Op) Refusal) → 1 + n ≤ m → AtMost length n r → AtMost length m (and_first op r)
 more_ops op n m (Ok ops) le x = omega (arith, le, x)
@@ -145,8 +156,8 @@ text_few text = by (nat_lt 1048576 (length text)) refl
     by true h = rw h tt
     by false h = rw h (utf8 (is_utf8 text) (ltb-false 1048576 (length text) h))
 
-pub few_read : (text : List ℕ) (s : Scenario) → scenario_of text ≡ Ok s → total s.scripts < 1048576
-few_read text s e = let few : AtMost most_in 1048577 (Ok s) = subst (AtMost most_in 1048577) e (text_few text) in omega (arith, few)
+pub few_read : (text : List ℕ) (s : Scenario) → scenario_of text ≡ Ok s → sum_by length s.scripts < 1048576
+few_read text s e = let few : AtMost most_in 1048577 (Ok s) = subst (AtMost most_in 1048577) e (text_few text) in let same = total_is s.scripts in omega (arith, few, same)
 
 pub few_ops : FewOps
 few_ops = few_read

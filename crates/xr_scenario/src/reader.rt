@@ -1,5 +1,6 @@
 // The reader: a text, its JSON value, the scenario's object, its scripts, and each script's ops.
 ghost use Rattle.std.specs.Prelude.{◌≡◌, ◌≤◌, ◌<◌, ◌^◌, ◌+◌, [], ◌∷◌, ◌++◌, length, IfOk, IfErr, OnOk, Some, None, Err, option_map};
+ghost use Rattle.std.specs.List.{sum_by};
 ghost use Rattle.serde_json.specs.View.{view, items_view};
 ghost use Rattle.serde_json.specs.Find.{as_array};
 ghost use Rattle.xr_types.specs.declared.status.Refusal.TheVariants.{BadShape};
@@ -7,7 +8,6 @@ ghost use Rattle.xr_model.specs.scenario.ScriptForm.{IsInForm, AllInForm};
 ghost use Rattle.xr_model.specs.scenario.OpReading.{with_name_of};
 ghost use Rattle.xr_model.specs.scenario.Scenario.{ops_from, script_of, scripts_from, scripts_by, has_version, scenario_in, json_of, scenario_of};
 ghost use Rattle.xr_scenario.specs.declared.fault.ScenarioFault.TheVariants.{Refused, NoMemory};
-ghost use Rattle.xr_scenario.specs.Few.{total};
 ghost use Rattle.xr_scenario.specs.Size.{size, items_size};
 ghost use Rattle.xr_scenario.specs.inside.Shapes.{ReadsShape, IsJsonFault};
 
@@ -209,7 +209,7 @@ fn json(alloc: Global, text: &[u8]) -> Result<Value, ScenarioFault>
 /// ops, and only ops in form.
 pub fn read(alloc: Global, text: &[u8]) -> Result<Scenario, ScenarioFault>
     ensures reads { ReadsShape result (scenario_of text.now) }
-    ensures few { IfOk result (λ scenario. total scenario.scripts < 1048576) }
+    ensures few { IfOk result (λ scenario. sum_by length scenario.scripts < 1048576) }
     ensures formed { IfOk result (λ scenario. AllInForm scenario.scripts) }
     ensures count { IfOk result (λ scenario. (1 ≤ length scenario.scripts) × (length scenario.scripts ≤ 8)) }
 {

@@ -1,17 +1,17 @@
-// The call that an op asks for.
+// The call that an op asks for: a function for each group of ops.
 ghost use Rattle.std.specs.Prelude.{◌≡◌};
 ghost use Rattle.xr_model.specs.scenario.ScriptForm.{IsInRange};
 ghost use Rattle.xr_model.specs.machine.Request.{request_of};
 ghost use Rattle.xr_model.specs.runs.Scripts.{request_for};
+ghost use Rattle.xr_scenario_calls.specs.inside.Groups.{IsInstanceOp, IsSessionOp, IsSpaceOp, IsActionOp, IsStateOp, IsImageOp, IsFrameOp};
 
 use crate::lists::{active_sets_for, atoms_for, bindings_for, handles_for, layers_for};
 use crate::{Names, Scratch};
 use xr_types::{Call, Op};
 
-/// The call that an op asks for, where the ops before it gave these names. Its lists stand in `scratch`,
-/// its texts in the op. The start of a `WaitImage` is 0: it isn't the script's to tell.
-pub fn call_of<'a>(op: &'a Op, names: &Names, scratch: &'a mut Scratch) -> Call<'a>
-    requires { IsInRange op.now }
+/// The call of an op on an instance, its system, its paths or its events.
+fn instance_call<'a>(op: &'a Op, names: &Names) -> Call<'a>
+    requires group { IsInstanceOp op.now }
     ensures { request_of result ≡ request_for names.now op.now }
 {
     match op {
@@ -42,6 +42,16 @@ pub fn call_of<'a>(op: &'a Op, names: &Names, scratch: &'a mut Scratch) -> Call<
             path: names.value_of(*path),
             capacity: *capacity,
         },
+        _ => unreachable!(),
+    }
+}
+
+/// The call of an op on a session.
+fn session_call<'a>(op: &'a Op, names: &Names) -> Call<'a>
+    requires group { IsSessionOp op.now }
+    ensures { request_of result ≡ request_for names.now op.now }
+{
+    match op {
         Op::CreateSession { instance, system } => Call::CreateSession {
             instance: names.value_of(*instance),
             system: names.value_of(*system),
@@ -49,19 +59,26 @@ pub fn call_of<'a>(op: &'a Op, names: &Names, scratch: &'a mut Scratch) -> Call<
         Op::DestroySession { session } => Call::DestroySession {
             session: names.value_of(*session),
         },
+        Op::BeginSession { session, view } => Call::BeginSession {
+            session: names.value_of(*session),
+            view: *view,
+        },
         Op::EndSession { session } => Call::EndSession {
             session: names.value_of(*session),
         },
         Op::RequestExitSession { session } => Call::RequestExitSession {
             session: names.value_of(*session),
         },
-        Op::BeginFrame { session } => Call::BeginFrame {
-            session: names.value_of(*session),
-        },
-        Op::BeginSession { session, view } => Call::BeginSession {
-            session: names.value_of(*session),
-            view: *view,
-        },
+        _ => unreachable!(),
+    }
+}
+
+/// The call of an op on a space.
+fn space_call<'a>(op: &'a Op, names: &Names) -> Call<'a>
+    requires group { IsSpaceOp op.now }
+    ensures { request_of result ≡ request_for names.now op.now }
+{
+    match op {
         Op::CreateReferenceSpace {
             session,
             kind,
@@ -90,6 +107,17 @@ pub fn call_of<'a>(op: &'a Op, names: &Names, scratch: &'a mut Scratch) -> Call<
             base: names.value_of(*base),
             time: names.time_of(*time),
         },
+        _ => unreachable!(),
+    }
+}
+
+/// The call of an op on action sets and actions.
+fn action_call<'a>(op: &'a Op, names: &Names, scratch: &'a mut Scratch) -> Call<'a>
+    requires group { IsActionOp op.now }
+    requires ranged { IsInRange op.now }
+    ensures { request_of result ≡ request_for names.now op.now }
+{
+    match op {
         Op::CreateActionSet {
             instance,
             name,
@@ -137,6 +165,16 @@ pub fn call_of<'a>(op: &'a Op, names: &Names, scratch: &'a mut Scratch) -> Call<
             session: names.value_of(*session),
             active: active_sets_for(&mut scratch.active, names, active.as_slice()),
         },
+        _ => unreachable!(),
+    }
+}
+
+/// The call of an op on an action's state.
+fn state_call<'a>(op: &'a Op, names: &Names) -> Call<'a>
+    requires group { IsStateOp op.now }
+    ensures { request_of result ≡ request_for names.now op.now }
+{
+    match op {
         Op::GetBoolean {
             session,
             action,
@@ -173,6 +211,16 @@ pub fn call_of<'a>(op: &'a Op, names: &Names, scratch: &'a mut Scratch) -> Call<
             action: names.value_of(*action),
             sub: names.value_of(*sub),
         },
+        _ => unreachable!(),
+    }
+}
+
+/// The call of an op on a swapchain or its images.
+fn image_call<'a>(op: &'a Op, names: &Names) -> Call<'a>
+    requires group { IsImageOp op.now }
+    ensures { request_of result ≡ request_for names.now op.now }
+{
+    match op {
         Op::CreateSwapchain {
             session,
             format,
@@ -204,7 +252,21 @@ pub fn call_of<'a>(op: &'a Op, names: &Names, scratch: &'a mut Scratch) -> Call<
             chain: names.value_of(*chain),
             stamp: *stamp,
         },
+        _ => unreachable!(),
+    }
+}
+
+/// The call of an op on a frame.
+fn frame_call<'a>(op: &'a Op, names: &Names, scratch: &'a mut Scratch) -> Call<'a>
+    requires group { IsFrameOp op.now }
+    requires ranged { IsInRange op.now }
+    ensures { request_of result ≡ request_for names.now op.now }
+{
+    match op {
         Op::WaitFrame { session } => Call::WaitFrame {
+            session: names.value_of(*session),
+        },
+        Op::BeginFrame { session } => Call::BeginFrame {
             session: names.value_of(*session),
         },
         Op::EndFrame {
@@ -218,10 +280,56 @@ pub fn call_of<'a>(op: &'a Op, names: &Names, scratch: &'a mut Scratch) -> Call<
             blend: *blend,
             layers: layers_for(&mut scratch.layers, names, layers.as_slice()),
         },
+        _ => unreachable!(),
+    }
+}
+
+/// The call that an op asks for, where the ops before it gave these names. Its lists stand in `scratch`,
+/// its texts in the op. The start of a `WaitImage` is 0: it isn't the script's to tell.
+pub fn call_of<'a>(op: &'a Op, names: &Names, scratch: &'a mut Scratch) -> Call<'a>
+    requires { IsInRange op.now }
+    ensures { request_of result ≡ request_for names.now op.now }
+{
+    match op {
         Op::Mark { mark, value } => Call::Mark {
             mark: *mark,
             value: names.value_of(*value),
         },
         Op::Await { mark } => Call::AwaitMark { mark: *mark },
+        Op::CreateInstance { .. }
+        | Op::DestroyInstance { .. }
+        | Op::PollEvent { .. }
+        | Op::GetSystem { .. }
+        | Op::StringToPath { .. }
+        | Op::PathToString { .. } => instance_call(op, names),
+        Op::CreateSession { .. }
+        | Op::DestroySession { .. }
+        | Op::BeginSession { .. }
+        | Op::EndSession { .. }
+        | Op::RequestExitSession { .. } => session_call(op, names),
+        Op::CreateReferenceSpace { .. }
+        | Op::CreateActionSpace { .. }
+        | Op::DestroySpace { .. }
+        | Op::LocateSpace { .. } => space_call(op, names),
+        Op::CreateActionSet { .. }
+        | Op::DestroyActionSet { .. }
+        | Op::CreateAction { .. }
+        | Op::DestroyAction { .. }
+        | Op::SuggestBindings { .. }
+        | Op::AttachSets { .. }
+        | Op::SyncActions { .. } => action_call(op, names, scratch),
+        Op::GetBoolean { .. }
+        | Op::GetFloat { .. }
+        | Op::GetVector { .. }
+        | Op::GetPoseActive { .. } => state_call(op, names),
+        Op::CreateSwapchain { .. }
+        | Op::DestroySwapchain { .. }
+        | Op::AcquireImage { .. }
+        | Op::ReleaseImage { .. }
+        | Op::WaitImage { .. }
+        | Op::Paint { .. } => image_call(op, names),
+        Op::WaitFrame { .. } | Op::BeginFrame { .. } | Op::EndFrame { .. } => frame_call(
+            op, names, scratch,
+        ),
     }
 }

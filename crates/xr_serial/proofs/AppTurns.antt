@@ -23,7 +23,8 @@ use Rattle.xr_model.specs.runs.Scripts.{request_for}
 use Rattle.xr_model.specs.runs.Robin.{Agenda, script, agenda_after, clock_behind}
 use Rattle.xr_serial.specs.inside.Made.{IsAnswered, exchange_of, calls_with}
 use Rattle.xr_serial.specs.inside.RunState.{AppState, RunState}
-use Rattle.xr_serial.specs.inside.Sides.{Prospect, app_with, app_left, OpMade, OpWaits, OpTurn, Leaves}
+use Rattle.xr_device.specs.Prospect.{Prospect}
+use Rattle.xr_serial.specs.inside.Sides.{app_with, app_left, OpMade, OpWaits, OpTurn, Leaves}
 use Rattle.xr_serial.specs.inside.Turns.{script_part, parts_of, actors_of, turn_behind, AreHeldBack}
 use Rattle.xr_serial.specs.inside.Past.{IsRest}
 use Rattle.xr_serial.specs.inside.RunInvariant.{AppKept, app_work, apps_work, events_told, RunKept, RunInvariant}

@@ -23,7 +23,7 @@ use Rattle.xr_model.specs.report.RunEnding.{is_fault}
 use Rattle.xr_model.specs.runs.Lists.{name_of, end_of, events_in, lists_to, lists_of, made_from, waiting_of}
 use Rattle.xr_serial.specs.Ran.{settings_of, OfEachScript, IsEnd, IsWhole, Ran}
 use Rattle.xr_serial.specs.inside.RunState.{AppState, RunState}
-use Rattle.xr_serial.specs.inside.Sides.{Prospect}
+use Rattle.xr_device.specs.Prospect.{Prospect}
 use Rattle.xr_serial.specs.inside.Turns.{script_part, script_parts, device_part, compositor_part, pending_list, parts_of, actors_of, from_turn, joined, AreHeldBack}
 use Rattle.xr_serial.specs.inside.Past.{IsRest}
 use Rattle.xr_serial.specs.inside.RunInvariant.{AppKept, EndKept, events_told, RunInvariant}
@@ -229,8 +229,8 @@ module _ (scenario : Scenario) (turn : ℕ) (s : State) (run : RunState) (start 
             ∙ ap (λ (p : Option DeviceEvent). events_in (inv.calls Device) ++ pending_list p) unknown ∙ append-nil (events_in (inv.calls Device)));
       }
 
-  pub ran : Ran scenario start.remaining (lists_at scenario run)
-  ran = record {
+  ran_so : Ran scenario start.remaining device.count (lists_at scenario run)
+  ran_so = record {
     history = history;
     events = device.events;
     ending = device.ending;
@@ -243,6 +243,9 @@ module _ (scenario : Scenario) (turn : ℕ) (s : State) (run : RunState) (start 
     whole = whole;
     made = lists_are;
   }
+
+  pub ran : (count : ℕ) × (now.given ≡ start.given + count) × Ran scenario start.remaining count (lists_at scenario run)
+  ran = (device.count, device.counted, ran_so)
 
   pub fault : list_any is_fault run.side.events ≡ true → Rose start.faults now.faults
   fault h = device.fault (subst (λ (l : List DeviceEvent). list_any is_fault l ≡ true) inv.kept.device.events_are h)

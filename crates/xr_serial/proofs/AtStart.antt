@@ -14,7 +14,8 @@ use Rattle.xr_model.specs.runs.NameValues.{no_values}
 use Rattle.xr_model.specs.runs.Robin.{Agenda, script, script_agendas, device_agendas, compositor, first_agendas}
 use Rattle.xr_serial.specs.Ran.{settings_of}
 use Rattle.xr_serial.specs.inside.RunState.{AppState, RunState}
-use Rattle.xr_serial.specs.inside.Sides.{new_app, Prospect}
+use Rattle.xr_device.specs.Prospect.{Prospect}
+use Rattle.xr_serial.specs.inside.Sides.{new_app}
 use Rattle.xr_serial.specs.inside.Turns.{script_parts, joined, parts_of}
 use Rattle.xr_serial.specs.inside.RunInvariant.{AppKept, GivesMore, RunInvariant}
 use Rattle.xr_serial.proofs.TurnOrder.{joined-append}
@@ -106,6 +107,7 @@ starts scenario start few =
           closing = [];
           begun = refl;
           came = (gives_all start.remaining, refl);
+          counted = omega arith;
           faultless = refl;
           sound = tt;
           done = tt;

@@ -1,5 +1,5 @@
 -- Where nobody can go on: what the device gave, and who is left in the order of a round.
-use Rattle.std.proofs.Common.{◌≡◌, ◌⊎◌, inl, inr, ◌+◌, ◌<◌, ◌≤◌, ℕ, ℤ, zero, suc, Bool, true, false, List, [], ◌∷◌, ◌++◌, length, drop, take, get_or, Option, Some, None, refl, sym, ap, subst, ◌∙◌, arith, append_assoc, append-nil, true≢false, add-one}
+use Rattle.std.proofs.Common.{◌≡◌, ◌⊎◌, inl, inr, ◌+◌, ◌<◌, ◌≤◌, ℕ, ℤ, zero, suc, Bool, true, false, List, [], ◌∷◌, ◌++◌, length, drop, take, get_or, Option, Some, None, refl, sym, ap, subst, ◌∙◌, arith, append_assoc, append-nil, length-append, true≢false, add-one}
 use Rattle.std.specs.Prelude.{if◌then◌else◌, ◌||◌, ◌≢◌}
 use Rattle.std.proofs.lemmas.List.{take-append-drop, take_more, take_all}
 use Rattle.std.specs.List.{list_any}
@@ -22,7 +22,7 @@ use Rattle.xr_model.specs.runs.Robin.{Agenda, actor_of, device_agendas, device_c
 use Rattle.xr_model.specs.runs.Lists.{events_in}
 use Rattle.xr_serial.specs.Ran.{Gave, IsLineEvent, AreLineEvents, AreSound}
 use Rattle.xr_serial.specs.inside.RunState.{AppState, SideState, RunState}
-use Rattle.xr_serial.specs.inside.Sides.{Prospect}
+use Rattle.xr_device.specs.Prospect.{Prospect}
 use Rattle.xr_serial.specs.inside.Turns.{script_part, script_parts, compositor_part, device_part, pending_list, from_turn, joined, AreHeldBack}
 use Rattle.xr_serial.specs.inside.Past.{IsRest}
 use Rattle.xr_serial.specs.inside.RunInvariant.{GivesMore, Came, DeviceKept, events_told}
@@ -37,7 +37,9 @@ pub record Gives (side : SideState) (calls : List request.Exchange) (start now :
   pub none : IsRest side.over rest
   pub events : List DeviceEvent
   pub ending : Option Ending
-  pub gave : Gave start.remaining events ending
+  pub count : ℕ
+  pub counted : now.given ≡ start.given + count
+  pub gave : Gave start.remaining count events ending
   pub calls_are : device_calls events ending ≡ events_told side calls ++ rest
   pub fault : list_any is_fault (events_in calls) ≡ true → Rose start.faults now.faults
 
@@ -54,8 +56,8 @@ open_calls : (given more last begun : List DeviceEvent) → given ++ [] ≡ begu
 open_calls given more last begun same = ap (λ (l : List DeviceEvent). (l ++ more) ++ last) (sym (append-nil given) ∙ same)
 
 -- a device that hasn't ended
-open_gives : (made : SideState) (calls : List request.Exchange) (start now : Prospect) (given : List DeviceEvent) → made.over ≡ false → GivesMore start.remaining now.remaining given → given ++ [] ≡ events_told made calls → list_any is_fault given ≡ false → Gives made calls start now
-open_gives made calls start now given going more begun faultless = by start.remaining now.remaining refl more
+open_gives : (made : SideState) (calls : List request.Exchange) (start now : Prospect) (given : List DeviceEvent) → made.over ≡ false → GivesMore start.remaining now.remaining given → given ++ [] ≡ events_told made calls → list_any is_fault given ≡ false → now.given ≡ start.given + length given → Gives made calls start now
+open_gives made calls start now given going more begun faultless counted = by start.remaining now.remaining refl more
   where
     no_fault : list_any is_fault (events_in calls) ≡ true → Rose start.faults now.faults
     no_fault h = absurd (true≢false (sym (fault_last given [] (events_in calls) (pending_list made.pending) begun faultless h)))
@@ -69,7 +71,9 @@ open_gives made calls start now given going more begun faultless = by start.rema
       none = λ e. refl;
       events = given;
       ending = Some ends;
-      gave = rw is tt;
+      count = length given;
+      counted = counted;
+      gave = rw is refl;
       calls_are = begun ∙ sym (append-nil (events_told made calls));
       fault = no_fault;
     }
@@ -79,7 +83,9 @@ open_gives made calls start now given going more begun faultless = by start.rema
       none = not_over (r.events ++ last_event (Some r.ending));
       events = given ++ r.events;
       ending = Some r.ending;
-      gave = rw (is, more) (refl, refl);
+      count = length given;
+      counted = counted;
+      gave = let all = length-append given r.events in rw (is, more) (refl, refl, omega (arith, all));
       calls_are = open_calls given r.events (last_event (Some r.ending)) (events_told made calls) begun ∙ append_assoc (events_told made calls) r.events (last_event (Some r.ending));
       fault = no_fault;
     }
@@ -90,7 +96,7 @@ gives side calls start now d = by side.over refl
     by : (over : Bool) → side.over ≡ over → Gives side calls start now
     by false is =
         let came : Came start now d.given d.closing false = subst (Came start now d.given d.closing) is d.came in
-        open_gives side calls start now d.given is came.0 (subst (λ (c : List DeviceEvent). d.given ++ c ≡ events_told side calls) came.1 d.begun) d.faultless
+        open_gives side calls start now d.given is came.0 (subst (λ (c : List DeviceEvent). d.given ++ c ≡ events_told side calls) came.1 d.begun) d.faultless d.counted
     by true is =
         let came : Came start now d.given d.closing true = subst (Came start now d.given d.closing) is d.came in
         record {
@@ -98,6 +104,8 @@ gives side calls start now d = by side.over refl
           none = λ e. refl;
           events = d.given;
           ending = came.ending;
+          count = length d.given;
+          counted = d.counted;
           gave = came.gave;
           calls_are = ap (λ (l : List DeviceEvent). d.given ++ l) (sym came.last) ∙ d.begun ∙ sym (append-nil (events_told side calls));
           fault = λ h. came.fault (fault_last d.given d.closing (events_in calls) (pending_list side.pending) d.begun d.faultless h);

@@ -1,5 +1,5 @@
 -- What the device has told, from one answer to the next.
-use Rattle.std.proofs.Common.{◌≡◌, ◌≤◌, ℕ, true, false, List, [], ◌∷◌, ◌++◌, length, Option, Some, None, refl, sym, ap, subst, ◌∙◌, arith, append_assoc, append-nil, true≢false}
+use Rattle.std.proofs.Common.{◌≡◌, ◌≤◌, ℕ, true, false, List, [], ◌∷◌, ◌++◌, length, Option, Some, None, refl, sym, ap, subst, ◌∙◌, arith, append_assoc, append-nil, length-append, true≢false}
 use Rattle.std.specs.Prelude.{◌||◌, ◌+◌, suc}
 use Rattle.std.specs.List.{list_any}
 use Rattle.std.proofs.lemmas.List.Folds.{list_any-append}
@@ -20,7 +20,8 @@ use Rattle.xr_device.specs.declared.Next.TheVariants as next
 use Rattle.xr_serial.specs.Ran.{Gave, IsLineEvent, AreLineEvents}
 use Rattle.xr_serial.specs.inside.Made.{exchange_of}
 use Rattle.xr_serial.specs.inside.RunState.{SideState}
-use Rattle.xr_serial.specs.inside.Sides.{IsDone, Prospect, side_asked, side_with}
+use Rattle.xr_device.specs.Prospect.{Prospect}
+use Rattle.xr_serial.specs.inside.Sides.{IsDone, side_asked, side_with}
 use Rattle.xr_serial.specs.inside.Turns.{pending_list}
 use Rattle.xr_serial.specs.inside.RunInvariant.{GivesMore, DeviceKept}
 use Rattle.xr_serial.proofs.Apps.{made_snoc}
@@ -69,20 +70,20 @@ gives_event (Some t) None now2 given e more tells = absurd more
 gives_event (Some t) (Some before) None given e more tells = absurd tells
 gives_event (Some t) (Some before) (Some rest) given e more tells = more ∙ rw tells (ap (λ (l : List DeviceEvent). let told : DeviceStream = record { events = l; ending = rest.ending } in told) (sym (append_assoc given (e ∷ []) rest.events)))
 
-gives_end : (told now now2 : Option DeviceStream) (given : List DeviceEvent) → GivesMore told now given → Tells now now2 next.End → Gave told given (Some ends)
-gives_end None now now2 given more tells = tt
+gives_end : (told now now2 : Option DeviceStream) (given : List DeviceEvent) → GivesMore told now given → Tells now now2 next.End → Gave told (length given) given (Some ends)
+gives_end None now now2 given more tells = refl
 gives_end (Some t) None now2 given more tells = absurd more
-gives_end (Some t) (Some before) now2 given more tells = rw (more, tells) (append-nil given, refl)
+gives_end (Some t) (Some before) now2 given more tells = (rw (more, tells) (append-nil given), rw (more, tells) refl, omega arith)
 
-gives_garbled : (told now now2 : Option DeviceStream) (given : List DeviceEvent) (line : ℕ) → GivesMore told now given → Tells now now2 (next.Garbled line) → Gave told given (Some (garbled_at line))
-gives_garbled None now now2 given line more tells = tt
+gives_garbled : (told now now2 : Option DeviceStream) (given : List DeviceEvent) (line : ℕ) → GivesMore told now given → Tells now now2 (next.Garbled line) → Gave told (length given) given (Some (garbled_at line))
+gives_garbled None now now2 given line more tells = refl
 gives_garbled (Some t) None now2 given line more tells = absurd more
-gives_garbled (Some t) (Some before) now2 given line more tells = rw (more, tells) (append-nil given, refl)
+gives_garbled (Some t) (Some before) now2 given line more tells = (rw (more, tells) (append-nil given), rw (more, tells) refl, omega arith)
 
-gives_front : (told now : Option DeviceStream) (given : List DeviceEvent) → GivesMore told now given → Gave told given None
-gives_front None now given more = tt
+gives_front : (told now : Option DeviceStream) (given : List DeviceEvent) → GivesMore told now given → Gave told (length given) given None
+gives_front None now given more = refl
 gives_front (Some t) None given more = absurd more
-gives_front (Some t) (Some before) given more = (before.events, rw more refl)
+gives_front (Some t) (Some before) given more = (before.events, rw more refl, refl)
 
 rose_later : (a b c : ℕ) → a ≤ b → Rose b c → Rose a c
 rose_later a b c h r = grind (arith, h, r)
@@ -107,12 +108,13 @@ module _ (side : SideState) (calls : List request.Exchange) (start now now2 : Pr
   same_faults : now2.faults ≡ now.faults → now2.faults ≡ start.faults
   same_faults same = same ∙ d.unfailed (subst (λ (c : List DeviceEvent). list_any is_fault c ≡ false) (sym d.came.1) refl)
 
-  pub tells_event : (e : DeviceEvent) → Tells now.remaining now2.remaining (next.Event e) → IsTold e → now2.faults ≡ now.faults → DeviceKept (side_asked side (Some e) false) calls start now2
-  tells_event e tells sound same = record {
+  pub tells_event : (e : DeviceEvent) → Tells now.remaining now2.remaining (next.Event e) → IsTold e → now2.faults ≡ now.faults → now2.given ≡ now.given + 1 → DeviceKept (side_asked side (Some e) false) calls start now2
+  tells_event e tells sound same count = record {
     given = d.given ++ e ∷ [];
     closing = [];
     begun = append-nil (d.given ++ e ∷ []) ∙ given_more d.given calls e open_begun;
     came = (gives_event start.remaining now.remaining now2.remaining d.given e d.came.0 tells, refl);
+    counted = let before = d.counted in let more : length (d.given ++ e ∷ []) ≡ length d.given + 1 = length-append d.given (e ∷ []) in omega (arith, before, more, count);
     faultless = none_more d.given e d.faultless (line_faultless e sound.line);
     sound = one_more d.given e d.sound (line_event e sound);
     done = told_done e sound;
@@ -122,12 +124,13 @@ module _ (side : SideState) (calls : List request.Exchange) (start now now2 : Pr
     unfailed = λ e. same_faults same;
   }
 
-  pub tells_end : Tells now.remaining now2.remaining next.End → now2.faults ≡ now.faults → DeviceKept (side_asked side None true) calls start now2
-  tells_end tells same = record {
+  pub tells_end : Tells now.remaining now2.remaining next.End → now2.faults ≡ now.faults → now2.given ≡ now.given → DeviceKept (side_asked side None true) calls start now2
+  tells_end tells same count = record {
     given = d.given;
     closing = [];
     begun = open_begun;
     came = record { ending = Some ends; gave = gives_end start.remaining now.remaining now2.remaining d.given d.came.0 tells; last = refl; fault = λ e. absurd (true≢false (sym e)) };
+    counted = count ∙ d.counted;
     faultless = d.faultless;
     sound = d.sound;
     done = tt;
@@ -138,12 +141,13 @@ module _ (side : SideState) (calls : List request.Exchange) (start now now2 : Pr
   }
 
   -- it has ended early, which is its last call
-  closes : (e : DeviceEvent) (ending : Option Ending) → IsDone e → Gave start.remaining d.given ending → e ∷ [] ≡ last_event ending → (is_fault e || false ≡ true → Rose start.faults now2.faults) → (is_fault e || false ≡ false → now2.faults ≡ start.faults) → DeviceKept (side_asked side (Some e) true) calls start now2
-  closes e ending done gave last fault unfailed = record {
+  closes : (e : DeviceEvent) (ending : Option Ending) → IsDone e → now2.given ≡ now.given → Gave start.remaining (length d.given) d.given ending → e ∷ [] ≡ last_event ending → (is_fault e || false ≡ true → Rose start.faults now2.faults) → (is_fault e || false ≡ false → now2.faults ≡ start.faults) → DeviceKept (side_asked side (Some e) true) calls start now2
+  closes e ending done count gave last fault unfailed = record {
     given = d.given;
     closing = e ∷ [];
     begun = given_more d.given calls e open_begun;
     came = record { ending = ending; gave = gave; last = last; fault = fault };
+    counted = count ∙ d.counted;
     faultless = d.faultless;
     sound = d.sound;
     done = done;
@@ -153,13 +157,13 @@ module _ (side : SideState) (calls : List request.Exchange) (start now now2 : Pr
     unfailed = unfailed;
   }
 
-  pub tells_garbled : (line : ℕ) → Tells now.remaining now2.remaining (next.Garbled line) → now2.faults ≡ now.faults → DeviceKept (side_asked side (Some (event.Garbled line)) true) calls start now2
-  tells_garbled line tells same =
-      closes (event.Garbled line) (Some (garbled_at line)) (record { checked = refl; built = refl }) (gives_garbled start.remaining now.remaining now2.remaining d.given line d.came.0 tells) refl (λ e. absurd (true≢false (sym e))) (λ e. same_faults same)
+  pub tells_garbled : (line : ℕ) → Tells now.remaining now2.remaining (next.Garbled line) → now2.faults ≡ now.faults → now2.given ≡ now.given → DeviceKept (side_asked side (Some (event.Garbled line)) true) calls start now2
+  tells_garbled line tells same count =
+      closes (event.Garbled line) (Some (garbled_at line)) (record { checked = refl; built = refl }) count (gives_garbled start.remaining now.remaining now2.remaining d.given line d.came.0 tells) refl (λ e. absurd (true≢false (sym e))) (λ e. same_faults same)
 
-  pub tells_fault : Rose now.faults now2.faults → DeviceKept (side_asked side (Some event.Fault) true) calls start now2
-  tells_fault rose =
-      closes event.Fault None (record { checked = refl; built = refl }) (gives_front start.remaining now.remaining d.given d.came.0) refl (λ e. rose_later start.faults now.faults now2.faults d.later rose) (λ e. absurd (true≢false e))
+  pub tells_fault : Rose now.faults now2.faults → now2.given ≡ now.given → DeviceKept (side_asked side (Some event.Fault) true) calls start now2
+  tells_fault rose count =
+      closes event.Fault None (record { checked = refl; built = refl }) count (gives_front start.remaining now.remaining d.given d.came.0) refl (λ e. rose_later start.faults now.faults now2.faults d.later rose) (λ e. absurd (true≢false e))
 
 -- the call of its next event was made
 pub event_kept : (side : SideState) (calls : List request.Exchange) (start now : Prospect) (e : DeviceEvent) (answer : Reply) (bytes : List ℕ) → side.pending ≡ Some e → DeviceKept side calls start now
@@ -173,6 +177,7 @@ event_kept side calls start now e answer bytes this d =
       closing = d.closing;
       begun = d.begun ∙ ap (λ (p : Option DeviceEvent). events_in calls ++ pending_list p) this ∙ sym (append-nil (events_in (calls ++ t ∷ [])) ∙ events_snoc calls e answer bytes);
       came = d.came;
+      counted = d.counted;
       faultless = d.faultless;
       sound = d.sound;
       done = tt;

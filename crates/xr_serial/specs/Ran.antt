@@ -1,5 +1,5 @@
 -- A run of a scenario beside a device: the one history that its lists are of.
-use Rattle.std.specs.Prelude.{◌≡◌, ◌<◌, ◌+◌, ℕ, true, false, List, [], ◌∷◌, ◌++◌, length, slice_index_or, Option, Some, None}
+use Rattle.std.specs.Prelude.{◌≡◌, ◌<◌, ◌≤◌, ◌+◌, ℕ, true, false, List, [], ◌∷◌, ◌++◌, length, slice_index_or, Option, Some, None}
 use Rattle.xr_types.specs.declared.calls.Actor.TheVariants.{App, Compositor, Device}
 use Rattle.xr_types.specs.declared.calls.Gives.TheVariants.{Ended}
 use Rattle.xr_types.specs.declared.device.DeviceEvent.{DeviceEvent}
@@ -22,12 +22,13 @@ use Rattle.xr_model.specs.report.RunEnding.{is_fault, is_garbled}
 abbrev pub settings_of : Scenario → Settings
 settings_of scenario = with_apps (length scenario.scripts)
 
--- These are the events that the device gave and its ending, none where it couldn't be read on. Where it told what it has
--- to give, they are all of that, and else a front of it.
-abbrev pub Gave : Option DeviceStream → List DeviceEvent → Option Ending → Type 0
-Gave None events ending = Unit {0}
-Gave (Some t) events None = (rest : List DeviceEvent) × (t.events ≡ events ++ rest)
-Gave (Some t) events (Some ending) = (t.events ≡ events) × (t.ending ≡ ending)
+-- These are the events of a device that gave so many, and its ending, none where it couldn't be read on. Where it told what
+-- it has to give and could be read, they are all of that. Else they are just those that it gave, which it had told if it told
+-- any.
+abbrev pub Gave : Option DeviceStream → ℕ → List DeviceEvent → Option Ending → Type 0
+Gave None count events ending = length events ≡ count
+Gave (Some t) count events None = (rest : List DeviceEvent) × (t.events ≡ events ++ rest) × (length events ≡ count)
+Gave (Some t) count events (Some ending) = (t.events ≡ events) × (t.ending ≡ ending) × (count ≤ length events)
 
 -- an event that a line of the device's text tells: its numbers are in range, it is built, and it is neither a fault nor a
 -- malformed line
@@ -67,13 +68,14 @@ pub record IsWhole (scenario : Scenario) (events : List DeviceEvent) (ending : O
   pub device : events_in (calls_of (settings_of scenario) Device history) ≡ device_calls events ending
 
 -- A run of a scenario: a legal history of the machine of one thread, the round robin's beside this device, in which each
--- application's calls follow its script. The lists are those of this history, so each reply is the machine's at its call's
--- place; they tell next calls exactly where the run can't go on.
-pub record Ran (scenario : Scenario) (told : Option DeviceStream) (lists : Lists) : Type 0 where
+-- application's calls follow its script. The device gave so many events, of what it has told if it told anything. The lists
+-- are those of this history, so each reply is the machine's at its call's place; they tell next calls exactly where the run
+-- can't go on.
+pub record Ran (scenario : Scenario) (told : Option DeviceStream) (count : ℕ) (lists : Lists) : Type 0 where
   pub history : List Entry
   pub events : List DeviceEvent
   pub ending : Option Ending
-  pub gave : Gave told events ending
+  pub gave : Gave told count events ending
   pub sound : AreSound lists.events
   pub legal : IsLegal (settings_of scenario) history
   pub robin : IsRobin (settings_of scenario) scenario (device_calls events ending) history

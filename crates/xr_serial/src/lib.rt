@@ -3,7 +3,7 @@
 //! bytes of scenarios, devices or reports.
 #![tactic(auto)]
 
-ghost use Rattle.std.specs.Prelude.{◌≡◌, ◌≤◌, ◌<◌, ◌^◌, true, false, IfOk, length};
+ghost use Rattle.std.specs.Prelude.{◌≡◌, ◌≤◌, ◌<◌, ◌^◌, ◌+◌, ℕ, true, false, IfOk, length};
 ghost use Rattle.std.specs.List.{list_all, list_any, sum_by};
 ghost use Rattle.xr_io.specs.Outside.{Rose};
 ghost use Rattle.xr_model.specs.scenario.Built.{is_built_op};
@@ -32,20 +32,19 @@ use xr_types::{Lists, NoMemory, Scenario};
 /// A turn goes to each script in order, to the device and to the compositor, round after round (the order is this
 /// project's own). In its turn an actor makes its next call, unless that has to wait; the device is asked for its next
 /// event only then, once the one before is done. The scenario has 1 to 8 scripts and fewer than 2^22 ops, each built, in
-/// range and with names that earlier ops of its script gave; the device has at most 16,777,216 events to come. Answers
-/// `NoMemory` where memory was short, and nothing else but the lists.
+/// range and with names that earlier ops of its script gave. Answers `NoMemory` where memory was short, and nothing else
+/// but the lists.
 pub fn run<D: Device>(alloc: Global, scenario: &Scenario, device: &mut D) -> Result<Lists, NoMemory>
     requires some { 1 ≤ length scenario.now.scripts }
     requires most { length scenario.now.scripts ≤ 8 }
     requires few { sum_by length scenario.now.scripts < 2 ^ 22 }
     requires formed { AllInForm scenario.now.scripts }
     requires built { list_all (list_all is_built_op) scenario.now.scripts ≡ true }
-    requires fresh { D.bound device.old ≤ 16777216 }
-    ensures ran { IfOk result (λ lists. Ran scenario.now (D.remaining device.old) lists) }
-    ensures fault { IfOk result (λ lists. list_any is_fault lists.events ≡ true → Rose (D.faults device.old) (D.faults device.new)) }
-    ensures unfailed { IfOk result (λ lists. list_any is_fault lists.events ≡ false → D.faults device.new ≡ D.faults device.old) }
-    ensures later { D.faults device.old ≤ D.faults device.new }
-    ensures which { D.which device.new ≡ D.which device.old }
+    ensures ran { IfOk result (λ lists. (count : ℕ) × ((D.prospect device.new).given ≡ (D.prospect device.old).given + count) × Ran scenario.now (D.prospect device.old).remaining count lists) }
+    ensures fault { IfOk result (λ lists. list_any is_fault lists.events ≡ true → Rose (D.prospect device.old).faults (D.prospect device.new).faults) }
+    ensures unfailed { IfOk result (λ lists. list_any is_fault lists.events ≡ false → (D.prospect device.new).faults ≡ (D.prospect device.old).faults) }
+    ensures later { (D.prospect device.old).faults ≤ (D.prospect device.new).faults }
+    ensures which { (D.prospect device.new).which ≡ (D.prospect device.old).which }
 {
     let mut machine = Machine::start(alloc, scenario.scripts.as_slice().len() as u8)?;
     let mut run = start(alloc, scenario)?;

@@ -1,14 +1,14 @@
 // The core, and what its calls are lent.
-ghost use Rattle.std.specs.Prelude.{◌≡◌, ◌<◌, ◌≤◌, ◌^◌, ℕ, List, true, IfOk, length};
-ghost use Rattle.xr_types.specs.declared.calls.Actor.TheVariants.{App};
-ghost use Rattle.xr_model.specs.machine.Machine.{IsPresent, is_built};
+ghost use Rattle.std.specs.Prelude.{◌≡◌, ◌<◌, ◌≤◌, ◌^◌, ℕ, List, true, false, IfOk, length};
+ghost use Rattle.xr_types.specs.declared.calls.Actor.TheVariants.{App, Compositor};
+ghost use Rattle.xr_model.specs.machine.Machine.{IsPresent, is_built, ready};
 ghost use Rattle.xr_model.specs.machine.CoreCalls.{IsCaller, HasNumbers};
-ghost use Rattle.xr_model.specs.machine.Request.{request_of};
+ghost use Rattle.xr_model.specs.machine.Request.{request_of, next_frame};
 ghost use Rattle.xr_model.specs.machine.State.{with_apps, opening};
 ghost use Rattle.xr_model.specs.scenario.Built.{is_built_op};
 ghost use Rattle.xr_model.specs.scenario.ScriptForm.{IsInRange};
 ghost use Rattle.xr_model.specs.runs.Scripts.{request_for};
-ghost use Rattle.xr_serial.specs.inside.Made.{AnsweredOrWaits};
+ghost use Rattle.xr_serial.specs.inside.Made.{AnsweredOrWaits, asked};
 ghost use Rattle.xr_serial.specs.inside.Lent.{lent_size};
 
 use crate::calls::{Answered, make};
@@ -107,7 +107,15 @@ impl Machine {
         make(alloc, &mut self.core, who, call, &mut [])
     }
 
-    /// Makes the call of an application's op, or says by nothing that it has to wait.
+    /// Whether the compositor's next call has to wait.
+    pub(crate) fn next_frame_waits(&self) -> bool
+        ensures { result ≡ true → ready self.now (asked Compositor next_frame) ≡ false }
+    {
+        self.core.next_frame_waits()
+    }
+
+    /// Makes the call of an application's op, or says by nothing that it has to wait. A mark that isn't set is seen before the
+    /// call is made up, since a script may wait for many rounds.
     pub(crate) fn make_op(
         &mut self,
         alloc: Global,
@@ -126,6 +134,11 @@ impl Machine {
             scratch,
             buffer,
         } = self;
+        if let Op::Await { mark } = op {
+            if core.await_waits(*mark) {
+                return Ok(None);
+            }
+        }
         ask(alloc, core, number, op, names, scratch, buffer)
     }
 }

@@ -5,7 +5,8 @@ ghost use Rattle.xr_model.specs.scenario.Built.{is_built_op};
 ghost use Rattle.xr_model.specs.scenario.ScriptForm.{AllInForm};
 ghost use Rattle.xr_model.specs.machine.State.{opening};
 ghost use Rattle.xr_serial.specs.Ran.{settings_of};
-ghost use Rattle.xr_serial.specs.inside.Sides.{Prospect, prospect, new_app, EndTurn};
+ghost use Rattle.xr_device.specs.Prospect.{Prospect};
+ghost use Rattle.xr_serial.specs.inside.Sides.{new_app, EndTurn};
 ghost use Rattle.xr_serial.specs.inside.Turns.{actors_of, turn_behind};
 ghost use Rattle.xr_serial.specs.inside.RunInvariant.{RunInvariant};
 
@@ -111,13 +112,13 @@ fn device_turn<D: Device>(
     requires most { length scenario.now.scripts ≤ 8 }
     requires few { sum_by length scenario.now.scripts < 2 ^ 22 }
     requires kept { (idle : ℕ) × (start : Prospect) × (idle < actors_of scenario.now)
-        × RunInvariant scenario.now (length scenario.now.scripts) idle machine.old run.old start (prospect (D.remaining device.old) (D.faults device.old) (D.bound device.old)) }
+        × RunInvariant scenario.now (length scenario.now.scripts) idle machine.old run.old start (D.prospect device.old) }
     ensures kept { IfOk result (λ went. (idle : ℕ) (start : Prospect) → idle < actors_of scenario.now
-        → RunInvariant scenario.now (length scenario.now.scripts) idle machine.old run.old start (prospect (D.remaining device.old) (D.faults device.old) (D.bound device.old))
-        → RunInvariant scenario.now (turn_behind (length scenario.now.scripts) (actors_of scenario.now)) (if went then 0 else idle + 1) machine.new run.new start (prospect (D.remaining device.new) (D.faults device.new) (D.bound device.new))) }
+        → RunInvariant scenario.now (length scenario.now.scripts) idle machine.old run.old start (D.prospect device.old)
+        → RunInvariant scenario.now (turn_behind (length scenario.now.scripts) (actors_of scenario.now)) (if went then 0 else idle + 1) machine.new run.new start (D.prospect device.new)) }
     ensures counts { IfOk result (λ went. machine.new.core.locked ≡ machine.old.core.locked + (if went then 1 else 0)) }
-    ensures later { D.faults device.old ≤ D.faults device.new }
-    ensures which { D.which device.new ≡ D.which device.old }
+    ensures later { (D.prospect device.old).faults ≤ (D.prospect device.new).faults }
+    ensures which { (D.prospect device.new).which ≡ (D.prospect device.old).which }
 {
     run.side.look(device);
     let Some(event) = run.side.pending else {
@@ -133,6 +134,9 @@ fn end(alloc: Global, machine: &mut Machine, ended: &mut Option<Reply>) -> Resul
     requires open { ended.old ≡ None }
     ensures { IfOk result (λ went. EndTurn ended.new machine.old machine.new went) }
 {
+    if machine.next_frame_waits() {
+        return Ok(false);
+    }
     let Some(answered) = machine.make(alloc, Actor::Compositor, &Call::NextFrame)? else {
         return Ok(false);
     };
@@ -177,13 +181,13 @@ fn one_turn<D: Device>(
     requires built { list_all (list_all is_built_op) scenario.now.scripts ≡ true }
     requires within { turn < actors_of scenario.now }
     requires kept { (idle : ℕ) × (start : Prospect) × (idle < actors_of scenario.now)
-        × RunInvariant scenario.now turn idle machine.old run.old start (prospect (D.remaining device.old) (D.faults device.old) (D.bound device.old)) }
+        × RunInvariant scenario.now turn idle machine.old run.old start (D.prospect device.old) }
     ensures kept { IfOk result (λ went. (idle : ℕ) (start : Prospect) → idle < actors_of scenario.now
-        → RunInvariant scenario.now turn idle machine.old run.old start (prospect (D.remaining device.old) (D.faults device.old) (D.bound device.old))
-        → RunInvariant scenario.now (turn_behind turn (actors_of scenario.now)) (if went then 0 else idle + 1) machine.new run.new start (prospect (D.remaining device.new) (D.faults device.new) (D.bound device.new))) }
+        → RunInvariant scenario.now turn idle machine.old run.old start (D.prospect device.old)
+        → RunInvariant scenario.now (turn_behind turn (actors_of scenario.now)) (if went then 0 else idle + 1) machine.new run.new start (D.prospect device.new)) }
     ensures counts { IfOk result (λ went. machine.new.core.locked ≡ machine.old.core.locked + (if went then 1 else 0)) }
-    ensures later { D.faults device.old ≤ D.faults device.new }
-    ensures which { D.which device.new ≡ D.which device.old }
+    ensures later { (D.prospect device.old).faults ≤ (D.prospect device.new).faults }
+    ensures which { (D.prospect device.new).which ≡ (D.prospect device.old).which }
 {
     let apps = scenario.scripts.as_slice().len();
     if turn < apps {
@@ -208,12 +212,12 @@ pub(crate) fn go_on<D: Device>(
     requires few { sum_by length scenario.now.scripts < 2 ^ 22 }
     requires formed { AllInForm scenario.now.scripts }
     requires built { list_all (list_all is_built_op) scenario.now.scripts ≡ true }
-    requires kept { (start : Prospect) × RunInvariant scenario.now 0 0 machine.old run.old start (prospect (D.remaining device.old) (D.faults device.old) (D.bound device.old)) }
+    requires kept { (start : Prospect) × RunInvariant scenario.now 0 0 machine.old run.old start (D.prospect device.old) }
     ensures kept { OnOk result ((start : Prospect)
-        → RunInvariant scenario.now 0 0 machine.old run.old start (prospect (D.remaining device.old) (D.faults device.old) (D.bound device.old))
-        → (turn : ℕ) × (turn < actors_of scenario.now) × RunInvariant scenario.now turn (actors_of scenario.now) machine.new run.new start (prospect (D.remaining device.new) (D.faults device.new) (D.bound device.new))) }
-    ensures later { D.faults device.old ≤ D.faults device.new }
-    ensures which { D.which device.new ≡ D.which device.old }
+        → RunInvariant scenario.now 0 0 machine.old run.old start (D.prospect device.old)
+        → (turn : ℕ) × (turn < actors_of scenario.now) × RunInvariant scenario.now turn (actors_of scenario.now) machine.new run.new start (D.prospect device.new)) }
+    ensures later { (D.prospect device.old).faults ≤ (D.prospect device.new).faults }
+    ensures which { (D.prospect device.new).which ≡ (D.prospect device.old).which }
 {
     let actors = scenario.scripts.as_slice().len() + 2;
     let mut turn = 0;

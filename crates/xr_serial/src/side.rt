@@ -3,7 +3,8 @@ ghost use Rattle.std.specs.Prelude.{◌≡◌, ◌≤◌, ◌<◌, ◌^◌, ℕ,
 ghost use Rattle.xr_types.specs.declared.scenario.Scenario.{Scenario};
 ghost use Rattle.xr_model.specs.machine.State.{State};
 ghost use Rattle.xr_serial.specs.inside.RunState.{RunState};
-ghost use Rattle.xr_serial.specs.inside.Sides.{IsDone, Prospect, prospect, Fetched, EventTurn, side_asked};
+ghost use Rattle.xr_device.specs.Prospect.{Prospect};
+ghost use Rattle.xr_serial.specs.inside.Sides.{IsDone, Fetched, EventTurn, side_asked};
 ghost use Rattle.xr_serial.specs.inside.RunInvariant.{RunInvariant};
 
 use crate::calls::add;
@@ -48,11 +49,11 @@ impl DeviceSide {
     fn fetch<D: Device>(&mut self, device: &mut D)
         requires unknown { self.old.pending ≡ None }
         requires going { self.old.over ≡ false }
-        ensures fetched { Fetched (prospect (D.remaining device.old) (D.faults device.old) (D.bound device.old)) (prospect (D.remaining device.new) (D.faults device.new) (D.bound device.new)) self.new.pending self.new.over }
+        ensures fetched { Fetched (D.prospect device.old) (D.prospect device.new) self.new.pending self.new.over }
         ensures same { self.new ≡ side_asked self.old self.new.pending self.new.over }
         ensures done { IfSome self.new.pending IsDone }
-        ensures later { D.faults device.old ≤ D.faults device.new }
-        ensures which { D.which device.new ≡ D.which device.old }
+        ensures later { (D.prospect device.old).faults ≤ (D.prospect device.new).faults }
+        ensures which { (D.prospect device.new).which ≡ (D.prospect device.old).which }
     {
         match device.next() {
             Next::Event(event) => self.pending = Some(event),
@@ -72,13 +73,13 @@ impl DeviceSide {
     pub(crate) fn look<D: Device>(&mut self, device: &mut D)
         requires done { IfSome self.old.pending IsDone }
         ensures kept { (scenario : Scenario) (turn idle : ℕ) (s : State) (run : RunState) (start : Prospect)
-            → RunInvariant scenario turn idle s (record run { side = self.old }) start (prospect (D.remaining device.old) (D.faults device.old) (D.bound device.old))
-            → RunInvariant scenario turn idle s (record run { side = self.new }) start (prospect (D.remaining device.new) (D.faults device.new) (D.bound device.new)) }
+            → RunInvariant scenario turn idle s (record run { side = self.old }) start (D.prospect device.old)
+            → RunInvariant scenario turn idle s (record run { side = self.new }) start (D.prospect device.new) }
         ensures known { self.new.pending ≡ None → self.new.over ≡ true }
         ensures done { IfSome self.new.pending IsDone }
         ensures calls { self.new.calls ≡ self.old.calls }
-        ensures later { D.faults device.old ≤ D.faults device.new }
-        ensures which { D.which device.new ≡ D.which device.old }
+        ensures later { (D.prospect device.old).faults ≤ (D.prospect device.new).faults }
+        ensures which { (D.prospect device.new).which ≡ (D.prospect device.old).which }
     {
         if self.pending.is_none() && !self.over {
             self.fetch(device);

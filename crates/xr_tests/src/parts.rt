@@ -1,6 +1,7 @@
 // Parts that no run reaches yet: handles of kinds that no call makes, states of a session that follow the first frame,
-// valid names, and a device that is a list.
+// valid names, a device that is a list, and lists that give their `Vec` back.
 mod devices;
 mod handles;
+mod lists;
 mod names;
 mod states;

@@ -19,6 +19,13 @@ impl Model for Bytes {
 }
 
 impl Bytes {
+    /// The bytes of a `Vec`. Takes no memory.
+    pub fn new(bytes: Vec<u8>) -> Bytes
+        ensures { result ≡ bytes.items }
+    {
+        Bytes { kept: bytes }
+    }
+
     /// A copy of a text.
     pub fn from_slice(alloc: Global, text: &[u8]) -> Result<Bytes, AllocError>
         ensures { IfOk result (λ bytes. bytes ≡ text.now) }
@@ -31,6 +38,14 @@ impl Bytes {
         ensures { result.now ≡ self.now }
     {
         self.kept.as_slice()
+    }
+
+    /// Gives the bytes back. Takes no memory.
+    pub fn into_vec(self) -> Vec<u8>
+        ensures { result.items ≡ self }
+    {
+        let Bytes { kept } = self;
+        kept
     }
 }
 
@@ -60,5 +75,13 @@ impl<T> Several<T> {
         ensures { result.now ≡ self.now }
     {
         self.items.as_slice()
+    }
+
+    /// Gives the items back. Takes no memory.
+    pub fn into_vec(self) -> Vec<T>
+        ensures { result.items ≡ self }
+    {
+        let Several { items } = self;
+        items
     }
 }

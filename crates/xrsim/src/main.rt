@@ -1,6 +1,6 @@
 //! `xrsim` runs a scenario of OpenXR calls on the written machine, beside a device if one is named, and prints
-//! its report. The top call is `xr_drive`'s, over any files and output. This file makes the real ones, says in one
-//! line how a run ended that isn't done, and ends with the status's number; `help` has what the program says of itself.
+//! its report. The top call is `xr_drive`'s, over any files and output, and so is what a program does with its status.
+//! This file makes the real ones; `help` has what the program says of itself.
 #![tactic(auto)]
 
 mod help;
@@ -8,48 +8,43 @@ mod help;
 use help::text_for;
 use std::alloc::Global;
 use std::env;
-use std::io::{Eprint, ErrorKind, Print};
+use std::io::{ErrorKind, Print};
 use std::process::ExitCode;
-use std::rt::Files;
-use xr_drive::{exit_of, explanation_of, run_serial, write_all};
+use std::rt::Env;
+use xr_drive::{end_with, run_program, write_all};
 use xr_io::{FileOpener, StdSink};
 use xr_types::Status;
 
-/// Says on standard error, in one line, how it ended where not all is done. What can't be said is dropped.
-fn explain<R: Eprint>(rt: &R, status: Status) {
-    if let Some(line) = explanation_of(status) {
-        let _ = eprintln!(rt; "{line}");
+/// The words behind the program's name, or the status with which it ends.
+fn words<R: Env + Alloc<A = Global>>(rt: &R) -> Result<Vec<String>, Status> {
+    let given = match env::args(rt) {
+        Ok(given) => given,
+        Err(e) if e.kind() == ErrorKind::OutOfMemory => return Err(Status::NoMemory),
+        Err(_) => return Err(Status::Usage),
+    };
+    match given.skip(1).collect::<Vec<String>>(rt.alloc()) {
+        Ok(words) => Ok(words),
+        Err(_) => Err(Status::NoMemory),
     }
 }
 
-/// Does what the words ask for, with real files and standard output.
-fn answer<R: Files + Print>(rt: &R, alloc: Global, words: &[String]) -> Status {
-    let mut sink = StdSink::new(rt);
-    if let Some(text) = text_for(words) {
-        return match write_all(&mut sink, text.as_bytes()) {
-            Ok(()) => Status::Done,
-            Err(_) => Status::WriteFault,
-        };
+/// Prints what the program says of itself.
+fn print<R: Print>(rt: &R, text: &str) -> Status {
+    match write_all(&mut StdSink::new(rt), text.as_bytes()) {
+        Ok(()) => Status::Done,
+        Err(_) => Status::WriteFault,
     }
-    let mut opener = FileOpener::new(rt);
-    run_serial(alloc, words, &mut opener, &mut sink)
 }
 
 fn main(rt: HostRuntime) -> ExitCode {
-    let alloc = rt.alloc();
-    let status = match env::args(&rt) {
-        Ok(given) => match given.skip(1).collect::<Vec<String>>(alloc) {
-            Ok(words) => answer(&rt, alloc, words.as_slice()),
-            Err(_) => Status::NoMemory,
-        },
-        Err(e) => {
-            if e.kind() == ErrorKind::OutOfMemory {
-                Status::NoMemory
-            } else {
-                Status::Usage
-            }
-        }
+    let words = match words(&rt) {
+        Ok(words) => words,
+        Err(status) => return end_with(&rt, status),
     };
-    explain(&rt, status);
-    ExitCode::from(exit_of(status))
+    if let Some(text) = text_for(words.as_slice()) {
+        return end_with(&rt, print(&rt, text));
+    }
+    let mut opener = FileOpener::new(&rt);
+    let mut sink = StdSink::new(&rt);
+    run_program(&rt, rt.alloc(), words.as_slice(), &mut opener, &mut sink)
 }

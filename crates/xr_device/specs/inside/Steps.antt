@@ -4,7 +4,7 @@ use Rattle.xr_model.specs.device_text.DeviceText.{DeviceStream}
 use Rattle.xr_device.specs.declared.Next.{Next}
 use Rattle.xr_device.specs.declared.text.Step.{Step}
 use Rattle.xr_device.specs.declared.text.Step.TheVariants as step
-use Rattle.xr_device.specs.Answers.{Tells, UnlessFailed}
+use Rattle.xr_device.specs.Answers.{Tells, OnFailed, UnlessFailed}
 use Rattle.xr_device.specs.Texts.{KeepsTold}
 
 -- what holds where the step gives no answer yet
@@ -16,6 +16,11 @@ OnGoing (step.Answer answer) P = Unit {0}
 abbrev pub OnAnswer : Step → (Next → Type 0) → Type 0
 OnAnswer step.GoesOn P = Unit {0}
 OnAnswer (step.Answer answer) P = P answer
+
+-- what holds where the step found that the text can't be read on
+abbrev pub OnStepFailed : Step → Type 0 → Type 0
+OnStepFailed step.GoesOn P = Unit {0}
+OnStepFailed (step.Answer answer) P = OnFailed answer P
 
 -- what holds unless the step found that the text can't be read on
 abbrev pub UnlessStepFailed : Step → Type 0 → Type 0

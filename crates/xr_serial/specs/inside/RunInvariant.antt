@@ -19,7 +19,8 @@ use Rattle.xr_model.specs.report.RunEnding.{is_fault}
 use Rattle.xr_model.specs.runs.Lists.{made_from, events_in}
 use Rattle.xr_serial.specs.inside.Made.{exchange_of}
 use Rattle.xr_serial.specs.inside.RunState.{AppState, SideState, RunState}
-use Rattle.xr_serial.specs.inside.Sides.{IsDone, Prospect}
+use Rattle.xr_device.specs.Prospect.{Prospect}
+use Rattle.xr_serial.specs.inside.Sides.{IsDone}
 use Rattle.xr_serial.specs.inside.Turns.{parts_of, pending_list}
 use Rattle.xr_serial.specs.inside.Past.{Standing}
 use Rattle.xr_serial.specs.Ran.{Gave, AreLineEvents}
@@ -56,7 +57,7 @@ GivesMore (Some t) (Some rest) given = t ≡ record { events = given ++ rest.eve
 -- Nothing more comes behind these events, but what it does last by its ending.
 pub record GaveAll (told : Option DeviceStream) (given closing : List DeviceEvent) (before now : ℕ) : Type 0 where
   pub ending : Option Ending
-  pub gave : Gave told given ending
+  pub gave : Gave told (length given) given ending
   pub last : closing ≡ last_event ending
   pub fault : list_any is_fault closing ≡ true → Rose before now
 
@@ -70,6 +71,7 @@ pub record DeviceKept (side : SideState) (calls : List request.Exchange) (start 
   pub closing : List DeviceEvent
   pub begun : given ++ closing ≡ events_in calls ++ pending_list side.pending
   pub came : Came start now given closing side.over
+  pub counted : now.given ≡ start.given + length given
   pub faultless : list_any is_fault given ≡ false
   pub sound : AreLineEvents given
   pub done : IfSome side.pending IsDone

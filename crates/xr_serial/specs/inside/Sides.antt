@@ -6,7 +6,7 @@ use Rattle.xr_types.specs.declared.device.DeviceEvent.TheVariants as event
 use Rattle.xr_types.specs.Device.{checks}
 use Rattle.xr_io.specs.Outside.{Rose}
 use Rattle.xr_model.specs.machine.Device.{is_built_event}
-use Rattle.xr_model.specs.device_text.DeviceText as device_text
+use Rattle.xr_device.specs.Prospect.{Prospect}
 use Rattle.xr_device.specs.Answers.{Tells, IsTold}
 use Rattle.xr_device.specs.declared.Next.TheVariants as next
 use Rattle.xr_types.specs.declared.calls.Reply.{Reply}
@@ -74,22 +74,12 @@ pub record IsDone (e : DeviceEvent) : Type 0 where
   pub checked : checks e ≡ true
   pub built : is_built_event e ≡ true
 
--- What is known of a device: what is still to come where it tells that, how often it couldn't be read, and how many events
--- are still to come at most.
-pub record Prospect : Type 0 where
-  pub remaining : Option device_text.DeviceStream
-  pub faults : ℕ
-  pub bound : ℕ
-
-abbrev pub prospect : Option device_text.DeviceStream → ℕ → ℕ → Prospect
-prospect remaining faults bound = record { remaining = remaining; faults = faults; bound = bound }
-
 -- What the device was asked for its next event came to: an event, its end, a line that is none, or a fault.
 abbrev pub Fetched : Prospect → Prospect → Option DeviceEvent → Bool → Type 0
-Fetched old new (Some e) false = Tells old.remaining new.remaining (next.Event e) × IsTold e × (new.bound < old.bound) × (new.faults ≡ old.faults)
-Fetched old new None true = Tells old.remaining new.remaining next.End × (new.bound ≤ old.bound) × (new.faults ≡ old.faults)
-Fetched old new (Some event.Fault) true = Rose old.faults new.faults × (new.bound ≤ old.bound)
-Fetched old new (Some (event.Garbled line)) true = Tells old.remaining new.remaining (next.Garbled line) × (new.bound ≤ old.bound) × (new.faults ≡ old.faults)
+Fetched old new (Some e) false = Tells old.remaining new.remaining (next.Event e) × IsTold e × (new.bound < old.bound) × (new.faults ≡ old.faults) × (new.given ≡ old.given + 1)
+Fetched old new None true = Tells old.remaining new.remaining next.End × (new.bound ≤ old.bound) × (new.faults ≡ old.faults) × (new.given ≡ old.given)
+Fetched old new (Some event.Fault) true = Rose old.faults new.faults × (new.bound ≤ old.bound) × (new.given ≡ old.given)
+Fetched old new (Some (event.Garbled line)) true = Tells old.remaining new.remaining (next.Garbled line) × (new.bound ≤ old.bound) × (new.faults ≡ old.faults) × (new.given ≡ old.given)
 Fetched old new _ _ = ⊥
 
 -- the device's side once it was asked

@@ -1,5 +1,5 @@
 use Rattle.std.proofs.Common.{◌-◌, ◌≡◌, ◌≤◌, ◌<◌, ◌+◌, ◌*◌}
-use Rattle.xr_serial.specs.inside.Sides.{Prospect, prospect}
+use Rattle.xr_device.specs.Prospect.{Prospect}
 use Rattle.xr_serial.specs.inside.RunInvariant.{most_calls, RunInvariant}
 use Rattle.xr_serial.proofs.rounds.go_on.Given as goal
 
@@ -8,10 +8,10 @@ invariant-loop-idle g l = record {
   most : l.idle ≤ l.actors;
   turn : l.turn < l.actors;
   kept : (start : Prospect)
-      → RunInvariant l.scenario 0 0 l.fn.machine l.fn.run start (prospect (g.D.Device.remaining l.fn.device) (g.D.Device.faults l.fn.device) (g.D.Device.bound l.fn.device))
-      → RunInvariant l.scenario l.turn l.idle l.machine l.run start (prospect (g.D.Device.remaining l.device) (g.D.Device.faults l.device) (g.D.Device.bound l.device));
-  later : g.D.Device.faults l.fn.device ≤ g.D.Device.faults l.device;
-  which : g.D.Device.which l.device ≡ g.D.Device.which l.fn.device;
+      → RunInvariant l.scenario 0 0 l.fn.machine l.fn.run start (g.D.Device.prospect l.fn.device)
+      → RunInvariant l.scenario l.turn l.idle l.machine l.run start (g.D.Device.prospect l.device);
+  later : (g.D.Device.prospect l.fn.device).faults ≤ (g.D.Device.prospect l.device).faults;
+  which : (g.D.Device.prospect l.device).which ≡ (g.D.Device.prospect l.fn.device).which;
 }
 
 -- a call that is made takes one of those that are to come; a round at most behind it makes none

@@ -1,5 +1,4 @@
 use Rattle.std.proofs.Common.{rules, ◌≡◌, false, None}
-use Rattle.xr_serial.specs.inside.Sides.{prospect}
 use Rattle.xr_serial.proofs.DeviceTurns.{looked_from}
 use Rattle.xr_serial.proofs.side.DeviceSide.look.Goals as goal
 
@@ -10,5 +9,5 @@ returns-then-not-self-clause-kept g c =
     let unknown : old.pending ≡ None = search rules in
     let going : old.over ≡ false = search rules in
     λ scenario turn idle s run start kept.
-    looked_from scenario turn idle s run old start (prospect (g.D.Device.remaining c.args.device.now) (g.D.Device.faults c.args.device.now) (g.D.Device.bound c.args.device.now))
-    (prospect (g.D.Device.remaining c.fetch.new.device) (g.D.Device.faults c.fetch.new.device) (g.D.Device.bound c.fetch.new.device)) c.fetch.ensures.later new unknown going c.fetch.ensures.fetched c.fetch.ensures.same kept
+    looked_from scenario turn idle s run old start (g.D.Device.prospect c.args.device.now)
+    (g.D.Device.prospect c.fetch.new.device) c.fetch.ensures.later new unknown going c.fetch.ensures.fetched c.fetch.ensures.same kept

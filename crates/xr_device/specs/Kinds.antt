@@ -1,0 +1,46 @@
+-- What contracts see of the two kinds of devices: one that reads a text, and one that holds its events.
+use Rattle.std.specs.Prelude.{ℕ, ◌-◌, ◌==◌, Bool, List, length, min, Option, Some, if◌then◌else◌}
+use Rattle.xr_io.specs.declared.Which.{Which}
+use Rattle.xr_io.specs.declared.Which.TheVariants.{Device}
+use Rattle.xr_types.specs.declared.device.DeviceEvent.{DeviceEvent}
+use Rattle.xr_model.specs.device_text.DeviceText.{DeviceStream, ends, nothing_more}
+use Rattle.xr_device.specs.Prospect.{Prospect}
+
+-- A reading of a text: what the rest of it tells, where its bytes are told; whether the reading is over; how many events it
+-- gave; the bytes that it holds, and how many were used before them; how often a read failed; and which of the two files it
+-- is of.
+pub record TextReading : Type 0 where
+  pub text : Option DeviceStream
+  pub over : Bool
+  pub given : ℕ
+  pub held : List ℕ
+  pub used : ℕ
+  pub faults : ℕ
+  pub which : Which
+
+-- nothing is to come once the reading is over; an event takes at least a byte of the text
+abbrev pub of_text : TextReading → Prospect
+of_text r = record {
+  remaining = if r.over then Some nothing_more else r.text;
+  over = r.over;
+  given = r.given;
+  bound = if r.over then 0 else 16777216 - r.used;
+  faults = r.faults;
+  which = r.which;
+}
+
+-- A list of events: those that are still to come, and how many were given.
+pub record Stored : Type 0 where
+  pub events : List DeviceEvent
+  pub given : ℕ
+
+-- no list has more than so many, and it never fails
+abbrev pub of_list : Stored → Prospect
+of_list s = record {
+  remaining = Some (record { events = s.events; ending = ends });
+  over = length s.events == 0;
+  given = s.given;
+  bound = min (length s.events) 16777216;
+  faults = 0;
+  which = Device;
+}
