@@ -6,10 +6,12 @@
 mod lines;
 mod round;
 mod runs;
+mod texts;
 
 use lines::{read_lines, text_of_lines};
 use round::{CALLS, TEXT, round};
 use runs::{TURNS, text_of_passes, text_of_waits, time_runs};
+use texts::{text_of_marks, text_of_names, text_of_polls, time_readings};
 use serde_json::Value;
 use std::alloc::Global;
 use std::io::Print;
@@ -25,7 +27,8 @@ second it answers. Then it reads the calls of a round as a scenario with serde_j
 most 100000 times, and prints how many ops a second are read; and then a device text of 16777208 bytes, and
 prints how many lines a second are read. Last it runs eight scripts that pass marks round, 20 times, and prints
 how many calls a second these make; and seven scripts that wait for an eighth, and prints how many turns a
-second there are.
+second there are. It reads three scenarios of 16001 ops, 10 times each, and prints how long that took, beside
+how long their JSON alone took to be read: of polls, of marks, and of names that differ at their ends alone.
 ";
 
 /// So many things in so many microseconds, a second.
@@ -122,14 +125,50 @@ fn measure_runs<R: Clock + Print>(rt: &R, alloc: Global) -> io::Result<bool> {
     Ok(true)
 }
 
-/// Measures all four; whether memory was found.
+/// Measures how a text is read.
+fn measure_text<R: Clock + Print>(
+    rt: &R,
+    alloc: Global,
+    what: &str,
+    text: &[u8],
+) -> io::Result<bool> {
+    let Some(took) = time_readings(rt, alloc, text)? else {
+        return Ok(false);
+    };
+    let json = took.json.max(1);
+    println!(rt;
+        "reading {what}: {} microseconds, {} of them the JSON, {} percent of that",
+        took.scenario,
+        took.json,
+        took.scenario.saturating_mul(100) / json
+    )?;
+    Ok(true)
+}
+
+/// Measures how three kinds of texts are read.
+fn measure_texts<R: Clock + Print>(rt: &R, alloc: Global) -> io::Result<bool> {
+    let (Ok(polls), Ok(marks), Ok(names)) = (
+        text_of_polls(alloc),
+        text_of_marks(alloc),
+        text_of_names(alloc),
+    ) else {
+        return Ok(false);
+    };
+    let polls = measure_text(rt, alloc, "polls", polls.as_slice())?;
+    let marks = measure_text(rt, alloc, "marks", marks.as_slice())?;
+    let names = measure_text(rt, alloc, "names", names.as_slice())?;
+    Ok(polls && marks && names)
+}
+
+/// Measures all five; whether memory was found.
 fn measure<R: Clock + Print>(rt: &R, alloc: Global, rounds: u64) -> io::Result<bool> {
     let readings = (rounds / 10).min(100_000);
     let core = measure_core(rt, alloc, rounds)?;
     let reading = measure_reading(rt, alloc, readings)?;
     let lines = measure_lines(rt, alloc)?;
     let runs = measure_runs(rt, alloc)?;
-    Ok(core && reading && lines && runs)
+    let texts = measure_texts(rt, alloc)?;
+    Ok(core && reading && lines && runs && texts)
 }
 
 /// The rounds that the words ask for.

@@ -9,7 +9,7 @@ use xr_io::Source;
 /// How many bytes are read at most: one more than a scenario may have.
 const LIMIT: usize = 1_048_577;
 
-const CHUNK: usize = 4096;
+const CHUNK: usize = 65_536;
 
 /// Why a reading stops before the end.
 pub(crate) enum Stop {

@@ -1,5 +1,6 @@
 // Files and standard output behind the traits. These few lines are trusted to pass on what the
-// system does: they tell no bytes, and count each error. A count stops at the largest u64.
+// system does: they tell no bytes, and count each error. A count stops at the largest u64. A call that was
+// interrupted is made again, some times.
 ghost use Rattle.std.specs.Prelude.{◌≡◌, ◌≢◌, ◌≤◌, ◌<◌, true, false, length, Some, None, IfOk, OnOk, OnErr, is_err};
 ghost use Rattle.std.specs.Io.{ReadsAtMost, WritesAtMost};
 ghost use Rattle.std.specs.Io.KnownBytes.{ReadConsumes, WriteAppends};
@@ -11,10 +12,13 @@ ghost use Rattle.xr_io.specs.Files.{no_bytes, is_write_fault};
 use crate::requests::Requests;
 use crate::{MOST_NAME, Opener, Sink, Source, Which};
 use std::fs;
-use std::io::{Print, Read};
+use std::io::{ErrorKind, Print, Read};
 use std::marker::Model;
 use std::rt::Files;
 use xr_types::Failed;
+
+/// How often a call is made at most, where a signal interrupts it each time.
+const MOST_TRIES: u32 = 100;
 
 /// An opened file. It tells no bytes.
 #[derive(Drop)]
@@ -41,6 +45,20 @@ impl<F> FileSource<F> {
     }
 }
 
+/// Reads the next bytes, once more where that was interrupted.
+fn read_again<F: Read>(file: &mut F, buf: &mut [u8]) -> Result<usize, Failed>
+    ensures { ReadsAtMost result buf.new }
+{
+    for _ in 0..MOST_TRIES {
+        match file.read(buf) {
+            Ok(count) => return Ok(count),
+            Err(e) if e.kind() == ErrorKind::Interrupted => {}
+            Err(_) => break,
+        }
+    }
+    Err(Failed)
+}
+
 impl<F: Read> Source for FileSource<F> {
     ghost left = { λ source. no_bytes };
 
@@ -48,7 +66,8 @@ impl<F: Read> Source for FileSource<F> {
 
     ghost faults = { λ source. source.faults };
 
-    /// `Failed` comes where the system's read fails, and there alone the count rises.
+    /// `Failed` comes where the system's read fails, or was interrupted a hundred times in a row, and there alone the count
+    /// rises.
     fn read(&mut self, buf: &mut [u8]) -> Result<usize, Failed>
         ensures bound { ReadsAtMost result buf.new }
         ensures bytes { ReadConsumes no_bytes no_bytes result buf.new }
@@ -57,7 +76,7 @@ impl<F: Read> Source for FileSource<F> {
         ensures kept { OnOk result (self.new.faults ≡ self.old.faults) }
         ensures rises { self.new.faults ≡ raised_if (is_err result) self.old.faults }
     {
-        if let Ok(count) = self.file.read(buf) {
+        if let Ok(count) = read_again(&mut self.file, buf) {
             return Ok(count);
         }
         self.faults = self.faults.saturating_add(1);
@@ -182,6 +201,20 @@ impl<'r, R: Files> Opener for FileOpener<'r, R> {
     }
 }
 
+/// Writes the first bytes of a piece, once more where that was interrupted.
+fn write_again<P: Print>(out: &P, piece: &[u8]) -> Result<usize, Failed>
+    ensures { WritesAtMost result piece.now }
+{
+    for _ in 0..MOST_TRIES {
+        match out.write_some(piece) {
+            Ok(count) => return Ok(count),
+            Err(e) if e.kind() == ErrorKind::Interrupted => {}
+            Err(_) => break,
+        }
+    }
+    Err(Failed)
+}
+
 /// Standard output. It tells no bytes.
 #[derive(Drop)]
 pub struct StdSink<'r, P> {
@@ -219,8 +252,9 @@ impl<'r, P: Print> Sink for StdSink<'r, P> {
 
     ghost faults = { λ sink. sink };
 
-    /// Makes one call of the system. `Failed` comes where that fails. The count rises there, and
-    /// where nothing was taken of a piece that has bytes, and nowhere else.
+    /// Makes one call of the system, and another where that was interrupted. `Failed` comes where it fails, or was
+    /// interrupted a hundred times in a row. The count rises there, and where nothing was taken of a piece that has
+    /// bytes, and nowhere else.
     fn write(&mut self, piece: &[u8]) -> Result<usize, Failed>
         ensures bound { WritesAtMost result piece.now }
         ensures bytes { WriteAppends no_bytes no_bytes result piece.now }
@@ -230,7 +264,7 @@ impl<'r, P: Print> Sink for StdSink<'r, P> {
         ensures empty { OnOk result (length piece.now ≡ 0 → self.new ≡ self.old) }
         ensures rises { self.new ≡ raised_if (is_write_fault result (length piece.now)) self.old }
     {
-        let Ok(count) = self.out.write_some(piece) else {
+        let Ok(count) = write_again(self.out, piece) else {
             self.faults = self.faults.saturating_add(1);
             return Err(Failed);
         };

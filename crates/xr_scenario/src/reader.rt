@@ -44,6 +44,17 @@ fn keep<'v>(
     Ok(())
 }
 
+/// An empty list with room for so many items.
+fn room_for<T>(alloc: Global, count: usize) -> Result<Vec<T>, ScenarioFault>
+    ensures empty { IfOk result (λ list. list.items ≡ []) }
+    ensures cause { IfErr result (λ e. e ≡ NoMemory) }
+{
+    match Vec::with_capacity(alloc, count) {
+        Ok(list) => Ok(list),
+        Err(_) => Err(ScenarioFault::NoMemory),
+    }
+}
+
 fn add<T: Drop>(list: &mut Vec<T>, item: T) -> Result<(), ScenarioFault>
     ensures kept { OnOk result (list.new.items ≡ list.old.items ++ item ∷ []) }
     ensures cause { IfErr result (λ e. e ≡ NoMemory) }
@@ -62,7 +73,7 @@ fn read_ops(alloc: Global, script: u32, values: &[Value]) -> Result<Script, Scen
     ensures formed { IfOk result (λ ops. IsInForm ops) }
 {
     let mut named_ops = NamedOps::new(alloc);
-    let mut ops: Vec<Op> = Vec::new(alloc);
+    let mut ops: Vec<Op> = room_for(alloc, values.len())?;
     let mut place = 0;
     for value in values {
         place += 1;
