@@ -11,13 +11,13 @@ mod texts;
 use lines::{read_lines, text_of_lines};
 use round::{CALLS, TEXT, round};
 use runs::{TURNS, text_of_passes, text_of_waits, time_runs};
-use texts::{text_of_marks, text_of_names, text_of_polls, time_readings};
 use serde_json::Value;
 use std::alloc::Global;
 use std::io::Print;
 use std::process::ExitCode;
 use std::time::{Clock, Instant};
 use std::{env, io};
+use texts::{text_of_marks, text_of_names, text_of_polls, time_readings};
 use xr_core::Core;
 
 const HELP: &str = "\

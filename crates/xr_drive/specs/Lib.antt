@@ -1,3 +1,4 @@
 pub mod Run
 pub mod Top
+pub mod Lines
 pub mod inside

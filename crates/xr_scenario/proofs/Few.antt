@@ -16,7 +16,7 @@ use Rattle.xr_types.specs.declared.status.Refusal.{Refusal}
 use Rattle.xr_types.specs.declared.status.What.{What}
 use Rattle.xr_model.specs.scenario.Names.{NamedOp}
 use Rattle.xr_model.specs.scenario.ReadOp.{ReadOp}
-use Rattle.xr_model.specs.scenario.OpReading.{op_of, read_op_of, with_name}
+use Rattle.xr_model.specs.scenario.OpReading.{read_op_of, with_name}
 use Rattle.xr_model.specs.scenario.Scenario.{and_first, after_op, ops_from, script_of, after_script, scripts_from, scripts_by, scripts_in, has_version, scenario_by, scenario_in, scenario_if, scenario_of}
 use Rattle.xr_scenario.specs.Size.{size, items_size, members_size}
 use Rattle.xr_scenario.specs.Few.{FewOps}
@@ -47,7 +47,7 @@ ops_few script place names no_items = omega arith
 ops_few script place names (item d ds) = by (read_op_of names d) (λ l. ops_few script (place + 1) (with_name place l names) ds)
   where
     by : (r : Result ReadOp What) → ((l : ReadOp) → AtMost length (items_size ds) (ops_from script (place + 1) (with_name place l names) ds))
-        → AtMost length (size d + items_size ds) (after_op script place (op_of d) r (λ l. ops_from script (place + 1) (with_name place l names) ds))
+        → AtMost length (size d + items_size ds) (after_op script place r (λ l. ops_from script (place + 1) (with_name place l names) ds))
     by (Ok l) h = more_ops l.op (items_size ds) (size d + items_size ds) (ops_from script (place + 1) (with_name place l names) ds) (omega (arith, size-positive d)) (h l)
     by (Err e) h = tt
 

@@ -7,7 +7,7 @@ use Rattle.xr_types.specs.declared.scenario.Op.{Op}
 use Rattle.xr_types.specs.declared.status.Refusal.{Refusal}
 use Rattle.xr_model.specs.scenario.Names.{NamedOp}
 use Rattle.xr_model.specs.scenario.ReadOp.{ReadOp}
-use Rattle.xr_model.specs.scenario.OpReading.{op_of, read_op_of, with_name}
+use Rattle.xr_model.specs.scenario.OpReading.{read_op_of, with_name}
 use Rattle.xr_model.specs.scenario.Scenario.{and_first, after_op, ops_from, script_of, after_script, scripts_from}
 use Rattle.xr_scenario_fields.proofs.Items.{count_items-view}
 use Rattle.xr_scenario.specs.Size.{size, items_size}
@@ -32,14 +32,14 @@ items_step vs i d h = rw (add-one, drop-cons vs i d) refl
 
 -- what is read from the value at i on
 pub ops_step : (script place : ℕ) (names : List NamedOp) (vs : List Value) (i : ℕ) (d : Value) → i < length vs
-    → ops_from script place names (items_view (drop i vs)) ≡ after_op script place (op_of (view (get_or vs i d))) (read_op_of names (view (get_or vs i d))) (λ l. ops_from script (place + 1) (with_name place l names) (items_view (drop (i + 1) vs)))
+    → ops_from script place names (items_view (drop i vs)) ≡ after_op script place (read_op_of names (view (get_or vs i d))) (λ l. ops_from script (place + 1) (with_name place l names) (items_view (drop (i + 1) vs)))
 ops_step script place names vs i d h = ap (ops_from script place names) (items_step vs i d h)
 
 -- an op that is read, and the rest
 pub ops_more : (script place : ℕ) (names : List NamedOp) (vs : List Value) (i : ℕ) (d : Value) (ops : List Op) (l : ReadOp) → i < length vs → read_op_of names (view (get_or vs i d)) ≡ Ok l
     → prepend ops (ops_from script place names (items_view (drop i vs))) ≡ prepend (ops ++ l.op ∷ []) (ops_from script (place + 1) (with_name place l names) (items_view (drop (i + 1) vs)))
 ops_more script place names vs i d ops l h e =
-    ap (prepend ops) (ops_step script place names vs i d h ∙ ap (λ r. after_op script place (op_of (view (get_or vs i d))) r (λ m. ops_from script (place + 1) (with_name place m names) (items_view (drop (i + 1) vs)))) e) ∙ prepend_first ops l.op _
+    ap (prepend ops) (ops_step script place names vs i d h ∙ ap (λ r. after_op script place r (λ m. ops_from script (place + 1) (with_name place m names) (items_view (drop (i + 1) vs)))) e) ∙ prepend_first ops l.op _
 
 pub scripts_step : (script : ℕ) (vs : List Value) (i : ℕ) (d : Value) → i < length vs
     → scripts_from script (items_view (drop i vs)) ≡ after_script (script_of script (view (get_or vs i d))) (scripts_from (script + 1) (items_view (drop (i + 1) vs)))

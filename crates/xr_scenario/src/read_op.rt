@@ -1,11 +1,14 @@
 // An op of a script: which one it is, and what it says.
 ghost use Rattle.std.specs.Prelude.{◌≡◌, IfOk};
+ghost use Rattle.std.specs.List.{find};
+ghost use Rattle.std.specs.Str.{bytes_eq};
 ghost use Rattle.serde_json.specs.View.{view};
+ghost use Rattle.xr_types.specs.Op.{name_of_call};
 ghost use Rattle.xr_scenario_fields.specs.Reads.{Reads, ReadsOp};
 ghost use Rattle.xr_model.specs.scenario.InRange.{IsFormed};
 ghost use Rattle.xr_model.specs.scenario.ScriptForm.{IsKnownPlace};
 ghost use Rattle.xr_model.specs.scenario.OpReading.{op_named, op_of, op_name, read_op_of};
-ghost use Rattle.xr_scenario.specs.inside.OpNames.{input_op_named, frame_op_named};
+ghost use Rattle.xr_scenario.specs.inside.OpNames.{HasAllOfSize};
 
 use serde_json::Value;
 use std::alloc::Global;
@@ -26,72 +29,81 @@ use xr_scenario_session::{
 };
 use xr_types::{CallName, What};
 
-/// The op of swapchains, frames or marks of a name.
-fn frame_op_named(text: &str) -> Option<CallName>
-    ensures { result ≡ frame_op_named text.now }
+/// The ops among which a name of so many bytes stands, if it is one.
+fn ops_of_size(size: usize) -> &'static [CallName]
+    ensures { HasAllOfSize size result.now }
 {
-    match text {
-        "create_swapchain" => Some(CallName::CreateSwapchain),
-        "destroy_swapchain" => Some(CallName::DestroySwapchain),
-        "acquire_image" => Some(CallName::AcquireImage),
-        "release_image" => Some(CallName::ReleaseImage),
-        "wait_image" => Some(CallName::WaitImage),
-        "paint" => Some(CallName::Paint),
-        "wait_frame" => Some(CallName::WaitFrame),
-        "end_frame" => Some(CallName::EndFrame),
-        "mark" => Some(CallName::Mark),
-        "await" => Some(CallName::Await),
-        _ => None,
+    match size {
+        4 => &[CallName::Mark],
+        5 => &[CallName::Paint, CallName::Await],
+        9 => &[CallName::GetFloat, CallName::EndFrame],
+        10 => &[
+            CallName::PollEvent,
+            CallName::GetSystem,
+            CallName::GetVector,
+            CallName::WaitImage,
+            CallName::WaitFrame,
+        ],
+        11 => &[
+            CallName::EndSession,
+            CallName::BeginFrame,
+            CallName::AttachSets,
+            CallName::GetBoolean,
+        ],
+        12 => &[CallName::LocateSpace, CallName::SyncActions],
+        13 => &[
+            CallName::BeginSession,
+            CallName::DestroySpace,
+            CallName::CreateAction,
+            CallName::AcquireImage,
+            CallName::ReleaseImage,
+        ],
+        14 => &[
+            CallName::StringToPath,
+            CallName::PathToString,
+            CallName::CreateSession,
+            CallName::DestroyAction,
+        ],
+        15 => &[
+            CallName::CreateInstance,
+            CallName::DestroySession,
+            CallName::GetPoseActive,
+        ],
+        16 => &[
+            CallName::DestroyInstance,
+            CallName::SuggestBindings,
+            CallName::CreateSwapchain,
+        ],
+        17 => &[CallName::CreateActionSet, CallName::DestroySwapchain],
+        18 => &[CallName::DestroyActionSet],
+        19 => &[CallName::CreateActionSpace],
+        20 => &[CallName::RequestExitSession],
+        22 => &[CallName::CreateReferenceSpace],
+        _ => CallName::ops(),
     }
 }
 
-/// The op of a name, where it is none of instances and sessions.
-fn input_op_named(text: &str) -> Option<CallName>
-    ensures { result ≡ input_op_named text.now }
+/// The first of these ops that has this name.
+fn find_named(ops: &[CallName], text: &str) -> Option<CallName>
+    ensures { result ≡ find (λ c. bytes_eq text.now (name_of_call c)) ops.now }
 {
-    match text {
-        "create_reference_space" => Some(CallName::CreateReferenceSpace),
-        "create_action_space" => Some(CallName::CreateActionSpace),
-        "destroy_space" => Some(CallName::DestroySpace),
-        "locate_space" => Some(CallName::LocateSpace),
-        "create_action_set" => Some(CallName::CreateActionSet),
-        "destroy_action_set" => Some(CallName::DestroyActionSet),
-        "create_action" => Some(CallName::CreateAction),
-        "destroy_action" => Some(CallName::DestroyAction),
-        "suggest_bindings" => Some(CallName::SuggestBindings),
-        "attach_sets" => Some(CallName::AttachSets),
-        "sync_actions" => Some(CallName::SyncActions),
-        "get_boolean" => Some(CallName::GetBoolean),
-        "get_float" => Some(CallName::GetFloat),
-        "get_vector" => Some(CallName::GetVector),
-        "get_pose_active" => Some(CallName::GetPoseActive),
-        _ => frame_op_named(text),
+    for op in ops {
+        if text == op.name() {
+            return Some(*op);
+        }
     }
+    None
 }
 
 /// The op of a name.
 fn op_named(text: &str) -> Option<CallName>
     ensures { result ≡ op_named text.now }
 {
-    match text {
-        "create_instance" => Some(CallName::CreateInstance),
-        "destroy_instance" => Some(CallName::DestroyInstance),
-        "poll_event" => Some(CallName::PollEvent),
-        "get_system" => Some(CallName::GetSystem),
-        "string_to_path" => Some(CallName::StringToPath),
-        "path_to_string" => Some(CallName::PathToString),
-        "create_session" => Some(CallName::CreateSession),
-        "destroy_session" => Some(CallName::DestroySession),
-        "end_session" => Some(CallName::EndSession),
-        "request_exit_session" => Some(CallName::RequestExitSession),
-        "begin_frame" => Some(CallName::BeginFrame),
-        "begin_session" => Some(CallName::BeginSession),
-        _ => input_op_named(text),
-    }
+    find_named(ops_of_size(text.len()), text)
 }
 
 /// Which op an object is, if it is one.
-pub(crate) fn op_of(value: &Value) -> Option<CallName>
+fn op_of(value: &Value) -> Option<CallName>
     ensures { result ≡ op_of (view value.now) }
 {
     let Some(found) = value.get("op") else {

@@ -12,7 +12,7 @@ ghost use Rattle.xr_scenario.specs.Size.{size, items_size};
 ghost use Rattle.xr_scenario.specs.inside.Shapes.{ReadsShape, IsJsonFault};
 
 use crate::fault::ScenarioFault;
-use crate::read_op::{op_of, read_op};
+use crate::read_op::read_op;
 use serde_json::Value;
 use std::alloc::Global;
 use xr_scenario_fields::{Fault, NamedOps, only_keys};
@@ -83,7 +83,6 @@ fn read_ops(alloc: Global, script: u32, values: &[Value]) -> Result<Script, Scen
                 return Err(ScenarioFault::Refused(Refusal::BadShape {
                     script,
                     op: place,
-                    name: op_of(value),
                     what,
                 }));
             }
@@ -107,7 +106,6 @@ fn read_script(alloc: Global, script: u32, value: &Value) -> Result<Script, Scen
         None => Err(ScenarioFault::Refused(Refusal::BadShape {
             script,
             op: 0,
-            name: None,
             what: What::Script,
         })),
     }
@@ -135,12 +133,11 @@ fn read_scripts(alloc: Global, values: &[Value]) -> Result<Several<Script>, Scen
 }
 
 fn top<T>(what: What) -> Result<T, ScenarioFault>
-    ensures { result ≡ Err (Refused (BadShape 0 0 None what)) }
+    ensures { result ≡ Err (Refused (BadShape 0 0 what)) }
 {
     Err(ScenarioFault::Refused(Refusal::BadShape {
         script: 0,
         op: 0,
-        name: None,
         what,
     }))
 }

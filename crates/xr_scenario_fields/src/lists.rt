@@ -12,7 +12,7 @@ use crate::fault::{Fault, at};
 use crate::named_ops::NamedOps;
 use serde_json::Value;
 use std::alloc::{AllocError, Global};
-use xr_types::Several;
+use xr_types::{FieldName, Several};
 
 /// What a list of an op may hold: how an item is read behind ops that gave these names, and when it is
 /// in form.
@@ -83,18 +83,17 @@ pub fn list<T: ListItem + Drop>(
     alloc: Global,
     named_ops: &NamedOps<'_>,
     value: &Value,
-    key: &str,
-    place: u8,
+    key: FieldName,
     most: usize,
 ) -> Result<Several<T>, Fault>
-    ensures reads { Reads result (field (list_in (T.part named_ops.now) most) place key.now (view value.now)) }
+    ensures reads { Reads result (field (list_in (T.part named_ops.now) most) key (view value.now)) }
     ensures formed { IfOk result (AreAtMost most (T.formed named_ops.now)) }
 {
-    let Some(found) = value.get(key) else {
-        return at(place, None);
+    let Some(found) = value.get(key.name()) else {
+        return at(key, None);
     };
     match list_in(alloc, named_ops, found, most) {
-        Ok(found) => at(place, found),
+        Ok(found) => at(key, found),
         Err(_) => Err(Fault::NoMemory),
     }
 }

@@ -7,7 +7,7 @@ ghost use Rattle.xr_model.specs.scenario.Fields.{is_name_byte, is_name, name_at}
 
 use crate::fault::Fault;
 use serde_json::Value;
-use xr_types::What;
+use xr_types::{FieldName, What};
 
 const MOST_NAME: usize = 32;
 
@@ -35,19 +35,19 @@ fn is_name(text: &str) -> bool
 }
 
 /// The name that an op gives under `as`, if it gives one: 1 to 32 small letters, digits and `_`.
-pub fn name(value: &Value, place: u8) -> Result<Option<&str>, Fault>
-    ensures reads { ReadsName result (name_at place (view value.now)) }
+pub fn name(value: &Value) -> Result<Option<&str>, Fault>
+    ensures reads { ReadsName result (name_at (view value.now)) }
     ensures only_wrong { IfErr result IsWrong }
 {
-    let Some(found) = value.get("as") else {
+    let Some(found) = value.get(FieldName::As.name()) else {
         return Ok(None);
     };
     let Some(text) = found.as_str() else {
-        return Err(Fault::Wrong(What::Field(place)));
+        return Err(Fault::Wrong(What::Field(FieldName::As)));
     };
     if is_name(text) {
         Ok(Some(text))
     } else {
-        Err(Fault::Wrong(What::Field(place)))
+        Err(Fault::Wrong(What::Field(FieldName::As)))
     }
 }

@@ -8,6 +8,7 @@ ghost use Rattle.xr_model.specs.scenario.InRange.{IsMark, IsTimeout};
 
 use crate::fault::{Fault, at};
 use serde_json::Value;
+use xr_types::FieldName;
 
 /// The greatest number of a field, 2^63 - 1.
 pub const MOST: u64 = (1 << 63) - 1;
@@ -28,29 +29,29 @@ pub(crate) fn number_in(value: &Value, most: u64) -> Option<u64>
 }
 
 /// A whole number up to a greatest one.
-pub fn number(value: &Value, key: &str, place: u8, most: u64) -> Result<u64, Fault>
-    ensures reads { Reads result (field (number_in most) place key.now (view value.now)) }
+pub fn number(value: &Value, key: FieldName, most: u64) -> Result<u64, Fault>
+    ensures reads { Reads result (field (number_in most) key (view value.now)) }
     ensures formed { IfOk result (λ n. n ≤ most) }
     ensures only_wrong { IfErr result IsWrong }
 {
-    let Some(found) = value.get(key) else {
-        return at(place, None);
+    let Some(found) = value.get(key.name()) else {
+        return at(key, None);
     };
-    at(place, number_in(found, most))
+    at(key, number_in(found, most))
 }
 
 /// A whole number below 2^32.
-pub fn small(value: &Value, key: &str, place: u8) -> Result<u32, Fault>
-    ensures reads { Reads result (field (number_in most_u32) place key.now (view value.now)) }
+pub fn small(value: &Value, key: FieldName) -> Result<u32, Fault>
+    ensures reads { Reads result (field (number_in most_u32) key (view value.now)) }
     ensures formed { IfOk result (λ n. n ≤ most_u32) }
     ensures only_wrong { IfErr result IsWrong }
 {
-    let Some(found) = value.get(key) else {
-        return at(place, None);
+    let Some(found) = value.get(key.name()) else {
+        return at(key, None);
     };
     match number_in(found, MOST_SMALL) {
         Some(number) => Ok(number as u32),
-        None => at(place, None),
+        None => at(key, None),
     }
 }
 
@@ -67,15 +68,15 @@ fn mark_in(value: &Value) -> Option<u8>
 }
 
 /// A mark's number, 1 to 64.
-pub fn mark_number(value: &Value, key: &str, place: u8) -> Result<u8, Fault>
-    ensures reads { Reads result (field mark_in place key.now (view value.now)) }
+pub fn mark_number(value: &Value, key: FieldName) -> Result<u8, Fault>
+    ensures reads { Reads result (field mark_in key (view value.now)) }
     ensures formed { IfOk result IsMark }
     ensures only_wrong { IfErr result IsWrong }
 {
-    let Some(found) = value.get(key) else {
-        return at(place, None);
+    let Some(found) = value.get(key.name()) else {
+        return at(key, None);
     };
-    at(place, mark_in(found))
+    at(key, mark_in(found))
 }
 
 pub(crate) fn integer_in(value: &Value, least: i64, most: i64) -> Option<i64>
@@ -102,24 +103,24 @@ fn timeout_in(value: &Value) -> Option<i64>
 }
 
 /// A timeout in ns: a whole number below 2^63, or `inf` for the greatest.
-pub fn timeout(value: &Value, key: &str, place: u8) -> Result<i64, Fault>
-    ensures reads { Reads result (field timeout_in place key.now (view value.now)) }
+pub fn timeout(value: &Value, key: FieldName) -> Result<i64, Fault>
+    ensures reads { Reads result (field timeout_in key (view value.now)) }
     ensures formed { IfOk result IsTimeout }
     ensures only_wrong { IfErr result IsWrong }
 {
-    let Some(found) = value.get(key) else {
-        return at(place, None);
+    let Some(found) = value.get(key.name()) else {
+        return at(key, None);
     };
-    at(place, timeout_in(found))
+    at(key, timeout_in(found))
 }
 
 /// Whether a field is true.
-pub fn truth(value: &Value, key: &str, place: u8) -> Result<bool, Fault>
-    ensures reads { Reads result (field as_bool place key.now (view value.now)) }
+pub fn truth(value: &Value, key: FieldName) -> Result<bool, Fault>
+    ensures reads { Reads result (field as_bool key (view value.now)) }
     ensures only_wrong { IfErr result IsWrong }
 {
-    let Some(found) = value.get(key) else {
-        return at(place, None);
+    let Some(found) = value.get(key.name()) else {
+        return at(key, None);
     };
-    at(place, found.as_bool())
+    at(key, found.as_bool())
 }

@@ -11,7 +11,7 @@ use crate::fault::{Fault, at};
 use crate::named_ops::{NamedOps, known_place};
 use crate::numbers::integer_in;
 use serde_json::Value;
-use xr_types::{MOST_HANDLE_MARK, Sort, Use};
+use xr_types::{FieldName, MOST_HANDLE_MARK, Sort, Use};
 
 /// A name of a sort, or else a whole number of a range.
 fn use_in(named_ops: &NamedOps<'_>, value: &Value, sort: Sort, least: i64, most: i64) -> Option<Use>
@@ -45,52 +45,52 @@ pub(crate) fn atom_in(named_ops: &NamedOps<'_>, value: &Value) -> Option<Use>
 }
 
 /// A handle: a name of an op that gives one, or the number 0.
-pub fn handle(named_ops: &NamedOps<'_>, value: &Value, key: &str, place: u8) -> Result<Use, Fault>
-    ensures reads { Reads result (field (handle_in named_ops.now) place key.now (view value.now)) }
+pub fn handle(named_ops: &NamedOps<'_>, value: &Value, key: FieldName) -> Result<Use, Fault>
+    ensures reads { Reads result (field (handle_in named_ops.now) key (view value.now)) }
     ensures formed { IfOk result (λ u. IsHandle (IsKnownPlace named_ops.now) u) }
     ensures only_wrong { IfErr result IsWrong }
 {
-    let Some(found) = value.get(key) else {
-        return at(place, None);
+    let Some(found) = value.get(key.name()) else {
+        return at(key, None);
     };
-    at(place, handle_in(named_ops, found))
+    at(key, handle_in(named_ops, found))
 }
 
 /// An atom: a name of an op that gives one, or a number below 2^63.
-pub fn atom(named_ops: &NamedOps<'_>, value: &Value, key: &str, place: u8) -> Result<Use, Fault>
-    ensures reads { Reads result (field (atom_in named_ops.now) place key.now (view value.now)) }
+pub fn atom(named_ops: &NamedOps<'_>, value: &Value, key: FieldName) -> Result<Use, Fault>
+    ensures reads { Reads result (field (atom_in named_ops.now) key (view value.now)) }
     ensures formed { IfOk result (λ u. IsAtom (IsKnownPlace named_ops.now) u) }
     ensures only_wrong { IfErr result IsWrong }
 {
-    let Some(found) = value.get(key) else {
-        return at(place, None);
+    let Some(found) = value.get(key.name()) else {
+        return at(key, None);
     };
-    at(place, atom_in(named_ops, found))
+    at(key, atom_in(named_ops, found))
 }
 
 /// A system: a name of an op that gives a number, or a number below 2^63.
-pub fn system(named_ops: &NamedOps<'_>, value: &Value, key: &str, place: u8) -> Result<Use, Fault>
-    ensures reads { Reads result (field (system_in named_ops.now) place key.now (view value.now)) }
+pub fn system(named_ops: &NamedOps<'_>, value: &Value, key: FieldName) -> Result<Use, Fault>
+    ensures reads { Reads result (field (system_in named_ops.now) key (view value.now)) }
     ensures formed { IfOk result (λ u. IsSystem (IsKnownPlace named_ops.now) u) }
     ensures only_wrong { IfErr result IsWrong }
 {
-    let Some(found) = value.get(key) else {
-        return at(place, None);
+    let Some(found) = value.get(key.name()) else {
+        return at(key, None);
     };
-    at(place, use_in(named_ops, found, Sort::Number, 0, i64::MAX))
+    at(key, use_in(named_ops, found, Sort::Number, 0, i64::MAX))
 }
 
 /// A time: a name of an op that gives a number, or a number of 64 bits.
-pub fn time(named_ops: &NamedOps<'_>, value: &Value, key: &str, place: u8) -> Result<Use, Fault>
-    ensures reads { Reads result (field (time_in named_ops.now) place key.now (view value.now)) }
+pub fn time(named_ops: &NamedOps<'_>, value: &Value, key: FieldName) -> Result<Use, Fault>
+    ensures reads { Reads result (field (time_in named_ops.now) key (view value.now)) }
     ensures formed { IfOk result (λ u. IsTime (IsKnownPlace named_ops.now) u) }
     ensures only_wrong { IfErr result IsWrong }
 {
-    let Some(found) = value.get(key) else {
-        return at(place, None);
+    let Some(found) = value.get(key.name()) else {
+        return at(key, None);
     };
     at(
-        place,
+        key,
         use_in(named_ops, found, Sort::Number, i64::MIN, i64::MAX),
     )
 }
@@ -100,21 +100,20 @@ pub fn time(named_ops: &NamedOps<'_>, value: &Value, key: &str, place: u8) -> Re
 pub fn mark_value(
     named_ops: &NamedOps<'_>,
     value: &Value,
-    key: &str,
-    place: u8,
+    key: FieldName,
     mark: u8,
 ) -> Result<Use, Fault>
-    ensures reads { Reads result (optional (value_in named_ops.now mark) (Number (pos 0)) place key.now
+    ensures reads { Reads result (optional (value_in named_ops.now mark) (Number (pos 0)) key
         (view value.now)) }
     ensures formed { IfOk result (λ u. IsValue (IsKnownPlace named_ops.now) mark u) }
     ensures only_wrong { IfErr result IsWrong }
 {
-    let Some(found) = value.get(key) else {
+    let Some(found) = value.get(key.name()) else {
         return Ok(Use::Number(0));
     };
     if mark <= MOST_HANDLE_MARK {
-        at(place, handle_in(named_ops, found))
+        at(key, handle_in(named_ops, found))
     } else {
-        at(place, atom_in(named_ops, found))
+        at(key, atom_in(named_ops, found))
     }
 }

@@ -8,7 +8,7 @@ ghost use Rattle.xr_model.specs.scenario.InRange.{IsText};
 use crate::fault::{Fault, at};
 use serde_json::Value;
 use std::alloc::Global;
-use xr_types::{ActionType, Blend, Bytes, Form, RefKind, ViewConfig};
+use xr_types::{ActionType, Blend, Bytes, FieldName, Form, RefKind, ViewConfig};
 
 const MOST_TEXT: usize = 1024;
 
@@ -25,15 +25,15 @@ fn text_in(value: &Value) -> Option<&str>
 }
 
 /// A text of at most 1024 bytes.
-pub fn text(alloc: Global, value: &Value, key: &str, place: u8) -> Result<Bytes, Fault>
-    ensures reads { Reads result (field text_in place key.now (view value.now)) }
+pub fn text(alloc: Global, value: &Value, key: FieldName) -> Result<Bytes, Fault>
+    ensures reads { Reads result (field text_in key (view value.now)) }
     ensures formed { IfOk result IsText }
 {
-    let Some(found) = value.get(key) else {
-        return at(place, None);
+    let Some(found) = value.get(key.name()) else {
+        return at(key, None);
     };
     let Some(text) = text_in(found) else {
-        return at(place, None);
+        return at(key, None);
     };
     match Bytes::from_slice(alloc, text.as_bytes()) {
         Ok(bytes) => Ok(bytes),
@@ -52,17 +52,17 @@ fn form_of(text: &str) -> Option<Form>
 }
 
 /// The kind of a device: `head` or `hand`.
-pub fn form(value: &Value, key: &str, place: u8) -> Result<Form, Fault>
-    ensures reads { Reads result (field form_in place key.now (view value.now)) }
+pub fn form(value: &Value, key: FieldName) -> Result<Form, Fault>
+    ensures reads { Reads result (field form_in key (view value.now)) }
     ensures only_wrong { IfErr result IsWrong }
 {
-    let Some(found) = value.get(key) else {
-        return at(place, None);
+    let Some(found) = value.get(key.name()) else {
+        return at(key, None);
     };
     let Some(text) = found.as_str() else {
-        return at(place, None);
+        return at(key, None);
     };
-    at(place, form_of(text))
+    at(key, form_of(text))
 }
 
 fn view_of(text: &str) -> Option<ViewConfig>
@@ -76,17 +76,17 @@ fn view_of(text: &str) -> Option<ViewConfig>
 }
 
 /// How many views there are: `mono` or `stereo`.
-pub fn view_config(value: &Value, key: &str, place: u8) -> Result<ViewConfig, Fault>
-    ensures reads { Reads result (field view_in place key.now (view value.now)) }
+pub fn view_config(value: &Value, key: FieldName) -> Result<ViewConfig, Fault>
+    ensures reads { Reads result (field view_in key (view value.now)) }
     ensures only_wrong { IfErr result IsWrong }
 {
-    let Some(found) = value.get(key) else {
-        return at(place, None);
+    let Some(found) = value.get(key.name()) else {
+        return at(key, None);
     };
     let Some(text) = found.as_str() else {
-        return at(place, None);
+        return at(key, None);
     };
-    at(place, view_of(text))
+    at(key, view_of(text))
 }
 
 fn ref_kind_of(text: &str) -> Option<RefKind>
@@ -101,17 +101,17 @@ fn ref_kind_of(text: &str) -> Option<RefKind>
 }
 
 /// A reference space: `view`, `local` or `stage`.
-pub fn ref_kind(value: &Value, key: &str, place: u8) -> Result<RefKind, Fault>
-    ensures reads { Reads result (field ref_kind_in place key.now (view value.now)) }
+pub fn ref_kind(value: &Value, key: FieldName) -> Result<RefKind, Fault>
+    ensures reads { Reads result (field ref_kind_in key (view value.now)) }
     ensures only_wrong { IfErr result IsWrong }
 {
-    let Some(found) = value.get(key) else {
-        return at(place, None);
+    let Some(found) = value.get(key.name()) else {
+        return at(key, None);
     };
     let Some(text) = found.as_str() else {
-        return at(place, None);
+        return at(key, None);
     };
-    at(place, ref_kind_of(text))
+    at(key, ref_kind_of(text))
 }
 
 fn action_type_of(text: &str) -> Option<ActionType>
@@ -128,17 +128,17 @@ fn action_type_of(text: &str) -> Option<ActionType>
 }
 
 /// What an action gives: `boolean`, `float`, `vector`, `pose` or `vibration`.
-pub fn action_type(value: &Value, key: &str, place: u8) -> Result<ActionType, Fault>
-    ensures reads { Reads result (field action_type_in place key.now (view value.now)) }
+pub fn action_type(value: &Value, key: FieldName) -> Result<ActionType, Fault>
+    ensures reads { Reads result (field action_type_in key (view value.now)) }
     ensures only_wrong { IfErr result IsWrong }
 {
-    let Some(found) = value.get(key) else {
-        return at(place, None);
+    let Some(found) = value.get(key.name()) else {
+        return at(key, None);
     };
     let Some(text) = found.as_str() else {
-        return at(place, None);
+        return at(key, None);
     };
-    at(place, action_type_of(text))
+    at(key, action_type_of(text))
 }
 
 fn blend_of(text: &str) -> Option<Blend>
@@ -153,15 +153,15 @@ fn blend_of(text: &str) -> Option<Blend>
 }
 
 /// How a frame is laid over what is around: `opaque`, `additive` or `alpha`.
-pub fn blend(value: &Value, key: &str, place: u8) -> Result<Blend, Fault>
-    ensures reads { Reads result (field blend_in place key.now (view value.now)) }
+pub fn blend(value: &Value, key: FieldName) -> Result<Blend, Fault>
+    ensures reads { Reads result (field blend_in key (view value.now)) }
     ensures only_wrong { IfErr result IsWrong }
 {
-    let Some(found) = value.get(key) else {
-        return at(place, None);
+    let Some(found) = value.get(key.name()) else {
+        return at(key, None);
     };
     let Some(text) = found.as_str() else {
-        return at(place, None);
+        return at(key, None);
     };
-    at(place, blend_of(text))
+    at(key, blend_of(text))
 }

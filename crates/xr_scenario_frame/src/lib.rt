@@ -15,7 +15,7 @@ use xr_scenario_fields::{
     Fault, MOST, NamedOps, ReadOp, atom, blend, handle, list, name, number, read_op, ref_kind,
     small, time, timeout, truth,
 };
-use xr_types::Op;
+use xr_types::{CallName, FieldName, Op};
 
 /// Reads `begin_frame`: `session`.
 pub fn begin_frame<'v>(named_ops: &NamedOps<'_>, value: &'v Value) -> Result<ReadOp<'v>, Fault>
@@ -23,9 +23,9 @@ pub fn begin_frame<'v>(named_ops: &NamedOps<'_>, value: &'v Value) -> Result<Rea
     ensures formed { IfOk result (λ l. IsFormed (IsKnownPlace named_ops.now) l.op) }
     ensures only_wrong { IfErr result IsWrong }
 {
-    let session = handle(named_ops, value, "session", 1)?;
+    let session = handle(named_ops, value, FieldName::Session)?;
     let op = Op::BeginFrame { session };
-    read_op(value, &["op", "session"], op, None)
+    read_op(value, CallName::BeginFrame, op, None)
 }
 
 /// Reads `create_reference_space`: `session`, `kind`, `offset`, `as`?.
@@ -37,16 +37,16 @@ pub fn create_reference_space<'v>(
     ensures formed { IfOk result (λ l. IsFormed (IsKnownPlace named_ops.now) l.op) }
     ensures only_wrong { IfErr result IsWrong }
 {
-    let session = handle(named_ops, value, "session", 1)?;
-    let kind = ref_kind(value, "kind", 2)?;
-    let offset = number(value, "offset", 3, MOST)?;
-    let name = name(value, 4)?;
+    let session = handle(named_ops, value, FieldName::Session)?;
+    let kind = ref_kind(value, FieldName::Kind)?;
+    let offset = number(value, FieldName::Offset, MOST)?;
+    let name = name(value)?;
     let op = Op::CreateReferenceSpace {
         session,
         kind,
         offset,
     };
-    read_op(value, &["op", "session", "kind", "offset", "as"], op, name)
+    read_op(value, CallName::CreateReferenceSpace, op, name)
 }
 
 /// Reads `create_action_space`: `session`, `action`, `sub`, `offset`, `as`?.
@@ -58,23 +58,18 @@ pub fn create_action_space<'v>(
     ensures formed { IfOk result (λ l. IsFormed (IsKnownPlace named_ops.now) l.op) }
     ensures only_wrong { IfErr result IsWrong }
 {
-    let session = handle(named_ops, value, "session", 1)?;
-    let action = handle(named_ops, value, "action", 2)?;
-    let sub = atom(named_ops, value, "sub", 3)?;
-    let offset = number(value, "offset", 4, MOST)?;
-    let name = name(value, 5)?;
+    let session = handle(named_ops, value, FieldName::Session)?;
+    let action = handle(named_ops, value, FieldName::Action)?;
+    let sub = atom(named_ops, value, FieldName::Sub)?;
+    let offset = number(value, FieldName::Offset, MOST)?;
+    let name = name(value)?;
     let op = Op::CreateActionSpace {
         session,
         action,
         sub,
         offset,
     };
-    read_op(
-        value,
-        &["op", "session", "action", "sub", "offset", "as"],
-        op,
-        name,
-    )
+    read_op(value, CallName::CreateActionSpace, op, name)
 }
 
 /// Reads `destroy_space`: `space`.
@@ -83,9 +78,9 @@ pub fn destroy_space<'v>(named_ops: &NamedOps<'_>, value: &'v Value) -> Result<R
     ensures formed { IfOk result (λ l. IsFormed (IsKnownPlace named_ops.now) l.op) }
     ensures only_wrong { IfErr result IsWrong }
 {
-    let space = handle(named_ops, value, "space", 1)?;
+    let space = handle(named_ops, value, FieldName::Space)?;
     let op = Op::DestroySpace { space };
-    read_op(value, &["op", "space"], op, None)
+    read_op(value, CallName::DestroySpace, op, None)
 }
 
 /// Reads `locate_space`: `space`, `base`, `time`.
@@ -94,11 +89,11 @@ pub fn locate_space<'v>(named_ops: &NamedOps<'_>, value: &'v Value) -> Result<Re
     ensures formed { IfOk result (λ l. IsFormed (IsKnownPlace named_ops.now) l.op) }
     ensures only_wrong { IfErr result IsWrong }
 {
-    let space = handle(named_ops, value, "space", 1)?;
-    let base = handle(named_ops, value, "base", 2)?;
-    let time = time(named_ops, value, "time", 3)?;
+    let space = handle(named_ops, value, FieldName::Space)?;
+    let base = handle(named_ops, value, FieldName::Base)?;
+    let time = time(named_ops, value, FieldName::Time)?;
     let op = Op::LocateSpace { space, base, time };
-    read_op(value, &["op", "space", "base", "time"], op, None)
+    read_op(value, CallName::LocateSpace, op, None)
 }
 
 /// Reads `create_swapchain`: `session`, `format`, `width`, `height`, `static`, `as`?.
@@ -107,12 +102,12 @@ pub fn create_swapchain<'v>(named_ops: &NamedOps<'_>, value: &'v Value) -> Resul
     ensures formed { IfOk result (λ l. IsFormed (IsKnownPlace named_ops.now) l.op) }
     ensures only_wrong { IfErr result IsWrong }
 {
-    let session = handle(named_ops, value, "session", 1)?;
-    let format = number(value, "format", 2, MOST)?;
-    let width = small(value, "width", 3)?;
-    let height = small(value, "height", 4)?;
-    let fixed = truth(value, "static", 5)?;
-    let name = name(value, 6)?;
+    let session = handle(named_ops, value, FieldName::Session)?;
+    let format = number(value, FieldName::Format, MOST)?;
+    let width = small(value, FieldName::Width)?;
+    let height = small(value, FieldName::Height)?;
+    let fixed = truth(value, FieldName::Static)?;
+    let name = name(value)?;
     let op = Op::CreateSwapchain {
         session,
         format,
@@ -120,12 +115,7 @@ pub fn create_swapchain<'v>(named_ops: &NamedOps<'_>, value: &'v Value) -> Resul
         height,
         fixed,
     };
-    read_op(
-        value,
-        &["op", "session", "format", "width", "height", "static", "as"],
-        op,
-        name,
-    )
+    read_op(value, CallName::CreateSwapchain, op, name)
 }
 
 /// Reads `destroy_swapchain`: `chain`.
@@ -137,9 +127,9 @@ pub fn destroy_swapchain<'v>(
     ensures formed { IfOk result (λ l. IsFormed (IsKnownPlace named_ops.now) l.op) }
     ensures only_wrong { IfErr result IsWrong }
 {
-    let chain = handle(named_ops, value, "chain", 1)?;
+    let chain = handle(named_ops, value, FieldName::Chain)?;
     let op = Op::DestroySwapchain { chain };
-    read_op(value, &["op", "chain"], op, None)
+    read_op(value, CallName::DestroySwapchain, op, None)
 }
 
 /// Reads `acquire_image`: `chain`.
@@ -148,9 +138,9 @@ pub fn acquire_image<'v>(named_ops: &NamedOps<'_>, value: &'v Value) -> Result<R
     ensures formed { IfOk result (λ l. IsFormed (IsKnownPlace named_ops.now) l.op) }
     ensures only_wrong { IfErr result IsWrong }
 {
-    let chain = handle(named_ops, value, "chain", 1)?;
+    let chain = handle(named_ops, value, FieldName::Chain)?;
     let op = Op::AcquireImage { chain };
-    read_op(value, &["op", "chain"], op, None)
+    read_op(value, CallName::AcquireImage, op, None)
 }
 
 /// Reads `release_image`: `chain`.
@@ -159,9 +149,9 @@ pub fn release_image<'v>(named_ops: &NamedOps<'_>, value: &'v Value) -> Result<R
     ensures formed { IfOk result (λ l. IsFormed (IsKnownPlace named_ops.now) l.op) }
     ensures only_wrong { IfErr result IsWrong }
 {
-    let chain = handle(named_ops, value, "chain", 1)?;
+    let chain = handle(named_ops, value, FieldName::Chain)?;
     let op = Op::ReleaseImage { chain };
-    read_op(value, &["op", "chain"], op, None)
+    read_op(value, CallName::ReleaseImage, op, None)
 }
 
 /// Reads `wait_image`: `chain`, `timeout`.
@@ -170,10 +160,10 @@ pub fn wait_image<'v>(named_ops: &NamedOps<'_>, value: &'v Value) -> Result<Read
     ensures formed { IfOk result (λ l. IsFormed (IsKnownPlace named_ops.now) l.op) }
     ensures only_wrong { IfErr result IsWrong }
 {
-    let chain = handle(named_ops, value, "chain", 1)?;
-    let timeout = timeout(value, "timeout", 2)?;
+    let chain = handle(named_ops, value, FieldName::Chain)?;
+    let timeout = timeout(value, FieldName::Timeout)?;
     let op = Op::WaitImage { chain, timeout };
-    read_op(value, &["op", "chain", "timeout"], op, None)
+    read_op(value, CallName::WaitImage, op, None)
 }
 
 /// Reads `paint`: `chain`, `stamp`.
@@ -182,10 +172,10 @@ pub fn paint<'v>(named_ops: &NamedOps<'_>, value: &'v Value) -> Result<ReadOp<'v
     ensures formed { IfOk result (λ l. IsFormed (IsKnownPlace named_ops.now) l.op) }
     ensures only_wrong { IfErr result IsWrong }
 {
-    let chain = handle(named_ops, value, "chain", 1)?;
-    let stamp = number(value, "stamp", 2, MOST)?;
+    let chain = handle(named_ops, value, FieldName::Chain)?;
+    let stamp = number(value, FieldName::Stamp, MOST)?;
     let op = Op::Paint { chain, stamp };
-    read_op(value, &["op", "chain", "stamp"], op, None)
+    read_op(value, CallName::Paint, op, None)
 }
 
 /// Reads `wait_frame`: `session`, `as`?.
@@ -194,10 +184,10 @@ pub fn wait_frame<'v>(named_ops: &NamedOps<'_>, value: &'v Value) -> Result<Read
     ensures formed { IfOk result (λ l. IsFormed (IsKnownPlace named_ops.now) l.op) }
     ensures only_wrong { IfErr result IsWrong }
 {
-    let session = handle(named_ops, value, "session", 1)?;
-    let name = name(value, 2)?;
+    let session = handle(named_ops, value, FieldName::Session)?;
+    let name = name(value)?;
     let op = Op::WaitFrame { session };
-    read_op(value, &["op", "session", "as"], op, name)
+    read_op(value, CallName::WaitFrame, op, name)
 }
 
 /// Reads `end_frame`: `session`, `time`, `blend`, `layers`.
@@ -209,20 +199,15 @@ pub fn end_frame<'v>(
     ensures reads { ReadsOp result (end_frame named_ops.now (view value.now)) }
     ensures formed { IfOk result (λ l. IsFormed (IsKnownPlace named_ops.now) l.op) }
 {
-    let session = handle(named_ops, value, "session", 1)?;
-    let time = time(named_ops, value, "time", 2)?;
-    let blend = blend(value, "blend", 3)?;
-    let layers = list(alloc, named_ops, value, "layers", 4, 32)?;
+    let session = handle(named_ops, value, FieldName::Session)?;
+    let time = time(named_ops, value, FieldName::Time)?;
+    let blend = blend(value, FieldName::Blend)?;
+    let layers = list(alloc, named_ops, value, FieldName::Layers, 32)?;
     let op = Op::EndFrame {
         session,
         time,
         blend,
         layers,
     };
-    read_op(
-        value,
-        &["op", "session", "time", "blend", "layers"],
-        op,
-        None,
-    )
+    read_op(value, CallName::EndFrame, op, None)
 }

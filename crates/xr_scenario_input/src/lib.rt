@@ -14,7 +14,7 @@ use std::alloc::Global;
 use xr_scenario_fields::{
     Fault, NamedOps, ReadOp, action_type, atom, handle, list, name, read_op, small, text,
 };
-use xr_types::Op;
+use xr_types::{CallName, FieldName, Op};
 
 /// Reads `create_action_set`: `instance`, `name`, `localized`, `priority`, `as`?.
 pub fn create_action_set<'v>(
@@ -25,23 +25,18 @@ pub fn create_action_set<'v>(
     ensures reads { ReadsOp result (create_action_set named_ops.now (view value.now)) }
     ensures formed { IfOk result (λ l. IsFormed (IsKnownPlace named_ops.now) l.op) }
 {
-    let instance = handle(named_ops, value, "instance", 1)?;
-    let called = text(alloc, value, "name", 2)?;
-    let localized = text(alloc, value, "localized", 3)?;
-    let priority = small(value, "priority", 4)?;
-    let name = name(value, 5)?;
+    let instance = handle(named_ops, value, FieldName::Instance)?;
+    let called = text(alloc, value, FieldName::Name)?;
+    let localized = text(alloc, value, FieldName::Localized)?;
+    let priority = small(value, FieldName::Priority)?;
+    let name = name(value)?;
     let op = Op::CreateActionSet {
         instance,
         name: called,
         localized,
         priority,
     };
-    read_op(
-        value,
-        &["op", "instance", "name", "localized", "priority", "as"],
-        op,
-        name,
-    )
+    read_op(value, CallName::CreateActionSet, op, name)
 }
 
 /// Reads `destroy_action_set`: `set`.
@@ -53,9 +48,9 @@ pub fn destroy_action_set<'v>(
     ensures formed { IfOk result (λ l. IsFormed (IsKnownPlace named_ops.now) l.op) }
     ensures only_wrong { IfErr result IsWrong }
 {
-    let set = handle(named_ops, value, "set", 1)?;
+    let set = handle(named_ops, value, FieldName::Set)?;
     let op = Op::DestroyActionSet { set };
-    read_op(value, &["op", "set"], op, None)
+    read_op(value, CallName::DestroyActionSet, op, None)
 }
 
 /// Reads `create_action`: `set`, `name`, `type`, `subactions`, `localized`, `as`?.
@@ -67,12 +62,12 @@ pub fn create_action<'v>(
     ensures reads { ReadsOp result (create_action named_ops.now (view value.now)) }
     ensures formed { IfOk result (λ l. IsFormed (IsKnownPlace named_ops.now) l.op) }
 {
-    let set = handle(named_ops, value, "set", 1)?;
-    let called = text(alloc, value, "name", 2)?;
-    let kind = action_type(value, "type", 3)?;
-    let subactions = list(alloc, named_ops, value, "subactions", 4, 8)?;
-    let localized = text(alloc, value, "localized", 5)?;
-    let name = name(value, 6)?;
+    let set = handle(named_ops, value, FieldName::Set)?;
+    let called = text(alloc, value, FieldName::Name)?;
+    let kind = action_type(value, FieldName::ActionType)?;
+    let subactions = list(alloc, named_ops, value, FieldName::Subactions, 8)?;
+    let localized = text(alloc, value, FieldName::Localized)?;
+    let name = name(value)?;
     let op = Op::CreateAction {
         set,
         name: called,
@@ -80,12 +75,7 @@ pub fn create_action<'v>(
         subactions,
         localized,
     };
-    read_op(
-        value,
-        &["op", "set", "name", "type", "subactions", "localized", "as"],
-        op,
-        name,
-    )
+    read_op(value, CallName::CreateAction, op, name)
 }
 
 /// Reads `destroy_action`: `action`.
@@ -94,9 +84,9 @@ pub fn destroy_action<'v>(named_ops: &NamedOps<'_>, value: &'v Value) -> Result<
     ensures formed { IfOk result (λ l. IsFormed (IsKnownPlace named_ops.now) l.op) }
     ensures only_wrong { IfErr result IsWrong }
 {
-    let action = handle(named_ops, value, "action", 1)?;
+    let action = handle(named_ops, value, FieldName::Action)?;
     let op = Op::DestroyAction { action };
-    read_op(value, &["op", "action"], op, None)
+    read_op(value, CallName::DestroyAction, op, None)
 }
 
 /// Reads `suggest_bindings`: `instance`, `profile`, `bindings`.
@@ -108,15 +98,15 @@ pub fn suggest_bindings<'v>(
     ensures reads { ReadsOp result (suggest_bindings named_ops.now (view value.now)) }
     ensures formed { IfOk result (λ l. IsFormed (IsKnownPlace named_ops.now) l.op) }
 {
-    let instance = handle(named_ops, value, "instance", 1)?;
-    let profile = atom(named_ops, value, "profile", 2)?;
-    let bindings = list(alloc, named_ops, value, "bindings", 3, 600)?;
+    let instance = handle(named_ops, value, FieldName::Instance)?;
+    let profile = atom(named_ops, value, FieldName::Profile)?;
+    let bindings = list(alloc, named_ops, value, FieldName::Bindings, 600)?;
     let op = Op::SuggestBindings {
         instance,
         profile,
         bindings,
     };
-    read_op(value, &["op", "instance", "profile", "bindings"], op, None)
+    read_op(value, CallName::SuggestBindings, op, None)
 }
 
 /// Reads `attach_sets`: `session`, `sets`.
@@ -128,10 +118,10 @@ pub fn attach_sets<'v>(
     ensures reads { ReadsOp result (attach_sets named_ops.now (view value.now)) }
     ensures formed { IfOk result (λ l. IsFormed (IsKnownPlace named_ops.now) l.op) }
 {
-    let session = handle(named_ops, value, "session", 1)?;
-    let sets = list(alloc, named_ops, value, "sets", 2, 32)?;
+    let session = handle(named_ops, value, FieldName::Session)?;
+    let sets = list(alloc, named_ops, value, FieldName::Sets, 32)?;
     let op = Op::AttachSets { session, sets };
-    read_op(value, &["op", "session", "sets"], op, None)
+    read_op(value, CallName::AttachSets, op, None)
 }
 
 /// Reads `sync_actions`: `session`, `active`.
@@ -143,10 +133,10 @@ pub fn sync_actions<'v>(
     ensures reads { ReadsOp result (sync_actions named_ops.now (view value.now)) }
     ensures formed { IfOk result (λ l. IsFormed (IsKnownPlace named_ops.now) l.op) }
 {
-    let session = handle(named_ops, value, "session", 1)?;
-    let active = list(alloc, named_ops, value, "active", 2, 128)?;
+    let session = handle(named_ops, value, FieldName::Session)?;
+    let active = list(alloc, named_ops, value, FieldName::Active, 128)?;
     let op = Op::SyncActions { session, active };
-    read_op(value, &["op", "session", "active"], op, None)
+    read_op(value, CallName::SyncActions, op, None)
 }
 
 /// Reads `get_boolean`: `session`, `action`, `sub`.
@@ -155,15 +145,15 @@ pub fn get_boolean<'v>(named_ops: &NamedOps<'_>, value: &'v Value) -> Result<Rea
     ensures formed { IfOk result (λ l. IsFormed (IsKnownPlace named_ops.now) l.op) }
     ensures only_wrong { IfErr result IsWrong }
 {
-    let session = handle(named_ops, value, "session", 1)?;
-    let action = handle(named_ops, value, "action", 2)?;
-    let sub = atom(named_ops, value, "sub", 3)?;
+    let session = handle(named_ops, value, FieldName::Session)?;
+    let action = handle(named_ops, value, FieldName::Action)?;
+    let sub = atom(named_ops, value, FieldName::Sub)?;
     let op = Op::GetBoolean {
         session,
         action,
         sub,
     };
-    read_op(value, &["op", "session", "action", "sub"], op, None)
+    read_op(value, CallName::GetBoolean, op, None)
 }
 
 /// Reads `get_float`: `session`, `action`, `sub`.
@@ -172,15 +162,15 @@ pub fn get_float<'v>(named_ops: &NamedOps<'_>, value: &'v Value) -> Result<ReadO
     ensures formed { IfOk result (λ l. IsFormed (IsKnownPlace named_ops.now) l.op) }
     ensures only_wrong { IfErr result IsWrong }
 {
-    let session = handle(named_ops, value, "session", 1)?;
-    let action = handle(named_ops, value, "action", 2)?;
-    let sub = atom(named_ops, value, "sub", 3)?;
+    let session = handle(named_ops, value, FieldName::Session)?;
+    let action = handle(named_ops, value, FieldName::Action)?;
+    let sub = atom(named_ops, value, FieldName::Sub)?;
     let op = Op::GetFloat {
         session,
         action,
         sub,
     };
-    read_op(value, &["op", "session", "action", "sub"], op, None)
+    read_op(value, CallName::GetFloat, op, None)
 }
 
 /// Reads `get_vector`: `session`, `action`, `sub`.
@@ -189,15 +179,15 @@ pub fn get_vector<'v>(named_ops: &NamedOps<'_>, value: &'v Value) -> Result<Read
     ensures formed { IfOk result (λ l. IsFormed (IsKnownPlace named_ops.now) l.op) }
     ensures only_wrong { IfErr result IsWrong }
 {
-    let session = handle(named_ops, value, "session", 1)?;
-    let action = handle(named_ops, value, "action", 2)?;
-    let sub = atom(named_ops, value, "sub", 3)?;
+    let session = handle(named_ops, value, FieldName::Session)?;
+    let action = handle(named_ops, value, FieldName::Action)?;
+    let sub = atom(named_ops, value, FieldName::Sub)?;
     let op = Op::GetVector {
         session,
         action,
         sub,
     };
-    read_op(value, &["op", "session", "action", "sub"], op, None)
+    read_op(value, CallName::GetVector, op, None)
 }
 
 /// Reads `get_pose_active`: `session`, `action`, `sub`.
@@ -206,13 +196,13 @@ pub fn get_pose_active<'v>(named_ops: &NamedOps<'_>, value: &'v Value) -> Result
     ensures formed { IfOk result (λ l. IsFormed (IsKnownPlace named_ops.now) l.op) }
     ensures only_wrong { IfErr result IsWrong }
 {
-    let session = handle(named_ops, value, "session", 1)?;
-    let action = handle(named_ops, value, "action", 2)?;
-    let sub = atom(named_ops, value, "sub", 3)?;
+    let session = handle(named_ops, value, FieldName::Session)?;
+    let action = handle(named_ops, value, FieldName::Action)?;
+    let sub = atom(named_ops, value, FieldName::Sub)?;
     let op = Op::GetPoseActive {
         session,
         action,
         sub,
     };
-    read_op(value, &["op", "session", "action", "sub"], op, None)
+    read_op(value, CallName::GetPoseActive, op, None)
 }

@@ -16,7 +16,7 @@ use xr_scenario_fields::{
     Fault, MOST_CAPACITY, NamedOps, ReadOp, atom, form, handle, mark_number, mark_value, name,
     number, read_op, small, system, text, view_config,
 };
-use xr_types::Op;
+use xr_types::{CallName, FieldName, Op};
 
 /// Reads `create_instance`: `major`, `minor`, `as`?.
 pub fn create_instance<'v>(value: &'v Value) -> Result<ReadOp<'v>, Fault>
@@ -24,11 +24,11 @@ pub fn create_instance<'v>(value: &'v Value) -> Result<ReadOp<'v>, Fault>
     ensures formed { IfOk result (λ l. (names : List NamedOp) → IsFormed (IsKnownPlace names) l.op) }
     ensures only_wrong { IfErr result IsWrong }
 {
-    let major = small(value, "major", 1)?;
-    let minor = small(value, "minor", 2)?;
-    let name = name(value, 3)?;
+    let major = small(value, FieldName::Major)?;
+    let minor = small(value, FieldName::Minor)?;
+    let name = name(value)?;
     let op = Op::CreateInstance { major, minor };
-    read_op(value, &["op", "major", "minor", "as"], op, name)
+    read_op(value, CallName::CreateInstance, op, name)
 }
 
 /// Reads `destroy_instance`: `instance`.
@@ -37,9 +37,9 @@ pub fn destroy_instance<'v>(named_ops: &NamedOps<'_>, value: &'v Value) -> Resul
     ensures formed { IfOk result (λ l. IsFormed (IsKnownPlace named_ops.now) l.op) }
     ensures only_wrong { IfErr result IsWrong }
 {
-    let instance = handle(named_ops, value, "instance", 1)?;
+    let instance = handle(named_ops, value, FieldName::Instance)?;
     let op = Op::DestroyInstance { instance };
-    read_op(value, &["op", "instance"], op, None)
+    read_op(value, CallName::DestroyInstance, op, None)
 }
 
 /// Reads `poll_event`: `instance`.
@@ -48,9 +48,9 @@ pub fn poll_event<'v>(named_ops: &NamedOps<'_>, value: &'v Value) -> Result<Read
     ensures formed { IfOk result (λ l. IsFormed (IsKnownPlace named_ops.now) l.op) }
     ensures only_wrong { IfErr result IsWrong }
 {
-    let instance = handle(named_ops, value, "instance", 1)?;
+    let instance = handle(named_ops, value, FieldName::Instance)?;
     let op = Op::PollEvent { instance };
-    read_op(value, &["op", "instance"], op, None)
+    read_op(value, CallName::PollEvent, op, None)
 }
 
 /// Reads `get_system`: `instance`, `form`, `as`?.
@@ -59,11 +59,11 @@ pub fn get_system<'v>(named_ops: &NamedOps<'_>, value: &'v Value) -> Result<Read
     ensures formed { IfOk result (λ l. IsFormed (IsKnownPlace named_ops.now) l.op) }
     ensures only_wrong { IfErr result IsWrong }
 {
-    let instance = handle(named_ops, value, "instance", 1)?;
-    let form = form(value, "form", 2)?;
-    let name = name(value, 3)?;
+    let instance = handle(named_ops, value, FieldName::Instance)?;
+    let form = form(value, FieldName::Form)?;
+    let name = name(value)?;
     let op = Op::GetSystem { instance, form };
-    read_op(value, &["op", "instance", "form", "as"], op, name)
+    read_op(value, CallName::GetSystem, op, name)
 }
 
 /// Reads `string_to_path`: `instance`, `text`, `as`?.
@@ -75,11 +75,11 @@ pub fn string_to_path<'v>(
     ensures reads { ReadsOp result (string_to_path named_ops.now (view value.now)) }
     ensures formed { IfOk result (λ l. IsFormed (IsKnownPlace named_ops.now) l.op) }
 {
-    let instance = handle(named_ops, value, "instance", 1)?;
-    let text = text(alloc, value, "text", 2)?;
-    let name = name(value, 3)?;
+    let instance = handle(named_ops, value, FieldName::Instance)?;
+    let text = text(alloc, value, FieldName::Text)?;
+    let name = name(value)?;
     let op = Op::StringToPath { instance, text };
-    read_op(value, &["op", "instance", "text", "as"], op, name)
+    read_op(value, CallName::StringToPath, op, name)
 }
 
 /// Reads `path_to_string`: `instance`, `path`, `capacity`.
@@ -88,15 +88,15 @@ pub fn path_to_string<'v>(named_ops: &NamedOps<'_>, value: &'v Value) -> Result<
     ensures formed { IfOk result (λ l. IsFormed (IsKnownPlace named_ops.now) l.op) }
     ensures only_wrong { IfErr result IsWrong }
 {
-    let instance = handle(named_ops, value, "instance", 1)?;
-    let path = atom(named_ops, value, "path", 2)?;
-    let capacity = number(value, "capacity", 3, MOST_CAPACITY)?;
+    let instance = handle(named_ops, value, FieldName::Instance)?;
+    let path = atom(named_ops, value, FieldName::Path)?;
+    let capacity = number(value, FieldName::Capacity, MOST_CAPACITY)?;
     let op = Op::PathToString {
         instance,
         path,
         capacity,
     };
-    read_op(value, &["op", "instance", "path", "capacity"], op, None)
+    read_op(value, CallName::PathToString, op, None)
 }
 
 /// Reads `create_session`: `instance`, `system`, `as`?.
@@ -105,11 +105,11 @@ pub fn create_session<'v>(named_ops: &NamedOps<'_>, value: &'v Value) -> Result<
     ensures formed { IfOk result (λ l. IsFormed (IsKnownPlace named_ops.now) l.op) }
     ensures only_wrong { IfErr result IsWrong }
 {
-    let instance = handle(named_ops, value, "instance", 1)?;
-    let system = system(named_ops, value, "system", 2)?;
-    let name = name(value, 3)?;
+    let instance = handle(named_ops, value, FieldName::Instance)?;
+    let system = system(named_ops, value, FieldName::System)?;
+    let name = name(value)?;
     let op = Op::CreateSession { instance, system };
-    read_op(value, &["op", "instance", "system", "as"], op, name)
+    read_op(value, CallName::CreateSession, op, name)
 }
 
 /// Reads `destroy_session`: `session`.
@@ -118,9 +118,9 @@ pub fn destroy_session<'v>(named_ops: &NamedOps<'_>, value: &'v Value) -> Result
     ensures formed { IfOk result (λ l. IsFormed (IsKnownPlace named_ops.now) l.op) }
     ensures only_wrong { IfErr result IsWrong }
 {
-    let session = handle(named_ops, value, "session", 1)?;
+    let session = handle(named_ops, value, FieldName::Session)?;
     let op = Op::DestroySession { session };
-    read_op(value, &["op", "session"], op, None)
+    read_op(value, CallName::DestroySession, op, None)
 }
 
 /// Reads `end_session`: `session`.
@@ -129,9 +129,9 @@ pub fn end_session<'v>(named_ops: &NamedOps<'_>, value: &'v Value) -> Result<Rea
     ensures formed { IfOk result (λ l. IsFormed (IsKnownPlace named_ops.now) l.op) }
     ensures only_wrong { IfErr result IsWrong }
 {
-    let session = handle(named_ops, value, "session", 1)?;
+    let session = handle(named_ops, value, FieldName::Session)?;
     let op = Op::EndSession { session };
-    read_op(value, &["op", "session"], op, None)
+    read_op(value, CallName::EndSession, op, None)
 }
 
 /// Reads `request_exit_session`: `session`.
@@ -143,9 +143,9 @@ pub fn request_exit_session<'v>(
     ensures formed { IfOk result (λ l. IsFormed (IsKnownPlace named_ops.now) l.op) }
     ensures only_wrong { IfErr result IsWrong }
 {
-    let session = handle(named_ops, value, "session", 1)?;
+    let session = handle(named_ops, value, FieldName::Session)?;
     let op = Op::RequestExitSession { session };
-    read_op(value, &["op", "session"], op, None)
+    read_op(value, CallName::RequestExitSession, op, None)
 }
 
 /// Reads `begin_session`: `session`, `view`.
@@ -154,10 +154,10 @@ pub fn begin_session<'v>(named_ops: &NamedOps<'_>, value: &'v Value) -> Result<R
     ensures formed { IfOk result (λ l. IsFormed (IsKnownPlace named_ops.now) l.op) }
     ensures only_wrong { IfErr result IsWrong }
 {
-    let session = handle(named_ops, value, "session", 1)?;
-    let view = view_config(value, "view", 2)?;
+    let session = handle(named_ops, value, FieldName::Session)?;
+    let view = view_config(value, FieldName::View)?;
     let op = Op::BeginSession { session, view };
-    read_op(value, &["op", "session", "view"], op, None)
+    read_op(value, CallName::BeginSession, op, None)
 }
 
 /// Reads `mark`: `mark`, `value`?.
@@ -166,13 +166,13 @@ pub fn mark<'v>(named_ops: &NamedOps<'_>, value: &'v Value) -> Result<ReadOp<'v>
     ensures formed { IfOk result (λ l. IsFormed (IsKnownPlace named_ops.now) l.op) }
     ensures only_wrong { IfErr result IsWrong }
 {
-    let mark = mark_number(value, "mark", 1)?;
-    let marked = mark_value(named_ops, value, "value", 2, mark)?;
+    let mark = mark_number(value, FieldName::Mark)?;
+    let marked = mark_value(named_ops, value, FieldName::Value, mark)?;
     let op = Op::Mark {
         mark,
         value: marked,
     };
-    read_op(value, &["op", "mark", "value"], op, None)
+    read_op(value, CallName::Mark, op, None)
 }
 
 /// Reads `await`: `mark`, `as`?.
@@ -181,8 +181,8 @@ pub fn await_mark<'v>(value: &'v Value) -> Result<ReadOp<'v>, Fault>
     ensures formed { IfOk result (λ l. (names : List NamedOp) → IsFormed (IsKnownPlace names) l.op) }
     ensures only_wrong { IfErr result IsWrong }
 {
-    let mark = mark_number(value, "mark", 1)?;
-    let name = name(value, 2)?;
+    let mark = mark_number(value, FieldName::Mark)?;
+    let name = name(value)?;
     let op = Op::Await { mark };
-    read_op(value, &["op", "mark", "as"], op, name)
+    read_op(value, CallName::Await, op, name)
 }

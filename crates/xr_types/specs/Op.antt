@@ -1,5 +1,5 @@
 -- Ops by their names, and what the names that they give stand for.
-use Rattle.std.specs.Prelude.{ℕ, nat_le, List, codes, Option, Some, None, if◌then◌else◌}
+use Rattle.std.specs.Prelude.{ℕ, nat_le, List, [], ◌∷◌, codes, Option, Some, None, if◌then◌else◌}
 use Rattle.xr_types.specs.declared.scenario.Op.{Op}
 use Rattle.xr_types.specs.declared.scenario.Op.TheVariants as op
 use Rattle.xr_types.specs.declared.scenario.Sort.{Sort}
@@ -90,6 +90,11 @@ name_of_call Leave = codes "leave"
 name_of_call Device = codes "device"
 name_of_call NextFrame = codes "next_frame"
 name_of_call ImageDone = codes "image_done"
+
+-- the ops in the order of the format
+abbrev pub all_ops : List CallName
+all_ops =
+    CreateInstance ∷ DestroyInstance ∷ PollEvent ∷ GetSystem ∷ StringToPath ∷ PathToString ∷ CreateSession ∷ DestroySession ∷ EndSession ∷ RequestExitSession ∷ BeginFrame ∷ BeginSession ∷ CreateReferenceSpace ∷ CreateActionSpace ∷ DestroySpace ∷ LocateSpace ∷ CreateActionSet ∷ DestroyActionSet ∷ CreateAction ∷ DestroyAction ∷ SuggestBindings ∷ AttachSets ∷ SyncActions ∷ GetBoolean ∷ GetFloat ∷ GetVector ∷ GetPoseActive ∷ CreateSwapchain ∷ DestroySwapchain ∷ AcquireImage ∷ ReleaseImage ∷ WaitImage ∷ Paint ∷ WaitFrame ∷ EndFrame ∷ Mark ∷ Await ∷ []
 
 -- what the value of a mark is
 abbrev pub mark_sort : ℕ → Sort

@@ -6,6 +6,7 @@
 mod calls;
 mod code;
 mod device;
+mod fields;
 mod frames;
 mod handles;
 mod input;
@@ -20,6 +21,7 @@ mod status;
 pub use calls::{Actor, Answer, Call, Gives, NoMemory, Reply, Step};
 pub use code::Code;
 pub use device::{DeviceEvent, Wish};
+pub use fields::FieldName;
 pub use frames::{
     Blend, Frame, FrameLayer, Image, Layer, MOST_LAYERS, Shown, ShownLayer, SubImage,
 };

@@ -1,6 +1,6 @@
 // The calls by their names in scenarios and reports.
 ghost use Rattle.std.specs.Prelude.{◌≡◌, Some};
-ghost use Rattle.xr_types.specs.Op.{name_of_call};
+ghost use Rattle.xr_types.specs.Op.{name_of_call, all_ops};
 ghost use Rattle.xr_types.specs.OpNumber.{number_of_op};
 
 use std::fmt;
@@ -53,6 +53,51 @@ pub enum CallName {
 }
 
 impl CallName {
+    /// The ops in the order of the format.
+    pub fn ops() -> &'static [CallName]
+        ensures { result.now ≡ all_ops }
+    {
+        &[
+            CallName::CreateInstance,
+            CallName::DestroyInstance,
+            CallName::PollEvent,
+            CallName::GetSystem,
+            CallName::StringToPath,
+            CallName::PathToString,
+            CallName::CreateSession,
+            CallName::DestroySession,
+            CallName::EndSession,
+            CallName::RequestExitSession,
+            CallName::BeginFrame,
+            CallName::BeginSession,
+            CallName::CreateReferenceSpace,
+            CallName::CreateActionSpace,
+            CallName::DestroySpace,
+            CallName::LocateSpace,
+            CallName::CreateActionSet,
+            CallName::DestroyActionSet,
+            CallName::CreateAction,
+            CallName::DestroyAction,
+            CallName::SuggestBindings,
+            CallName::AttachSets,
+            CallName::SyncActions,
+            CallName::GetBoolean,
+            CallName::GetFloat,
+            CallName::GetVector,
+            CallName::GetPoseActive,
+            CallName::CreateSwapchain,
+            CallName::DestroySwapchain,
+            CallName::AcquireImage,
+            CallName::ReleaseImage,
+            CallName::WaitImage,
+            CallName::Paint,
+            CallName::WaitFrame,
+            CallName::EndFrame,
+            CallName::Mark,
+            CallName::Await,
+        ]
+    }
+
     /// The name as scenarios and reports write it.
     pub fn name(self) -> &'static str
         ensures { result.now ≡ name_of_call self }

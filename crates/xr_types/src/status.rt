@@ -1,5 +1,5 @@
 // How a run ends, and why a scenario is refused.
-use crate::CallName;
+use crate::FieldName;
 
 /// A read, a write or an opening that failed. It comes only where the named count of faults rose.
 #[derive(Clone, Copy, Debug, PartialEq, Eq)]
@@ -31,23 +31,17 @@ pub enum Status {
 }
 
 /// Why a text is refused. A wrong place counts scripts and ops from 1; op 0 is a script itself, and
-/// script 0 the top. Where the op is one of the format its name stands beside it, so that a field can be
-/// told by its name.
+/// script 0 the top.
 #[derive(Clone, Copy, Debug, PartialEq, Eq)]
 pub enum Refusal {
     TooLong,
     Json,
-    BadShape {
-        script: u32,
-        op: u32,
-        name: Option<CallName>,
-        what: What,
-    },
+    BadShape { script: u32, op: u32, what: What },
     /// The text is a scenario, and it has an op that isn't built.
     Unbuilt,
 }
 
-/// The part of a scenario that is wrong. A field is named by its place in its op's row, from 1.
+/// The part of a scenario that is wrong.
 #[derive(Clone, Copy, Debug, PartialEq, Eq)]
 pub enum What {
     Top,
@@ -55,6 +49,6 @@ pub enum What {
     Scripts,
     Script,
     Op,
-    Field(u8),
+    Field(FieldName),
     Extra,
 }

@@ -1,13 +1,17 @@
 -- Fields of an op: what a JSON value says, or which place of the op is wrong.
-use Rattle.std.specs.Prelude.{ℕ, ℤ, pos, negsuc, int_le, ◌-◌, ◌^◌, ◌==◌, ◌&&◌, ◌||◌, nat_lt, nat_le, Bool, true, false, List, length, codes, Option, Some, None, option_and_then, option_map, Result, Ok, Err, if◌then◌else◌}
+use Rattle.std.specs.Prelude.{ℕ, ℤ, pos, negsuc, int_le, ◌-◌, ◌^◌, ◌==◌, ◌&&◌, ◌||◌, nat_lt, nat_le, Bool, true, false, List, ◌∷◌, length, map, codes, Option, Some, None, option_and_then, option_map, Result, Ok, Err, if◌then◌else◌}
 use Rattle.std.specs.List.{list_all, list_any}
 use Rattle.std.specs.Str.{bytes_eq}
 use Rattle.serde_json.specs.Data.{Data, Members, no_members, member}
 use Rattle.serde_json.specs.Find.{get, as_str, as_number, as_u64, as_i64, as_object}
+use Rattle.xr_types.specs.Field.{name_of_field, fields_of}
+use Rattle.xr_types.specs.declared.fields.FieldName.{FieldName}
+use Rattle.xr_types.specs.declared.fields.FieldName.TheVariants.{As}
 use Rattle.xr_types.specs.declared.frames.Blend.{Blend}
 use Rattle.xr_types.specs.declared.frames.Blend.TheVariants.{Opaque, Additive, Alpha}
 use Rattle.xr_types.specs.declared.input.ActionType.{ActionType}
 use Rattle.xr_types.specs.declared.input.ActionType.TheVariants.{Boolean, Float, Vector, Pose, Vibration}
+use Rattle.xr_types.specs.declared.names.CallName.{CallName}
 use Rattle.xr_types.specs.declared.scenario.Sort.{Sort}
 use Rattle.xr_types.specs.declared.scenario.Sort.TheVariants as sort
 use Rattle.xr_types.specs.declared.scenario.Use.{Use}
@@ -27,22 +31,22 @@ abbrev pub and_then : {T U : Type 0} → Result T What → (T → Result U What)
 and_then (Err wrong) rest = Err wrong
 and_then (Ok x) rest = rest x
 
--- the value of the field at a place of its row, from 1, or that field is wrong
-abbrev pub at : {T : Type 0} → ℕ → Option T → Result T What
-at place None = Err (Field place)
-at place (Some x) = Ok x
+-- the value of a field, or that field is wrong
+abbrev pub at : {T : Type 0} → FieldName → Option T → Result T What
+at key None = Err (Field key)
+at key (Some x) = Ok x
 
 -- the field of a key, as `read` reads it
-abbrev pub field : {T : Type 0} → (Data → Option T) → ℕ → List ℕ → Data → Result T What
-field read place key d = at place (option_and_then read (get key d))
+abbrev pub field : {T : Type 0} → (Data → Option T) → FieldName → Data → Result T What
+field read key d = at key (option_and_then read (get (name_of_field key) d))
 
-abbrev pub optional_by : {T : Type 0} → (Data → Option T) → T → ℕ → Option Data → Result T What
-optional_by read missing place None = Ok missing
-optional_by read missing place (Some d) = at place (read d)
+abbrev pub optional_by : {T : Type 0} → (Data → Option T) → T → FieldName → Option Data → Result T What
+optional_by read missing key None = Ok missing
+optional_by read missing key (Some d) = at key (read d)
 
 -- a field that may be missing
-abbrev pub optional : {T : Type 0} → (Data → Option T) → T → ℕ → List ℕ → Data → Result T What
-optional read missing place key d = optional_by read missing place (get key d)
+abbrev pub optional : {T : Type 0} → (Data → Option T) → T → FieldName → Data → Result T What
+optional read missing key d = optional_by read missing key (get (name_of_field key) d)
 
 -- ---- numbers
 
@@ -173,13 +177,13 @@ is_name t = nat_lt 0 (length t) && nat_le (length t) 32 && list_all is_name_byte
 abbrev pub name_in : Data → Option (List ℕ)
 name_in d = option_and_then (λ t. if is_name t then Some t else None) (as_str d)
 
-abbrev pub name_by : ℕ → Option Data → Result (Option (List ℕ)) What
-name_by place None = Ok None
-name_by place (Some d) = at place (option_map Some (name_in d))
+abbrev pub name_by : Option Data → Result (Option (List ℕ)) What
+name_by None = Ok None
+name_by (Some d) = at As (option_map Some (name_in d))
 
 -- the name under `as`, which may be missing
-abbrev pub name_at : ℕ → Data → Result (Option (List ℕ)) What
-name_at place d = name_by place (get (codes "as") d)
+abbrev pub name_at : Data → Result (Option (List ℕ)) What
+name_at d = name_by (get (name_of_field As) d)
 
 -- ---- keys
 
@@ -198,6 +202,10 @@ only_keys_by keys (Some ms) = are_keys keys ms
 abbrev pub only_keys : List (List ℕ) → Data → Bool
 only_keys keys d = only_keys_by keys (as_object d)
 
--- the value, where the object has no other key
-abbrev pub only : {T : Type 0} → List (List ℕ) → Data → T → Result T What
-only keys d x = if only_keys keys d then Ok x else Err Extra
+-- the keys that an op may have: its name, and the fields of its row
+abbrev pub keys_of : CallName → List (List ℕ)
+keys_of row = codes "op" ∷ map name_of_field (fields_of row)
+
+-- the value, where the op has no other key
+abbrev pub only : {T : Type 0} → CallName → Data → T → Result T What
+only row d x = if only_keys (keys_of row) d then Ok x else Err Extra

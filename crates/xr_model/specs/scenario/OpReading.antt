@@ -1,5 +1,6 @@
 -- An op of a script: which one it is, what it says, and what its name stands for.
-use Rattle.std.specs.Prelude.{ℕ, List, codes, Option, Some, None, option_and_then, Result, Ok, Err, if◌then◌else◌}
+use Rattle.std.specs.Prelude.{ℕ, List, codes, Option, Some, None, option_and_then, Result, Ok, Err}
+use Rattle.std.specs.List.{find}
 use Rattle.std.specs.Str.{bytes_eq}
 use Rattle.serde_json.specs.Data.{Data}
 use Rattle.serde_json.specs.Find.{get, as_str}
@@ -8,7 +9,7 @@ use Rattle.xr_types.specs.declared.names.CallName.TheVariants as call
 use Rattle.xr_types.specs.declared.scenario.Sort.{Sort}
 use Rattle.xr_types.specs.declared.status.What.{What}
 use Rattle.xr_types.specs.declared.status.What.TheVariants as what
-use Rattle.xr_types.specs.Op.{sort_of}
+use Rattle.xr_types.specs.Op.{name_of_call, all_ops, sort_of}
 use Rattle.xr_model.specs.scenario.Names.{NamedOp, given}
 use Rattle.xr_model.specs.scenario.ReadOp.{ReadOp}
 use Rattle.xr_model.specs.scenario.Fields.{and_then}
@@ -18,45 +19,7 @@ use Rattle.xr_model.specs.scenario.Ops.Frames.{begin_frame, create_reference_spa
 
 -- the op of a name
 abbrev pub op_named : List ℕ → Option CallName
-op_named t =
-    if bytes_eq t (codes "create_instance") then Some call.CreateInstance
-    else (if bytes_eq t (codes "destroy_instance") then Some call.DestroyInstance
-    else (if bytes_eq t (codes "poll_event") then Some call.PollEvent
-    else (if bytes_eq t (codes "get_system") then Some call.GetSystem
-    else (if bytes_eq t (codes "string_to_path") then Some call.StringToPath
-    else (if bytes_eq t (codes "path_to_string") then Some call.PathToString
-    else (if bytes_eq t (codes "create_session") then Some call.CreateSession
-    else (if bytes_eq t (codes "destroy_session") then Some call.DestroySession
-    else (if bytes_eq t (codes "end_session") then Some call.EndSession
-    else (if bytes_eq t (codes "request_exit_session") then Some call.RequestExitSession
-    else (if bytes_eq t (codes "begin_frame") then Some call.BeginFrame
-    else (if bytes_eq t (codes "begin_session") then Some call.BeginSession
-    else (if bytes_eq t (codes "create_reference_space") then Some call.CreateReferenceSpace
-    else (if bytes_eq t (codes "create_action_space") then Some call.CreateActionSpace
-    else (if bytes_eq t (codes "destroy_space") then Some call.DestroySpace
-    else (if bytes_eq t (codes "locate_space") then Some call.LocateSpace
-    else (if bytes_eq t (codes "create_action_set") then Some call.CreateActionSet
-    else (if bytes_eq t (codes "destroy_action_set") then Some call.DestroyActionSet
-    else (if bytes_eq t (codes "create_action") then Some call.CreateAction
-    else (if bytes_eq t (codes "destroy_action") then Some call.DestroyAction
-    else (if bytes_eq t (codes "suggest_bindings") then Some call.SuggestBindings
-    else (if bytes_eq t (codes "attach_sets") then Some call.AttachSets
-    else (if bytes_eq t (codes "sync_actions") then Some call.SyncActions
-    else (if bytes_eq t (codes "get_boolean") then Some call.GetBoolean
-    else (if bytes_eq t (codes "get_float") then Some call.GetFloat
-    else (if bytes_eq t (codes "get_vector") then Some call.GetVector
-    else (if bytes_eq t (codes "get_pose_active") then Some call.GetPoseActive
-    else (if bytes_eq t (codes "create_swapchain") then Some call.CreateSwapchain
-    else (if bytes_eq t (codes "destroy_swapchain") then Some call.DestroySwapchain
-    else (if bytes_eq t (codes "acquire_image") then Some call.AcquireImage
-    else (if bytes_eq t (codes "release_image") then Some call.ReleaseImage
-    else (if bytes_eq t (codes "wait_image") then Some call.WaitImage
-    else (if bytes_eq t (codes "paint") then Some call.Paint
-    else (if bytes_eq t (codes "wait_frame") then Some call.WaitFrame
-    else (if bytes_eq t (codes "end_frame") then Some call.EndFrame
-    else (if bytes_eq t (codes "mark") then Some call.Mark
-    else (if bytes_eq t (codes "await") then Some call.Await
-    else None))))))))))))))))))))))))))))))))))))
+op_named t = find (λ c. bytes_eq t (name_of_call c)) all_ops
 
 abbrev pub named_by : Option CallName → Result CallName What
 named_by None = Err what.Op

@@ -4,7 +4,6 @@ use Rattle.std.specs.Str.{is_utf8}
 use Rattle.serde_json.specs.Data.{Data, Items, no_items, item}
 use Rattle.serde_json.specs.Read.{read}
 use Rattle.serde_json.specs.Find.{get, as_number, as_u64, as_array}
-use Rattle.xr_types.specs.declared.names.CallName.{CallName}
 use Rattle.xr_types.specs.declared.scenario.Op.{Op}
 use Rattle.xr_types.specs.declared.scenario.Scenario.{Scenario}
 use Rattle.xr_types.specs.declared.status.Refusal.{Refusal}
@@ -15,7 +14,7 @@ use Rattle.xr_model.specs.scenario.Names.{NamedOp}
 use Rattle.xr_model.specs.scenario.Fields.{only_keys}
 use Rattle.xr_model.specs.scenario.ListItems.{count_items}
 use Rattle.xr_model.specs.scenario.ReadOp.{ReadOp}
-use Rattle.xr_model.specs.scenario.OpReading.{op_of, read_op_of, with_name}
+use Rattle.xr_model.specs.scenario.OpReading.{read_op_of, with_name}
 
 -- ---- the ops of a script
 
@@ -24,19 +23,19 @@ abbrev pub and_first : {T : Type 0} → T → Result (List T) Refusal → Result
 and_first x (Ok xs) = Ok (x ∷ xs)
 and_first x (Err e) = Err e
 
-abbrev pub after_op : ℕ → ℕ → Option CallName → Result ReadOp What → (ReadOp → Result (List Op) Refusal) → Result (List Op) Refusal
-after_op script place name (Err wrong) more = Err (BadShape script place name wrong)
-after_op script place name (Ok l) more = and_first l.op (more l)
+abbrev pub after_op : ℕ → ℕ → Result ReadOp What → (ReadOp → Result (List Op) Refusal) → Result (List Op) Refusal
+after_op script place (Err wrong) more = Err (BadShape script place wrong)
+after_op script place (Ok l) more = and_first l.op (more l)
 
 -- the ops from a place of a script on, after ops that gave these names
 abbrev pub ops_from : ℕ → ℕ → List NamedOp → Items → Result (List Op) Refusal
 ops_from script place names no_items = Ok []
-ops_from script place names (item d ds) = after_op script place (op_of d) (read_op_of names d) (λ l. ops_from script (place + 1) (with_name place l names) ds)
+ops_from script place names (item d ds) = after_op script place (read_op_of names d) (λ l. ops_from script (place + 1) (with_name place l names) ds)
 
 -- ---- the scripts
 
 abbrev pub script_by : ℕ → Option Items → Result (List Op) Refusal
-script_by script None = Err (BadShape script 0 None what.Script)
+script_by script None = Err (BadShape script 0 what.Script)
 script_by script (Some ds) = ops_from script 1 [] ds
 
 -- a script is an array of ops
@@ -54,8 +53,8 @@ scripts_from script no_items = Ok []
 scripts_from script (item d ds) = after_script (script_of script d) (scripts_from (script + 1) ds)
 
 abbrev pub scripts_by : Option Items → Result (List (List Op)) Refusal
-scripts_by None = Err (BadShape 0 0 None what.Scripts)
-scripts_by (Some ds) = if nat_le 1 (count_items ds) && nat_le (count_items ds) 8 then scripts_from 1 ds else Err (BadShape 0 0 None what.Scripts)
+scripts_by None = Err (BadShape 0 0 what.Scripts)
+scripts_by (Some ds) = if nat_le 1 (count_items ds) && nat_le (count_items ds) 8 then scripts_from 1 ds else Err (BadShape 0 0 what.Scripts)
 
 -- the scripts are an array of 1 to 8
 abbrev pub scripts_in : Data → Result (List (List Op)) Refusal
@@ -79,8 +78,8 @@ scenario_by (Ok scripts) = Ok (record { version = 1; scripts = scripts })
 abbrev pub scenario_in : Data → Result Scenario Refusal
 scenario_in d =
     if only_keys (codes "version" ∷ codes "scripts" ∷ []) d
-    then (if has_version d then scenario_by (scripts_in d) else Err (BadShape 0 0 None what.Version))
-    else Err (BadShape 0 0 None what.Top)
+    then (if has_version d then scenario_by (scripts_in d) else Err (BadShape 0 0 what.Version))
+    else Err (BadShape 0 0 what.Top)
 
 -- the value of the bytes, where the JSON reader by its own statement reads them
 abbrev pub json_of : List ℕ → Option Data

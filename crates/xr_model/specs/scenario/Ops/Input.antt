@@ -1,7 +1,9 @@
 -- Ops on action sets, actions, bindings and their states (OpenXR 1.0 chapter 11). Each op is told by its
 -- row: its fields in order, the name that it may give, and no other key.
-use Rattle.std.specs.Prelude.{List, [], ◌∷◌, codes, None, Result}
+use Rattle.std.specs.Prelude.{List, None, Result}
 use Rattle.serde_json.specs.Data.{Data}
+use Rattle.xr_types.specs.declared.fields.FieldName.TheVariants as key
+use Rattle.xr_types.specs.declared.names.CallName.TheVariants as call
 use Rattle.xr_types.specs.declared.scenario.Op.TheVariants as op
 use Rattle.xr_types.specs.declared.status.What.{What}
 use Rattle.xr_model.specs.scenario.Names.{NamedOp}
@@ -12,74 +14,74 @@ use Rattle.xr_model.specs.scenario.ReadOp.{ReadOp, read_op}
 -- instance, name, localized, priority, as?
 abbrev pub create_action_set : List NamedOp → Data → Result ReadOp What
 create_action_set names d =
-    and_then (field (handle_in names) 1 (codes "instance") d) (λ instance. and_then (field text_in 2 (codes "name") d) (λ called.
-    and_then (field text_in 3 (codes "localized") d) (λ localized. and_then (field (number_in most_u32) 4 (codes "priority") d) (λ priority.
-    and_then (name_at 5 d) (λ name.
-    only (codes "op" ∷ codes "instance" ∷ codes "name" ∷ codes "localized" ∷ codes "priority" ∷ codes "as" ∷ []) d (read_op (op.CreateActionSet instance called localized priority) name))))))
+    and_then (field (handle_in names) key.Instance d) (λ instance. and_then (field text_in key.Name d) (λ called.
+    and_then (field text_in key.Localized d) (λ localized. and_then (field (number_in most_u32) key.Priority d) (λ priority.
+    and_then (name_at d) (λ name.
+    only call.CreateActionSet d (read_op (op.CreateActionSet instance called localized priority) name))))))
 
 -- set
 abbrev pub destroy_action_set : List NamedOp → Data → Result ReadOp What
 destroy_action_set names d =
-    and_then (field (handle_in names) 1 (codes "set") d) (λ set.
-    only (codes "op" ∷ codes "set" ∷ []) d (read_op (op.DestroyActionSet set) None))
+    and_then (field (handle_in names) key.Set d) (λ set.
+    only call.DestroyActionSet d (read_op (op.DestroyActionSet set) None))
 
 -- set, name, type, subactions, localized, as?
 abbrev pub create_action : List NamedOp → Data → Result ReadOp What
 create_action names d =
-    and_then (field (handle_in names) 1 (codes "set") d) (λ set. and_then (field text_in 2 (codes "name") d) (λ called.
-    and_then (field action_type_in 3 (codes "type") d) (λ kind. and_then (field (list_in (atom_part names) 8) 4 (codes "subactions") d) (λ subactions.
-    and_then (field text_in 5 (codes "localized") d) (λ localized. and_then (name_at 6 d) (λ name.
-    only (codes "op" ∷ codes "set" ∷ codes "name" ∷ codes "type" ∷ codes "subactions" ∷ codes "localized" ∷ codes "as" ∷ []) d (read_op (op.CreateAction set called kind subactions localized) name)))))))
+    and_then (field (handle_in names) key.Set d) (λ set. and_then (field text_in key.Name d) (λ called.
+    and_then (field action_type_in key.ActionType d) (λ kind. and_then (field (list_in (atom_part names) 8) key.Subactions d) (λ subactions.
+    and_then (field text_in key.Localized d) (λ localized. and_then (name_at d) (λ name.
+    only call.CreateAction d (read_op (op.CreateAction set called kind subactions localized) name)))))))
 
 -- action
 abbrev pub destroy_action : List NamedOp → Data → Result ReadOp What
 destroy_action names d =
-    and_then (field (handle_in names) 1 (codes "action") d) (λ action.
-    only (codes "op" ∷ codes "action" ∷ []) d (read_op (op.DestroyAction action) None))
+    and_then (field (handle_in names) key.Action d) (λ action.
+    only call.DestroyAction d (read_op (op.DestroyAction action) None))
 
 -- instance, profile, bindings
 abbrev pub suggest_bindings : List NamedOp → Data → Result ReadOp What
 suggest_bindings names d =
-    and_then (field (handle_in names) 1 (codes "instance") d) (λ instance. and_then (field (atom_in names) 2 (codes "profile") d) (λ profile.
-    and_then (field (list_in (binding_part names) 600) 3 (codes "bindings") d) (λ bindings.
-    only (codes "op" ∷ codes "instance" ∷ codes "profile" ∷ codes "bindings" ∷ []) d (read_op (op.SuggestBindings instance profile bindings) None))))
+    and_then (field (handle_in names) key.Instance d) (λ instance. and_then (field (atom_in names) key.Profile d) (λ profile.
+    and_then (field (list_in (binding_part names) 600) key.Bindings d) (λ bindings.
+    only call.SuggestBindings d (read_op (op.SuggestBindings instance profile bindings) None))))
 
 -- session, sets
 abbrev pub attach_sets : List NamedOp → Data → Result ReadOp What
 attach_sets names d =
-    and_then (field (handle_in names) 1 (codes "session") d) (λ session. and_then (field (list_in (handle_part names) 32) 2 (codes "sets") d) (λ sets.
-    only (codes "op" ∷ codes "session" ∷ codes "sets" ∷ []) d (read_op (op.AttachSets session sets) None)))
+    and_then (field (handle_in names) key.Session d) (λ session. and_then (field (list_in (handle_part names) 32) key.Sets d) (λ sets.
+    only call.AttachSets d (read_op (op.AttachSets session sets) None)))
 
 -- session, active
 abbrev pub sync_actions : List NamedOp → Data → Result ReadOp What
 sync_actions names d =
-    and_then (field (handle_in names) 1 (codes "session") d) (λ session. and_then (field (list_in (active_set_part names) 128) 2 (codes "active") d) (λ active.
-    only (codes "op" ∷ codes "session" ∷ codes "active" ∷ []) d (read_op (op.SyncActions session active) None)))
+    and_then (field (handle_in names) key.Session d) (λ session. and_then (field (list_in (active_set_part names) 128) key.Active d) (λ active.
+    only call.SyncActions d (read_op (op.SyncActions session active) None)))
 
 -- session, action, sub
 abbrev pub get_boolean : List NamedOp → Data → Result ReadOp What
 get_boolean names d =
-    and_then (field (handle_in names) 1 (codes "session") d) (λ session. and_then (field (handle_in names) 2 (codes "action") d) (λ action.
-    and_then (field (atom_in names) 3 (codes "sub") d) (λ sub.
-    only (codes "op" ∷ codes "session" ∷ codes "action" ∷ codes "sub" ∷ []) d (read_op (op.GetBoolean session action sub) None))))
+    and_then (field (handle_in names) key.Session d) (λ session. and_then (field (handle_in names) key.Action d) (λ action.
+    and_then (field (atom_in names) key.Sub d) (λ sub.
+    only call.GetBoolean d (read_op (op.GetBoolean session action sub) None))))
 
 -- session, action, sub
 abbrev pub get_float : List NamedOp → Data → Result ReadOp What
 get_float names d =
-    and_then (field (handle_in names) 1 (codes "session") d) (λ session. and_then (field (handle_in names) 2 (codes "action") d) (λ action.
-    and_then (field (atom_in names) 3 (codes "sub") d) (λ sub.
-    only (codes "op" ∷ codes "session" ∷ codes "action" ∷ codes "sub" ∷ []) d (read_op (op.GetFloat session action sub) None))))
+    and_then (field (handle_in names) key.Session d) (λ session. and_then (field (handle_in names) key.Action d) (λ action.
+    and_then (field (atom_in names) key.Sub d) (λ sub.
+    only call.GetFloat d (read_op (op.GetFloat session action sub) None))))
 
 -- session, action, sub
 abbrev pub get_vector : List NamedOp → Data → Result ReadOp What
 get_vector names d =
-    and_then (field (handle_in names) 1 (codes "session") d) (λ session. and_then (field (handle_in names) 2 (codes "action") d) (λ action.
-    and_then (field (atom_in names) 3 (codes "sub") d) (λ sub.
-    only (codes "op" ∷ codes "session" ∷ codes "action" ∷ codes "sub" ∷ []) d (read_op (op.GetVector session action sub) None))))
+    and_then (field (handle_in names) key.Session d) (λ session. and_then (field (handle_in names) key.Action d) (λ action.
+    and_then (field (atom_in names) key.Sub d) (λ sub.
+    only call.GetVector d (read_op (op.GetVector session action sub) None))))
 
 -- session, action, sub
 abbrev pub get_pose_active : List NamedOp → Data → Result ReadOp What
 get_pose_active names d =
-    and_then (field (handle_in names) 1 (codes "session") d) (λ session. and_then (field (handle_in names) 2 (codes "action") d) (λ action.
-    and_then (field (atom_in names) 3 (codes "sub") d) (λ sub.
-    only (codes "op" ∷ codes "session" ∷ codes "action" ∷ codes "sub" ∷ []) d (read_op (op.GetPoseActive session action sub) None))))
+    and_then (field (handle_in names) key.Session d) (λ session. and_then (field (handle_in names) key.Action d) (λ action.
+    and_then (field (atom_in names) key.Sub d) (λ sub.
+    only call.GetPoseActive d (read_op (op.GetPoseActive session action sub) None))))
