@@ -1,5 +1,5 @@
 // Whether a text is a path, in one scan from left to right.
-ghost use Rattle.std.specs.Prelude.{◌≡◌, false};
+ghost use Rattle.std.specs.Prelude.{◌≡◌, ◌∷◌, ℕ, Bool, List, true, false};
 ghost use Rattle.xr_paths.specs.inside.Scan.{scan};
 ghost use Rattle.xr_model.specs.machine.Paths.{is_path_byte, is_path_text};
 
@@ -10,6 +10,14 @@ fn is_path_byte(b: u8) -> bool
     ensures { result ≡ is_path_byte b }
 {
     matches!(b, b'a'..=b'z' | b'0'..=b'9' | b'-' | b'_' | b'.' | b'/')
+}
+
+/// Whether a byte is a small letter, which is no slash and no period.
+#[tactic(auto, unfolding(xr_model::specs::machine::Paths::is_path_byte))]
+fn is_letter(b: u8) -> bool
+    ensures named { result ≡ true → (named : Bool) (bs : List ℕ) → scan named (b ∷ bs) ≡ scan true bs }
+{
+    b'a' <= b && b <= b'z'
 }
 
 /// Whether a text is a path.
@@ -24,13 +32,15 @@ pub(crate) fn is_path_text(text: &[u8]) -> bool
 }
 
 /// Whether each byte may stand in a path, and each name that begins in these bytes has a byte other
-/// than a period. `named` says that of the name so far.
+/// than a period. `named` says that of the name so far. Most bytes are letters, so these are looked for first.
 fn ends_names(rest: &[u8]) -> bool
     ensures { result ≡ scan false rest.now }
 {
     let mut named = false;
     for b in rest {
-        if *b == b'/' {
+        if is_letter(*b) {
+            named = true;
+        } else if *b == b'/' {
             if !named {
                 return false;
             }
