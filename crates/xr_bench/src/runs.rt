@@ -1,5 +1,6 @@
 // Runs of scenarios on one thread, without reading their texts and without their reports.
 ghost use Rattle.std.specs.Prelude.{◌≡◌, ◌≤◌, ◌<◌, ◌^◌, true, length};
+ghost use Rattle.xr_types.specs.declared.limits.TheConstants.{MOST_SCRIPTS};
 ghost use Rattle.std.specs.List.{list_all, sum_by};
 ghost use Rattle.xr_model.specs.scenario.Built.{is_built_op};
 ghost use Rattle.xr_model.specs.scenario.ScriptForm.{AllInForm};
@@ -86,7 +87,7 @@ fn calls_in(lists: &Lists) -> u64 {
 /// Runs a scenario beside a device of no events, again and again, and says how many calls its scripts made.
 fn run_again(alloc: Global, scenario: &Scenario) -> Result<u64, NoMemory>
     requires some { 1 ≤ length scenario.now.scripts }
-    requires most { length scenario.now.scripts ≤ 8 }
+    requires most { length scenario.now.scripts ≤ MOST_SCRIPTS }
     requires few { sum_by length scenario.now.scripts < 2 ^ 22 }
     requires formed { AllInForm scenario.now.scripts }
     requires built { list_all (list_all is_built_op) scenario.now.scripts ≡ true }

@@ -12,4 +12,4 @@ mod state;
 
 pub use plain_cells::PlainCells;
 pub use plain_core::PlainCore;
-pub use state::{Core, MOST_APPS};
+pub use state::Core;

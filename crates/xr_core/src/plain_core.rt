@@ -1,5 +1,6 @@
 // A core and plain cells as one value, seen as the whole state. It knows no call.
 ghost use Rattle.std.specs.Prelude.{◌≡◌, ◌≤◌, ◌<◌, ◌^◌, ◌↔◌, IfOk, IsTrue, length, not};
+ghost use Rattle.xr_types.specs.declared.limits.TheConstants.{MOST_SCRIPTS};
 ghost use Rattle.std.specs.List.{list_all};
 ghost use Rattle.xr_model.specs.machine.Request.{request_of};
 ghost use Rattle.xr_model.specs.machine.Marks.{is_set};
@@ -31,7 +32,7 @@ impl PlainCore {
     /// A machine of 1 to 8 applications before any call. Takes all memory but that of new path texts.
     pub fn start(alloc: Global, apps: u8) -> Result<PlainCore, NoMemory>
         requires some { 1 ≤ apps }
-        requires few { apps ≤ 8 }
+        requires few { apps ≤ MOST_SCRIPTS }
         ensures { IfOk result (λ plain. plain ≡ opening (with_apps apps)) }
     {
         let core = Core::start(alloc, apps)?;

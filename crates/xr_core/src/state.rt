@@ -15,13 +15,12 @@ use std::marker::Model;
 use xr_events::Events;
 use xr_handles::Handles;
 use xr_paths::Paths;
-use xr_types::{Actor, Code, Gives, Kind, MOST_HANDLES, NoMemory, Reply, SESSIONS};
+use xr_types::{
+    Actor, Code, Gives, Kind, MOST_HANDLES, MOST_MARK, MOST_SCRIPTS, NoMemory, Reply, SESSIONS,
+};
 
 /// How many marks there are.
-pub(crate) const MARKS: usize = 64;
-
-/// How many applications a core may have.
-pub const MOST_APPS: usize = 8;
+pub(crate) const MARKS: usize = MOST_MARK as usize;
 
 /// What the machine of one thread keeps beside its cells, seen by contracts as the core's half of the state.
 #[derive(Drop)]
@@ -38,12 +37,13 @@ pub struct Core {
     /// The value of each mark that is set, from mark 1 on.
     pub(crate) marks: [Option<u64>; MARKS],
     pub(crate) apps: u8,
-    pub(crate) left: [bool; MOST_APPS],
+    pub(crate) left: [bool; MOST_SCRIPTS],
     pub(crate) calls: u64,
 }
 
 impl Model for Core {
     ghost use Rattle.std.specs.Prelude.{◌≡◌, ◌≤◌, take, length};
+    ghost use Rattle.xr_types.specs.declared.limits.TheConstants.{MOST_SCRIPTS};
     ghost use Rattle.xr_model.specs.laws.SessionLaws.{AreListed};
     ghost use Rattle.xr_model.specs.machine.State.{CoreState};
 
@@ -62,7 +62,7 @@ impl Model for Core {
       locked = c.calls;
     } };
 
-    ghost invariant = { λ c. AreListed c.handles c.sessions.items × (length c.handles.given ≤ c.calls) × (c.created ≤ c.calls) × (c.apps ≤ 8) };
+    ghost invariant = { λ c. AreListed c.handles c.sessions.items × (length c.handles.given ≤ c.calls) × (c.created ≤ c.calls) × (c.apps ≤ MOST_SCRIPTS) };
 }
 
 /// Only the sessions whose handles are live are kept.
@@ -77,7 +77,7 @@ impl Core {
     #[tactic(auto, using(crate::proofs::Start::none_left))]
     pub fn start(alloc: Global, apps: u8) -> Result<Core, NoMemory>
         requires some { 1 ≤ apps }
-        requires few { apps ≤ 8 }
+        requires few { apps ≤ MOST_SCRIPTS }
         ensures { IfOk result (λ core. core ≡ opening_core (with_apps apps)) }
     {
         let paths = Paths::start(alloc)?;
@@ -91,7 +91,7 @@ impl Core {
             device: DeviceValues::start(),
             marks: [None; MARKS],
             apps,
-            left: [false; MOST_APPS],
+            left: [false; MOST_SCRIPTS],
             calls: 0,
         })
     }

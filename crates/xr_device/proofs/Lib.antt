@@ -1,4 +1,4 @@
 pub mod FirstBytes
-pub mod Numbers
+pub mod Digits
 pub mod TextLines
 pub mod HeldBytes

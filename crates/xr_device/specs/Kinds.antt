@@ -4,6 +4,7 @@ use Rattle.xr_io.specs.declared.Which.{Which}
 use Rattle.xr_io.specs.declared.Which.TheVariants.{Device}
 use Rattle.xr_types.specs.declared.device.DeviceEvent.{DeviceEvent}
 use Rattle.xr_model.specs.device_text.DeviceText.{DeviceStream, ends, nothing_more}
+use Rattle.xr_types.specs.declared.limits.TheConstants.{MOST_DEVICE}
 use Rattle.xr_device.specs.Prospect.{Prospect}
 
 -- A reading of a text: what the rest of it tells, where its bytes are told; whether the reading is over; how many events it
@@ -24,7 +25,7 @@ of_text r = record {
   remaining = if r.over then Some nothing_more else r.text;
   over = r.over;
   given = r.given;
-  bound = if r.over then 0 else 16777216 - r.used;
+  bound = if r.over then 0 else MOST_DEVICE - r.used;
   faults = r.faults;
   which = r.which;
 }
@@ -40,7 +41,7 @@ of_list s = record {
   remaining = Some (record { events = s.events; ending = ends });
   over = length s.events == 0;
   given = s.given;
-  bound = min (length s.events) 16777216;
+  bound = min (length s.events) MOST_DEVICE;
   faults = 0;
   which = Device;
 }

@@ -3,6 +3,7 @@
 #![tactic(auto)]
 
 ghost use Rattle.std.specs.Prelude.{◌≡◌, ◌≤◌, ◌<◌, true, Some};
+ghost use Rattle.xr_types.specs.declared.limits.TheConstants.{MOST_DEVICE};
 ghost use Rattle.xr_io.specs.Outside.{Rose};
 ghost use Rattle.xr_model.specs.device_text.DeviceText.{nothing_more};
 ghost use Rattle.xr_device.specs.Prospect.{Prospect};
@@ -13,6 +14,7 @@ mod held;
 mod line_device;
 mod lines;
 mod list_device;
+mod numbers;
 mod text;
 mod words;
 
@@ -60,5 +62,5 @@ pub trait Device {
         ensures cause { OnFailed result (Rose (prospect self.old).faults (prospect self.new).faults) }
         ensures which { (prospect self.new).which ≡ (prospect self.old).which };
 
-    ghost few: { (device : Self) → (prospect device).bound ≤ 16777216 };
+    ghost few: { (device : Self) → (prospect device).bound ≤ MOST_DEVICE };
 }

@@ -22,22 +22,23 @@ pub struct LineDevice<S: Source> {
 
 impl<S: Source> Model for LineDevice<S> {
     ghost use Rattle.std.specs.Prelude.{◌≤◌};
+    ghost use Rattle.xr_types.specs.declared.limits.TheConstants.{MOST_DEVICE};
     ghost use Rattle.xr_device.specs.Kinds.{TextReading};
-    ghost use Rattle.xr_device.specs.Texts.{told_at, IsReadTo};
+    ghost use Rattle.xr_device.specs.Texts.{told};
 
     ghost Value = { TextReading };
 
     ghost view = { λ d. record {
-      text = told_at d.text.number d.text.used d.text.held (S.left d.text.source);
+      text = told d.text;
       over = d.over;
       given = d.given;
       held = d.text.held;
       used = d.text.used;
-      faults = S.faults d.text.source;
-      which = S.which d.text.source;
+      faults = d.text.faults;
+      which = d.text.which;
     } };
 
-    ghost invariant = { λ d. IsReadTo d.text.number d.text.used d.text.held d.text.ended (S.left d.text.source) × (d.given ≤ d.text.used) };
+    ghost invariant = { λ d. (d.given ≤ d.text.used) × (d.text.used ≤ MOST_DEVICE) };
 }
 
 impl<S: Source> LineDevice<S> {

@@ -3,12 +3,7 @@ ghost use Rattle.std.specs.Prelude.{◌≤◌, length};
 ghost use Rattle.xr_device.specs.Texts.{Begins};
 
 use crate::bytes::place_of;
-
-/// The most bytes of a line, without its line feed.
-const MOST_LINE: usize = 255;
-
-/// The most bytes of a text.
-pub(crate) const MOST_TEXT: usize = 16_777_216;
+use xr_types::{MOST_DEVICE, MOST_LINE};
 
 /// What held bytes begin with.
 #[derive(Clone, Copy)]
@@ -26,14 +21,14 @@ pub(crate) enum Front {
 /// What held bytes begin with, behind so many of the text. Where more of the text may follow them, a line is given
 /// only once its line feed is held, and what is too long or past the limit as soon as the bytes tell it.
 pub(crate) fn front_of(held: &[u8], used: usize, ended: bool) -> Front
-    requires used { used ≤ 16777216 }
+    requires used { used ≤ MOST_DEVICE }
     requires few { length held.now ≤ 4096 }
     ensures { Begins used held.now ended result }
 {
     let seen = &held[..held.len().min(MOST_LINE + 1)];
     if let Some(bytes) = place_of(b'\n', seen) {
         let size = bytes + 1;
-        if used + size > MOST_TEXT {
+        if used + size > MOST_DEVICE {
             return Front::Malformed;
         }
         return Front::Line { bytes, size };
@@ -41,7 +36,7 @@ pub(crate) fn front_of(held: &[u8], used: usize, ended: bool) -> Front
     if seen.len() > MOST_LINE {
         return Front::Malformed;
     }
-    if used + seen.len() > MOST_TEXT {
+    if used + seen.len() > MOST_DEVICE {
         return Front::Malformed;
     }
     if !ended {

@@ -1,6 +1,7 @@
 // The device that holds its events.
 ghost use Rattle.std.specs.Prelude.{◌≡◌, ◌≤◌, true, length};
 ghost use Rattle.std.specs.List.{list_all};
+ghost use Rattle.xr_types.specs.declared.limits.TheConstants.{MOST_DEVICE};
 ghost use Rattle.xr_device.specs.Answers.{may_tell};
 
 use crate::{Device, Next};
@@ -37,19 +38,20 @@ impl Model for ListDevice {
     ghost use Rattle.std.specs.Prelude.{◌≡◌, ◌≤◌, true, length, drop};
     ghost use Rattle.std.specs.List.{list_all};
     ghost use Rattle.xr_device.specs.Answers.{may_tell};
+    ghost use Rattle.xr_types.specs.declared.limits.TheConstants.{MOST_DEVICE};
     ghost use Rattle.xr_device.specs.Kinds.{Stored};
 
     ghost Value = { Stored };
 
     ghost view = { λ d. record { events = drop d.next d.events.items; given = d.next } };
 
-    ghost invariant = { λ d. (d.next ≤ length d.events.items) × (length d.events.items ≤ 16777216) × (list_all may_tell d.events.items ≡ true) };
+    ghost invariant = { λ d. (d.next ≤ length d.events.items) × (length d.events.items ≤ MOST_DEVICE) × (list_all may_tell d.events.items ≡ true) };
 }
 
 impl ListDevice {
     /// A device of these events, each of which a device may tell.
     pub fn new(events: Vec<DeviceEvent>) -> ListDevice
-        requires few { length events.items ≤ 16777216 }
+        requires few { length events.items ≤ MOST_DEVICE }
         requires all { list_all may_tell events.items ≡ true }
         ensures { result ≡ record { events = events.items; given = 0 } }
     {

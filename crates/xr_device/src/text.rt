@@ -1,16 +1,18 @@
 // A device text that is read line by line.
-ghost use Rattle.std.specs.Prelude.{◌≡◌, ◌≤◌, ◌<◌, ◌+◌, false, [], option_map};
+ghost use Rattle.std.specs.Prelude.{◌≡◌, ◌≤◌, ◌<◌, false, [], option_map};
 ghost use Rattle.xr_io.specs.Outside.{Rose};
 ghost use Rattle.xr_model.specs.device_text.DeviceText.{told_in};
 ghost use Rattle.xr_device.specs.Answers.{IsTold, OnEvent};
 ghost use Rattle.xr_device.specs.inside.Steps.{OnGoing, OnAnswer, OnStepFailed, Steps, UnlessStepFailed};
-ghost use Rattle.xr_device.specs.Texts.{told_at, KeepsTold, IsFrontLine, IsUndecided, IsReadTo, steps_left};
+ghost use Rattle.xr_device.specs.Texts.{told, KeepsTold, IsFrontLine, IsUndecided, steps_left};
 
 use crate::Next;
 use crate::held::{Held, ROOM};
-use crate::lines::{Front, MOST_TEXT, front_of};
+use crate::lines::{Front, front_of};
 use crate::words::{Said, said_by};
+use std::marker::Model;
 use xr_io::Source;
+use xr_types::MOST_DEVICE;
 
 /// What a step gives: nothing yet, or the answer.
 #[derive(Clone, Copy)]
@@ -22,22 +24,53 @@ pub(crate) enum Step {
 /// A text: its source, the bytes that were read and not yet used, whether the source has ended, the number of the
 /// next line, and how many bytes were used.
 #[derive(Drop)]
-pub(crate) struct Text<S> {
-    pub(crate) source: S,
-    pub(crate) held: Held,
-    pub(crate) ended: bool,
-    pub(crate) number: u64,
-    pub(crate) used: usize,
+pub(crate) struct Text<S: Source> {
+    source: S,
+    held: Held,
+    ended: bool,
+    number: u64,
+    used: usize,
+}
+
+impl<S: Source> Model for Text<S> {
+    ghost use Rattle.xr_device.specs.Texts.{Reading, IsInLimits};
+
+    ghost Value = { Reading };
+
+    ghost view = { λ t. record {
+      number = t.number;
+      used = t.used;
+      held = t.held;
+      ended = t.ended;
+      left = S.left t.source;
+      faults = S.faults t.source;
+      which = S.which t.source;
+    } };
+
+    ghost invariant = { λ t. IsInLimits (record {
+      number = t.number;
+      used = t.used;
+      held = t.held;
+      ended = t.ended;
+      left = S.left t.source;
+      faults = S.faults t.source;
+      which = S.which t.source;
+    }) };
 }
 
 impl<S: Source> Text<S> {
     /// Nothing was read of the source yet.
     pub(crate) fn new(source: S) -> Text<S>
-        ensures source { result.source ≡ source }
-        ensures held { result.held ≡ [] }
-        ensures used { result.used ≡ 0 }
-        ensures read { IsReadTo result.number result.used result.held result.ended (S.left result.source) }
-        ensures remaining { told_at result.number result.used result.held (S.left result.source) ≡ option_map told_in (S.left source) }
+        ensures new { result ≡ record {
+          number = 1;
+          used = 0;
+          held = [];
+          ended = false;
+          left = S.left source;
+          faults = S.faults source;
+          which = S.which source;
+        } }
+        ensures told { told result ≡ option_map told_in (S.left source) }
     {
         Text {
             source,
@@ -50,7 +83,8 @@ impl<S: Source> Text<S> {
 
     /// Gives the source back.
     pub(crate) fn into_source(self) -> S
-        ensures { result ≡ self.source }
+        ensures faults { S.faults result ≡ self.faults }
+        ensures which { S.which result ≡ self.which }
     {
         let Text { source, .. } = self;
         source
@@ -58,24 +92,18 @@ impl<S: Source> Text<S> {
 
     /// Uses the line that the held bytes begin with, or reads more where they decide none.
     pub(crate) fn step(&mut self) -> Step
-        requires { IsReadTo self.old.number self.old.used self.old.held self.old.ended (S.left self.old.source) }
-        ensures read { IsReadTo self.new.number self.new.used self.new.held self.new.ended (S.left self.new.source) }
-        ensures remaining { Steps
-            (told_at self.old.number self.old.used self.old.held (S.left self.old.source))
-            (told_at self.new.number self.new.used self.new.held (S.left self.new.source))
-            result }
+        ensures told { Steps (told self.old) (told self.new) result }
         ensures sound { OnAnswer result (λ a. OnEvent a (λ e. IsTold e)) }
-        ensures fewer { OnGoing result (steps_left self.new.used self.new.held self.new.ended < steps_left self.old.used self.old.held self.old.ended) }
+        ensures fewer { OnGoing result (steps_left self.new < steps_left self.old) }
         ensures used { self.old.used ≤ self.new.used }
+        ensures limit { self.new.used ≤ MOST_DEVICE }
         ensures event { OnAnswer result (λ a. OnEvent a (λ _. self.old.used < self.new.used)) }
-        ensures later { S.faults self.old.source ≤ S.faults self.new.source }
-        ensures cause { OnStepFailed result (Rose (S.faults self.old.source) (S.faults self.new.source)) }
-        ensures kept { UnlessStepFailed result (S.faults self.new.source ≡ S.faults self.old.source) }
-        ensures whole { OnStepFailed result (KeepsTold
-            (told_at self.old.number self.old.used self.old.held (S.left self.old.source))
-            (told_at self.new.number self.new.used self.new.held (S.left self.new.source))) }
+        ensures later { self.old.faults ≤ self.new.faults }
+        ensures cause { OnStepFailed result (Rose self.old.faults self.new.faults) }
+        ensures kept { UnlessStepFailed result (self.new.faults ≡ self.old.faults) }
+        ensures whole { OnStepFailed result (KeepsTold (told self.old) (told self.new)) }
         ensures undecided { OnStepFailed result (IsUndecided self.new.used self.new.held) }
-        ensures which { S.which self.new.source ≡ S.which self.old.source }
+        ensures which { self.new.which ≡ self.old.which }
     {
         match front_of(self.held.as_slice(), self.used, self.ended) {
             Front::Line { bytes, size } => self.use_line(bytes, size),
@@ -87,18 +115,15 @@ impl<S: Source> Text<S> {
 
     /// Uses the line that the held bytes begin with.
     fn use_line(&mut self, bytes: usize, size: usize) -> Step
-        requires read { IsReadTo self.old.number self.old.used self.old.held self.old.ended (S.left self.old.source) }
-        requires line { IsFrontLine self.old.used self.old.held self.old.ended bytes size }
-        ensures read { IsReadTo self.new.number self.new.used self.new.held self.new.ended (S.left self.new.source) }
-        ensures remaining { Steps
-            (told_at self.old.number self.old.used self.old.held (S.left self.old.source))
-            (told_at self.new.number self.new.used self.new.held (S.left self.new.source))
-            result }
+        requires { IsFrontLine self.old.used self.old.held self.old.ended bytes size }
+        ensures told { Steps (told self.old) (told self.new) result }
         ensures sound { OnAnswer result (λ a. OnEvent a (λ e. IsTold e)) }
-        ensures fewer { steps_left self.new.used self.new.held self.new.ended < steps_left self.old.used self.old.held self.old.ended }
+        ensures fewer { steps_left self.new < steps_left self.old }
         ensures used { self.old.used < self.new.used }
+        ensures limit { self.new.used ≤ MOST_DEVICE }
         ensures unfailed { OnStepFailed result ⊥ }
-        ensures source { self.new.source ≡ self.old.source }
+        ensures faults { self.new.faults ≡ self.old.faults }
+        ensures which { self.new.which ≡ self.old.which }
     {
         let said = said_by(&self.held.as_slice()[..bytes]);
         let number = self.number;
@@ -114,28 +139,21 @@ impl<S: Source> Text<S> {
 
     /// Reads more of the source, where the held bytes decide no line.
     fn read_more(&mut self) -> Step
-        requires read { IsReadTo self.old.number self.old.used self.old.held self.old.ended (S.left self.old.source) }
         requires undecided { IsUndecided self.old.used self.old.held }
         requires unended { self.old.ended ≡ false }
-        ensures read { IsReadTo self.new.number self.new.used self.new.held self.new.ended (S.left self.new.source) }
-        ensures remaining { Steps
-            (told_at self.old.number self.old.used self.old.held (S.left self.old.source))
-            (told_at self.new.number self.new.used self.new.held (S.left self.new.source))
-            result }
-        ensures fewer { OnGoing result (steps_left self.new.used self.new.held self.new.ended < steps_left self.old.used self.old.held self.old.ended) }
+        ensures told { Steps (told self.old) (told self.new) result }
+        ensures fewer { OnGoing result (steps_left self.new < steps_left self.old) }
         ensures used { self.new.used ≡ self.old.used }
         ensures failed { OnAnswer result (λ a. a ≡ Next.Failed) }
-        ensures later { S.faults self.old.source ≤ S.faults self.new.source }
-        ensures cause { OnAnswer result (λ _. Rose (S.faults self.old.source) (S.faults self.new.source)) }
-        ensures kept { OnGoing result (S.faults self.new.source ≡ S.faults self.old.source) }
-        ensures whole { OnAnswer result (λ _. KeepsTold
-            (told_at self.old.number self.old.used self.old.held (S.left self.old.source))
-            (told_at self.new.number self.new.used self.new.held (S.left self.new.source))) }
+        ensures later { self.old.faults ≤ self.new.faults }
+        ensures cause { OnAnswer result (λ _. Rose self.old.faults self.new.faults) }
+        ensures kept { OnGoing result (self.new.faults ≡ self.old.faults) }
+        ensures whole { OnAnswer result (λ _. KeepsTold (told self.old) (told self.new)) }
         ensures undecided { OnAnswer result (λ _. IsUndecided self.new.used self.new.held) }
-        ensures which { S.which self.new.source ≡ S.which self.old.source }
+        ensures which { self.new.which ≡ self.old.which }
     {
         let held = self.held.as_slice().len();
-        let most = (ROOM - held).min(MOST_TEXT + 1 - self.used - held);
+        let most = (ROOM - held).min(MOST_DEVICE + 1 - self.used - held);
         match self.held.read_from(&mut self.source, most) {
             Ok(count) => {
                 self.ended = count == 0;

@@ -1,5 +1,5 @@
 -- A device text tells no garbled event: a line that is none ends what it tells.
-use Rattle.std.proofs.Common.{◌≡◌, ◌+◌, ℕ, pos, Bool, true, false, List, [], ◌∷◌, Option, Some, None, option_map, refl, sym, ap, subst, ◌∙◌}
+use Rattle.std.proofs.Common.{◌≡◌, ◌+◌, ℕ, ℤ, Bool, true, false, List, [], ◌∷◌, Option, Some, None, option_map, refl, sym, ap, subst, ◌∙◌}
 use Rattle.std.specs.Prelude.{◌||◌, ◌==◌, nat_lt, length, if◌then◌else◌, codes}
 use Rattle.std.specs.List.{list_any}
 use Rattle.std.proofs.lemmas.Option.{none-some, same_Some}
@@ -9,8 +9,11 @@ use Rattle.xr_types.specs.declared.device.DeviceEvent.TheVariants as event
 use Rattle.xr_types.specs.declared.device.Wish.{Wish}
 use Rattle.xr_types.specs.declared.made.Lists.{Lists}
 use Rattle.xr_types.specs.declared.scenario.Scenario.{Scenario}
+use Rattle.xr_types.specs.declared.limits.TheConstants.{MOST_LINE, MOST_DEVICE}
 use Rattle.xr_types.specs.Device.{checks}
-use Rattle.xr_model.specs.device_text.DeviceText.{Line, lines_in, line_size, is_word, most_line, most_text, Meaning, skipped, tells, malformed, event_or_none, meaning_of, words_of, number_of, wish_of, grid_by, event_by, if_checked, event_of, Ending, ends, garbled_at, DeviceStream, nothing_more, told_by, told_from, told_in}
+use Rattle.xr_types.specs.Printed.{wish_name, all_wishes}
+use Rattle.xr_types.specs.Words.{named}
+use Rattle.xr_model.specs.device_text.DeviceText.{Line, lines_in, line_size, is_word, Meaning, skipped, tells, malformed, event_or_none, meaning_of, words_of, number_of, integer_of, grid_by, event_by, if_checked, event_of, Ending, ends, garbled_at, DeviceStream, nothing_more, told_by, told_from, told_in}
 use Rattle.xr_model.specs.machine.History.{calls_of}
 use Rattle.xr_model.specs.runs.Lists.{events_in}
 use Rattle.xr_model.specs.report.RunEnding.{is_garbled}
@@ -25,7 +28,7 @@ abbrev IsCleanIfSome : Option DeviceEvent → Type 0
 IsCleanIfSome None = Unit {0}
 IsCleanIfSome (Some e) = is_garbled e ≡ false
 
-grid_clean : (base period : Option ℕ) → IsCleanIfSome (grid_by base period)
+grid_clean : (base period : Option ℤ) → IsCleanIfSome (grid_by base period)
 grid_clean None period = tt
 grid_clean (Some base) None = tt
 grid_clean (Some base) (Some period) = refl
@@ -35,27 +38,27 @@ one_clean true lost = refl
 one_clean false true = refl
 one_clean false false = tt
 
-two_clean : (clock wish mark await : Bool) (n : Option ℕ) (w : Option Wish)
-    → IsCleanIfSome (if clock then option_map (λ n. event.Clock (pos n)) n else (if wish then option_map (λ w. event.Wish w) w else (if mark then option_map (λ n. event.Mark n) n else (if await then option_map (λ n. event.Await n) n else None))))
-two_clean true wish mark await None w = tt
-two_clean true wish mark await (Some n) w = refl
-two_clean false true mark await n None = tt
-two_clean false true mark await n (Some w) = refl
-two_clean false false true await None w = tt
-two_clean false false true await (Some n) w = refl
-two_clean false false false true None w = tt
-two_clean false false false true (Some n) w = refl
-two_clean false false false false n w = tt
+two_clean : (clock wish mark await : Bool) (t : Option ℤ) (n : Option ℕ) (w : Option Wish)
+    → IsCleanIfSome (if clock then option_map (λ t. event.Clock t) t else (if wish then option_map (λ w. event.Wish w) w else (if mark then option_map (λ n. event.Mark n) n else (if await then option_map (λ n. event.Await n) n else None))))
+two_clean true wish mark await None n w = tt
+two_clean true wish mark await (Some t) n w = refl
+two_clean false true mark await t n None = tt
+two_clean false true mark await t n (Some w) = refl
+two_clean false false true await t None w = tt
+two_clean false false true await t (Some n) w = refl
+two_clean false false false true t None w = tt
+two_clean false false false true t (Some n) w = refl
+two_clean false false false false t n w = tt
 
-three_clean : (grid : Bool) (base period : Option ℕ) → IsCleanIfSome (if grid then grid_by base period else None)
+three_clean : (grid : Bool) (base period : Option ℤ) → IsCleanIfSome (if grid then grid_by base period else None)
 three_clean true base period = grid_clean base period
 three_clean false base period = tt
 
 by_clean : (words : List (List ℕ)) → IsCleanIfSome (event_by words)
 by_clean [] = tt
 by_clean (word ∷ []) = one_clean (is_word word (codes "loss")) (is_word word (codes "lost"))
-by_clean (word ∷ a ∷ []) = two_clean (is_word word (codes "clock")) (is_word word (codes "wish")) (is_word word (codes "mark")) (is_word word (codes "await")) (number_of a) (wish_of a)
-by_clean (word ∷ a ∷ b ∷ []) = three_clean (is_word word (codes "grid")) (number_of a) (number_of b)
+by_clean (word ∷ a ∷ []) = two_clean (is_word word (codes "clock")) (is_word word (codes "wish")) (is_word word (codes "mark")) (is_word word (codes "await")) (integer_of a) (number_of a) (named wish_name all_wishes a)
+by_clean (word ∷ a ∷ b ∷ []) = three_clean (is_word word (codes "grid")) (integer_of a) (integer_of b)
 by_clean (word ∷ a ∷ b ∷ c ∷ ws) = tt
 
 checked_clean : (o : Option DeviceEvent) → IsCleanIfSome o → IsCleanIfSome (if_checked o)
@@ -93,7 +96,7 @@ told_by_clean number malformed rest h clean = refl
 told_from_clean : (number used : ℕ) (ls : List Line) → IsClean (told_from number used ls).events
 told_from_clean number used [] = refl
 told_from_clean number used (l ∷ ls) =
-    by (nat_lt most_line (length l.bytes) || nat_lt most_text (used + line_size l)) (told_by_clean number (meaning_of l.bytes) (told_from (number + 1) (used + line_size l) ls) (meaning_clean l.bytes) (told_from_clean (number + 1) (used + line_size l) ls))
+    by (nat_lt MOST_LINE (length l.bytes) || nat_lt MOST_DEVICE (used + line_size l)) (told_by_clean number (meaning_of l.bytes) (told_from (number + 1) (used + line_size l) ls) (meaning_clean l.bytes) (told_from_clean (number + 1) (used + line_size l) ls))
   where
     by : (bad : Bool) → IsClean (told_by number (meaning_of l.bytes) (told_from (number + 1) (used + line_size l) ls)).events
         → IsClean (if bad then record { events = []; ending = garbled_at number } else told_by number (meaning_of l.bytes) (told_from (number + 1) (used + line_size l) ls)).events

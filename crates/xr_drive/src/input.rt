@@ -5,9 +5,10 @@ ghost use Rattle.xr_drive.specs.inside.Input.{HasReadCause};
 
 use std::alloc::Global;
 use xr_io::Source;
+use xr_types::MOST_SCENARIO;
 
 /// How many bytes are read at most: one more than a scenario may have.
-const LIMIT: usize = 1_048_577;
+const LIMIT: usize = MOST_SCENARIO + 1;
 
 const CHUNK: usize = 65_536;
 
@@ -41,9 +42,9 @@ fn read_piece<S: Source>(source: &mut S, text: &mut Vec<u8>, room: usize) -> Res
 /// Reads a source to its end, or to its limit. It takes just the bytes that it gives, and ends after 1,048,577 of them
 /// whatever the source does.
 pub(crate) fn read_all<S: Source>(alloc: Global, source: &mut S) -> Result<Vec<u8>, Stop>
-    ensures bytes { IfOk result (λ text. IfSome (S.left source.old) (λ bytes. text.items ≡ take 1048577 bytes)) }
+    ensures bytes { IfOk result (λ text. IfSome (S.left source.old) (λ bytes. text.items ≡ take LIMIT bytes)) }
     ensures consumed { IfOk result (λ text. Consumes (S.left source.old) (S.left source.new) text.items) }
-    ensures most { IfOk result (λ text. length text.items ≤ 1048577) }
+    ensures most { IfOk result (λ text. length text.items ≤ LIMIT) }
     ensures which { S.which source.new ≡ S.which source.old }
     ensures cause { HasReadCause (S.faults source.old) (S.faults source.new) result }
 {

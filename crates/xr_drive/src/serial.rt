@@ -1,6 +1,7 @@
 // The top call of one thread.
-ghost use Rattle.std.specs.Prelude.{◌≡◌, ◌≤◌, ℕ, true, false, List, map, take, IfOk, IfErr, IfSome, Some, None, length, string_bytes, option_map};
+ghost use Rattle.std.specs.Prelude.{◌≡◌, ◌≤◌, ◌+◌, ℕ, true, false, List, map, take, IfOk, IfErr, IfSome, Some, None, length, string_bytes, option_map};
 ghost use Rattle.std.specs.List.{list_any};
+ghost use Rattle.xr_types.specs.declared.limits.TheConstants.{MOST_SCENARIO};
 ghost use Rattle.xr_io.specs.Outside.{Rose};
 ghost use Rattle.xr_io.specs.declared.Which.{Which};
 ghost use Rattle.xr_model.specs.device_text.DeviceText.{nothing_more};
@@ -26,7 +27,7 @@ use xr_types::{Lists, Refusal, Status};
 fn read_text<O: Opener>(alloc: Global, opener: &mut O, source: O::S) -> Result<Vec<u8>, Stop>
     requires which { O.S.which source ≡ Which.Scenario }
     requires sound { O.S.faults source ≡ 0 }
-    ensures bytes { IfOk result (λ text. IfSome (O.S.left source) (λ bytes. text.items ≡ take 1048577 bytes)) }
+    ensures bytes { IfOk result (λ text. IfSome (O.S.left source) (λ bytes. text.items ≡ take (MOST_SCENARIO + 1) bytes)) }
     ensures cause { IfErr result (RoseIfStopped (O.read_faults opener.old Which.Scenario) (O.read_faults opener.new Which.Scenario)) }
     ensures asked { (which : Which) → O.asked opener.new which ≡ O.asked opener.old which }
     ensures opens { (which : Which) → O.open_faults opener.new which ≡ O.open_faults opener.old which }

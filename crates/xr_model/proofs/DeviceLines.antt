@@ -1,5 +1,5 @@
 -- A line of a device's text, printed from its event, reads back as that event.
-use Rattle.std.proofs.Common.{◌≡◌, ◌<◌, ◌≤◌, ◌+◌, ◌-◌, ◌*◌, ◌/◌, ◌%◌, ◌==◌, ◌^◌, ℕ, pos, negsuc, Bool, true, false, List, [], ◌∷◌, ◌++◌, length, get_or, Option, Some, None, refl, sym, ap, ◌∙◌, arith, append_assoc, true≢false}
+use Rattle.std.proofs.Common.{◌≡◌, ◌<◌, ◌≤◌, ◌+◌, ◌-◌, ◌*◌, ◌/◌, ◌%◌, ◌==◌, ◌^◌, ℕ, pos, negsuc, Bool, true, false, List, [], ◌∷◌, ◌++◌, length, get_or, Option, Some, None, option_map, option_and_then, refl, sym, ap, ◌∙◌, arith, append_assoc, true≢false}
 use Rattle.std.specs.Prelude.{codes, decimal, if◌then◌else◌}
 use Rattle.std.proofs.lemmas.Fmt.{decimal_by_steps, decimal_nonempty, first_decimal, length-decimal-le_succ}
 use Rattle.std.proofs.lemmas.Bool.Decides.{nat_tests}
@@ -7,7 +7,7 @@ use Rattle.xr_types.specs.declared.device.DeviceEvent.{DeviceEvent}
 use Rattle.xr_types.specs.declared.device.DeviceEvent.TheVariants as event
 use Rattle.xr_types.specs.declared.device.Wish.TheVariants as wish
 use Rattle.xr_types.specs.Device.{checks, is_time, is_mark, in_range}
-use Rattle.xr_model.specs.device_text.DeviceText.{words_of, is_digit, digits_behind, number_of, event_by, if_checked}
+use Rattle.xr_model.specs.device_text.DeviceText.{words_of, is_digit, digits_behind, number_of, below_0, integer_of, event_by, if_checked}
 use Rattle.xr_model.specs.device_text.DeviceLines.{line_of}
 use Rattle.xr_model.specs.laws.DeviceLaws.{LinesReadBack}
 use Rattle.xr_model.proofs.Rows.{both_of, same_key}
@@ -74,6 +74,26 @@ number_by n (b ∷ c ∷ bs) e some first short = by (b == 48) refl
 number_reads : (n : ℕ) → n < 2 ^ 64 → number_of (decimal n) ≡ Some n
 number_reads n small = number_by n (decimal n) (reads n small).0 (decimal_nonempty n small) (λ some. first_decimal n some small) (length-decimal-le_succ n small)
 
+-- no number begins with `-`
+no_sign : (b : ℕ) (bs : List ℕ) → (b == 45) ≡ true → number_of (b ∷ bs) ≡ None
+no_sign b [] sign = rw (same_key b 45 sign) refl
+no_sign b (c ∷ bs) sign = rw (same_key b 45 sign) refl
+
+-- a number is a whole number
+integer_by : (n : ℕ) (ds : List ℕ) → number_of ds ≡ Some n → integer_of ds ≡ Some (pos n)
+integer_by n [] e = cc
+integer_by n (b ∷ bs) e = by (b == 45) refl
+  where
+    by : (sign : Bool) → (b == 45) ≡ sign → (if sign then option_and_then below_0 (number_of bs) else option_map pos (number_of (b ∷ bs))) ≡ Some (pos n)
+    by true is = absurd (none_is_not (sym (no_sign b bs is) ∙ e))
+      where
+        none_is_not : None ≡ Some n → ⊥
+        none_is_not e = cc
+    by false is = ap (option_map pos) e
+
+integer_reads : (n : ℕ) → n < 2 ^ 64 → integer_of (decimal n) ≡ Some (pos n)
+integer_reads n small = integer_by n (decimal n) (number_reads n small)
+
 -- ---- words
 
 words_alone : (ds : List ℕ) → NoSpace ds → words_of ds ≡ ds ∷ []
@@ -114,13 +134,13 @@ checked e found is good = rw (is, good) refl
 pub lines_read_back : LinesReadBack
 lines_read_back (event.Clock (pos n)) line good =
     let small = small_time n good in
-    checked (event.Clock (pos n)) (event_by (words_of (line_of (event.Clock (pos n))))) (rw (word_number (codes "clock") n (refl, (refl, (refl, (refl, (refl, tt))))) small, number_reads n small) refl) good
+    checked (event.Clock (pos n)) (event_by (words_of (line_of (event.Clock (pos n))))) (rw (word_number (codes "clock") n (refl, (refl, (refl, (refl, (refl, tt))))) small, integer_reads n small) refl) good
 lines_read_back (event.Clock (negsuc n)) line good = absurd (true≢false (sym good))
 lines_read_back (event.Grid (pos base) (pos period)) line good =
     let parts = both_of (is_time (pos base)) (in_range (pos period) (pos 1) (pos 1000000000)) good in
     let small = small_time base parts.0 in
     let few = small_period period parts.1 in
-    checked (event.Grid (pos base) (pos period)) (event_by (words_of (line_of (event.Grid (pos base) (pos period))))) (rw (grid_words base period small few, number_reads base small, number_reads period few) refl) good
+    checked (event.Grid (pos base) (pos period)) (event_by (words_of (line_of (event.Grid (pos base) (pos period))))) (rw (grid_words base period small few, integer_reads base small, integer_reads period few) refl) good
 lines_read_back (event.Grid (negsuc base) period) line good = absurd (true≢false (sym good))
 lines_read_back (event.Grid (pos base) (negsuc period)) line good = absurd (true≢false (sym (both_of (is_time (pos base)) false good).1))
 lines_read_back (event.Mark n) line good =

@@ -1,4 +1,3 @@
 -- Which events a device's text has, and how an event is printed as a line of one.
-pub mod InputNames
 pub mod DeviceLines
 pub mod DeviceText

@@ -10,6 +10,7 @@ pub mod LiveSessions
 pub mod Marks
 pub mod Device
 pub mod Paths
+pub mod Spaces
 pub mod State
 pub mod Destroyed
 pub mod Rule

@@ -7,11 +7,7 @@ ghost use Rattle.std.specs.List.{list_all};
 ghost use Rattle.std.specs.Str.{is_utf8};
 ghost use Rattle.xr_types.specs.Name.{is_name_byte, is_periods, name_code, localized_code};
 
-use xr_types::Code;
-
-const MOST_NAME: usize = 63;
-
-const MOST_LOCALIZED: usize = 127;
+use xr_types::{Code, MOST_LOCALIZED, MOST_NAME};
 
 #[tactic(auto, unfolding(xr_types::specs::Name::is_name_byte))]
 fn is_name_byte(b: u8) -> bool

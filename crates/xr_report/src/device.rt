@@ -1,91 +1,17 @@
 // The lines of a device text.
 ghost use Rattle.std.specs.Prelude.{◌≡◌, ◌++◌, OnOk};
-ghost use Rattle.xr_model.specs.device_text.InputNames.{input_name};
-ghost use Rattle.xr_model.specs.device_text.DeviceLines.{connected, origin_name, line_of};
+ghost use Rattle.xr_model.specs.device_text.DeviceLines.{connected, line_of};
 
 use crate::push::{push_number, push_signed, push_text};
 use std::alloc::AllocError;
-use xr_types::{DeviceEvent, Origin, Profile, User};
-
-/// The inputs of controllers, in the order of their rows.
-const INPUT_NAMES: [&str; 40] = [
-    "select/click",
-    "menu/click",
-    "system/click",
-    "view/click",
-    "a/click",
-    "a/touch",
-    "b/click",
-    "b/touch",
-    "x/click",
-    "x/touch",
-    "y/click",
-    "y/touch",
-    "squeeze/click",
-    "squeeze/value",
-    "trigger/click",
-    "trigger/value",
-    "trigger/touch",
-    "thumbstick/x",
-    "thumbstick/y",
-    "thumbstick/click",
-    "thumbstick/touch",
-    "thumbrest/touch",
-    "trackpad/x",
-    "trackpad/y",
-    "trackpad/click",
-    "trackpad/touch",
-    "dpad_up/click",
-    "dpad_down/click",
-    "dpad_left/click",
-    "dpad_right/click",
-    "shoulder_left/click",
-    "shoulder_right/click",
-    "thumbstick_left/x",
-    "thumbstick_left/y",
-    "thumbstick_left/click",
-    "thumbstick_right/x",
-    "thumbstick_right/y",
-    "thumbstick_right/click",
-    "trigger_left/value",
-    "trigger_right/value",
-];
-
-/// The input of a row, which counts from 1.
-fn input_name(row: u8) -> &'static str
-    ensures { result.now ≡ input_name row }
-{
-    if 1 <= row && row <= 40 {
-        INPUT_NAMES[usize::from(row) - 1]
-    } else {
-        ""
-    }
-}
+use xr_types::{DeviceEvent, Origin, Profile, User, Word, input_name};
 
 fn connected(profile: Option<Profile>) -> &'static str
     ensures { result.now ≡ connected profile }
 {
     match profile {
-        Some(profile) => profile.name(),
+        Some(profile) => profile.word(),
         None => "none",
-    }
-}
-
-fn push_origin(out: &mut Vec<u8>, origin: Origin) -> Result<(), AllocError>
-    ensures { OnOk result (out.new.items ≡ out.old.items ++ origin_name origin) }
-{
-    match origin {
-        Origin::View => push_text(out, "view"),
-        Origin::Local => push_text(out, "local"),
-        Origin::Stage => push_text(out, "stage"),
-        Origin::Grip(user) => {
-            push_text(out, user.path())?;
-            push_text(out, "/input/grip/pose")
-        }
-        Origin::Aim(user) => {
-            push_text(out, user.path())?;
-            push_text(out, "/input/aim/pose")
-        }
     }
 }
 
@@ -102,7 +28,7 @@ fn push_profile(out: &mut Vec<u8>, user: User, profile: Option<Profile>) -> Resu
     ensures { OnOk result (out.new.items ≡ out.old.items ++ line_of (DeviceEvent.Profile user profile)) }
 {
     push_text(out, "profile ")?;
-    push_text(out, user.path())?;
+    push_text(out, user.word())?;
     push_text(out, " ")?;
     push_text(out, connected(profile))
 }
@@ -111,7 +37,7 @@ fn push_input(out: &mut Vec<u8>, user: User, row: u8, value: i32) -> Result<(), 
     ensures { OnOk result (out.new.items ≡ out.old.items ++ line_of (DeviceEvent.Input user row value)) }
 {
     push_text(out, "input ")?;
-    push_text(out, user.path())?;
+    push_text(out, user.word())?;
     push_text(out, "/input/")?;
     push_text(out, input_name(row))?;
     push_text(out, " ")?;
@@ -122,7 +48,7 @@ fn push_pose(out: &mut Vec<u8>, origin: Origin, time: i64, pose: u64) -> Result<
     ensures { OnOk result (out.new.items ≡ out.old.items ++ line_of (DeviceEvent.Pose origin time pose)) }
 {
     push_text(out, "pose ")?;
-    push_origin(out, origin)?;
+    push_text(out, origin.word())?;
     push_text(out, " ")?;
     push_signed(out, time)?;
     push_text(out, " ")?;
@@ -141,7 +67,7 @@ pub(crate) fn push_device_line(out: &mut Vec<u8>, event: DeviceEvent) -> Result<
         DeviceEvent::Grid { base, period } => push_grid(out, base, period),
         DeviceEvent::Wish(wish) => {
             push_text(out, "wish ")?;
-            push_text(out, wish.name())
+            push_text(out, wish.word())
         }
         DeviceEvent::Loss => push_text(out, "loss"),
         DeviceEvent::Lost => push_text(out, "lost"),

@@ -1,23 +1,44 @@
-// The values behind a call's code.
+// The values behind a call's code, by the name of the call.
 ghost use Rattle.std.specs.Prelude.{◌≡◌, ◌++◌, OnOk};
-ghost use Rattle.xr_model.specs.report.ReportValues.{number_values, text_behind, event_values, frame_values, change_values, boolean_values, float_values, vector_values, location_values, given_values, values_of};
+ghost use Rattle.xr_model.specs.report.ReportValues.{number_values, mark_values, size_values, text_behind, text_values, event_values, frame_values, change_values, boolean_values, float_values, vector_values, active_values, location_values, success_values, too_small_values, values_of};
 
 use crate::push::{push_flag, push_number, push_signed, push_text};
 use std::alloc::AllocError;
-use xr_types::{
-    BoolState, Code, Event, FloatState, FrameState, Gives, Location, MOST_HANDLE_MARK, Made,
-    VectorState,
-};
+use xr_types::{CallName, Code, Event, Gives, Location, MOST_HANDLE_MARK, Made};
 
-/// A number, unless it is a handle that an `await` gave.
-fn push_unless_handle(out: &mut Vec<u8>, mark: u8, number: u64) -> Result<(), AllocError>
-    ensures { OnOk result (out.new.items ≡ out.old.items ++ number_values mark number) }
+fn push_number_given(out: &mut Vec<u8>, gives: Gives) -> Result<(), AllocError>
+    ensures { OnOk result (out.new.items ≡ out.old.items ++ number_values gives) }
 {
-    if 1 <= mark && mark <= MOST_HANDLE_MARK {
-        return Ok(());
+    match gives {
+        Gives::Number(number) => {
+            push_text(out, " ")?;
+            push_number(out, number)
+        }
+        _ => Ok(()),
     }
-    push_text(out, " ")?;
-    push_number(out, number)
+}
+
+/// The value of a mark, unless it is a handle.
+fn push_mark(out: &mut Vec<u8>, mark: u8, gives: Gives) -> Result<(), AllocError>
+    ensures { OnOk result (out.new.items ≡ out.old.items ++ mark_values mark gives) }
+{
+    if mark <= MOST_HANDLE_MARK {
+        Ok(())
+    } else {
+        push_number_given(out, gives)
+    }
+}
+
+fn push_size(out: &mut Vec<u8>, gives: Gives) -> Result<(), AllocError>
+    ensures { OnOk result (out.new.items ≡ out.old.items ++ size_values gives) }
+{
+    match gives {
+        Gives::Size(size) => {
+            push_text(out, " ")?;
+            push_number(out, size)
+        }
+        _ => Ok(()),
+    }
 }
 
 /// A text that was written, without its terminating zero.
@@ -31,26 +52,44 @@ fn push_written(out: &mut Vec<u8>, text: &[u8]) -> Result<(), AllocError>
     out.extend_from_slice(&text[..text.len() - 1])
 }
 
-fn push_event(out: &mut Vec<u8>, event: Event) -> Result<(), AllocError>
-    ensures { OnOk result (out.new.items ≡ out.old.items ++ event_values event) }
+/// A text with its size.
+fn push_text_given(out: &mut Vec<u8>, gives: Gives, text: &[u8]) -> Result<(), AllocError>
+    ensures { OnOk result (out.new.items ≡ out.old.items ++ text_values gives text.now) }
 {
-    match event {
-        Event::Lost(count) => {
+    match gives {
+        Gives::Size(size) => {
+            push_text(out, " ")?;
+            push_number(out, size)?;
+            push_written(out, text)
+        }
+        _ => Ok(()),
+    }
+}
+
+fn push_event(out: &mut Vec<u8>, gives: Gives) -> Result<(), AllocError>
+    ensures { OnOk result (out.new.items ≡ out.old.items ++ event_values gives) }
+{
+    match gives {
+        Gives::Event(Event::Lost(count)) => {
             push_text(out, " events_lost ")?;
             push_number(out, count)
         }
-        Event::State { ordinal, state, .. } => {
+        Gives::Event(Event::State { ordinal, state, .. }) => {
             push_text(out, " state ")?;
             push_number(out, ordinal)?;
             push_text(out, " ")?;
             push_text(out, state.name())
         }
+        _ => Ok(()),
     }
 }
 
-fn push_frame(out: &mut Vec<u8>, frame: FrameState) -> Result<(), AllocError>
-    ensures { OnOk result (out.new.items ≡ out.old.items ++ frame_values frame) }
+fn push_frame(out: &mut Vec<u8>, gives: Gives) -> Result<(), AllocError>
+    ensures { OnOk result (out.new.items ≡ out.old.items ++ frame_values gives) }
 {
+    let Gives::Frame(frame) = gives else {
+        return Ok(());
+    };
     push_text(out, " time ")?;
     push_signed(out, frame.time)?;
     push_text(out, " period ")?;
@@ -71,25 +110,34 @@ fn push_change(out: &mut Vec<u8>, changed: bool, time: i64, active: bool) -> Res
     push_flag(out, active)
 }
 
-fn push_boolean(out: &mut Vec<u8>, state: BoolState) -> Result<(), AllocError>
-    ensures { OnOk result (out.new.items ≡ out.old.items ++ boolean_values state) }
+fn push_boolean(out: &mut Vec<u8>, gives: Gives) -> Result<(), AllocError>
+    ensures { OnOk result (out.new.items ≡ out.old.items ++ boolean_values gives) }
 {
+    let Gives::Boolean(state) = gives else {
+        return Ok(());
+    };
     push_text(out, " value ")?;
     push_flag(out, state.value)?;
     push_change(out, state.changed, state.time, state.active)
 }
 
-fn push_float(out: &mut Vec<u8>, state: FloatState) -> Result<(), AllocError>
-    ensures { OnOk result (out.new.items ≡ out.old.items ++ float_values state) }
+fn push_float(out: &mut Vec<u8>, gives: Gives) -> Result<(), AllocError>
+    ensures { OnOk result (out.new.items ≡ out.old.items ++ float_values gives) }
 {
+    let Gives::Float(state) = gives else {
+        return Ok(());
+    };
     push_text(out, " value ")?;
     push_signed(out, i64::from(state.value))?;
     push_change(out, state.changed, state.time, state.active)
 }
 
-fn push_vector(out: &mut Vec<u8>, state: VectorState) -> Result<(), AllocError>
-    ensures { OnOk result (out.new.items ≡ out.old.items ++ vector_values state) }
+fn push_vector(out: &mut Vec<u8>, gives: Gives) -> Result<(), AllocError>
+    ensures { OnOk result (out.new.items ≡ out.old.items ++ vector_values gives) }
 {
+    let Gives::Vector(state) = gives else {
+        return Ok(());
+    };
     push_text(out, " value ")?;
     push_signed(out, i64::from(state.x))?;
     push_text(out, " ")?;
@@ -97,18 +145,30 @@ fn push_vector(out: &mut Vec<u8>, state: VectorState) -> Result<(), AllocError>
     push_change(out, state.changed, state.time, state.active)
 }
 
-/// The factors of a location, with `-` before those that stand for inverses.
-fn push_location(out: &mut Vec<u8>, location: Location) -> Result<(), AllocError>
-    ensures { OnOk result (out.new.items ≡ out.old.items ++ location_values location) }
+fn push_active(out: &mut Vec<u8>, gives: Gives) -> Result<(), AllocError>
+    ensures { OnOk result (out.new.items ≡ out.old.items ++ active_values gives) }
 {
-    match location {
-        Location::Missing => push_text(out, " missing"),
-        Location::Factors {
-            base_offset,
-            base_sample,
-            sample,
-            offset,
-        } => {
+    let Gives::Active(active) = gives else {
+        return Ok(());
+    };
+    push_text(out, " active ")?;
+    push_flag(out, active)
+}
+
+/// The factors of a location, with `-` before those that stand for inverses.
+fn push_location(out: &mut Vec<u8>, gives: Gives) -> Result<(), AllocError>
+    ensures { OnOk result (out.new.items ≡ out.old.items ++ location_values gives) }
+{
+    match gives {
+        Gives::Location(Location::Missing) => push_text(out, " missing"),
+        Gives::Location(
+            Location::Factors {
+                base_offset,
+                base_sample,
+                sample,
+                offset,
+            },
+        ) => {
             push_text(out, " -")?;
             push_number(out, base_offset)?;
             push_text(out, " -")?;
@@ -118,32 +178,39 @@ fn push_location(out: &mut Vec<u8>, location: Location) -> Result<(), AllocError
             push_text(out, " +")?;
             push_number(out, offset)
         }
+        _ => Ok(()),
     }
 }
 
 /// The values of a call that succeeded.
-fn push_given(out: &mut Vec<u8>, made: &Made) -> Result<(), AllocError>
-    ensures { OnOk result (out.new.items
-        ≡ out.old.items ++ given_values made.now.reply.gives made.now.mark made.now.text) }
+fn push_success(out: &mut Vec<u8>, made: &Made) -> Result<(), AllocError>
+    ensures { OnOk result (out.new.items ≡ out.old.items ++ success_values made.now.name made.now) }
 {
-    match made.reply.gives {
-        Gives::Number(number) => push_unless_handle(out, made.mark, number),
-        Gives::Size(size) => {
-            push_text(out, " ")?;
-            push_number(out, size)?;
-            push_written(out, made.text.as_slice())
+    let gives = made.reply.gives;
+    match made.name {
+        CallName::GetSystem | CallName::StringToPath | CallName::AcquireImage => {
+            push_number_given(out, gives)
         }
-        Gives::Event(event) => push_event(out, event),
-        Gives::Frame(frame) => push_frame(out, frame),
-        Gives::Boolean(state) => push_boolean(out, state),
-        Gives::Float(state) => push_float(out, state),
-        Gives::Vector(state) => push_vector(out, state),
-        Gives::Active(active) => {
-            push_text(out, " active ")?;
-            push_flag(out, active)
-        }
-        Gives::Location(location) => push_location(out, location),
-        Gives::Nothing | Gives::Handle(_) | Gives::Shown | Gives::Ended => Ok(()),
+        CallName::PathToString => push_text_given(out, gives, made.text.as_slice()),
+        CallName::PollEvent => push_event(out, gives),
+        CallName::LocateSpace => push_location(out, gives),
+        CallName::GetBoolean => push_boolean(out, gives),
+        CallName::GetFloat => push_float(out, gives),
+        CallName::GetVector => push_vector(out, gives),
+        CallName::GetPoseActive => push_active(out, gives),
+        CallName::WaitFrame => push_frame(out, gives),
+        CallName::Await => push_mark(out, made.mark, gives),
+        _ => Ok(()),
+    }
+}
+
+/// The values of a call whose buffer was too small.
+fn push_too_small(out: &mut Vec<u8>, made: &Made) -> Result<(), AllocError>
+    ensures { OnOk result (out.new.items ≡ out.old.items ++ too_small_values made.now.name made.now.reply.gives) }
+{
+    match made.name {
+        CallName::PathToString => push_size(out, made.reply.gives),
+        _ => Ok(()),
     }
 }
 
@@ -151,12 +218,9 @@ fn push_given(out: &mut Vec<u8>, made: &Made) -> Result<(), AllocError>
 pub(crate) fn push_values(out: &mut Vec<u8>, made: &Made) -> Result<(), AllocError>
     ensures { OnOk result (out.new.items ≡ out.old.items ++ values_of made.now) }
 {
-    match (made.reply.code, made.reply.gives) {
-        (Code::Success | Code::SessionLossPending, _) => push_given(out, made),
-        (Code::SizeInsufficient, Gives::Size(size)) => {
-            push_text(out, " ")?;
-            push_number(out, size)
-        }
+    match made.reply.code {
+        Code::Success | Code::SessionLossPending => push_success(out, made),
+        Code::SizeInsufficient => push_too_small(out, made),
         _ => Ok(()),
     }
 }

@@ -3,13 +3,15 @@ use Rattle.std.proofs.Common.{◌≡◌, ℕ, ◌+◌, ◌<◌, ◌≤◌, Bool,
 use Rattle.std.specs.List.{sum_by}
 use Rattle.std.proofs.lemmas.List.Sums.{sum_by-cons}
 use Rattle.std.proofs.lemmas.Bool.{ltb-false}
-use Rattle.std.specs.Prelude.{⊤, codes, nat_lt, if◌then◌else◌}
+use Rattle.std.specs.Prelude.{⊤, nat_lt, if◌then◌else◌}
 use Rattle.std.specs.Str.{is_utf8}
 use Rattle.std.specs.Ordering.{match_ordering, nat_cmp}
 use Rattle.std.specs.Cmp.Lexicographic.{slice_cmp}
 use Rattle.serde_json.specs.Data.{Data, null, boolean, number, string, array, object, Items, no_items, item, Members, no_members, member}
 use Rattle.serde_json.specs.Find.{get, get_member, as_array}
 use Rattle.serde_json.specs.Read.{read}
+use Rattle.xr_types.specs.Field.{name_of_field}
+use Rattle.xr_types.specs.declared.fields.FieldName.TheVariants.{Scripts}
 use Rattle.xr_types.specs.declared.scenario.Op.{Op}
 use Rattle.xr_types.specs.declared.scenario.Scenario.{Scenario}
 use Rattle.xr_types.specs.declared.status.Refusal.{Refusal}
@@ -17,7 +19,7 @@ use Rattle.xr_types.specs.declared.status.What.{What}
 use Rattle.xr_model.specs.scenario.Names.{NamedOp}
 use Rattle.xr_model.specs.scenario.ReadOp.{ReadOp}
 use Rattle.xr_model.specs.scenario.OpReading.{read_op_of, with_name}
-use Rattle.xr_model.specs.scenario.Scenario.{and_first, after_op, ops_from, script_of, after_script, scripts_from, scripts_by, scripts_in, has_version, scenario_by, scenario_in, scenario_if, scenario_of}
+use Rattle.xr_model.specs.scenario.Scenario.{and_first, after_op, ops_from, script_of, after_script, scripts_from, scripts_by, scripts_in, version_of, scenario_by, scenario_at, scenario_in, scenario_if, scenario_of}
 use Rattle.xr_scenario.specs.Size.{size, items_size, members_size}
 use Rattle.xr_scenario.specs.Few.{FewOps}
 use Rattle.xr_scenario.proofs.Sizes.{holds_less}
@@ -42,30 +44,30 @@ more_ops : (op : Op) (n m : ℕ) (r : Result (List Op) Refusal) → 1 + n ≤ m 
 more_ops op n m (Ok ops) le x = omega (arith, le, x)
 more_ops op n m (Err e) le x = tt
 
-ops_few : (script place : ℕ) (names : List NamedOp) (ds : Items) → AtMost length (items_size ds) (ops_from script place names ds)
-ops_few script place names no_items = omega arith
-ops_few script place names (item d ds) = by (read_op_of names d) (λ l. ops_few script (place + 1) (with_name place l names) ds)
+ops_few : (version script place : ℕ) (names : List NamedOp) (ds : Items) → AtMost length (items_size ds) (ops_from version script place names ds)
+ops_few version script place names no_items = omega arith
+ops_few version script place names (item d ds) = by (read_op_of version names d) (λ l. ops_few version script (place + 1) (with_name place l names) ds)
   where
-    by : (r : Result ReadOp What) → ((l : ReadOp) → AtMost length (items_size ds) (ops_from script (place + 1) (with_name place l names) ds))
-        → AtMost length (size d + items_size ds) (after_op script place r (λ l. ops_from script (place + 1) (with_name place l names) ds))
-    by (Ok l) h = more_ops l.op (items_size ds) (size d + items_size ds) (ops_from script (place + 1) (with_name place l names) ds) (omega (arith, size-positive d)) (h l)
+    by : (r : Result ReadOp What) → ((l : ReadOp) → AtMost length (items_size ds) (ops_from version script (place + 1) (with_name place l names) ds))
+        → AtMost length (size d + items_size ds) (after_op script place r (λ l. ops_from version script (place + 1) (with_name place l names) ds))
+    by (Ok l) h = more_ops l.op (items_size ds) (size d + items_size ds) (ops_from version script (place + 1) (with_name place l names) ds) (omega (arith, size-positive d)) (h l)
     by (Err e) h = tt
 
-script_few : (script : ℕ) (d : Data) → AtMost length (size d) (script_of script d)
-script_few script null = tt
-script_few script (boolean b) = tt
-script_few script (number n) = tt
-script_few script (string s) = tt
-script_few script (array ds) = weaker (ops_from script 1 [] ds) (ops_few script 1 [] ds)
+script_few : (version script : ℕ) (d : Data) → AtMost length (size d) (script_of version script d)
+script_few version script null = tt
+script_few version script (boolean b) = tt
+script_few version script (number n) = tt
+script_few version script (string s) = tt
+script_few version script (array ds) = weaker (ops_from version script 1 [] ds) (ops_few version script 1 [] ds)
   where
     weaker : (r : Result (List Op) Refusal) → AtMost length (items_size ds) r → AtMost length (2 + items_size ds) r
     weaker (Ok ops) h = omega (arith, h)
     weaker (Err e) h = tt
-script_few script (object ms) = tt
+script_few version script (object ms) = tt
 
-scripts_few : (script : ℕ) (ds : Items) → AtMost total (items_size ds) (scripts_from script ds)
-scripts_few script no_items = omega arith
-scripts_few script (item d ds) = by (script_of script d) (scripts_from (script + 1) ds) (script_few script d) (scripts_few (script + 1) ds)
+scripts_few : (version script : ℕ) (ds : Items) → AtMost total (items_size ds) (scripts_from version script ds)
+scripts_few version script no_items = omega arith
+scripts_few version script (item d ds) = by (script_of version script d) (scripts_from version (script + 1) ds) (script_few version script d) (scripts_few version (script + 1) ds)
   where
     by : (r : Result (List Op) Refusal) (more : Result (List (List Op)) Refusal) → AtMost length (size d) r → AtMost total (items_size ds) more → AtMost total (size d + items_size ds) (after_script r more)
     by (Err e) more x y = tt
@@ -115,27 +117,29 @@ if_few : {T : Type 0} (f : T → ℕ) (n : ℕ) (b : Bool) (r : Result T Refusal
 if_few f n true r e h = h
 if_few f n false r e h = tt
 
-found_few : (n : ℕ) (o : Option Data) → SizeAtMost n o → AtMost most_of n (scripts_by (option_and_then as_array o))
-found_few n None h = tt
-found_few n (Some null) h = tt
-found_few n (Some (boolean b)) h = tt
-found_few n (Some (number x)) h = tt
-found_few n (Some (string s)) h = tt
-found_few n (Some (array ds)) h = if_few most_of n _ (scripts_from 1 ds) _ (weaker (scripts_from 1 ds) (scripts_few 1 ds))
+found_few : (version n : ℕ) (o : Option Data) → SizeAtMost n o → AtMost most_of n (scripts_by version (option_and_then as_array o))
+found_few version n None h = tt
+found_few version n (Some null) h = tt
+found_few version n (Some (boolean b)) h = tt
+found_few version n (Some (number x)) h = tt
+found_few version n (Some (string s)) h = tt
+found_few version n (Some (array ds)) h = if_few most_of n _ (scripts_from version 1 ds) _ (weaker (scripts_from version 1 ds) (scripts_few version 1 ds))
   where
     weaker : (r : Result (List (List Op)) Refusal) → AtMost total (items_size ds) r → AtMost most_of n r
     weaker (Ok scripts) x = omega (arith, x, h)
     weaker (Err e) x = tt
-found_few n (Some (object ms)) h = tt
+found_few version n (Some (object ms)) h = tt
 
-by_few : (n : ℕ) (r : Result (List (List Op)) Refusal) → AtMost most_of n r → AtMost most_in n (scenario_by r)
-by_few n (Ok scripts) h = h
-by_few n (Err e) h = tt
+by_few : (version n : ℕ) (r : Result (List (List Op)) Refusal) → AtMost most_of n r → AtMost most_in n (scenario_by version r)
+by_few version n (Ok scripts) h = h
+by_few version n (Err e) h = tt
 
 scenario_few : (d : Data) → AtMost most_in (size d) (scenario_in d)
-scenario_few d =
-    if_few most_in (size d) _ (if has_version d then scenario_by (scripts_in d) else _) _ (if_few most_in (size d) (has_version d) _ _
-    (by_few (size d) (scripts_in d) (found_few (size d) (get (codes "scripts") d) (get-size (codes "scripts") d))))
+scenario_few d = if_few most_in (size d) _ (scenario_at d (version_of d)) _ (at (version_of d))
+  where
+    at : (o : Option ℕ) → AtMost most_in (size d) (scenario_at d o)
+    at None = tt
+    at (Some version) = by_few version (size d) (scripts_in version d) (found_few version (size d) (get (name_of_field Scripts) d) (get-size (name_of_field Scripts) d))
 
 value_few : (text : List ℕ) → length text ≤ 1048576 → (o : Option Data) → read text ≡ o → AtMost most_in 1048577 (scenario_if o)
 value_few text short None e = tt

@@ -31,25 +31,25 @@ items_step : (vs : List Value) (i : ℕ) (d : Value) → i < length vs → items
 items_step vs i d h = rw (add-one, drop-cons vs i d) refl
 
 -- what is read from the value at i on
-pub ops_step : (script place : ℕ) (names : List NamedOp) (vs : List Value) (i : ℕ) (d : Value) → i < length vs
-    → ops_from script place names (items_view (drop i vs)) ≡ after_op script place (read_op_of names (view (get_or vs i d))) (λ l. ops_from script (place + 1) (with_name place l names) (items_view (drop (i + 1) vs)))
-ops_step script place names vs i d h = ap (ops_from script place names) (items_step vs i d h)
+pub ops_step : (version script place : ℕ) (names : List NamedOp) (vs : List Value) (i : ℕ) (d : Value) → i < length vs
+    → ops_from version script place names (items_view (drop i vs)) ≡ after_op script place (read_op_of version names (view (get_or vs i d))) (λ l. ops_from version script (place + 1) (with_name place l names) (items_view (drop (i + 1) vs)))
+ops_step version script place names vs i d h = ap (ops_from version script place names) (items_step vs i d h)
 
 -- an op that is read, and the rest
-pub ops_more : (script place : ℕ) (names : List NamedOp) (vs : List Value) (i : ℕ) (d : Value) (ops : List Op) (l : ReadOp) → i < length vs → read_op_of names (view (get_or vs i d)) ≡ Ok l
-    → prepend ops (ops_from script place names (items_view (drop i vs))) ≡ prepend (ops ++ l.op ∷ []) (ops_from script (place + 1) (with_name place l names) (items_view (drop (i + 1) vs)))
-ops_more script place names vs i d ops l h e =
-    ap (prepend ops) (ops_step script place names vs i d h ∙ ap (λ r. after_op script place r (λ m. ops_from script (place + 1) (with_name place m names) (items_view (drop (i + 1) vs)))) e) ∙ prepend_first ops l.op _
+pub ops_more : (version script place : ℕ) (names : List NamedOp) (vs : List Value) (i : ℕ) (d : Value) (ops : List Op) (l : ReadOp) → i < length vs → read_op_of version names (view (get_or vs i d)) ≡ Ok l
+    → prepend ops (ops_from version script place names (items_view (drop i vs))) ≡ prepend (ops ++ l.op ∷ []) (ops_from version script (place + 1) (with_name place l names) (items_view (drop (i + 1) vs)))
+ops_more version script place names vs i d ops l h e =
+    ap (prepend ops) (ops_step version script place names vs i d h ∙ ap (λ r. after_op script place r (λ m. ops_from version script (place + 1) (with_name place m names) (items_view (drop (i + 1) vs)))) e) ∙ prepend_first ops l.op _
 
-pub scripts_step : (script : ℕ) (vs : List Value) (i : ℕ) (d : Value) → i < length vs
-    → scripts_from script (items_view (drop i vs)) ≡ after_script (script_of script (view (get_or vs i d))) (scripts_from (script + 1) (items_view (drop (i + 1) vs)))
-scripts_step script vs i d h = ap (scripts_from script) (items_step vs i d h)
+pub scripts_step : (version script : ℕ) (vs : List Value) (i : ℕ) (d : Value) → i < length vs
+    → scripts_from version script (items_view (drop i vs)) ≡ after_script (script_of version script (view (get_or vs i d))) (scripts_from version (script + 1) (items_view (drop (i + 1) vs)))
+scripts_step version script vs i d h = ap (scripts_from version script) (items_step vs i d h)
 
 -- a script that is read, and the rest
-pub scripts_more : (script : ℕ) (vs : List Value) (i : ℕ) (d : Value) (scripts : List (List Op)) (ops : List Op) → i < length vs → script_of script (view (get_or vs i d)) ≡ Ok ops
-    → prepend scripts (scripts_from script (items_view (drop i vs))) ≡ prepend (scripts ++ ops ∷ []) (scripts_from (script + 1) (items_view (drop (i + 1) vs)))
-scripts_more script vs i d scripts ops h e =
-    ap (prepend scripts) (scripts_step script vs i d h ∙ ap (λ r. after_script r (scripts_from (script + 1) (items_view (drop (i + 1) vs)))) e) ∙ prepend_first scripts ops _
+pub scripts_more : (version script : ℕ) (vs : List Value) (i : ℕ) (d : Value) (scripts : List (List Op)) (ops : List Op) → i < length vs → script_of version script (view (get_or vs i d)) ≡ Ok ops
+    → prepend scripts (scripts_from version script (items_view (drop i vs))) ≡ prepend (scripts ++ ops ∷ []) (scripts_from version (script + 1) (items_view (drop (i + 1) vs)))
+scripts_more version script vs i d scripts ops h e =
+    ap (prepend scripts) (scripts_step version script vs i d h ∙ ap (λ r. after_script r (scripts_from version (script + 1) (items_view (drop (i + 1) vs)))) e) ∙ prepend_first scripts ops _
 
 pub ruleset script_steps = (prepend_first, prepend_none, scripts_step)
 

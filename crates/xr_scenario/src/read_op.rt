@@ -7,12 +7,12 @@ ghost use Rattle.xr_types.specs.Op.{name_of_call};
 ghost use Rattle.xr_scenario_fields.specs.Reads.{Reads, ReadsOp};
 ghost use Rattle.xr_model.specs.scenario.InRange.{IsFormed};
 ghost use Rattle.xr_model.specs.scenario.ScriptForm.{IsKnownPlace};
-ghost use Rattle.xr_model.specs.scenario.OpReading.{op_named, op_of, op_name, read_op_of};
+ghost use Rattle.xr_model.specs.scenario.OpReading.{op_named, op_of, op_name, op_in, read_op_of};
 ghost use Rattle.xr_scenario.specs.inside.OpNames.{HasAllOfSize};
 
 use serde_json::Value;
 use std::alloc::Global;
-use xr_scenario_fields::{Fault, NamedOps, ReadOp};
+use xr_scenario_fields::{Fault, NamedOps, ReadOp, only_keys};
 use xr_scenario_frame::{
     acquire_image, begin_frame, create_action_space, create_reference_space, create_swapchain,
     destroy_space, destroy_swapchain, end_frame, locate_space, paint, release_image, wait_frame,
@@ -27,7 +27,7 @@ use xr_scenario_session::{
     end_session, get_system, mark, path_to_string, poll_event, request_exit_session,
     string_to_path,
 };
-use xr_types::{CallName, What};
+use xr_types::{CallName, FieldName, What};
 
 /// The ops among which a name of so many bytes stands, if it is one.
 fn ops_of_size(size: usize) -> &'static [CallName]
@@ -106,7 +106,7 @@ fn op_named(text: &str) -> Option<CallName>
 fn op_of(value: &Value) -> Option<CallName>
     ensures { result ≡ op_of (view value.now) }
 {
-    let Some(found) = value.get("op") else {
+    let Some(found) = value.get(FieldName::Op.name()) else {
         return None;
     };
     let Some(text) = found.as_str() else {
@@ -124,16 +124,17 @@ fn op_name(value: &Value) -> Result<CallName, Fault>
     }
 }
 
-/// An op of a script, after ops that gave these names, or the first place of it that is wrong.
-pub(crate) fn read_op<'v>(
+/// What an object says as this op, or the first of its fields that is wrong.
+fn op_in<'v>(
     alloc: Global,
     named_ops: &NamedOps<'_>,
     value: &'v Value,
+    row: CallName,
 ) -> Result<ReadOp<'v>, Fault>
-    ensures reads { ReadsOp result (read_op_of named_ops.now (view value.now)) }
+    ensures reads { ReadsOp result (op_in named_ops.now (view value.now) row) }
     ensures formed { IfOk result (λ l. IsFormed (IsKnownPlace named_ops.now) l.op) }
 {
-    match op_name(value)? {
+    match row {
         CallName::CreateInstance => create_instance(value),
         CallName::DestroyInstance => destroy_instance(named_ops, value),
         CallName::PollEvent => poll_event(named_ops, value),
@@ -174,5 +175,24 @@ pub(crate) fn read_op<'v>(
         CallName::Leave | CallName::Device | CallName::NextFrame | CallName::ImageDone => Err(
             Fault::Wrong(What::Op),
         ),
+    }
+}
+
+/// An op of a script in a version of the format, after ops that gave these names, or the first place of it that is wrong.
+pub(crate) fn read_op<'v>(
+    alloc: Global,
+    version: u8,
+    named_ops: &NamedOps<'_>,
+    value: &'v Value,
+) -> Result<ReadOp<'v>, Fault>
+    ensures reads { ReadsOp result (read_op_of version named_ops.now (view value.now)) }
+    ensures formed { IfOk result (λ l. IsFormed (IsKnownPlace named_ops.now) l.op) }
+{
+    let row = op_name(value)?;
+    let read = op_in(alloc, named_ops, value, row)?;
+    if only_keys(row.keys(version), value) {
+        Ok(read)
+    } else {
+        Err(Fault::Wrong(What::Extra))
     }
 }

@@ -6,7 +6,7 @@ ghost use Rattle.serde_json.specs.Find.{as_array};
 ghost use Rattle.xr_types.specs.declared.status.Refusal.TheVariants.{BadShape};
 ghost use Rattle.xr_model.specs.scenario.ScriptForm.{IsInForm, AllInForm};
 ghost use Rattle.xr_model.specs.scenario.OpReading.{with_name_of};
-ghost use Rattle.xr_model.specs.scenario.Scenario.{ops_from, script_of, scripts_from, scripts_by, has_version, scenario_in, json_of, scenario_of};
+ghost use Rattle.xr_model.specs.scenario.Scenario.{ops_from, script_of, scripts_from, scripts_by, version_of, scenario_in, json_of, scenario_of};
 ghost use Rattle.xr_scenario.specs.declared.fault.ScenarioFault.TheVariants.{Refused, NoMemory};
 ghost use Rattle.xr_scenario.specs.Size.{size, items_size};
 ghost use Rattle.xr_scenario.specs.inside.Shapes.{ReadsShape, IsJsonFault};
@@ -16,11 +16,10 @@ use crate::read_op::read_op;
 use serde_json::Value;
 use std::alloc::Global;
 use xr_scenario_fields::{Fault, NamedOps, only_keys};
-use xr_types::{Op, Refusal, Scenario, Script, Several, Sort, What};
-
-const MOST_BYTES: usize = 1_048_576;
-
-const MOST_SCRIPTS: usize = 8;
+use xr_types::{
+    FieldName, MOST_SCENARIO, MOST_SCRIPTS, Op, Refusal, Scenario, Script, Several, Sort, VERSION,
+    What,
+};
 
 /// Keeps the name that an op gives, if it gives one.
 fn keep<'v>(
@@ -67,9 +66,14 @@ fn add<T: Drop>(list: &mut Vec<T>, item: T) -> Result<(), ScenarioFault>
 
 /// The ops of a script, or the first wrong place.
 #[tactic(auto, using(crate::proofs::OpReading::prepended, crate::proofs::OpReading::ops_step, crate::proofs::OpReading::list_sizes))]
-fn read_ops(alloc: Global, script: u32, values: &[Value]) -> Result<Script, ScenarioFault>
+fn read_ops(
+    alloc: Global,
+    version: u8,
+    script: u32,
+    values: &[Value],
+) -> Result<Script, ScenarioFault>
     requires { items_size (items_view values.now) < 2 ^ 31 }
-    ensures reads { ReadsShape result (ops_from script 1 [] (items_view values.now)) }
+    ensures reads { ReadsShape result (ops_from version script 1 [] (items_view values.now)) }
     ensures formed { IfOk result (λ ops. IsInForm ops) }
 {
     let mut named_ops = NamedOps::new(alloc);
@@ -77,7 +81,7 @@ fn read_ops(alloc: Global, script: u32, values: &[Value]) -> Result<Script, Scen
     let mut place = 0;
     for value in values {
         place += 1;
-        let read = match read_op(alloc, &named_ops, value) {
+        let read = match read_op(alloc, version, &named_ops, value) {
             Ok(read) => read,
             Err(Fault::Wrong(what)) => {
                 return Err(ScenarioFault::Refused(Refusal::BadShape {
@@ -96,13 +100,18 @@ fn read_ops(alloc: Global, script: u32, values: &[Value]) -> Result<Script, Scen
 
 /// The ops of one script.
 #[tactic(auto, using(crate::proofs::Few::array_size))]
-fn read_script(alloc: Global, script: u32, value: &Value) -> Result<Script, ScenarioFault>
+fn read_script(
+    alloc: Global,
+    version: u8,
+    script: u32,
+    value: &Value,
+) -> Result<Script, ScenarioFault>
     requires { size (view value.now) < 2 ^ 31 }
-    ensures reads { ReadsShape result (script_of script (view value.now)) }
+    ensures reads { ReadsShape result (script_of version script (view value.now)) }
     ensures formed { IfOk result (λ ops. IsInForm ops) }
 {
     match value.as_array() {
-        Some(list) => read_ops(alloc, script, list.as_slice()),
+        Some(list) => read_ops(alloc, version, script, list.as_slice()),
         None => Err(ScenarioFault::Refused(Refusal::BadShape {
             script,
             op: 0,
@@ -113,9 +122,13 @@ fn read_script(alloc: Global, script: u32, value: &Value) -> Result<Script, Scen
 
 /// The scripts of a scenario, or the first wrong place.
 #[tactic(auto, using(crate::proofs::OpReading::list_sizes, crate::proofs::OpReading::script_steps))]
-fn read_scripts(alloc: Global, values: &[Value]) -> Result<Several<Script>, ScenarioFault>
+fn read_scripts(
+    alloc: Global,
+    version: u8,
+    values: &[Value],
+) -> Result<Several<Script>, ScenarioFault>
     requires { items_size (items_view values.now) < 2 ^ 31 }
-    ensures reads { ReadsShape result (scripts_from 1 (items_view values.now)) }
+    ensures reads { ReadsShape result (scripts_from version 1 (items_view values.now)) }
     ensures formed { IfOk result (λ scripts. AllInForm scripts) }
     ensures count { IfOk result (λ scripts. length scripts ≡ length values.now) }
 {
@@ -123,7 +136,7 @@ fn read_scripts(alloc: Global, values: &[Value]) -> Result<Several<Script>, Scen
     let mut script = 0;
     for value in values {
         script += 1;
-        let ops = match read_script(alloc, script, value) {
+        let ops = match read_script(alloc, version, script, value) {
             Ok(ops) => ops,
             Err(fault) => return Err(fault),
         };
@@ -144,11 +157,11 @@ fn top<T>(what: What) -> Result<T, ScenarioFault>
 
 /// The scripts of a list of 1 to 8.
 #[tactic(auto, using(crate::proofs::OpReading::items_counted, crate::proofs::Few::array_size))]
-fn read_list(alloc: Global, scripts: &Value) -> Result<Several<Script>, ScenarioFault>
+fn read_list(alloc: Global, version: u8, scripts: &Value) -> Result<Several<Script>, ScenarioFault>
     requires { size (view scripts.now) < 2 ^ 31 }
-    ensures reads { ReadsShape result (scripts_by (as_array (view scripts.now))) }
+    ensures reads { ReadsShape result (scripts_by version (as_array (view scripts.now))) }
     ensures formed { IfOk result (λ scripts. AllInForm scripts) }
-    ensures count { IfOk result (λ scripts. (1 ≤ length scripts) × (length scripts ≤ 8)) }
+    ensures count { IfOk result (λ scripts. (1 ≤ length scripts) × (length scripts ≤ MOST_SCRIPTS)) }
 {
     let Some(list) = scripts.as_array() else {
         return top(What::Scripts);
@@ -156,16 +169,18 @@ fn read_list(alloc: Global, scripts: &Value) -> Result<Several<Script>, Scenario
     if list.is_empty() || list.len() > MOST_SCRIPTS {
         return top(What::Scripts);
     }
-    read_scripts(alloc, list.as_slice())
+    read_scripts(alloc, version, list.as_slice())
 }
 
-/// Whether the version is the one that there is.
-fn has_version(value: &Value) -> bool
-    ensures { result ≡ has_version (view value.now) }
+/// The version of the format in which a scenario is written, where it is one that there is.
+fn version_of(value: &Value) -> Option<u8>
+    ensures { result ≡ version_of (view value.now) }
 {
-    match value.get("version") {
-        Some(version) => version.as_u64() == Some(1),
-        None => false,
+    let number = value.get(FieldName::Version.name())?.as_u64()?;
+    if number == u64::from(VERSION) {
+        Some(VERSION)
+    } else {
+        None
     }
 }
 
@@ -175,22 +190,19 @@ fn read_value(alloc: Global, value: &Value) -> Result<Scenario, ScenarioFault>
     requires { size (view value.now) < 2 ^ 31 }
     ensures reads { ReadsShape result (scenario_in (view value.now)) }
     ensures formed { IfOk result (λ scenario. AllInForm scenario.scripts) }
-    ensures count { IfOk result (λ scenario. (1 ≤ length scenario.scripts) × (length scenario.scripts ≤ 8)) }
+    ensures count { IfOk result (λ scenario. (1 ≤ length scenario.scripts) × (length scenario.scripts ≤ MOST_SCRIPTS)) }
 {
-    if !only_keys(&["version", "scripts"], value) {
+    if !only_keys(&[FieldName::Version, FieldName::Scripts], value) {
         return top(What::Top);
     }
-    if !has_version(value) {
+    let Some(version) = version_of(value) else {
         return top(What::Version);
-    }
-    let Some(found) = value.get("scripts") else {
+    };
+    let Some(found) = value.get(FieldName::Scripts.name()) else {
         return top(What::Scripts);
     };
-    let scripts = read_list(alloc, found)?;
-    Ok(Scenario {
-        version: 1,
-        scripts,
-    })
+    let scripts = read_list(alloc, version, found)?;
+    Ok(Scenario { version, scripts })
 }
 
 /// The value of a text, if it is JSON.
@@ -217,11 +229,11 @@ fn json(alloc: Global, text: &[u8]) -> Result<Value, ScenarioFault>
 /// ops, and only ops in form.
 pub fn read(alloc: Global, text: &[u8]) -> Result<Scenario, ScenarioFault>
     ensures reads { ReadsShape result (scenario_of text.now) }
-    ensures few { IfOk result (λ scenario. sum_by length scenario.scripts < 1048576) }
+    ensures few { IfOk result (λ scenario. sum_by length scenario.scripts < MOST_SCENARIO) }
     ensures formed { IfOk result (λ scenario. AllInForm scenario.scripts) }
-    ensures count { IfOk result (λ scenario. (1 ≤ length scenario.scripts) × (length scenario.scripts ≤ 8)) }
+    ensures count { IfOk result (λ scenario. (1 ≤ length scenario.scripts) × (length scenario.scripts ≤ MOST_SCRIPTS)) }
 {
-    if text.len() > MOST_BYTES {
+    if text.len() > MOST_SCENARIO {
         return Err(ScenarioFault::Refused(Refusal::TooLong));
     }
     let value = json(alloc, text)?;

@@ -5,7 +5,7 @@ ghost use Rattle.xr_model.specs.machine.Request.{request_of};
 ghost use Rattle.xr_model.specs.runs.Scripts.{request_for};
 ghost use Rattle.xr_scenario_calls.specs.inside.Groups.{IsInstanceOp, IsSessionOp, IsSpaceOp, IsActionOp, IsStateOp, IsImageOp, IsFrameOp};
 
-use crate::lists::{active_sets_for, atoms_for, bindings_for, handles_for, layers_for};
+use crate::lists::{layers_for, list_for};
 use crate::{Names, Scratch};
 use xr_types::{Call, Op};
 
@@ -142,7 +142,7 @@ fn action_call<'a>(op: &'a Op, names: &Names, scratch: &'a mut Scratch) -> Call<
             set: names.value_of(*set),
             name: name.as_slice(),
             kind: *kind,
-            subs: atoms_for(&mut scratch.numbers, names, subactions.as_slice()),
+            subs: list_for(&mut scratch.numbers, names, subactions.as_slice()),
             localized: localized.as_slice(),
         },
         Op::DestroyAction { action } => Call::DestroyAction {
@@ -155,15 +155,15 @@ fn action_call<'a>(op: &'a Op, names: &Names, scratch: &'a mut Scratch) -> Call<
         } => Call::SuggestBindings {
             instance: names.value_of(*instance),
             profile: names.value_of(*profile),
-            list: bindings_for(&mut scratch.bindings, names, bindings.as_slice()),
+            list: list_for(&mut scratch.bindings, names, bindings.as_slice()),
         },
         Op::AttachSets { session, sets } => Call::AttachSets {
             session: names.value_of(*session),
-            sets: handles_for(&mut scratch.numbers, names, sets.as_slice()),
+            sets: list_for(&mut scratch.numbers, names, sets.as_slice()),
         },
         Op::SyncActions { session, active } => Call::SyncActions {
             session: names.value_of(*session),
-            active: active_sets_for(&mut scratch.active, names, active.as_slice()),
+            active: list_for(&mut scratch.active, names, active.as_slice()),
         },
         _ => unreachable!(),
     }

@@ -1,5 +1,5 @@
 // The lists of a call, from those of its op. Each goes over what the list's room held before.
-ghost use Rattle.std.specs.Prelude.{◌≡◌, ◌≤◌, map, length, slice_get};
+ghost use Rattle.std.specs.Prelude.{◌≡◌, ◌≤◌, ℕ, List, map, length, slice_get};
 ghost use Rattle.xr_model.specs.scenario.InRange.{Each, IsLayer};
 ghost use Rattle.xr_model.specs.scenario.ScriptForm.{IsAnyPlace};
 ghost use Rattle.xr_model.specs.runs.NameValues.{value_of, binding_for, active_set_for, sub_image_for, sub_image_by, four, layer_for};
@@ -7,88 +7,79 @@ ghost use Rattle.xr_model.specs.runs.NameValues.{value_of, binding_for, active_s
 use crate::Names;
 use arrayvec::ArrayVec;
 use xr_types::{
-    ActiveSet, ActiveSetUse, AtomUse, Binding, BindingUse, HandleUse, Layer, LayerUse, SubImage,
-    SubImageUse,
+    ActiveSet, ActiveSetUse, AtomUse, Binding, BindingUse, HandleUse, Layer, LayerUse, MOST_LISTED,
+    SubImage, SubImageUse,
 };
 
-/// The handles of a list.
-pub(crate) fn handles_for<'a>(
-    room: &'a mut ArrayVec<u64, 32>,
+/// An item of an op's list. `value` is what a call's list has for it.
+pub(crate) trait ListedUse {
+    type Value: Copy + Default + Drop;
+
+    ghost value: { List ℕ → Self → Self.Value };
+
+    /// What a call's list has for the item.
+    fn value(&self, names: &Names) -> Self::Value
+        ensures { result ≡ value names.now self.now };
+}
+
+impl ListedUse for HandleUse {
+    type Value = u64;
+
+    ghost value = { λ names used. value_of names used.handle };
+
+    fn value(&self, names: &Names) -> u64 {
+        names.value_of(self.handle)
+    }
+}
+
+impl ListedUse for AtomUse {
+    type Value = u64;
+
+    ghost value = { λ names used. value_of names used.atom };
+
+    fn value(&self, names: &Names) -> u64 {
+        names.value_of(self.atom)
+    }
+}
+
+impl ListedUse for BindingUse {
+    type Value = Binding;
+
+    ghost value = { binding_for };
+
+    fn value(&self, names: &Names) -> Binding {
+        Binding {
+            action: names.value_of(self.action),
+            path: names.value_of(self.path),
+        }
+    }
+}
+
+impl ListedUse for ActiveSetUse {
+    type Value = ActiveSet;
+
+    ghost value = { active_set_for };
+
+    fn value(&self, names: &Names) -> ActiveSet {
+        ActiveSet {
+            set: names.value_of(self.set),
+            sub: names.value_of(self.sub),
+        }
+    }
+}
+
+/// The values of a list's items.
+pub(crate) fn list_for<'a, U: ListedUse, const N: usize>(
+    room: &'a mut ArrayVec<U::Value, N>,
     names: &Names,
-    uses: &[HandleUse],
-) -> &'a [u64]
-    requires { length uses.now ≤ 32 }
-    ensures { result.now ≡ map (λ u. value_of names.now u.handle) uses.now }
+    uses: &[U],
+) -> &'a [U::Value]
+    requires { length uses.now ≤ N }
+    ensures { result.now ≡ map (U.value names.now) uses.now }
 {
     room.clear();
     for used in uses {
-        room.push(names.value_of(used.handle));
-    }
-    room.as_slice()
-}
-
-/// The atoms of a list.
-pub(crate) fn atoms_for<'a>(
-    room: &'a mut ArrayVec<u64, 32>,
-    names: &Names,
-    uses: &[AtomUse],
-) -> &'a [u64]
-    requires { length uses.now ≤ 32 }
-    ensures { result.now ≡ map (λ u. value_of names.now u.atom) uses.now }
-{
-    room.clear();
-    for used in uses {
-        room.push(names.value_of(used.atom));
-    }
-    room.as_slice()
-}
-
-fn binding(names: &Names, used: &BindingUse) -> Binding
-    ensures { result ≡ binding_for names.now used.now }
-{
-    Binding {
-        action: names.value_of(used.action),
-        path: names.value_of(used.path),
-    }
-}
-
-/// The suggestions of a list.
-pub(crate) fn bindings_for<'a>(
-    room: &'a mut ArrayVec<Binding, 600>,
-    names: &Names,
-    uses: &[BindingUse],
-) -> &'a [Binding]
-    requires { length uses.now ≤ 600 }
-    ensures { result.now ≡ map (binding_for names.now) uses.now }
-{
-    room.clear();
-    for used in uses {
-        room.push(binding(names, used));
-    }
-    room.as_slice()
-}
-
-fn active_set(names: &Names, used: &ActiveSetUse) -> ActiveSet
-    ensures { result ≡ active_set_for names.now used.now }
-{
-    ActiveSet {
-        set: names.value_of(used.set),
-        sub: names.value_of(used.sub),
-    }
-}
-
-/// The action sets that a sync lists.
-pub(crate) fn active_sets_for<'a>(
-    room: &'a mut ArrayVec<ActiveSet, 128>,
-    names: &Names,
-    uses: &[ActiveSetUse],
-) -> &'a [ActiveSet]
-    requires { length uses.now ≤ 128 }
-    ensures { result.now ≡ map (active_set_for names.now) uses.now }
-{
-    room.clear();
-    for used in uses {
-        room.push(active_set(names, used));
+        room.push(used.value(names));
     }
     room.as_slice()
 }
@@ -149,11 +140,11 @@ fn layer(names: &Names, used: &LayerUse) -> Layer
 /// The layers of a frame.
 #[tactic(auto, using(crate::proofs::Each::each_item))]
 pub(crate) fn layers_for<'a>(
-    room: &'a mut ArrayVec<Layer, 32>,
+    room: &'a mut ArrayVec<Layer, MOST_LISTED>,
     names: &Names,
     uses: &[LayerUse],
 ) -> &'a [Layer]
-    requires few { length uses.now ≤ 32 }
+    requires few { length uses.now ≤ MOST_LISTED }
     requires each { Each (IsLayer IsAnyPlace) uses.now }
     ensures { result.now ≡ map (layer_for names.now) uses.now }
 {

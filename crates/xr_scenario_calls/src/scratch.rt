@@ -1,14 +1,14 @@
 // Where the lists of a call stand while it is made.
 use arrayvec::ArrayVec;
-use xr_types::{ActiveSet, Binding, Layer};
+use xr_types::{ActiveSet, Binding, Layer, MOST_ACTIVE, MOST_ATTACHED, MOST_BINDINGS, MOST_LISTED};
 
 /// Room for the longest lists that a scenario's op may have. A call that `call_of` makes borrows it.
 #[derive(Drop)]
 pub struct Scratch {
-    pub(crate) numbers: ArrayVec<u64, 32>,
-    pub(crate) bindings: ArrayVec<Binding, 600>,
-    pub(crate) active: ArrayVec<ActiveSet, 128>,
-    pub(crate) layers: ArrayVec<Layer, 32>,
+    pub(crate) numbers: ArrayVec<u64, MOST_ATTACHED>,
+    pub(crate) bindings: ArrayVec<Binding, MOST_BINDINGS>,
+    pub(crate) active: ArrayVec<ActiveSet, MOST_ACTIVE>,
+    pub(crate) layers: ArrayVec<Layer, MOST_LISTED>,
 }
 
 impl Scratch {

@@ -12,9 +12,9 @@ use crate::numbers::{MOST, number_in};
 use crate::uses::{atom_in, handle_in};
 use serde_json::Value;
 use std::alloc::{AllocError, Global};
-use xr_types::{ActiveSetUse, AtomUse, BindingUse, HandleUse, LayerUse, SubImageUse};
-
-const MOST_VIEWS: usize = 4;
+use xr_types::{
+    ActiveSetUse, AtomUse, BindingUse, FieldName, HandleUse, LayerUse, MOST_VIEWS, SubImageUse,
+};
 
 impl ListItem for HandleUse {
     ghost part = { handle_part };
@@ -158,9 +158,9 @@ fn quad(named_ops: &NamedOps<'_>, value: &Value) -> Option<LayerUse>
     ensures found { result ≡ quad_in named_ops.now (view value.now) }
     ensures formed { IfSome result (λ u. IsLayer (IsKnownPlace named_ops.now) u) }
 {
-    let space = handle_in(named_ops, value.get("quad")?)?;
-    let image = sub_image(named_ops, value.get("image")?)?;
-    let pose = number_in(value.get("pose")?, MOST)?;
+    let space = handle_in(named_ops, value.get(FieldName::Quad.name())?)?;
+    let image = sub_image(named_ops, value.get(FieldName::Image.name())?)?;
+    let pose = number_in(value.get(FieldName::Pose.name())?, MOST)?;
     Some(LayerUse::Quad { space, image, pose })
 }
 
@@ -172,13 +172,13 @@ fn projection(
     ensures found { IfOk result (λ found. found ≡ projection_in named_ops.now (view value.now)) }
     ensures formed { IfOk result (λ found. IfSome found (λ u. IsLayer (IsKnownPlace named_ops.now) u)) }
 {
-    let Some(space) = value.get("projection") else {
+    let Some(space) = value.get(FieldName::Projection.name()) else {
         return Ok(None);
     };
     let Some(space) = handle_in(named_ops, space) else {
         return Ok(None);
     };
-    let Some(views) = value.get("views") else {
+    let Some(views) = value.get(FieldName::Views.name()) else {
         return Ok(None);
     };
     match list_in(alloc, named_ops, views, MOST_VIEWS)? {
@@ -197,10 +197,10 @@ impl ListItem for LayerUse {
         named_ops: &NamedOps<'_>,
         value: &Value,
     ) -> Result<Option<LayerUse>, AllocError> {
-        if only_keys(&["projection", "views"], value) {
+        if only_keys(&[FieldName::Projection, FieldName::Views], value) {
             return projection(alloc, named_ops, value);
         }
-        if only_keys(&["quad", "image", "pose"], value) {
+        if only_keys(&[FieldName::Quad, FieldName::Image, FieldName::Pose], value) {
             return Ok(quad(named_ops, value));
         }
         Ok(None)

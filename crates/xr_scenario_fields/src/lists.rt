@@ -8,7 +8,7 @@ ghost use Rattle.xr_model.specs.scenario.InRange.{Each, AreAtMost};
 ghost use Rattle.xr_model.specs.scenario.Names.{NamedOp};
 ghost use Rattle.xr_model.specs.scenario.ListItems.{all_of, list_in};
 
-use crate::fault::{Fault, at};
+use crate::fault::{Fault, at, found};
 use crate::named_ops::NamedOps;
 use serde_json::Value;
 use std::alloc::{AllocError, Global};
@@ -45,7 +45,7 @@ fn all_of<T: ListItem + Drop>(
     ensures count { IfOk result (λ found. IfSome found (λ list. length list.items ≡ length values.now)) }
     ensures formed { IfOk result (λ found. IfSome found (λ list. Each (T.formed named_ops.now) list.items)) }
 {
-    let mut list = Vec::new(alloc);
+    let mut list = Vec::with_capacity(alloc, values.len())?;
     for value in values {
         match T::read(alloc, named_ops, value)? {
             Some(part) => list.push(part)?,
@@ -89,9 +89,7 @@ pub fn list<T: ListItem + Drop>(
     ensures reads { Reads result (field (list_in (T.part named_ops.now) most) key (view value.now)) }
     ensures formed { IfOk result (AreAtMost most (T.formed named_ops.now)) }
 {
-    let Some(found) = value.get(key.name()) else {
-        return at(key, None);
-    };
+    let found = found(value, key)?;
     match list_in(alloc, named_ops, found, most) {
         Ok(found) => at(key, found),
         Err(_) => Err(Fault::NoMemory),

@@ -7,9 +7,7 @@ ghost use Rattle.xr_model.specs.scenario.Fields.{is_name_byte, is_name, name_at}
 
 use crate::fault::Fault;
 use serde_json::Value;
-use xr_types::{FieldName, What};
-
-const MOST_NAME: usize = 32;
+use xr_types::{FieldName, MOST_GIVEN, What};
 
 fn is_name_byte(byte: u8) -> bool
     ensures { result ≡ is_name_byte byte }
@@ -31,7 +29,7 @@ fn are_name_bytes(text: &[u8]) -> bool
 fn is_name(text: &str) -> bool
     ensures { result ≡ is_name text.now }
 {
-    !text.is_empty() && text.len() <= MOST_NAME && are_name_bytes(text.as_bytes())
+    !text.is_empty() && text.len() <= MOST_GIVEN && are_name_bytes(text.as_bytes())
 }
 
 /// The name that an op gives under `as`, if it gives one: 1 to 32 small letters, digits and `_`.

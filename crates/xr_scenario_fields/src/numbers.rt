@@ -6,19 +6,14 @@ ghost use Rattle.xr_scenario_fields.specs.Reads.{IsWrong, Reads};
 ghost use Rattle.xr_model.specs.scenario.Fields.{field, most_u32, number_in, integer_in, mark_in, timeout_in};
 ghost use Rattle.xr_model.specs.scenario.InRange.{IsMark, IsTimeout};
 
-use crate::fault::{Fault, at};
+use crate::fault::{Fault, at, found};
 use serde_json::Value;
-use xr_types::FieldName;
+use xr_types::{FieldName, MOST_MARK};
 
 /// The greatest number of a field, 2^63 - 1.
 pub const MOST: u64 = (1 << 63) - 1;
 
-/// The greatest capacity of a text that an op asks for.
-pub const MOST_CAPACITY: u64 = 1024;
-
 const MOST_SMALL: u64 = (1 << 32) - 1;
-
-const MOST_MARK: u64 = 64;
 
 pub(crate) fn number_in(value: &Value, most: u64) -> Option<u64>
     ensures number { result ≡ number_in most (view value.now) }
@@ -34,9 +29,7 @@ pub fn number(value: &Value, key: FieldName, most: u64) -> Result<u64, Fault>
     ensures formed { IfOk result (λ n. n ≤ most) }
     ensures only_wrong { IfErr result IsWrong }
 {
-    let Some(found) = value.get(key.name()) else {
-        return at(key, None);
-    };
+    let found = found(value, key)?;
     at(key, number_in(found, most))
 }
 
@@ -46,9 +39,7 @@ pub fn small(value: &Value, key: FieldName) -> Result<u32, Fault>
     ensures formed { IfOk result (λ n. n ≤ most_u32) }
     ensures only_wrong { IfErr result IsWrong }
 {
-    let Some(found) = value.get(key.name()) else {
-        return at(key, None);
-    };
+    let found = found(value, key)?;
     match number_in(found, MOST_SMALL) {
         Some(number) => Ok(number as u32),
         None => at(key, None),
@@ -60,7 +51,7 @@ fn mark_in(value: &Value) -> Option<u8>
     ensures within { IfSome result IsMark }
 {
     let number = value.as_u64()?;
-    if 1 <= number && number <= MOST_MARK {
+    if 1 <= number && number <= u64::from(MOST_MARK) {
         Some(number as u8)
     } else {
         None
@@ -73,9 +64,7 @@ pub fn mark_number(value: &Value, key: FieldName) -> Result<u8, Fault>
     ensures formed { IfOk result IsMark }
     ensures only_wrong { IfErr result IsWrong }
 {
-    let Some(found) = value.get(key.name()) else {
-        return at(key, None);
-    };
+    let found = found(value, key)?;
     at(key, mark_in(found))
 }
 
@@ -108,9 +97,7 @@ pub fn timeout(value: &Value, key: FieldName) -> Result<i64, Fault>
     ensures formed { IfOk result IsTimeout }
     ensures only_wrong { IfErr result IsWrong }
 {
-    let Some(found) = value.get(key.name()) else {
-        return at(key, None);
-    };
+    let found = found(value, key)?;
     at(key, timeout_in(found))
 }
 
@@ -119,8 +106,6 @@ pub fn truth(value: &Value, key: FieldName) -> Result<bool, Fault>
     ensures reads { Reads result (field as_bool key (view value.now)) }
     ensures only_wrong { IfErr result IsWrong }
 {
-    let Some(found) = value.get(key.name()) else {
-        return at(key, None);
-    };
+    let found = found(value, key)?;
     at(key, found.as_bool())
 }

@@ -7,7 +7,7 @@ ghost use Rattle.xr_model.specs.scenario.InRange.{IsUse, IsHandle, IsAtom, IsSys
 ghost use Rattle.xr_model.specs.scenario.ScriptForm.{IsKnownPlace};
 ghost use Rattle.xr_types.specs.declared.scenario.Use.TheVariants.{Number};
 
-use crate::fault::{Fault, at};
+use crate::fault::{Fault, at, found};
 use crate::named_ops::{NamedOps, known_place};
 use crate::numbers::integer_in;
 use serde_json::Value;
@@ -50,9 +50,7 @@ pub fn handle(named_ops: &NamedOps<'_>, value: &Value, key: FieldName) -> Result
     ensures formed { IfOk result (λ u. IsHandle (IsKnownPlace named_ops.now) u) }
     ensures only_wrong { IfErr result IsWrong }
 {
-    let Some(found) = value.get(key.name()) else {
-        return at(key, None);
-    };
+    let found = found(value, key)?;
     at(key, handle_in(named_ops, found))
 }
 
@@ -62,9 +60,7 @@ pub fn atom(named_ops: &NamedOps<'_>, value: &Value, key: FieldName) -> Result<U
     ensures formed { IfOk result (λ u. IsAtom (IsKnownPlace named_ops.now) u) }
     ensures only_wrong { IfErr result IsWrong }
 {
-    let Some(found) = value.get(key.name()) else {
-        return at(key, None);
-    };
+    let found = found(value, key)?;
     at(key, atom_in(named_ops, found))
 }
 
@@ -74,9 +70,7 @@ pub fn system(named_ops: &NamedOps<'_>, value: &Value, key: FieldName) -> Result
     ensures formed { IfOk result (λ u. IsSystem (IsKnownPlace named_ops.now) u) }
     ensures only_wrong { IfErr result IsWrong }
 {
-    let Some(found) = value.get(key.name()) else {
-        return at(key, None);
-    };
+    let found = found(value, key)?;
     at(key, use_in(named_ops, found, Sort::Number, 0, i64::MAX))
 }
 
@@ -86,9 +80,7 @@ pub fn time(named_ops: &NamedOps<'_>, value: &Value, key: FieldName) -> Result<U
     ensures formed { IfOk result (λ u. IsTime (IsKnownPlace named_ops.now) u) }
     ensures only_wrong { IfErr result IsWrong }
 {
-    let Some(found) = value.get(key.name()) else {
-        return at(key, None);
-    };
+    let found = found(value, key)?;
     at(
         key,
         use_in(named_ops, found, Sort::Number, i64::MIN, i64::MAX),

@@ -12,10 +12,10 @@ ghost use Rattle.xr_model.specs.scenario.Ops.Frames.{begin_frame, create_referen
 use serde_json::Value;
 use std::alloc::Global;
 use xr_scenario_fields::{
-    Fault, MOST, NamedOps, ReadOp, atom, blend, handle, list, name, number, read_op, ref_kind,
-    small, time, timeout, truth,
+    Fault, MOST, NamedOps, ReadOp, atom, handle, list, name, number, small, time, timeout, truth,
+    word,
 };
-use xr_types::{CallName, FieldName, Op};
+use xr_types::{FieldName, MOST_LISTED, Op};
 
 /// Reads `begin_frame`: `session`.
 pub fn begin_frame<'v>(named_ops: &NamedOps<'_>, value: &'v Value) -> Result<ReadOp<'v>, Fault>
@@ -25,7 +25,7 @@ pub fn begin_frame<'v>(named_ops: &NamedOps<'_>, value: &'v Value) -> Result<Rea
 {
     let session = handle(named_ops, value, FieldName::Session)?;
     let op = Op::BeginFrame { session };
-    read_op(value, CallName::BeginFrame, op, None)
+    Ok(ReadOp { op, name: None })
 }
 
 /// Reads `create_reference_space`: `session`, `kind`, `offset`, `as`?.
@@ -38,7 +38,7 @@ pub fn create_reference_space<'v>(
     ensures only_wrong { IfErr result IsWrong }
 {
     let session = handle(named_ops, value, FieldName::Session)?;
-    let kind = ref_kind(value, FieldName::Kind)?;
+    let kind = word(value, FieldName::Kind)?;
     let offset = number(value, FieldName::Offset, MOST)?;
     let name = name(value)?;
     let op = Op::CreateReferenceSpace {
@@ -46,7 +46,7 @@ pub fn create_reference_space<'v>(
         kind,
         offset,
     };
-    read_op(value, CallName::CreateReferenceSpace, op, name)
+    Ok(ReadOp { op, name })
 }
 
 /// Reads `create_action_space`: `session`, `action`, `sub`, `offset`, `as`?.
@@ -69,7 +69,7 @@ pub fn create_action_space<'v>(
         sub,
         offset,
     };
-    read_op(value, CallName::CreateActionSpace, op, name)
+    Ok(ReadOp { op, name })
 }
 
 /// Reads `destroy_space`: `space`.
@@ -80,7 +80,7 @@ pub fn destroy_space<'v>(named_ops: &NamedOps<'_>, value: &'v Value) -> Result<R
 {
     let space = handle(named_ops, value, FieldName::Space)?;
     let op = Op::DestroySpace { space };
-    read_op(value, CallName::DestroySpace, op, None)
+    Ok(ReadOp { op, name: None })
 }
 
 /// Reads `locate_space`: `space`, `base`, `time`.
@@ -93,7 +93,7 @@ pub fn locate_space<'v>(named_ops: &NamedOps<'_>, value: &'v Value) -> Result<Re
     let base = handle(named_ops, value, FieldName::Base)?;
     let time = time(named_ops, value, FieldName::Time)?;
     let op = Op::LocateSpace { space, base, time };
-    read_op(value, CallName::LocateSpace, op, None)
+    Ok(ReadOp { op, name: None })
 }
 
 /// Reads `create_swapchain`: `session`, `format`, `width`, `height`, `static`, `as`?.
@@ -115,7 +115,7 @@ pub fn create_swapchain<'v>(named_ops: &NamedOps<'_>, value: &'v Value) -> Resul
         height,
         fixed,
     };
-    read_op(value, CallName::CreateSwapchain, op, name)
+    Ok(ReadOp { op, name })
 }
 
 /// Reads `destroy_swapchain`: `chain`.
@@ -129,7 +129,7 @@ pub fn destroy_swapchain<'v>(
 {
     let chain = handle(named_ops, value, FieldName::Chain)?;
     let op = Op::DestroySwapchain { chain };
-    read_op(value, CallName::DestroySwapchain, op, None)
+    Ok(ReadOp { op, name: None })
 }
 
 /// Reads `acquire_image`: `chain`.
@@ -140,7 +140,7 @@ pub fn acquire_image<'v>(named_ops: &NamedOps<'_>, value: &'v Value) -> Result<R
 {
     let chain = handle(named_ops, value, FieldName::Chain)?;
     let op = Op::AcquireImage { chain };
-    read_op(value, CallName::AcquireImage, op, None)
+    Ok(ReadOp { op, name: None })
 }
 
 /// Reads `release_image`: `chain`.
@@ -151,7 +151,7 @@ pub fn release_image<'v>(named_ops: &NamedOps<'_>, value: &'v Value) -> Result<R
 {
     let chain = handle(named_ops, value, FieldName::Chain)?;
     let op = Op::ReleaseImage { chain };
-    read_op(value, CallName::ReleaseImage, op, None)
+    Ok(ReadOp { op, name: None })
 }
 
 /// Reads `wait_image`: `chain`, `timeout`.
@@ -163,7 +163,7 @@ pub fn wait_image<'v>(named_ops: &NamedOps<'_>, value: &'v Value) -> Result<Read
     let chain = handle(named_ops, value, FieldName::Chain)?;
     let timeout = timeout(value, FieldName::Timeout)?;
     let op = Op::WaitImage { chain, timeout };
-    read_op(value, CallName::WaitImage, op, None)
+    Ok(ReadOp { op, name: None })
 }
 
 /// Reads `paint`: `chain`, `stamp`.
@@ -175,7 +175,7 @@ pub fn paint<'v>(named_ops: &NamedOps<'_>, value: &'v Value) -> Result<ReadOp<'v
     let chain = handle(named_ops, value, FieldName::Chain)?;
     let stamp = number(value, FieldName::Stamp, MOST)?;
     let op = Op::Paint { chain, stamp };
-    read_op(value, CallName::Paint, op, None)
+    Ok(ReadOp { op, name: None })
 }
 
 /// Reads `wait_frame`: `session`, `as`?.
@@ -187,7 +187,7 @@ pub fn wait_frame<'v>(named_ops: &NamedOps<'_>, value: &'v Value) -> Result<Read
     let session = handle(named_ops, value, FieldName::Session)?;
     let name = name(value)?;
     let op = Op::WaitFrame { session };
-    read_op(value, CallName::WaitFrame, op, name)
+    Ok(ReadOp { op, name })
 }
 
 /// Reads `end_frame`: `session`, `time`, `blend`, `layers`.
@@ -201,13 +201,13 @@ pub fn end_frame<'v>(
 {
     let session = handle(named_ops, value, FieldName::Session)?;
     let time = time(named_ops, value, FieldName::Time)?;
-    let blend = blend(value, FieldName::Blend)?;
-    let layers = list(alloc, named_ops, value, FieldName::Layers, 32)?;
+    let blend = word(value, FieldName::Blend)?;
+    let layers = list(alloc, named_ops, value, FieldName::Layers, MOST_LISTED)?;
     let op = Op::EndFrame {
         session,
         time,
         blend,
         layers,
     };
-    read_op(value, CallName::EndFrame, op, None)
+    Ok(ReadOp { op, name: None })
 }

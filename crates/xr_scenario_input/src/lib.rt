@@ -11,10 +11,8 @@ ghost use Rattle.xr_model.specs.scenario.Ops.Input.{create_action_set, destroy_a
 
 use serde_json::Value;
 use std::alloc::Global;
-use xr_scenario_fields::{
-    Fault, NamedOps, ReadOp, action_type, atom, handle, list, name, read_op, small, text,
-};
-use xr_types::{CallName, FieldName, Op};
+use xr_scenario_fields::{Fault, NamedOps, ReadOp, atom, handle, list, name, small, text, word};
+use xr_types::{FieldName, MOST_ACTIVE, MOST_ATTACHED, MOST_BINDINGS, MOST_SUBACTIONS, Op};
 
 /// Reads `create_action_set`: `instance`, `name`, `localized`, `priority`, `as`?.
 pub fn create_action_set<'v>(
@@ -36,7 +34,7 @@ pub fn create_action_set<'v>(
         localized,
         priority,
     };
-    read_op(value, CallName::CreateActionSet, op, name)
+    Ok(ReadOp { op, name })
 }
 
 /// Reads `destroy_action_set`: `set`.
@@ -50,7 +48,7 @@ pub fn destroy_action_set<'v>(
 {
     let set = handle(named_ops, value, FieldName::Set)?;
     let op = Op::DestroyActionSet { set };
-    read_op(value, CallName::DestroyActionSet, op, None)
+    Ok(ReadOp { op, name: None })
 }
 
 /// Reads `create_action`: `set`, `name`, `type`, `subactions`, `localized`, `as`?.
@@ -64,8 +62,14 @@ pub fn create_action<'v>(
 {
     let set = handle(named_ops, value, FieldName::Set)?;
     let called = text(alloc, value, FieldName::Name)?;
-    let kind = action_type(value, FieldName::ActionType)?;
-    let subactions = list(alloc, named_ops, value, FieldName::Subactions, 8)?;
+    let kind = word(value, FieldName::ActionType)?;
+    let subactions = list(
+        alloc,
+        named_ops,
+        value,
+        FieldName::Subactions,
+        MOST_SUBACTIONS,
+    )?;
     let localized = text(alloc, value, FieldName::Localized)?;
     let name = name(value)?;
     let op = Op::CreateAction {
@@ -75,7 +79,7 @@ pub fn create_action<'v>(
         subactions,
         localized,
     };
-    read_op(value, CallName::CreateAction, op, name)
+    Ok(ReadOp { op, name })
 }
 
 /// Reads `destroy_action`: `action`.
@@ -86,7 +90,7 @@ pub fn destroy_action<'v>(named_ops: &NamedOps<'_>, value: &'v Value) -> Result<
 {
     let action = handle(named_ops, value, FieldName::Action)?;
     let op = Op::DestroyAction { action };
-    read_op(value, CallName::DestroyAction, op, None)
+    Ok(ReadOp { op, name: None })
 }
 
 /// Reads `suggest_bindings`: `instance`, `profile`, `bindings`.
@@ -100,13 +104,13 @@ pub fn suggest_bindings<'v>(
 {
     let instance = handle(named_ops, value, FieldName::Instance)?;
     let profile = atom(named_ops, value, FieldName::Profile)?;
-    let bindings = list(alloc, named_ops, value, FieldName::Bindings, 600)?;
+    let bindings = list(alloc, named_ops, value, FieldName::Bindings, MOST_BINDINGS)?;
     let op = Op::SuggestBindings {
         instance,
         profile,
         bindings,
     };
-    read_op(value, CallName::SuggestBindings, op, None)
+    Ok(ReadOp { op, name: None })
 }
 
 /// Reads `attach_sets`: `session`, `sets`.
@@ -119,9 +123,9 @@ pub fn attach_sets<'v>(
     ensures formed { IfOk result (λ l. IsFormed (IsKnownPlace named_ops.now) l.op) }
 {
     let session = handle(named_ops, value, FieldName::Session)?;
-    let sets = list(alloc, named_ops, value, FieldName::Sets, 32)?;
+    let sets = list(alloc, named_ops, value, FieldName::Sets, MOST_ATTACHED)?;
     let op = Op::AttachSets { session, sets };
-    read_op(value, CallName::AttachSets, op, None)
+    Ok(ReadOp { op, name: None })
 }
 
 /// Reads `sync_actions`: `session`, `active`.
@@ -134,9 +138,9 @@ pub fn sync_actions<'v>(
     ensures formed { IfOk result (λ l. IsFormed (IsKnownPlace named_ops.now) l.op) }
 {
     let session = handle(named_ops, value, FieldName::Session)?;
-    let active = list(alloc, named_ops, value, FieldName::Active, 128)?;
+    let active = list(alloc, named_ops, value, FieldName::Active, MOST_ACTIVE)?;
     let op = Op::SyncActions { session, active };
-    read_op(value, CallName::SyncActions, op, None)
+    Ok(ReadOp { op, name: None })
 }
 
 /// Reads `get_boolean`: `session`, `action`, `sub`.
@@ -153,7 +157,7 @@ pub fn get_boolean<'v>(named_ops: &NamedOps<'_>, value: &'v Value) -> Result<Rea
         action,
         sub,
     };
-    read_op(value, CallName::GetBoolean, op, None)
+    Ok(ReadOp { op, name: None })
 }
 
 /// Reads `get_float`: `session`, `action`, `sub`.
@@ -170,7 +174,7 @@ pub fn get_float<'v>(named_ops: &NamedOps<'_>, value: &'v Value) -> Result<ReadO
         action,
         sub,
     };
-    read_op(value, CallName::GetFloat, op, None)
+    Ok(ReadOp { op, name: None })
 }
 
 /// Reads `get_vector`: `session`, `action`, `sub`.
@@ -187,7 +191,7 @@ pub fn get_vector<'v>(named_ops: &NamedOps<'_>, value: &'v Value) -> Result<Read
         action,
         sub,
     };
-    read_op(value, CallName::GetVector, op, None)
+    Ok(ReadOp { op, name: None })
 }
 
 /// Reads `get_pose_active`: `session`, `action`, `sub`.
@@ -204,5 +208,5 @@ pub fn get_pose_active<'v>(named_ops: &NamedOps<'_>, value: &'v Value) -> Result
         action,
         sub,
     };
-    read_op(value, CallName::GetPoseActive, op, None)
+    Ok(ReadOp { op, name: None })
 }

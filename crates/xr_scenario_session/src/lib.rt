@@ -13,10 +13,10 @@ ghost use Rattle.xr_model.specs.scenario.Ops.Session.{create_instance, destroy_i
 use serde_json::Value;
 use std::alloc::Global;
 use xr_scenario_fields::{
-    Fault, MOST_CAPACITY, NamedOps, ReadOp, atom, form, handle, mark_number, mark_value, name,
-    number, read_op, small, system, text, view_config,
+    Fault, NamedOps, ReadOp, atom, handle, mark_number, mark_value, name, number, small, system,
+    text, word,
 };
-use xr_types::{CallName, FieldName, Op};
+use xr_types::{FieldName, MOST_CAPACITY, Op};
 
 /// Reads `create_instance`: `major`, `minor`, `as`?.
 pub fn create_instance<'v>(value: &'v Value) -> Result<ReadOp<'v>, Fault>
@@ -28,7 +28,7 @@ pub fn create_instance<'v>(value: &'v Value) -> Result<ReadOp<'v>, Fault>
     let minor = small(value, FieldName::Minor)?;
     let name = name(value)?;
     let op = Op::CreateInstance { major, minor };
-    read_op(value, CallName::CreateInstance, op, name)
+    Ok(ReadOp { op, name })
 }
 
 /// Reads `destroy_instance`: `instance`.
@@ -39,7 +39,7 @@ pub fn destroy_instance<'v>(named_ops: &NamedOps<'_>, value: &'v Value) -> Resul
 {
     let instance = handle(named_ops, value, FieldName::Instance)?;
     let op = Op::DestroyInstance { instance };
-    read_op(value, CallName::DestroyInstance, op, None)
+    Ok(ReadOp { op, name: None })
 }
 
 /// Reads `poll_event`: `instance`.
@@ -50,7 +50,7 @@ pub fn poll_event<'v>(named_ops: &NamedOps<'_>, value: &'v Value) -> Result<Read
 {
     let instance = handle(named_ops, value, FieldName::Instance)?;
     let op = Op::PollEvent { instance };
-    read_op(value, CallName::PollEvent, op, None)
+    Ok(ReadOp { op, name: None })
 }
 
 /// Reads `get_system`: `instance`, `form`, `as`?.
@@ -60,10 +60,10 @@ pub fn get_system<'v>(named_ops: &NamedOps<'_>, value: &'v Value) -> Result<Read
     ensures only_wrong { IfErr result IsWrong }
 {
     let instance = handle(named_ops, value, FieldName::Instance)?;
-    let form = form(value, FieldName::Form)?;
+    let form = word(value, FieldName::Form)?;
     let name = name(value)?;
     let op = Op::GetSystem { instance, form };
-    read_op(value, CallName::GetSystem, op, name)
+    Ok(ReadOp { op, name })
 }
 
 /// Reads `string_to_path`: `instance`, `text`, `as`?.
@@ -79,7 +79,7 @@ pub fn string_to_path<'v>(
     let text = text(alloc, value, FieldName::Text)?;
     let name = name(value)?;
     let op = Op::StringToPath { instance, text };
-    read_op(value, CallName::StringToPath, op, name)
+    Ok(ReadOp { op, name })
 }
 
 /// Reads `path_to_string`: `instance`, `path`, `capacity`.
@@ -96,7 +96,7 @@ pub fn path_to_string<'v>(named_ops: &NamedOps<'_>, value: &'v Value) -> Result<
         path,
         capacity,
     };
-    read_op(value, CallName::PathToString, op, None)
+    Ok(ReadOp { op, name: None })
 }
 
 /// Reads `create_session`: `instance`, `system`, `as`?.
@@ -109,7 +109,7 @@ pub fn create_session<'v>(named_ops: &NamedOps<'_>, value: &'v Value) -> Result<
     let system = system(named_ops, value, FieldName::System)?;
     let name = name(value)?;
     let op = Op::CreateSession { instance, system };
-    read_op(value, CallName::CreateSession, op, name)
+    Ok(ReadOp { op, name })
 }
 
 /// Reads `destroy_session`: `session`.
@@ -120,7 +120,7 @@ pub fn destroy_session<'v>(named_ops: &NamedOps<'_>, value: &'v Value) -> Result
 {
     let session = handle(named_ops, value, FieldName::Session)?;
     let op = Op::DestroySession { session };
-    read_op(value, CallName::DestroySession, op, None)
+    Ok(ReadOp { op, name: None })
 }
 
 /// Reads `end_session`: `session`.
@@ -131,7 +131,7 @@ pub fn end_session<'v>(named_ops: &NamedOps<'_>, value: &'v Value) -> Result<Rea
 {
     let session = handle(named_ops, value, FieldName::Session)?;
     let op = Op::EndSession { session };
-    read_op(value, CallName::EndSession, op, None)
+    Ok(ReadOp { op, name: None })
 }
 
 /// Reads `request_exit_session`: `session`.
@@ -145,7 +145,7 @@ pub fn request_exit_session<'v>(
 {
     let session = handle(named_ops, value, FieldName::Session)?;
     let op = Op::RequestExitSession { session };
-    read_op(value, CallName::RequestExitSession, op, None)
+    Ok(ReadOp { op, name: None })
 }
 
 /// Reads `begin_session`: `session`, `view`.
@@ -155,9 +155,9 @@ pub fn begin_session<'v>(named_ops: &NamedOps<'_>, value: &'v Value) -> Result<R
     ensures only_wrong { IfErr result IsWrong }
 {
     let session = handle(named_ops, value, FieldName::Session)?;
-    let view = view_config(value, FieldName::View)?;
+    let view = word(value, FieldName::View)?;
     let op = Op::BeginSession { session, view };
-    read_op(value, CallName::BeginSession, op, None)
+    Ok(ReadOp { op, name: None })
 }
 
 /// Reads `mark`: `mark`, `value`?.
@@ -172,7 +172,7 @@ pub fn mark<'v>(named_ops: &NamedOps<'_>, value: &'v Value) -> Result<ReadOp<'v>
         mark,
         value: marked,
     };
-    read_op(value, CallName::Mark, op, None)
+    Ok(ReadOp { op, name: None })
 }
 
 /// Reads `await`: `mark`, `as`?.
@@ -184,5 +184,5 @@ pub fn await_mark<'v>(value: &'v Value) -> Result<ReadOp<'v>, Fault>
     let mark = mark_number(value, FieldName::Mark)?;
     let name = name(value)?;
     let op = Op::Await { mark };
-    read_op(value, CallName::Await, op, name)
+    Ok(ReadOp { op, name })
 }

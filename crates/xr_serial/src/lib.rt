@@ -4,6 +4,7 @@
 #![tactic(auto)]
 
 ghost use Rattle.std.specs.Prelude.{◌≡◌, ◌≤◌, ◌<◌, ◌^◌, ◌+◌, ℕ, true, false, IfOk, length};
+ghost use Rattle.xr_types.specs.declared.limits.TheConstants.{MOST_SCRIPTS};
 ghost use Rattle.std.specs.List.{list_all, list_any, sum_by};
 ghost use Rattle.xr_io.specs.Outside.{Rose};
 ghost use Rattle.xr_model.specs.scenario.Built.{is_built_op};
@@ -36,7 +37,7 @@ use xr_types::{Lists, NoMemory, Scenario};
 /// but the lists.
 pub fn run<D: Device>(alloc: Global, scenario: &Scenario, device: &mut D) -> Result<Lists, NoMemory>
     requires some { 1 ≤ length scenario.now.scripts }
-    requires most { length scenario.now.scripts ≤ 8 }
+    requires most { length scenario.now.scripts ≤ MOST_SCRIPTS }
     requires few { sum_by length scenario.now.scripts < 2 ^ 22 }
     requires formed { AllInForm scenario.now.scripts }
     requires built { list_all (list_all is_built_op) scenario.now.scripts ≡ true }

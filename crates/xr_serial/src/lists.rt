@@ -1,5 +1,6 @@
 // What a run has made, as lists.
 ghost use Rattle.std.specs.Prelude.{◌≡◌, ◌≤◌, ◌++◌, [], IfOk, OnOk, map, drop, length};
+ghost use Rattle.xr_types.specs.declared.limits.TheConstants.{MOST_SCRIPTS};
 ghost use Rattle.xr_model.specs.runs.Lists.{waiting_of, mark_awaited};
 ghost use Rattle.xr_serial.specs.inside.Turns.{device_part, compositor_part};
 ghost use Rattle.xr_serial.specs.inside.AtEnd.{next_name, list_if, app_next, apps_next, next_calls, lists_at};
@@ -92,7 +93,7 @@ fn add_apps(
     scripts: &[Script],
     apps: &[Application],
 ) -> Result<(), NoMemory>
-    requires most { length scripts.now ≤ 8 }
+    requires most { length scripts.now ≤ MOST_SCRIPTS }
     requires count { length apps.now ≡ length scripts.now }
     ensures { OnOk result (list.new.items ≡ list.old.items ++ apps_next 1 scripts.now apps.now) }
 {
@@ -105,7 +106,7 @@ fn add_apps(
 
 /// The next calls of those that have not finished, in the order of a round.
 fn waiting(alloc: Global, scenario: &Scenario, run: &Run) -> Result<Vec<Waiting>, NoMemory>
-    requires most { length scenario.now.scripts ≤ 8 }
+    requires most { length scenario.now.scripts ≤ MOST_SCRIPTS }
     requires count { length run.now.apps ≡ length scenario.now.scripts }
     ensures { IfOk result (λ next. next.items ≡ next_calls scenario.now run.now) }
 {
@@ -131,7 +132,7 @@ fn calls_of(alloc: Global, apps: Vec<Application>) -> Result<Vec<MadeList>, NoMe
 
 /// What a run has made, where nobody can go on.
 pub(crate) fn lists(alloc: Global, scenario: &Scenario, run: Run) -> Result<Lists, NoMemory>
-    requires most { length scenario.now.scripts ≤ 8 }
+    requires most { length scenario.now.scripts ≤ MOST_SCRIPTS }
     requires count { length run.apps ≡ length scenario.now.scripts }
     ensures { IfOk result (λ lists. lists ≡ lists_at scenario.now run) }
 {

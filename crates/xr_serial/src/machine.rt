@@ -1,5 +1,6 @@
 // The core, and what its calls are lent.
 ghost use Rattle.std.specs.Prelude.{◌≡◌, ◌<◌, ◌≤◌, ◌^◌, ℕ, List, true, false, IfOk, length};
+ghost use Rattle.xr_types.specs.declared.limits.TheConstants.{MOST_SCRIPTS};
 ghost use Rattle.xr_types.specs.declared.calls.Actor.TheVariants.{App, Compositor};
 ghost use Rattle.xr_model.specs.machine.Machine.{IsPresent, is_built, ready};
 ghost use Rattle.xr_model.specs.machine.CoreCalls.{IsCaller, HasNumbers};
@@ -16,10 +17,10 @@ use std::alloc::Global;
 use std::marker::Model;
 use xr_core::PlainCore;
 use xr_scenario_calls::{Names, Scratch, call_of};
-use xr_types::{Actor, Call, NoMemory, Op};
+use xr_types::{Actor, Call, MOST_CAPACITY, NoMemory, Op};
 
 /// How many bytes a call of a script is lent at most: the largest `capacity` of the format.
-const MOST_LENT: usize = 1024;
+const MOST_LENT: usize = MOST_CAPACITY as usize;
 
 /// The core, with the room where the lists of a call stand while it is made and the buffer that it is lent, so that a
 /// turn that waits costs little. Contracts see it as the machine's state.
@@ -66,7 +67,7 @@ fn ask(
     requires present { IsPresent core.old.core (App number) }
     requires ranged { IsInRange op.now }
     requires built { is_built_op op.now ≡ true }
-    requires size { 1024 ≤ length buffer.old }
+    requires size { MOST_LENT ≤ length buffer.old }
     ensures { IfOk result (λ answered. AnsweredOrWaits core.old core.new (App number) (request_for names.now op.now) answered) }
 {
     let lent = &mut buffer[..lent_size(op) as usize];
@@ -78,7 +79,7 @@ impl Machine {
     /// A machine of 1 to 8 applications before any call.
     pub(crate) fn start(alloc: Global, apps: u8) -> Result<Machine, NoMemory>
         requires some { 1 ≤ apps }
-        requires few { apps ≤ 8 }
+        requires few { apps ≤ MOST_SCRIPTS }
         ensures { IfOk result (λ machine. machine ≡ opening (with_apps apps)) }
     {
         let core = PlainCore::start(alloc, apps)?;

@@ -1,5 +1,6 @@
 // A run on its way, turn by turn, until no unfinished actor can make its call.
 ghost use Rattle.std.specs.Prelude.{◌≡◌, ◌≤◌, ◌<◌, ◌^◌, ◌+◌, ℕ, [], true, false, None, IfOk, OnOk, length, map, if◌then◌else◌};
+ghost use Rattle.xr_types.specs.declared.limits.TheConstants.{MOST_SCRIPTS};
 ghost use Rattle.std.specs.List.{list_all, sum_by};
 ghost use Rattle.xr_model.specs.scenario.Built.{is_built_op};
 ghost use Rattle.xr_model.specs.scenario.ScriptForm.{AllInForm};
@@ -76,7 +77,7 @@ fn app_turn(
     place: usize,
     run: &mut Run,
 ) -> Result<bool, NoMemory>
-    requires most { length scenario.now.scripts ≤ 8 }
+    requires most { length scenario.now.scripts ≤ MOST_SCRIPTS }
     requires few { sum_by length scenario.now.scripts < 2 ^ 22 }
     requires formed { AllInForm scenario.now.scripts }
     requires built { list_all (list_all is_built_op) scenario.now.scripts ≡ true }
@@ -109,7 +110,7 @@ fn device_turn<D: Device>(
     device: &mut D,
     run: &mut Run,
 ) -> Result<bool, NoMemory>
-    requires most { length scenario.now.scripts ≤ 8 }
+    requires most { length scenario.now.scripts ≤ MOST_SCRIPTS }
     requires few { sum_by length scenario.now.scripts < 2 ^ 22 }
     requires kept { (idle : ℕ) × (start : Prospect) × (idle < actors_of scenario.now)
         × RunInvariant scenario.now (length scenario.now.scripts) idle machine.old run.old start (D.prospect device.old) }
@@ -151,7 +152,7 @@ fn compositor_turn(
     scenario: &Scenario,
     run: &mut Run,
 ) -> Result<bool, NoMemory>
-    requires most { length scenario.now.scripts ≤ 8 }
+    requires most { length scenario.now.scripts ≤ MOST_SCRIPTS }
     requires few { sum_by length scenario.now.scripts < 2 ^ 22 }
     requires kept { (idle : ℕ) × (start : Prospect) × (now : Prospect) × (idle < actors_of scenario.now) × RunInvariant scenario.now (length scenario.now.scripts + 1) idle machine.old run.old start now }
     ensures kept { IfOk result (λ went. (idle : ℕ) (start now : Prospect) → idle < actors_of scenario.now
@@ -175,7 +176,7 @@ fn one_turn<D: Device>(
     run: &mut Run,
     turn: usize,
 ) -> Result<bool, NoMemory>
-    requires most { length scenario.now.scripts ≤ 8 }
+    requires most { length scenario.now.scripts ≤ MOST_SCRIPTS }
     requires few { sum_by length scenario.now.scripts < 2 ^ 22 }
     requires formed { AllInForm scenario.now.scripts }
     requires built { list_all (list_all is_built_op) scenario.now.scripts ≡ true }
@@ -208,7 +209,7 @@ pub(crate) fn go_on<D: Device>(
     device: &mut D,
     run: &mut Run,
 ) -> Result<(), NoMemory>
-    requires most { length scenario.now.scripts ≤ 8 }
+    requires most { length scenario.now.scripts ≤ MOST_SCRIPTS }
     requires few { sum_by length scenario.now.scripts < 2 ^ 22 }
     requires formed { AllInForm scenario.now.scripts }
     requires built { list_all (list_all is_built_op) scenario.now.scripts ≡ true }

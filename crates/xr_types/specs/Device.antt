@@ -4,6 +4,7 @@ use Rattle.xr_types.specs.declared.device.DeviceEvent.{DeviceEvent}
 use Rattle.xr_types.specs.declared.device.DeviceEvent.TheVariants as event
 use Rattle.xr_types.specs.declared.input.User.{User}
 use Rattle.xr_types.specs.declared.input.User.TheVariants as user
+use Rattle.xr_types.specs.declared.limits.TheConstants.{MOST_MARK, MOST_ROW}
 use Rattle.xr_types.specs.declared.spaces.Origin.{Origin}
 use Rattle.xr_types.specs.declared.spaces.Origin.TheVariants as origin
 
@@ -26,13 +27,13 @@ abbrev pub is_time : ℤ → Bool
 is_time n = in_range n (pos 0) (pos (2 ^ 62 - 1))
 
 abbrev pub is_mark : ℕ → Bool
-is_mark n = nat_le 1 n && nat_le n 64
+is_mark n = nat_le 1 n && nat_le n MOST_MARK
 
 -- An event's numbers are in range.
 abbrev pub checks : DeviceEvent → Bool
 checks (event.Clock time) = is_time time
 checks (event.Grid base period) = is_time base && in_range period (pos 1) (pos 1000000000)
-checks (event.Input who row value) = nat_le 1 row && nat_le row 40 && in_range value (negsuc 32767) (pos 32768)
+checks (event.Input who row value) = nat_le 1 row && nat_le row MOST_ROW && in_range value (negsuc 32767) (pos 32768)
 checks (event.Pose place time number) = is_hand place && is_time time && nat_le 1 number
 checks (event.Mark mark) = is_mark mark
 checks (event.Await mark) = is_mark mark

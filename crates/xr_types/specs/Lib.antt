@@ -1,7 +1,9 @@
 pub mod Code
 pub mod Device
 pub mod Field
+pub mod InputNames
 pub mod Name
 pub mod Op
 pub mod Printed
 pub mod OpNumber
+pub mod Words

@@ -5,6 +5,7 @@ use Rattle.std.specs.List.{list_all}
 use Rattle.std.specs.Str.{is_utf8}
 use Rattle.xr_types.specs.declared.code.Code.{Code}
 use Rattle.xr_types.specs.declared.code.Code.TheVariants.{Success, NameInvalid, PathFormatInvalid, LocalizedNameInvalid}
+use Rattle.xr_types.specs.declared.limits.TheConstants.{MOST_NAME, MOST_LOCALIZED}
 
 -- ---- names
 
@@ -18,7 +19,7 @@ is_periods text = list_all (λ b. b == 46) text
 
 -- 1 to 63 bytes, and not periods alone
 abbrev pub has_name_size : List ℕ → Bool
-has_name_size text = nat_lt 0 (length text) && nat_le (length text) 63 && not (is_periods text)
+has_name_size text = nat_lt 0 (length text) && nat_le (length text) MOST_NAME && not (is_periods text)
 
 -- a name: 1 to 63 bytes that may stand in a name, and not periods alone
 abbrev pub is_name : List ℕ → Bool
@@ -35,7 +36,7 @@ name_code text =
 
 -- a text for people: UTF-8 of 1 to 127 bytes
 abbrev pub is_localized : List ℕ → Bool
-is_localized text = nat_lt 0 (length text) && nat_le (length text) 127 && is_utf8 text
+is_localized text = nat_lt 0 (length text) && nat_le (length text) MOST_LOCALIZED && is_utf8 text
 
 -- what a localized name is answered with
 abbrev pub localized_code : List ℕ → Code

@@ -4,6 +4,7 @@ use Rattle.xr_types.specs.declared.scenario.Op.{Op}
 use Rattle.xr_types.specs.declared.scenario.Op.TheVariants as op
 use Rattle.xr_types.specs.declared.scenario.Sort.{Sort}
 use Rattle.xr_types.specs.declared.scenario.Sort.TheVariants.{Handle, Atom, Number}
+use Rattle.xr_types.specs.declared.limits.TheConstants.{MOST_HANDLE_MARK}
 use Rattle.xr_types.specs.declared.names.CallName.{CallName}
 use Rattle.xr_types.specs.declared.names.CallName.TheVariants.{CreateInstance, DestroyInstance, PollEvent, GetSystem, StringToPath, PathToString, CreateSession, DestroySession, EndSession, RequestExitSession, BeginFrame, BeginSession, CreateReferenceSpace, CreateActionSpace, DestroySpace, LocateSpace, CreateActionSet, DestroyActionSet, CreateAction, DestroyAction, SuggestBindings, AttachSets, SyncActions, GetBoolean, GetFloat, GetVector, GetPoseActive, CreateSwapchain, DestroySwapchain, AcquireImage, ReleaseImage, WaitImage, Paint, WaitFrame, EndFrame, Mark, Await, Leave, Device, NextFrame, ImageDone}
 
@@ -98,7 +99,7 @@ all_ops =
 
 -- what the value of a mark is
 abbrev pub mark_sort : ℕ → Sort
-mark_sort mark = if nat_le mark 32 then Handle else Atom
+mark_sort mark = if nat_le mark MOST_HANDLE_MARK then Handle else Atom
 
 -- what the name that an op gives stands for, where its row has a name
 abbrev pub sort_of : Op → Option Sort

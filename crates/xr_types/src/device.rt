@@ -1,9 +1,9 @@
 // What happens at the device. The events are this project's own.
-ghost use Rattle.std.specs.Prelude.{◌≡◌, Some};
-ghost use Rattle.xr_types.specs.Printed.{wish_name};
+ghost use Rattle.std.specs.Prelude.{◌≡◌, Some, refl};
+ghost use Rattle.xr_types.specs.Printed.{wish_name, all_wishes};
 ghost use Rattle.xr_types.specs.Device.{checks, is_hand, is_time};
 
-use crate::{Origin, Profile, User};
+use crate::{MOST_MARK, MOST_ROW, Origin, Profile, User, Word};
 use std::fmt;
 
 /// The state that the device wishes its session to be in. `Rest` is none.
@@ -15,11 +15,14 @@ pub enum Wish {
     Focused,
 }
 
-impl Wish {
-    /// The wish, as a device text writes it.
-    pub fn name(self) -> &'static str
-        ensures { result.now ≡ wish_name self }
-    {
+impl Word for Wish {
+    ghost printed = { wish_name };
+
+    ghost listed = { all_wishes };
+
+    ghost own = { refl };
+
+    fn word(self) -> &'static str {
         match self {
             Wish::Rest => "rest",
             Wish::Ready => "ready",
@@ -27,13 +30,17 @@ impl Wish {
             Wish::Focused => "focused",
         }
     }
+
+    fn all() -> &'static [Wish] {
+        &[Wish::Rest, Wish::Ready, Wish::Visible, Wish::Focused]
+    }
 }
 
 impl fmt::Display for Wish {
     ghost output = { λ wish. Some (wish_name wish) };
 
     fn fmt<W: fmt::Write>(&self, f: &mut fmt::Formatter<W>) -> fmt::Result {
-        f.write_str(self.name())
+        f.write_str(self.word())
     }
 }
 
@@ -116,13 +123,13 @@ impl DeviceEvent {
                 && 1 <= period
                 && period <= MOST_PERIOD,
             DeviceEvent::Input { row, value, .. } => 1 <= row
-                && row <= 40
+                && row <= MOST_ROW
                 && -MOST_VALUE <= value
                 && value <= MOST_VALUE,
             DeviceEvent::Pose { origin, time, pose } => is_placed(origin)
                 && is_time(time)
                 && 1 <= pose,
-            DeviceEvent::Mark(mark) | DeviceEvent::Await(mark) => 1 <= mark && mark <= 64,
+            DeviceEvent::Mark(mark) | DeviceEvent::Await(mark) => 1 <= mark && mark <= MOST_MARK,
             _ => true,
         }
     }

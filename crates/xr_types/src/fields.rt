@@ -1,12 +1,15 @@
-// The fields of ops by their names in scenarios, and the row of each op.
+// The keys of a scenario's objects by their names, and the row of each op.
 ghost use Rattle.std.specs.Prelude.{◌≡◌};
-ghost use Rattle.xr_types.specs.Field.{name_of_field, fields_of};
+ghost use Rattle.xr_types.specs.Field.{name_of_field, keys_of};
 
-use crate::CallName;
+use crate::{CallName, VERSION};
 
-/// A field of an op by its name: the key under which a scenario has it.
+/// A key of an object of a scenario by its name: the object of the whole, of an op, or of a layer.
 #[derive(Clone, Copy, Debug, PartialEq, Eq)]
 pub enum FieldName {
+    Version,
+    Scripts,
+    Op,
     Major,
     Minor,
     As,
@@ -46,6 +49,11 @@ pub enum FieldName {
     Stamp,
     Blend,
     Layers,
+    Projection,
+    Views,
+    Quad,
+    Image,
+    Pose,
 }
 
 impl FieldName {
@@ -54,6 +62,9 @@ impl FieldName {
         ensures { result.now ≡ name_of_field self }
     {
         match self {
+            FieldName::Version => "version",
+            FieldName::Scripts => "scripts",
+            FieldName::Op => "op",
             FieldName::Major => "major",
             FieldName::Minor => "minor",
             FieldName::As => "as",
@@ -93,51 +104,97 @@ impl FieldName {
             FieldName::Stamp => "stamp",
             FieldName::Blend => "blend",
             FieldName::Layers => "layers",
+            FieldName::Projection => "projection",
+            FieldName::Views => "views",
+            FieldName::Quad => "quad",
+            FieldName::Image => "image",
+            FieldName::Pose => "pose",
         }
     }
 }
 
 impl CallName {
-    /// The fields of an op's row, in order, the name that it may give last. Calls that stand in no script have none.
-    pub fn fields(self) -> &'static [FieldName]
-        ensures { result.now ≡ fields_of self }
+    /// The keys of an op's object in a version of the format, in order: `op`, the fields of its row, and last the name that
+    /// it may give. A call that stands in no script has none, and no op has any in a version that there isn't.
+    pub fn keys(self, version: u8) -> &'static [FieldName]
+        ensures { result.now ≡ keys_of version self }
     {
+        if version != VERSION {
+            return &[];
+        }
         match self {
-            CallName::CreateInstance => &[FieldName::Major, FieldName::Minor, FieldName::As],
-            CallName::DestroyInstance | CallName::PollEvent => &[FieldName::Instance],
-            CallName::GetSystem => &[FieldName::Instance, FieldName::Form, FieldName::As],
-            CallName::StringToPath => &[FieldName::Instance, FieldName::Text, FieldName::As],
-            CallName::PathToString => &[FieldName::Instance, FieldName::Path, FieldName::Capacity],
-            CallName::CreateSession => &[FieldName::Instance, FieldName::System, FieldName::As],
+            CallName::CreateInstance => &[
+                FieldName::Op,
+                FieldName::Major,
+                FieldName::Minor,
+                FieldName::As,
+            ],
+            CallName::DestroyInstance | CallName::PollEvent => &[
+                FieldName::Op,
+                FieldName::Instance,
+            ],
+            CallName::GetSystem => &[
+                FieldName::Op,
+                FieldName::Instance,
+                FieldName::Form,
+                FieldName::As,
+            ],
+            CallName::StringToPath => &[
+                FieldName::Op,
+                FieldName::Instance,
+                FieldName::Text,
+                FieldName::As,
+            ],
+            CallName::PathToString => &[
+                FieldName::Op,
+                FieldName::Instance,
+                FieldName::Path,
+                FieldName::Capacity,
+            ],
+            CallName::CreateSession => &[
+                FieldName::Op,
+                FieldName::Instance,
+                FieldName::System,
+                FieldName::As,
+            ],
             CallName::DestroySession
             | CallName::EndSession
             | CallName::RequestExitSession
-            | CallName::BeginFrame => &[FieldName::Session],
-            CallName::BeginSession => &[FieldName::Session, FieldName::View],
+            | CallName::BeginFrame => &[FieldName::Op, FieldName::Session],
+            CallName::BeginSession => &[FieldName::Op, FieldName::Session, FieldName::View],
             CallName::CreateReferenceSpace => &[
+                FieldName::Op,
                 FieldName::Session,
                 FieldName::Kind,
                 FieldName::Offset,
                 FieldName::As,
             ],
             CallName::CreateActionSpace => &[
+                FieldName::Op,
                 FieldName::Session,
                 FieldName::Action,
                 FieldName::Sub,
                 FieldName::Offset,
                 FieldName::As,
             ],
-            CallName::DestroySpace => &[FieldName::Space],
-            CallName::LocateSpace => &[FieldName::Space, FieldName::Base, FieldName::Time],
+            CallName::DestroySpace => &[FieldName::Op, FieldName::Space],
+            CallName::LocateSpace => &[
+                FieldName::Op,
+                FieldName::Space,
+                FieldName::Base,
+                FieldName::Time,
+            ],
             CallName::CreateActionSet => &[
+                FieldName::Op,
                 FieldName::Instance,
                 FieldName::Name,
                 FieldName::Localized,
                 FieldName::Priority,
                 FieldName::As,
             ],
-            CallName::DestroyActionSet => &[FieldName::Set],
+            CallName::DestroyActionSet => &[FieldName::Op, FieldName::Set],
             CallName::CreateAction => &[
+                FieldName::Op,
                 FieldName::Set,
                 FieldName::Name,
                 FieldName::ActionType,
@@ -145,19 +202,26 @@ impl CallName {
                 FieldName::Localized,
                 FieldName::As,
             ],
-            CallName::DestroyAction => &[FieldName::Action],
+            CallName::DestroyAction => &[FieldName::Op, FieldName::Action],
             CallName::SuggestBindings => &[
+                FieldName::Op,
                 FieldName::Instance,
                 FieldName::Profile,
                 FieldName::Bindings,
             ],
-            CallName::AttachSets => &[FieldName::Session, FieldName::Sets],
-            CallName::SyncActions => &[FieldName::Session, FieldName::Active],
+            CallName::AttachSets => &[FieldName::Op, FieldName::Session, FieldName::Sets],
+            CallName::SyncActions => &[FieldName::Op, FieldName::Session, FieldName::Active],
             CallName::GetBoolean
             | CallName::GetFloat
             | CallName::GetVector
-            | CallName::GetPoseActive => &[FieldName::Session, FieldName::Action, FieldName::Sub],
+            | CallName::GetPoseActive => &[
+                FieldName::Op,
+                FieldName::Session,
+                FieldName::Action,
+                FieldName::Sub,
+            ],
             CallName::CreateSwapchain => &[
+                FieldName::Op,
                 FieldName::Session,
                 FieldName::Format,
                 FieldName::Width,
@@ -166,19 +230,21 @@ impl CallName {
                 FieldName::As,
             ],
             CallName::DestroySwapchain | CallName::AcquireImage | CallName::ReleaseImage => &[
+                FieldName::Op,
                 FieldName::Chain,
             ],
-            CallName::WaitImage => &[FieldName::Chain, FieldName::Timeout],
-            CallName::Paint => &[FieldName::Chain, FieldName::Stamp],
-            CallName::WaitFrame => &[FieldName::Session, FieldName::As],
+            CallName::WaitImage => &[FieldName::Op, FieldName::Chain, FieldName::Timeout],
+            CallName::Paint => &[FieldName::Op, FieldName::Chain, FieldName::Stamp],
+            CallName::WaitFrame => &[FieldName::Op, FieldName::Session, FieldName::As],
             CallName::EndFrame => &[
+                FieldName::Op,
                 FieldName::Session,
                 FieldName::Time,
                 FieldName::Blend,
                 FieldName::Layers,
             ],
-            CallName::Mark => &[FieldName::Mark, FieldName::Value],
-            CallName::Await => &[FieldName::Mark, FieldName::As],
+            CallName::Mark => &[FieldName::Op, FieldName::Mark, FieldName::Value],
+            CallName::Await => &[FieldName::Op, FieldName::Mark, FieldName::As],
             CallName::Leave | CallName::Device | CallName::NextFrame | CallName::ImageDone => &[],
         }
     }

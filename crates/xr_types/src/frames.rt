@@ -1,4 +1,8 @@
 // Frames, layers and images (OpenXR 1.0 chapter 10, "Rendering"). An image's content is one number, its stamp.
+ghost use Rattle.std.specs.Prelude.{◌≡◌, refl};
+ghost use Rattle.xr_types.specs.Printed.{blend_name, all_blends};
+
+use crate::Word;
 use arrayvec::ArrayVec;
 
 /// How many layers a frame has at most (OpenXR 1.0 chapter 10).
@@ -10,6 +14,26 @@ pub enum Blend {
     Opaque,
     Additive,
     Alpha,
+}
+
+impl Word for Blend {
+    ghost printed = { blend_name };
+
+    ghost listed = { all_blends };
+
+    ghost own = { refl };
+
+    fn word(self) -> &'static str {
+        match self {
+            Blend::Opaque => "opaque",
+            Blend::Additive => "additive",
+            Blend::Alpha => "alpha",
+        }
+    }
+
+    fn all() -> &'static [Blend] {
+        &[Blend::Opaque, Blend::Additive, Blend::Alpha]
+    }
 }
 
 /// A part of a swapchain's image, in pixels (chapter 10, XrSwapchainSubImage).

@@ -1,8 +1,8 @@
 // Input: actions, their states, and what they are bound to (OpenXR 1.0 chapter 11, "Input and Haptics").
-ghost use Rattle.std.specs.Prelude.{◌≡◌, Some};
-ghost use Rattle.xr_types.specs.Printed.{user_path, profile_name};
+ghost use Rattle.std.specs.Prelude.{◌≡◌, Some, refl};
+ghost use Rattle.xr_types.specs.Printed.{action_type_name, all_action_types, user_path, all_users, profile_name, all_profiles};
 
-use crate::Origin;
+use crate::{Origin, Word};
 use std::fmt;
 
 /// What an action gives (OpenXR 1.0 chapter 11, XrActionType).
@@ -15,6 +15,34 @@ pub enum ActionType {
     Vibration,
 }
 
+impl Word for ActionType {
+    ghost printed = { action_type_name };
+
+    ghost listed = { all_action_types };
+
+    ghost own = { refl };
+
+    fn word(self) -> &'static str {
+        match self {
+            ActionType::Boolean => "boolean",
+            ActionType::Float => "float",
+            ActionType::Vector => "vector",
+            ActionType::Pose => "pose",
+            ActionType::Vibration => "vibration",
+        }
+    }
+
+    fn all() -> &'static [ActionType] {
+        &[
+            ActionType::Boolean,
+            ActionType::Float,
+            ActionType::Vector,
+            ActionType::Pose,
+            ActionType::Vibration,
+        ]
+    }
+}
+
 /// A top-level user path (section 6.3.1).
 #[derive(Clone, Copy)]
 pub enum User {
@@ -25,11 +53,14 @@ pub enum User {
     Treadmill,
 }
 
-impl User {
-    /// The path, as a device text writes it.
-    pub fn path(self) -> &'static str
-        ensures { result.now ≡ user_path self }
-    {
+impl Word for User {
+    ghost printed = { user_path };
+
+    ghost listed = { all_users };
+
+    ghost own = { refl };
+
+    fn word(self) -> &'static str {
         match self {
             User::Left => "/user/hand/left",
             User::Right => "/user/hand/right",
@@ -38,13 +69,23 @@ impl User {
             User::Treadmill => "/user/treadmill",
         }
     }
+
+    fn all() -> &'static [User] {
+        &[
+            User::Left,
+            User::Right,
+            User::Head,
+            User::Gamepad,
+            User::Treadmill,
+        ]
+    }
 }
 
 impl fmt::Display for User {
     ghost output = { λ user. Some (user_path user) };
 
     fn fmt<W: fmt::Write>(&self, f: &mut fmt::Formatter<W>) -> fmt::Result {
-        f.write_str(self.path())
+        f.write_str(self.word())
     }
 }
 
@@ -58,11 +99,14 @@ pub enum Profile {
     Xbox,
 }
 
-impl Profile {
-    /// The profile's path behind `/interaction_profiles/`, as a device text writes it.
-    pub fn name(self) -> &'static str
-        ensures { result.now ≡ profile_name self }
-    {
+impl Word for Profile {
+    ghost printed = { profile_name };
+
+    ghost listed = { all_profiles };
+
+    ghost own = { refl };
+
+    fn word(self) -> &'static str {
         match self {
             Profile::Simple => "khr/simple_controller",
             Profile::Touch => "oculus/touch_controller",
@@ -70,13 +114,22 @@ impl Profile {
             Profile::Xbox => "microsoft/xbox_controller",
         }
     }
+
+    fn all() -> &'static [Profile] {
+        &[
+            Profile::Simple,
+            Profile::Touch,
+            Profile::Vive,
+            Profile::Xbox,
+        ]
+    }
 }
 
 impl fmt::Display for Profile {
     ghost output = { λ profile. Some (profile_name profile) };
 
     fn fmt<W: fmt::Write>(&self, f: &mut fmt::Formatter<W>) -> fmt::Result {
-        f.write_str(self.name())
+        f.write_str(self.word())
     }
 }
 

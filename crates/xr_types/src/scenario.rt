@@ -2,10 +2,9 @@
 ghost use Rattle.std.specs.Prelude.{◌≡◌};
 ghost use Rattle.xr_types.specs.Op.{call_name, sort_of};
 
-use crate::{ActionType, Blend, Bytes, CallName, Form, RefKind, Several, ViewConfig};
-
-/// Marks up to this one have handles for values, and the marks behind it atoms.
-pub const MOST_HANDLE_MARK: u8 = 32;
+use crate::{
+    ActionType, Blend, Bytes, CallName, Form, MOST_HANDLE_MARK, RefKind, Several, ViewConfig,
+};
 
 /// A value of an op: a number, or what the op at this place of the script (from 1) gave to its name.
 #[derive(Clone, Copy)]

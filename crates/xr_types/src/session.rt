@@ -1,7 +1,8 @@
 // Sessions: their states, events and frames' times (OpenXR 1.0 chapter 9, "Session").
-ghost use Rattle.std.specs.Prelude.{◌≡◌, Some};
-ghost use Rattle.xr_types.specs.Printed.{state_name};
+ghost use Rattle.std.specs.Prelude.{◌≡◌, Some, refl};
+ghost use Rattle.xr_types.specs.Printed.{state_name, form_name, all_forms, view_name, all_views};
 
+use crate::Word;
 use std::fmt;
 
 /// The state of a session (OpenXR 1.0 chapter 9, XrSessionState).
@@ -74,9 +75,47 @@ pub enum Form {
     Hand,
 }
 
+impl Word for Form {
+    ghost printed = { form_name };
+
+    ghost listed = { all_forms };
+
+    ghost own = { refl };
+
+    fn word(self) -> &'static str {
+        match self {
+            Form::Head => "head",
+            Form::Hand => "hand",
+        }
+    }
+
+    fn all() -> &'static [Form] {
+        &[Form::Head, Form::Hand]
+    }
+}
+
 /// How many views a session is begun with (chapter 8, XrViewConfigurationType).
 #[derive(Clone, Copy)]
 pub enum ViewConfig {
     Mono,
     Stereo,
+}
+
+impl Word for ViewConfig {
+    ghost printed = { view_name };
+
+    ghost listed = { all_views };
+
+    ghost own = { refl };
+
+    fn word(self) -> &'static str {
+        match self {
+            ViewConfig::Mono => "mono",
+            ViewConfig::Stereo => "stereo",
+        }
+    }
+
+    fn all() -> &'static [ViewConfig] {
+        &[ViewConfig::Mono, ViewConfig::Stereo]
+    }
 }

@@ -1,5 +1,6 @@
 -- Numbers and words as they are read.
-use Rattle.std.specs.Prelude.{ℕ, ◌&&◌, nat_le, Option, Some, None, if◌then◌else◌}
+use Rattle.std.specs.Prelude.{ℕ, ℤ, ◌&&◌, nat_le, Option, Some, None, if◌then◌else◌}
+use Rattle.xr_types.specs.Device.{in_range}
 use Rattle.xr_model.specs.device_text.DeviceText.{Meaning, skipped, tells, malformed}
 use Rattle.xr_device.specs.Answers.{IsTold}
 use Rattle.xr_device.specs.declared.words.Said.{Said}
@@ -14,6 +15,11 @@ up_to most (Some n) = if nat_le n most then Some n else None
 abbrev pub ranged : ℕ → ℕ → Option ℕ → Option ℕ
 ranged least most None = None
 ranged least most (Some n) = if nat_le least n && nat_le n most then Some n else None
+
+-- a whole number that is in a range, both ends included
+abbrev pub whole : ℤ → ℤ → Option ℤ → Option ℤ
+whole least most None = None
+whole least most (Some n) = if in_range n least most then Some n else None
 
 -- what a line says, as the definitions of device texts have it
 abbrev pub meaning : Said → Meaning

@@ -4,21 +4,12 @@ use Rattle.std.specs.Fmt.{signed_decimal}
 use Rattle.xr_types.specs.declared.device.DeviceEvent.{DeviceEvent}
 use Rattle.xr_types.specs.declared.device.DeviceEvent.TheVariants as event
 use Rattle.xr_types.specs.declared.input.Profile.{Profile}
-use Rattle.xr_types.specs.declared.spaces.Origin.{Origin}
-use Rattle.xr_types.specs.declared.spaces.Origin.TheVariants as origin
-use Rattle.xr_types.specs.Printed.{wish_name, user_path, profile_name}
-use Rattle.xr_model.specs.device_text.InputNames.{input_name}
+use Rattle.xr_types.specs.InputNames.{input_name}
+use Rattle.xr_types.specs.Printed.{wish_name, user_path, profile_name, origin_name}
 
 abbrev pub connected : Option Profile → List ℕ
 connected None = codes "none"
 connected (Some profile) = profile_name profile
-
-abbrev pub origin_name : Origin → List ℕ
-origin_name origin.View = codes "view"
-origin_name origin.Local = codes "local"
-origin_name origin.Stage = codes "stage"
-origin_name (origin.Grip user) = user_path user ++ codes "/input/grip/pose"
-origin_name (origin.Aim user) = user_path user ++ codes "/input/aim/pose"
 
 -- the line that gives an event; no line gives the two ways in which a device ends early
 abbrev pub line_of : DeviceEvent → List ℕ

@@ -1,13 +1,13 @@
 -- Device texts: which lines give which events, and where the first line stands that is none. The format is this
 -- project's own. A line whose part isn't built yet is none.
-use Rattle.std.specs.Prelude.{ℕ, pos, ◌+◌, ◌-◌, ◌*◌, ◌&&◌, ◌||◌, ◌==◌, Bool, true, false, nat_eq, nat_lt, nat_le, List, [], ◌∷◌, length, codes, Option, Some, None, option_map, if◌then◌else◌}
+use Rattle.std.specs.Prelude.{ℕ, ℤ, pos, negsuc, ◌+◌, ◌-◌, ◌*◌, ◌&&◌, ◌||◌, ◌==◌, Bool, true, false, nat_eq, nat_lt, nat_le, List, [], ◌∷◌, length, codes, Option, Some, None, option_map, option_and_then, if◌then◌else◌}
 use Rattle.std.specs.Cmp.Lexicographic.{pointwise}
 use Rattle.xr_types.specs.declared.device.DeviceEvent.{DeviceEvent}
 use Rattle.xr_types.specs.declared.device.DeviceEvent.TheVariants as event
-use Rattle.xr_types.specs.declared.device.Wish.{Wish}
-use Rattle.xr_types.specs.declared.device.Wish.TheVariants as wish
+use Rattle.xr_types.specs.declared.limits.TheConstants.{MOST_LINE, MOST_DEVICE}
 use Rattle.xr_types.specs.Device.{checks}
-use Rattle.xr_types.specs.Printed.{wish_name}
+use Rattle.xr_types.specs.Printed.{wish_name, all_wishes}
+use Rattle.xr_types.specs.Words.{named}
 
 -- ---- lines
 
@@ -58,18 +58,19 @@ number_of [] = None
 number_of (b ∷ []) = digits_behind 0 (b ∷ [])
 number_of (b ∷ c ∷ bs) = if b == 48 then None else digits_behind 0 (b ∷ c ∷ bs)
 
+-- a number below 0, without its sign; there is no other 0
+abbrev pub below_0 : ℕ → Option ℤ
+below_0 n = if n == 0 then None else Some (negsuc (n - 1))
+
+-- a whole number: one below 0 has `-` before it
+abbrev pub integer_of : List ℕ → Option ℤ
+integer_of [] = None
+integer_of (b ∷ bs) = if b == 45 then option_and_then below_0 (number_of bs) else option_map pos (number_of (b ∷ bs))
+
 -- ---- events
 
-abbrev pub wish_of : List ℕ → Option Wish
-wish_of word =
-    if is_word word (wish_name wish.Rest) then Some wish.Rest
-    else (if is_word word (wish_name wish.Ready) then Some wish.Ready
-    else (if is_word word (wish_name wish.Visible) then Some wish.Visible
-    else (if is_word word (wish_name wish.Focused) then Some wish.Focused
-    else None)))
-
-abbrev pub grid_by : Option ℕ → Option ℕ → Option DeviceEvent
-grid_by (Some base) (Some period) = Some (event.Grid (pos base) (pos period))
+abbrev pub grid_by : Option ℤ → Option ℤ → Option DeviceEvent
+grid_by (Some base) (Some period) = Some (event.Grid base period)
 grid_by _ _ = None
 
 -- the event of a line's words, whatever its numbers
@@ -80,12 +81,12 @@ event_by (word ∷ []) =
     else (if is_word word (codes "lost") then Some event.Lost
     else None)
 event_by (word ∷ a ∷ []) =
-    if is_word word (codes "clock") then option_map (λ n. event.Clock (pos n)) (number_of a)
-    else (if is_word word (codes "wish") then option_map (λ w. event.Wish w) (wish_of a)
+    if is_word word (codes "clock") then option_map (λ n. event.Clock n) (integer_of a)
+    else (if is_word word (codes "wish") then option_map (λ w. event.Wish w) (named wish_name all_wishes a)
     else (if is_word word (codes "mark") then option_map (λ n. event.Mark n) (number_of a)
     else (if is_word word (codes "await") then option_map (λ n. event.Await n) (number_of a)
     else None)))
-event_by (word ∷ a ∷ b ∷ []) = if is_word word (codes "grid") then grid_by (number_of a) (number_of b) else None
+event_by (word ∷ a ∷ b ∷ []) = if is_word word (codes "grid") then grid_by (integer_of a) (integer_of b) else None
 event_by (word ∷ a ∷ b ∷ c ∷ ws) = None
 
 -- its numbers have to be in range
@@ -125,13 +126,6 @@ pub record DeviceStream : Type 0 where
 abbrev pub nothing_more : DeviceStream
 nothing_more = record { events = []; ending = ends }
 
--- how many bytes a line and a text have at most
-abbrev pub most_line : ℕ
-most_line = 255
-
-abbrev pub most_text : ℕ
-most_text = 16777216
-
 abbrev pub told_by : ℕ → Meaning → DeviceStream → DeviceStream
 told_by number skipped rest = rest
 told_by number (tells e) rest = record rest { events = e ∷ rest.events }
@@ -141,7 +135,7 @@ told_by number malformed rest = record { events = []; ending = garbled_at number
 abbrev pub told_from : ℕ → ℕ → List Line → DeviceStream
 told_from number used [] = nothing_more
 told_from number used (l ∷ ls) =
-    if nat_lt most_line (length l.bytes) || nat_lt most_text (used + line_size l) then record { events = []; ending = garbled_at number }
+    if nat_lt MOST_LINE (length l.bytes) || nat_lt MOST_DEVICE (used + line_size l) then record { events = []; ending = garbled_at number }
     else told_by number (meaning_of l.bytes) (told_from (number + 1) (used + line_size l) ls)
 
 -- what a device's text tells; lines count from 1

@@ -1,12 +1,10 @@
 -- Marks, by which scripts and the device wait for each other. They are this project's own.
 use Rattle.std.specs.Prelude.{ℕ, ◌-◌, ◌==◌, Bool, List, replicate, slice_get, slice_set, Option, Some, None, is_some, unwrap_or, if◌then◌else◌}
+use Rattle.xr_types.specs.declared.limits.TheConstants.{MOST_MARK}
 
--- how many there are; they are numbered from 1
-abbrev pub most_marks : ℕ
-most_marks = 64
-
+-- none is set; they are numbered from 1
 abbrev pub no_marks : List (Option ℕ)
-no_marks = replicate most_marks None
+no_marks = replicate MOST_MARK None
 
 -- the value of a mark, where it is set
 abbrev pub in_place : Option (Option ℕ) → Option ℕ

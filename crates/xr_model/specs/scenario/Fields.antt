@@ -1,27 +1,19 @@
 -- Fields of an op: what a JSON value says, or which place of the op is wrong.
-use Rattle.std.specs.Prelude.{ℕ, ℤ, pos, negsuc, int_le, ◌-◌, ◌^◌, ◌==◌, ◌&&◌, ◌||◌, nat_lt, nat_le, Bool, true, false, List, ◌∷◌, length, map, codes, Option, Some, None, option_and_then, option_map, Result, Ok, Err, if◌then◌else◌}
+use Rattle.std.specs.Prelude.{ℕ, ℤ, pos, negsuc, int_le, ◌-◌, ◌^◌, ◌==◌, ◌&&◌, ◌||◌, nat_lt, nat_le, Bool, true, false, List, length, codes, Option, Some, None, option_and_then, option_map, Result, Ok, Err, if◌then◌else◌}
 use Rattle.std.specs.List.{list_all, list_any}
 use Rattle.std.specs.Str.{bytes_eq}
 use Rattle.serde_json.specs.Data.{Data, Members, no_members, member}
 use Rattle.serde_json.specs.Find.{get, as_str, as_number, as_u64, as_i64, as_object}
-use Rattle.xr_types.specs.Field.{name_of_field, fields_of}
+use Rattle.xr_types.specs.Field.{name_of_field, keys_of}
+use Rattle.xr_types.specs.Words.{named}
 use Rattle.xr_types.specs.declared.fields.FieldName.{FieldName}
 use Rattle.xr_types.specs.declared.fields.FieldName.TheVariants.{As}
-use Rattle.xr_types.specs.declared.frames.Blend.{Blend}
-use Rattle.xr_types.specs.declared.frames.Blend.TheVariants.{Opaque, Additive, Alpha}
-use Rattle.xr_types.specs.declared.input.ActionType.{ActionType}
-use Rattle.xr_types.specs.declared.input.ActionType.TheVariants.{Boolean, Float, Vector, Pose, Vibration}
+use Rattle.xr_types.specs.declared.limits.TheConstants.{MOST_TEXT, MOST_GIVEN, MOST_MARK, MOST_HANDLE_MARK}
 use Rattle.xr_types.specs.declared.names.CallName.{CallName}
 use Rattle.xr_types.specs.declared.scenario.Sort.{Sort}
 use Rattle.xr_types.specs.declared.scenario.Sort.TheVariants as sort
 use Rattle.xr_types.specs.declared.scenario.Use.{Use}
 use Rattle.xr_types.specs.declared.scenario.Use.TheVariants.{Number, Of}
-use Rattle.xr_types.specs.declared.session.Form.{Form}
-use Rattle.xr_types.specs.declared.session.Form.TheVariants.{Head, Hand}
-use Rattle.xr_types.specs.declared.session.ViewConfig.{ViewConfig}
-use Rattle.xr_types.specs.declared.session.ViewConfig.TheVariants.{Mono, Stereo}
-use Rattle.xr_types.specs.declared.spaces.RefKind.{RefKind}
-use Rattle.xr_types.specs.declared.spaces.RefKind.TheVariants.{View, Local, Stage}
 use Rattle.xr_types.specs.declared.status.What.{What}
 use Rattle.xr_types.specs.declared.status.What.TheVariants.{Field, Extra}
 use Rattle.xr_model.specs.scenario.Names.{NamedOp, place_named}
@@ -74,7 +66,7 @@ integer_in least greatest d = option_and_then (λ n. if int_le least n && int_le
 
 -- a mark's number, 1 to 64
 abbrev pub mark_in : Data → Option ℕ
-mark_in d = option_and_then (λ n. if nat_le 1 n && nat_le n 64 then Some n else None) (option_and_then as_u64 (as_number d))
+mark_in d = option_and_then (λ n. if nat_le 1 n && nat_le n MOST_MARK then Some n else None) (option_and_then as_u64 (as_number d))
 
 abbrev pub timeout_by : Data → Option (List ℕ) → Option ℤ
 timeout_by d (Some text) = if bytes_eq text (codes "inf") then Some most_i64 else None
@@ -112,57 +104,17 @@ time_in = use_in sort.Number least_i64 most_i64
 
 -- the value of a mark is a handle for marks 1 to 32, and an atom for the others
 abbrev pub value_in : List NamedOp → ℕ → Data → Option Use
-value_in names mark d = if nat_le mark 32 then handle_in names d else atom_in names d
+value_in names mark d = if nat_le mark MOST_HANDLE_MARK then handle_in names d else atom_in names d
 
 -- ---- words
 
 -- a text of at most 1024 bytes
 abbrev pub text_in : Data → Option (List ℕ)
-text_in d = option_and_then (λ t. if nat_le (length t) 1024 then Some t else None) (as_str d)
+text_in d = option_and_then (λ t. if nat_le (length t) MOST_TEXT then Some t else None) (as_str d)
 
-abbrev pub form_of : List ℕ → Option Form
-form_of t = if bytes_eq t (codes "head") then Some Head else (if bytes_eq t (codes "hand") then Some Hand else None)
-
-abbrev pub form_in : Data → Option Form
-form_in d = option_and_then form_of (as_str d)
-
-abbrev pub view_of : List ℕ → Option ViewConfig
-view_of t = if bytes_eq t (codes "mono") then Some Mono else (if bytes_eq t (codes "stereo") then Some Stereo else None)
-
-abbrev pub view_in : Data → Option ViewConfig
-view_in d = option_and_then view_of (as_str d)
-
-abbrev pub ref_kind_of : List ℕ → Option RefKind
-ref_kind_of t =
-    if bytes_eq t (codes "view") then Some View
-    else (if bytes_eq t (codes "local") then Some Local
-    else (if bytes_eq t (codes "stage") then Some Stage
-    else None))
-
-abbrev pub ref_kind_in : Data → Option RefKind
-ref_kind_in d = option_and_then ref_kind_of (as_str d)
-
-abbrev pub action_type_of : List ℕ → Option ActionType
-action_type_of t =
-    if bytes_eq t (codes "boolean") then Some Boolean
-    else (if bytes_eq t (codes "float") then Some Float
-    else (if bytes_eq t (codes "vector") then Some Vector
-    else (if bytes_eq t (codes "pose") then Some Pose
-    else (if bytes_eq t (codes "vibration") then Some Vibration
-    else None))))
-
-abbrev pub action_type_in : Data → Option ActionType
-action_type_in d = option_and_then action_type_of (as_str d)
-
-abbrev pub blend_of : List ℕ → Option Blend
-blend_of t =
-    if bytes_eq t (codes "opaque") then Some Opaque
-    else (if bytes_eq t (codes "additive") then Some Additive
-    else (if bytes_eq t (codes "alpha") then Some Alpha
-    else None))
-
-abbrev pub blend_in : Data → Option Blend
-blend_in d = option_and_then blend_of (as_str d)
+-- a value of a few, by its word
+abbrev pub word_in : {T : Type 0} → (T → List ℕ) → List T → Data → Option T
+word_in printed listed d = option_and_then (named printed listed) (as_str d)
 
 -- ---- the name that an op gives
 
@@ -172,7 +124,7 @@ is_name_byte b = (nat_le 97 b && nat_le b 122) || (nat_le 48 b && nat_le b 57) |
 
 -- a name has 1 to 32 bytes
 abbrev pub is_name : List ℕ → Bool
-is_name t = nat_lt 0 (length t) && nat_le (length t) 32 && list_all is_name_byte t
+is_name t = nat_lt 0 (length t) && nat_le (length t) MOST_GIVEN && list_all is_name_byte t
 
 abbrev pub name_in : Data → Option (List ℕ)
 name_in d = option_and_then (λ t. if is_name t then Some t else None) (as_str d)
@@ -187,25 +139,21 @@ name_at d = name_by (get (name_of_field As) d)
 
 -- ---- keys
 
-abbrev pub is_key : List (List ℕ) → List ℕ → Bool
-is_key keys k = list_any (λ key. bytes_eq key k) keys
+abbrev pub is_key : List FieldName → List ℕ → Bool
+is_key keys k = list_any (λ key. bytes_eq (name_of_field key) k) keys
 
-abbrev pub are_keys : List (List ℕ) → Members → Bool
+abbrev pub are_keys : List FieldName → Members → Bool
 are_keys keys no_members = true
 are_keys keys (member k d ms) = is_key keys k && are_keys keys ms
 
-abbrev pub only_keys_by : List (List ℕ) → Option Members → Bool
+abbrev pub only_keys_by : List FieldName → Option Members → Bool
 only_keys_by keys None = false
 only_keys_by keys (Some ms) = are_keys keys ms
 
 -- an object with no other key than these
-abbrev pub only_keys : List (List ℕ) → Data → Bool
+abbrev pub only_keys : List FieldName → Data → Bool
 only_keys keys d = only_keys_by keys (as_object d)
 
--- the keys that an op may have: its name, and the fields of its row
-abbrev pub keys_of : CallName → List (List ℕ)
-keys_of row = codes "op" ∷ map name_of_field (fields_of row)
-
--- the value, where the op has no other key
-abbrev pub only : {T : Type 0} → CallName → Data → T → Result T What
-only row d x = if only_keys (keys_of row) d then Ok x else Err Extra
+-- the value, where the op has no other key than those of its row
+abbrev pub only : {T : Type 0} → ℕ → CallName → Data → T → Result T What
+only version row d x = if only_keys (keys_of version row) d then Ok x else Err Extra

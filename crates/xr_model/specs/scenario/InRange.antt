@@ -1,5 +1,6 @@
 -- Which ops have the forms, ranges and lengths of their rows, whatever the places that they use.
 use Rattle.std.specs.Prelude.{ℕ, ℤ, pos, negsuc, ◌-◌, ◌^◌, ◌≤◌, ◌≤ℤ◌, nat_le, Bool, true, false, List, [], ◌∷◌, length, ⊤}
+use Rattle.xr_types.specs.declared.limits.TheConstants.{MOST_TEXT, MOST_CAPACITY, MOST_SUBACTIONS, MOST_ATTACHED, MOST_BINDINGS, MOST_ACTIVE, MOST_LISTED, MOST_VIEWS, MOST_MARK, MOST_HANDLE_MARK}
 use Rattle.xr_types.specs.declared.scenario.ActiveSetUse.{ActiveSetUse}
 use Rattle.xr_types.specs.declared.scenario.AtomUse.{AtomUse}
 use Rattle.xr_types.specs.declared.scenario.BindingUse.{BindingUse}
@@ -38,16 +39,16 @@ IsValueBy false P u = IsAtom P u
 
 -- the value of a mark is a handle for marks 1 to 32, and an atom for the others
 abbrev pub IsValue : (Sort → ℕ → Type 0) → ℕ → Use → Type 0
-IsValue P mark u = IsValueBy (nat_le mark 32) P u
+IsValue P mark u = IsValueBy (nat_le mark MOST_HANDLE_MARK) P u
 
 abbrev pub IsMark : ℕ → Type 0
-IsMark n = (1 ≤ n) × (n ≤ 64)
+IsMark n = (1 ≤ n) × (n ≤ MOST_MARK)
 
 abbrev pub IsTimeout : ℤ → Type 0
 IsTimeout n = (pos 0 ≤ℤ n) × (n ≤ℤ most_i64)
 
 abbrev pub IsText : List ℕ → Type 0
-IsText t = length t ≤ 1024
+IsText t = length t ≤ MOST_TEXT
 
 -- ---- lists
 
@@ -78,7 +79,7 @@ abbrev pub IsSubImage : (Sort → ℕ → Type 0) → SubImageUse → Type 0
 IsSubImage P u = IsHandle P u.chain × IsPixel u.x × IsPixel u.y × IsPixel u.w × IsPixel u.h
 
 abbrev pub IsLayer : (Sort → ℕ → Type 0) → LayerUse → Type 0
-IsLayer P (Projection space views) = IsHandle P space × AreAtMost 4 (IsSubImage P) views
+IsLayer P (Projection space views) = IsHandle P space × AreAtMost MOST_VIEWS (IsSubImage P) views
 IsLayer P (Quad space image pose) = IsHandle P space × IsSubImage P image × (pose ≤ most)
 
 -- ---- ops
@@ -90,7 +91,7 @@ IsFormed P (op.DestroyInstance instance) = IsHandle P instance
 IsFormed P (op.PollEvent instance) = IsHandle P instance
 IsFormed P (op.GetSystem instance form) = IsHandle P instance
 IsFormed P (op.StringToPath instance text) = IsHandle P instance × IsText text
-IsFormed P (op.PathToString instance path capacity) = IsHandle P instance × IsAtom P path × (capacity ≤ 1024)
+IsFormed P (op.PathToString instance path capacity) = IsHandle P instance × IsAtom P path × (capacity ≤ MOST_CAPACITY)
 IsFormed P (op.CreateSession instance system) = IsHandle P instance × IsSystem P system
 IsFormed P (op.DestroySession session) = IsHandle P session
 IsFormed P (op.EndSession session) = IsHandle P session
@@ -103,11 +104,11 @@ IsFormed P (op.DestroySpace space) = IsHandle P space
 IsFormed P (op.LocateSpace space base time) = IsHandle P space × IsHandle P base × IsTime P time
 IsFormed P (op.CreateActionSet instance called localized priority) = IsHandle P instance × IsText called × IsText localized × (priority ≤ most_u32)
 IsFormed P (op.DestroyActionSet set) = IsHandle P set
-IsFormed P (op.CreateAction set called kind subactions localized) = IsHandle P set × IsText called × AreAtMost 8 (IsAtomPart P) subactions × IsText localized
+IsFormed P (op.CreateAction set called kind subactions localized) = IsHandle P set × IsText called × AreAtMost MOST_SUBACTIONS (IsAtomPart P) subactions × IsText localized
 IsFormed P (op.DestroyAction action) = IsHandle P action
-IsFormed P (op.SuggestBindings instance profile bindings) = IsHandle P instance × IsAtom P profile × AreAtMost 600 (IsBinding P) bindings
-IsFormed P (op.AttachSets session sets) = IsHandle P session × AreAtMost 32 (IsHandlePart P) sets
-IsFormed P (op.SyncActions session active) = IsHandle P session × AreAtMost 128 (IsActiveSet P) active
+IsFormed P (op.SuggestBindings instance profile bindings) = IsHandle P instance × IsAtom P profile × AreAtMost MOST_BINDINGS (IsBinding P) bindings
+IsFormed P (op.AttachSets session sets) = IsHandle P session × AreAtMost MOST_ATTACHED (IsHandlePart P) sets
+IsFormed P (op.SyncActions session active) = IsHandle P session × AreAtMost MOST_ACTIVE (IsActiveSet P) active
 IsFormed P (op.GetBoolean session action sub) = IsHandle P session × IsHandle P action × IsAtom P sub
 IsFormed P (op.GetFloat session action sub) = IsHandle P session × IsHandle P action × IsAtom P sub
 IsFormed P (op.GetVector session action sub) = IsHandle P session × IsHandle P action × IsAtom P sub
@@ -119,6 +120,6 @@ IsFormed P (op.ReleaseImage chain) = IsHandle P chain
 IsFormed P (op.WaitImage chain timeout) = IsHandle P chain × IsTimeout timeout
 IsFormed P (op.Paint chain stamp) = IsHandle P chain × (stamp ≤ most)
 IsFormed P (op.WaitFrame session) = IsHandle P session
-IsFormed P (op.EndFrame session time blend layers) = IsHandle P session × IsTime P time × AreAtMost 32 (IsLayer P) layers
+IsFormed P (op.EndFrame session time blend layers) = IsHandle P session × IsTime P time × AreAtMost MOST_LISTED (IsLayer P) layers
 IsFormed P (op.Mark mark value) = IsMark mark × IsValue P mark value
 IsFormed P (op.Await mark) = IsMark mark

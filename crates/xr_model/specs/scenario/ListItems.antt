@@ -1,7 +1,10 @@
 -- What the lists of an op may hold.
-use Rattle.std.specs.Prelude.{ℕ, ◌+◌, ◌-◌, ◌^◌, nat_le, ◌==◌, ℤ, pos, negsuc, List, [], ◌∷◌, codes, Option, Some, None, option_and_then, option_map, if◌then◌else◌}
+use Rattle.std.specs.Prelude.{ℕ, ◌+◌, ◌-◌, ◌^◌, nat_le, ◌==◌, ℤ, pos, negsuc, List, [], ◌∷◌, Option, Some, None, option_and_then, option_map, if◌then◌else◌}
 use Rattle.serde_json.specs.Data.{Data, Items, no_items, item}
 use Rattle.serde_json.specs.Find.{as_array, at, get}
+use Rattle.xr_types.specs.Field.{name_of_field}
+use Rattle.xr_types.specs.declared.fields.FieldName.TheVariants as key
+use Rattle.xr_types.specs.declared.limits.TheConstants.{MOST_VIEWS}
 use Rattle.xr_types.specs.declared.scenario.ActiveSetUse.{ActiveSetUse}
 use Rattle.xr_types.specs.declared.scenario.AtomUse.{AtomUse}
 use Rattle.xr_types.specs.declared.scenario.BindingUse.{BindingUse}
@@ -86,17 +89,17 @@ sub_image_part names d = if item_count d == 5 then sub_image_of names d else Non
 
 abbrev pub projection_in : List NamedOp → Data → Option LayerUse
 projection_in names d =
-    option_and_then (λ space. option_map (Projection space) (option_and_then (list_in (sub_image_part names) 4) (get (codes "views") d)))
-    (option_and_then (handle_in names) (get (codes "projection") d))
+    option_and_then (λ space. option_map (Projection space) (option_and_then (list_in (sub_image_part names) MOST_VIEWS) (get (name_of_field key.Views) d)))
+    (option_and_then (handle_in names) (get (name_of_field key.Projection) d))
 
 abbrev pub quad_in : List NamedOp → Data → Option LayerUse
 quad_in names d =
-    option_and_then (λ space. option_and_then (λ i. option_map (Quad space i) (option_and_then (number_in most) (get (codes "pose") d)))
-    (option_and_then (sub_image_part names) (get (codes "image") d))) (option_and_then (handle_in names) (get (codes "quad") d))
+    option_and_then (λ space. option_and_then (λ i. option_map (Quad space i) (option_and_then (number_in most) (get (name_of_field key.Pose) d)))
+    (option_and_then (sub_image_part names) (get (name_of_field key.Image) d))) (option_and_then (handle_in names) (get (name_of_field key.Quad) d))
 
 -- a projection with its keys alone, or a quad with its own
 abbrev pub layer_part : List NamedOp → Data → Option LayerUse
 layer_part names d =
-    if only_keys (codes "projection" ∷ codes "views" ∷ []) d then projection_in names d
-    else (if only_keys (codes "quad" ∷ codes "image" ∷ codes "pose" ∷ []) d then quad_in names d
+    if only_keys (key.Projection ∷ key.Views ∷ []) d then projection_in names d
+    else (if only_keys (key.Quad ∷ key.Image ∷ key.Pose ∷ []) d then quad_in names d
     else None)

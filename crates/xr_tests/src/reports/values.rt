@@ -319,6 +319,9 @@ const CALLS: &[Row] = &[
         Gives::Number(9223372036854775807),
         b"",
     ),
+    // values that aren't the call's
+    (CallName::Mark, 40, Code::Success, Gives::Number(9), b""),
+    (CallName::GetFloat, 0, Code::Success, ON, b""),
     (CallName::Leave, 0, Code::Success, Gives::Nothing, b""),
 ];
 
@@ -377,7 +380,9 @@ thread 1
 49 await XR_SUCCESS 0
 50 await XR_SUCCESS 9
 51 await XR_SUCCESS 9223372036854775807
-52 leave XR_SUCCESS
+52 mark XR_SUCCESS
+53 get_float XR_SUCCESS
+54 leave XR_SUCCESS
 compositor
 device
 status 0

@@ -6,8 +6,8 @@ use Rattle.xr_device.proofs.FirstBytes.{first_in_front}
 use Rattle.xr_device.proofs.TextLines.{past_at, line_at, late_front, line_open}
 use Rattle.xr_device.proofs.lines.front_of.Goals as goal
 
-pub returns-then-used-size-gt-MOST_TEXT : goal.returns-then-used-size-gt-MOST_TEXT
-returns-then-used-size-gt-MOST_TEXT c =
+pub returns-then-used-size-gt-MOST_DEVICE : goal.returns-then-used-size-gt-MOST_DEVICE
+returns-then-used-size-gt-MOST_DEVICE c =
     let held = c.args.held.now in
     let i = c.in-Some.bytes in
     let at : IsFirstAt 10 held i = first_in_front 10 held c.min.result i c.in-Some.ensures in
@@ -36,8 +36,8 @@ pub returns-then-seen-gt-MOST_LINE : goal.returns-then-seen-gt-MOST_LINE
 returns-then-seen-gt-MOST_LINE c =
     λ number rest end. late_front number c.args.used c.args.held.now rest c.min.result c.in_default.ensures c.requires.used (inl (omega arith))
 
-pub returns-then-used-seen-gt-MOST_TEXT : goal.returns-then-used-seen-gt-MOST_TEXT
-returns-then-used-seen-gt-MOST_TEXT c =
+pub returns-then-used-seen-gt-MOST_DEVICE : goal.returns-then-used-seen-gt-MOST_DEVICE
+returns-then-used-seen-gt-MOST_DEVICE c =
     λ number rest end. late_front number c.args.used c.args.held.now rest c.min.result c.in_default.ensures c.requires.used (inr (omega arith))
 
 pub returns : goal.returns

@@ -10,14 +10,14 @@ pub loop-value-preserved : goal.loop-value-preserved
 loop-value-preserved c =
     let l : ReadOp = record { op = c.in-Ok.read.op; name = option_map (λ t. t.now) c.in-Ok.read.name } in
     let inside : c.loop-value.value-index < length c.args.values.now = search rules in
-    let read : read_op_of c.loop-value.named_ops (view (get_or c.args.values.now c.loop-value.value-index c.value-item.result)) ≡ Ok l = search rules in
+    let read : read_op_of c.args.version c.loop-value.named_ops (view (get_or c.args.values.now c.loop-value.value-index c.value-item.result)) ≡ Ok l = search rules in
     let added : c.add.new.list.items ≡ c.loop-value.ops.items ++ c.in-Ok.read.op ∷ [] = search rules in
     let kept : c.keep.new.named_ops ≡ with_name (c.loop-value.place + 1) l c.loop-value.named_ops = search rules in
     let place : c.loop-value.place + 1 ≡ length c.loop-value.ops.items + 1 = search rules in
     record {
       count = search rules;
       made = rw (added, length-append, c.loop-value.invariant.made) (search rules);
-      meant = rw (added, kept) (c.loop-value.invariant.meant ∙ ops_more c.args.script (c.loop-value.place + 1) c.loop-value.named_ops c.args.values.now c.loop-value.value-index c.value-item.result c.loop-value.ops.items l inside read);
+      meant = rw (added, kept) (c.loop-value.invariant.meant ∙ ops_more c.args.version c.args.script (c.loop-value.place + 1) c.loop-value.named_ops c.args.values.now c.loop-value.value-index c.value-item.result c.loop-value.ops.items l inside read);
       known = rw (added, kept) (are_of-next c.loop-value.named_ops c.loop-value.ops.items l.op l.name (c.loop-value.place + 1) place c.loop-value.invariant.known);
       formed = rw added (in_form-next c.loop-value.named_ops c.loop-value.ops.items l.op c.loop-value.invariant.known c.loop-value.invariant.formed c.in-Ok.ensures.formed);
     }

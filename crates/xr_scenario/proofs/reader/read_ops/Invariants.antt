@@ -10,7 +10,7 @@ abbrev pub invariant-loop-value : goal.invariant-loop-value
 invariant-loop-value l = record {
   count : l.place ≡ l.value-index;
   made : length l.ops.items ≡ l.value-index;
-  meant : ops_from l.script 1 [] (items_view l.values) ≡ prepend l.ops.items (ops_from l.script (l.place + 1) l.named_ops (items_view (drop l.value-index l.values)));
+  meant : ops_from l.version l.script 1 [] (items_view l.values) ≡ prepend l.ops.items (ops_from l.version l.script (l.place + 1) l.named_ops (items_view (drop l.value-index l.values)));
   known : AreOf l.named_ops l.ops.items;
   formed : IsInForm l.ops.items;
 }

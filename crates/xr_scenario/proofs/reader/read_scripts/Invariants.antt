@@ -9,6 +9,6 @@ abbrev pub invariant-loop-value : goal.invariant-loop-value
 invariant-loop-value l = record {
   count : l.script ≡ l.value-index;
   made : length l.scripts.items ≡ l.value-index;
-  meant : scripts_from 1 (items_view l.values) ≡ prepend l.scripts.items (scripts_from (l.script + 1) (items_view (drop l.value-index l.values)));
+  meant : scripts_from l.version 1 (items_view l.values) ≡ prepend l.scripts.items (scripts_from l.version (l.script + 1) (items_view (drop l.value-index l.values)));
   formed : AllInForm l.scripts.items;
 }

@@ -1,7 +1,7 @@
 use Rattle.std.proofs.Common.{◌<◌, ◌≤◌, ◌+◌, ◌-◌, ◌*◌, length, get_or, drop, sym, ap, ◌∙◌, arith}
 use Rattle.xr_device.specs.inside.Said.{up_to}
-use Rattle.xr_device.proofs.Numbers.{digits_step, up_to-past}
-use Rattle.xr_device.proofs.words.digits.Goals as goal
+use Rattle.xr_device.proofs.Digits.{digits_step, up_to-past}
+use Rattle.xr_device.proofs.numbers.digits.Goals as goal
 
 pub returns-then-number-gt-TENTH : goal.returns-then-number-gt-TENTH
 returns-then-number-gt-TENTH c =

@@ -1,5 +1,5 @@
 use Rattle.xr_scenario.proofs.InRange.{formed_at}
-use Rattle.xr_scenario.proofs.read_op.read_op.Goals as goal
+use Rattle.xr_scenario.proofs.read_op.op_in.Goals as goal
 
 pub returns-in-CreateInstance-clause-formed : goal.returns-in-CreateInstance-clause-formed
 returns-in-CreateInstance-clause-formed c = formed_at c.create_instance.result c.args.named_ops.now c.create_instance.ensures.formed

@@ -3,7 +3,7 @@ use Rattle.std.proofs.Common.{◌≡◌, ℕ, ◌<◌, ◌+◌, List, [], map, l
 use Rattle.std.proofs.lemmas.List.{get_or-map}
 use Rattle.std.proofs.lemmas.Bool.Decides.{nat_tests}
 use Rattle.std.specs.Borrow.{Bor}
-use Rattle.xr_model.specs.device_text.InputNames.{input_names, input_name}
+use Rattle.xr_types.specs.InputNames.{input_names, input_name}
 
 -- what a reference in a table points to
 pub now-slice_index_or : (e : List ℕ) (refs : List (Bor (List ℕ))) (i : ℕ) (d : Bor (List ℕ)) → i < length refs
