@@ -1,0 +1,220 @@
+"""Reads JSON and keeps the place of each value. It takes just the texts that serde_json takes."""
+from __future__ import annotations
+
+import re
+from typing import NoReturn
+
+MOST_DEPTH = 127
+BLANKS = re.compile(r"[ \t\n\r]*")
+NUMBER = re.compile(r"-?(?:0|[1-9][0-9]*)(?:\.[0-9]+)?(?:[eE][+-]?[0-9]+)?")
+LIKE_NUMBER = re.compile(r"[-+.0-9][-+.0-9A-Za-z_]*")
+LIKE_WORD = re.compile(r"\w+")
+PLAIN = re.compile(r'[^"\\\x00-\x1f]*')
+HEX = re.compile(r"[0-9a-fA-F]{4}")
+ESCAPES = {'"': '"', "\\": "\\", "/": "/", "b": "\b", "f": "\f", "n": "\n", "r": "\r", "t": "\t"}
+LITERALS = (("null", None), ("true", True), ("false", False))
+CONTROLS = {"\n": "a line feed", "\t": "a tab", "\r": "a carriage return", "\0": "a NUL"}
+STRANGE = {
+    "'": "a string stands between double quotes",
+    "/": "JSON has no comments",
+    "#": "JSON has no comments",
+    "\ufeff": "a byte-order mark stands here, which no JSON text has",
+    "\u201c": "a string stands between straight double quotes",
+    "\u00a0": "a no-break space stands here, which is no blank of JSON",
+}
+
+
+class JsonFault(Exception):
+    """Where a text stops to be JSON, and why."""
+
+    def __init__(self, at: int, why: str) -> None:
+        super().__init__(why)
+        self.at = at
+        self.why = why
+
+
+class Node:
+    """A value and its place. The value is None, a bool, an int that is whole and has 64 bits, a float for any other number,
+    a str, a list of nodes, or a dict from each key to the place of the key and the node."""
+
+    __slots__ = ("value", "start", "end")
+
+    def __init__(self, value: object, start: int, end: int) -> None:
+        self.value = value
+        self.start = start
+        self.end = end
+
+
+def number_of(text: str, at: int) -> int | float:
+    """The number of a token. One that isn't whole or takes more than 64 bits is a float, and so is -0."""
+    if len(text) <= 20 and text != "-0" and text.lstrip("-").isdigit():
+        whole = int(text)
+        if -(2**63) <= whole < 2**64:
+            return whole
+    value = float(text)
+    if value in (float("inf"), float("-inf")):
+        raise JsonFault(at, "this number is too large for any number")
+    return value
+
+
+class Reader:
+    """Reads one text. `repeated` has the keys that stand more than once in an object, with their last places."""
+
+    def __init__(self, text: str) -> None:
+        self.text = text
+        self.repeated: list[tuple[str, int]] = []
+
+    def read(self) -> Node:
+        """The value of the whole text."""
+        node = self.value(self.skip(0), 0)
+        at = self.skip(node.end)
+        if at < len(self.text):
+            raise JsonFault(at, f"the value has ended, and {self.seen(at)} stands behind it")
+        return node
+
+    def skip(self, at: int) -> int:
+        """The place behind blanks."""
+        return BLANKS.match(self.text, at).end()
+
+    def seen(self, at: int) -> str:
+        """What stands at a place, in words."""
+        first = self.text[at : at + 1]
+        if not first:
+            return "the end of the text"
+        return f"`{first}`" if first.isprintable() else f"the character U+{ord(first):04X}"
+
+    def refuse(self, at: int, wanted: str) -> NoReturn:
+        """Says what is wanted at a place where something else stands."""
+        first = self.text[at : at + 1]
+        hint = f": {STRANGE[first]}" if first in STRANGE else ""
+        raise JsonFault(at, f"{wanted} is wanted here, and {self.seen(at)} stands here{hint}")
+
+    def value(self, at: int, depth: int) -> Node:
+        first = self.text[at : at + 1]
+        if first == '"':
+            value, end = self.string(at)
+            return Node(value, at, end)
+        if first == "{" or first == "[":
+            if depth == MOST_DEPTH:
+                raise JsonFault(at, f"more than {MOST_DEPTH} arrays and objects stand in one another here")
+            return self.object(at, depth + 1) if first == "{" else self.array(at, depth + 1)
+        if first and first in "-0123456789":
+            return self.number(at)
+        return self.literal(at)
+
+    def number(self, at: int) -> Node:
+        found = NUMBER.match(self.text, at)
+        like = LIKE_NUMBER.match(self.text, at)
+        if found is None or found.end() != like.end():
+            self.refuse_number(at, like.group())
+        return Node(number_of(found.group(), at), at, found.end())
+
+    def refuse_number(self, at: int, like: str) -> NoReturn:
+        shown = like if len(like) <= 40 else like[:38] + ".."
+        why = "a number has digits, then perhaps a point and digits, then perhaps an exponent"
+        if re.match(r"-?0[0-9]", like):
+            why = "a number has no leading zero"
+        elif like.startswith("+"):
+            why = "a number has no `+` before it"
+        raise JsonFault(at, f"`{shown}` is no number of JSON: {why}")
+
+    def literal(self, at: int) -> Node:
+        for word, value in LITERALS:
+            if self.text.startswith(word, at):
+                return Node(value, at, at + len(word))
+        like = LIKE_NUMBER.match(self.text, at)
+        if like and like.group()[0] in "+.":
+            self.refuse_number(at, like.group())
+        word = LIKE_WORD.match(self.text, at)
+        if word:
+            shown = word.group() if len(word.group()) <= 40 else word.group()[:38] + ".."
+            why = "a word stands between double quotes, but for true, false and null"
+            raise JsonFault(at, f"`{shown}` is no value of JSON: {why}")
+        self.refuse(at, "a value")
+
+    def array(self, at: int, depth: int) -> Node:
+        text, items, place = self.text, [], self.skip(at + 1)
+        if text[place : place + 1] == "]":
+            return Node(items, at, place + 1)
+        while True:
+            if items and text[place : place + 1] == "]":
+                raise JsonFault(place, "a comma stands before this `]`, with no value behind it")
+            item = self.value(place, depth)
+            items.append(item)
+            place = self.skip(item.end)
+            after = text[place : place + 1]
+            if after == "]":
+                return Node(items, at, place + 1)
+            if after != ",":
+                self.refuse(place, "`,` or `]`")
+            place = self.skip(place + 1)
+
+    def object(self, at: int, depth: int) -> Node:
+        text, members, place = self.text, {}, self.skip(at + 1)
+        if text[place : place + 1] == "}":
+            return Node(members, at, place + 1)
+        while True:
+            key, key_at, item = self.member(place, depth, bool(members))
+            if key in members:
+                self.repeated.append((key, key_at))
+            members[key] = (key_at, item)
+            place = self.skip(item.end)
+            after = text[place : place + 1]
+            if after == "}":
+                return Node(members, at, place + 1)
+            if after != ",":
+                self.refuse(place, "`,` or `}`")
+            place = self.skip(place + 1)
+
+    def member(self, at: int, depth: int, is_behind_comma: bool) -> tuple[str, int, Node]:
+        """A key, its place, and its value."""
+        first = self.text[at : at + 1]
+        if first == "}" and is_behind_comma:
+            raise JsonFault(at, "a comma stands before this `}`, with no key behind it")
+        if first != '"':
+            self.refuse(at, "a key between double quotes")
+        key, end = self.string(at)
+        colon = self.skip(end)
+        if self.text[colon : colon + 1] != ":":
+            self.refuse(colon, "`:`")
+        return key, at, self.value(self.skip(colon + 1), depth)
+
+    def string(self, at: int) -> tuple[str, int]:
+        """The string that begins at this quote, and the place behind it."""
+        text, pieces, place = self.text, [], at + 1
+        while True:
+            end = PLAIN.match(text, place).end()
+            pieces.append(text[place:end])
+            stop = text[end : end + 1]
+            if stop == '"':
+                return "".join(pieces), end + 1
+            if stop == "":
+                raise JsonFault(at, "the string that begins here has no closing quote")
+            if stop != "\\":
+                what = CONTROLS.get(stop, f"the control character U+{ord(stop):04X}")
+                raise JsonFault(end, f"{what} stands in a string; is a closing quote missing before it?")
+            piece, place = self.escape(end)
+            pieces.append(piece)
+
+    def escape(self, at: int) -> tuple[str, int]:
+        """The character of an escape, and the place behind it."""
+        kind = self.text[at + 1 : at + 2]
+        if kind in ESCAPES:
+            return ESCAPES[kind], at + 2
+        if kind != "u":
+            raise JsonFault(at, f"`\\` stands before {self.seen(at + 1)}, and this is no escape")
+        unit = self.hex(at, at + 2)
+        if 0xDC00 <= unit < 0xE000:
+            raise JsonFault(at, "the second half of a surrogate pair stands without the first")
+        if not 0xD800 <= unit < 0xDC00:
+            return chr(unit), at + 6
+        low = self.hex(at, at + 8) if self.text[at + 6 : at + 8] == "\\u" else 0
+        if not 0xDC00 <= low < 0xE000:
+            raise JsonFault(at, "the first half of a surrogate pair stands without the second")
+        return chr(0x10000 + ((unit - 0xD800) << 10) + (low - 0xDC00)), at + 12
+
+    def hex(self, at: int, digits: int) -> int:
+        found = HEX.match(self.text, digits)
+        if found is None:
+            raise JsonFault(at, "`\\u` has four hexadecimal digits behind it")
+        return int(found.group(), 16)

@@ -1,0 +1,321 @@
+"""What stands in a scenario's text: its ops, or the first wrong place in the program's own words, and why."""
+from __future__ import annotations
+
+from dataclasses import dataclass, field
+from typing import Any, NamedTuple
+
+from .json_text import JsonFault, Node, Reader
+from .places import Finding, count, encoding_of, line_and_column, listed, nearest, one_line, quoted
+from .schema import Check, Part, Schema
+
+MOST_BYTES = 1_048_576
+MOST_HANDLE_MARK = 32
+MOST_FINDINGS = 5
+
+# the ops that a run makes so far; .ci/check compares this with the program
+RUN_OPS = frozenset(
+    "create_instance destroy_instance get_system string_to_path path_to_string poll_event create_session destroy_session "
+    "begin_session end_session request_exit_session mark await".split()
+)
+
+
+class Step(NamedTuple):
+    """An op, as far as it decides who waits: its name, its mark where it has one, and its place in the text."""
+
+    op: str
+    mark: int
+    at: int
+
+
+class WrongKey(NamedTuple):
+    """What of an op is wrong: the program's word for it, its place, why, and lines that say what it may be."""
+
+    part: str
+    at: int
+    why: str
+    may_be: list[str]
+
+
+class Given(NamedTuple):
+    """Which op gave a name: its place in its script, its own name, and the sort, which is None where that isn't known."""
+
+    place: int
+    op: str
+    sort: str | None
+
+
+@dataclass
+class ScenarioFound:
+    """What was found: the program's reason to refuse the text, if it does, how many wrong places are told, and the scripts
+    where all of them are read."""
+
+    text: str = ""
+    refusal: str | None = None
+    findings: list[Finding] = field(default_factory=list)
+    wrong: int = 0
+    scripts: list[list[Step]] = field(default_factory=list)
+
+    def refuse(self, reason: str, at: int, words: str, more: list[str] | None = None) -> None:
+        """Keeps a reason. The first one that is kept is the program's."""
+        self.refusal = self.refusal or reason
+        self.wrong += 1
+        self.find(at, words, more)
+
+    def find(self, at: int, words: str, more: list[str] | None = None) -> None:
+        line, column = line_and_column(self.text, at)
+        self.findings.append(Finding(line, column, words, more or []))
+
+
+def encoding_words(text: bytes, e: UnicodeDecodeError) -> str:
+    """Says which byte is not UTF-8, and what the text may be."""
+    other = encoding_of(text)
+    guess = f"it looks like {other}" if other else "perhaps it is of an encoding of single bytes, as Latin-1"
+    byte = text[e.start]
+    return f"the text isn't UTF-8: the byte 0x{byte:02X} at byte {e.start + 1} of the file has no place in it; {guess}"
+
+
+def read_scenario(text: bytes, schema: Schema) -> ScenarioFound:
+    """What stands in a scenario's text."""
+    found = ScenarioFound()
+    if len(text) > MOST_BYTES:
+        found.refuse("too long", 0, f"the text has more than {MOST_BYTES} bytes, which are the most")
+        return found
+    try:
+        found.text = text.decode("utf-8")
+    except UnicodeDecodeError as e:
+        found.text = text[: e.start].decode("utf-8")
+        found.refuse("json", len(found.text), encoding_words(text, e))
+        return found
+    if encoding_of(text):
+        found.refuse("json", 0, f"the text isn't UTF-8: it looks like {encoding_of(text)}")
+        return found
+    if found.text.startswith("\ufeff"):
+        found.refuse("json", 0, "the text begins with a byte-order mark (EF BB BF), which no scenario has")
+        return found
+    reader = Reader(found.text)
+    try:
+        top = reader.read()
+    except JsonFault as e:
+        found.refuse("json", e.at, f"this is no JSON: {e.why}")
+        return found
+    for key, at in reader.repeated[:MOST_FINDINGS]:
+        found.find(at, f"the key {quoted(key)} stands here once more in its object; the last one counts")
+    read_top(found, schema, top)
+    return found
+
+
+def read_top(found: ScenarioFound, schema: Schema, top: Node) -> None:
+    """Looks at the top value, the version and the scripts."""
+    whole, parts = schema.whole, schema.whole["properties"]
+    if not isinstance(top.value, dict):
+        wrong = top.start, "the top value is no object"
+    else:
+        extra = [(at, f"the key {quoted(key)} stands here") for key, (at, _) in top.value.items() if key not in parts]
+        wrong = extra[0] if extra else None
+    if wrong:
+        more = [f"The top value is an object with just the keys {listed(whole['required'])}."]
+        return found.refuse("script 0 op 0 top", wrong[0], f"script 0 op 0 top: {wrong[1]}", more)
+    for key in ("version", "scripts"):
+        node = top.value[key][1] if key in top.value else None
+        why = "the key is missing" if node is None else top_wrong(schema, found.text, key, node)
+        if why:
+            more = [f"{key} may be: {schema.may_be(parts[key])}"]
+            said = f"script 0 op 0 {key}"
+            return found.refuse(said, (node or top).start, f"{said}: {why}", more)
+    return read_scripts(found, schema, top.value["scripts"][1].value)
+
+
+def top_wrong(schema: Schema, text: str, key: str, node: Node) -> str | None:
+    """What is wrong of the version, or of the list of scripts itself."""
+    part = {name: it for name, it in schema.whole["properties"][key].items() if name != "items"}
+    wrong = Check(schema, text, lambda node, sort: None).wrong(part, node)
+    return wrong.why if wrong else None
+
+
+def read_scripts(found: ScenarioFound, schema: Schema, scripts: list[Node]) -> None:
+    """Reads the scripts, until there are enough wrong places."""
+    for number, script in enumerate(scripts, 1):
+        if not isinstance(script.value, list):
+            more = ["A script may be: " + schema.whole["properties"]["scripts"]["items"]["description"]]
+            said = f"script {number} op 0 script"
+            found.refuse(said, script.start, f"{said}: the script is no array", more)
+            continue
+        reader = ScriptReader(found, schema, number, scripts)
+        for place, node in enumerate(script.value, 1):
+            if found.wrong == MOST_FINDINGS:
+                found.findings[-1].more.append("The text isn't looked at behind this place.")
+                return
+            reader.read_op(place, node)
+        found.scripts.append(reader.steps)
+    if found.refusal is None:
+        find_unrun(found)
+
+
+def find_unrun(found: ScenarioFound) -> None:
+    """The first op that is read and not run so far."""
+    unrun = [(s, o, it) for s, ops in enumerate(found.scripts, 1) for o, it in enumerate(ops, 1) if it.op not in RUN_OPS]
+    if not unrun:
+        return
+    script, place, step = unrun[0]
+    words = f"script {script} op {place} is {step.op}, which the program reads and doesn't run yet"
+    more = ["The whole scenario is refused for it, as unbuilt, and no call is made."]
+    others = sorted({it.op for _, _, it in unrun} - {step.op})
+    if len(unrun) > 1:
+        also = f", also of {listed(others)}" if others else ""
+        more.append(f"Behind it {'stands' if len(unrun) == 2 else 'stand'} {count(len(unrun) - 1, 'more such op')}{also}.")
+    found.refuse("unbuilt", step.at, words, more)
+
+
+def sort_given(op: str, mark: object) -> str | None:
+    """The sort of the name that an op gives."""
+    if op.startswith("create_"):
+        return "handle"
+    if op == "await":
+        return None if type(mark) is not int else "handle" if mark <= MOST_HANDLE_MARK else "atom"
+    return {"string_to_path": "atom", "get_system": "number", "wait_frame": "number"}.get(op)
+
+
+class ScriptReader:
+    """Reads the ops of one script, with the names that they give."""
+
+    def __init__(self, found: ScenarioFound, schema: Schema, number: int, scripts: list[Node]) -> None:
+        self.found = found
+        self.schema = schema
+        self.number = number
+        self.scripts = scripts
+        self.names: dict[str, Given] = {}
+        self.steps: list[Step] = []
+        self.check = Check(schema, found.text, self.name_wrong)
+
+    def read_op(self, place: int, node: Node) -> None:
+        """Reads an op: which one it is, its fields in order, and that it has no other key."""
+        op = self.op_of(place, node)
+        if op is None:
+            self.keep_unknown(place, node)
+            return
+        members, row = node.value, self.schema.row(op)
+        wrong = self.wrong_field(op, row, node) or self.extra_key(op, row, members)
+        if wrong:
+            self.refuse(place, node, *wrong)
+        mark = members["mark"][1].value if "mark" in members else 0
+        self.keep_name(place, op, members, mark)
+        self.steps.append(Step(op, mark if type(mark) is int else 0, node.start))
+
+    def keep_unknown(self, place: int, node: Node) -> None:
+        """Keeps the name that no known op gives, so that the ops that use it aren't wrong for it."""
+        named = node.value["as"][1].value if isinstance(node.value, dict) and "as" in node.value else None
+        if isinstance(named, str):
+            self.names[named] = Given(place, "no known op", None)
+
+    def refuse(self, place: int, node: Node, part: str, at: int, why: str, may_be: list[str]) -> None:
+        said = f"script {self.number} op {place} {part}"
+        op = one_line(self.found.text[node.start : node.end])
+        self.found.refuse(said, at, f"{said}: {why}", [f"op {place} is {op}", *may_be])
+
+    def op_of(self, place: int, node: Node) -> str | None:
+        """The name of an op, if it has one."""
+        ops, at = self.schema.ops, node.start
+        more = ['An op is an object: the op\'s name under "op", and the op\'s own fields.']
+        if not isinstance(node.value, dict):
+            why = "the op is no object"
+        elif "op" not in node.value:
+            why = 'the key "op" is missing'
+        else:
+            named = node.value["op"][1]
+            if isinstance(named.value, str) and named.value in ops:
+                return named.value
+            at, near = named.start, nearest(named.value, ops) if isinstance(named.value, str) else None
+            why = f"{self.check.shown(named)} is the name of no op" + (f"; did you mean {quoted(near)}?" if near else "")
+            more = [] if near else [f"The ops are {listed(ops)}."]
+        self.refuse(place, node, "op", at, why, more)
+        return None
+
+    def field_part(self, row: Part, key: str, members: dict[str, Any]) -> Part:
+        """What the schema says of a field, with what it says of it beside the op's other fields."""
+        part = row["properties"][key]
+        if "if" not in row:
+            return part
+        beside = {name: it for name, it in members.items() if name != key}
+        holds = self.check.wrong(row["if"], Node(beside, 0, 0)) is None
+        more = row.get("then" if holds else "else", {}).get("properties", {}).get(key)
+        return {**self.schema.part_of(part), **(more or {})}
+
+    def wrong_field(self, op: str, row: Part, node: Node) -> WrongKey | None:
+        """The first field of an op that is wrong."""
+        members = node.value
+        for key in self.schema.fields(op):
+            may_be = [f"{key} may be: {self.schema.may_be(row['properties'][key])}"]
+            if key not in members:
+                if key not in row["required"]:
+                    continue
+                return WrongKey(key, node.start, self.missing(op, key, members), may_be)
+            value = members[key][1]
+            wrong = self.check.wrong(self.field_part(row, key, members), value)
+            if wrong:
+                inside = [f"In it: {wrong.about}"] if wrong.about and wrong.at != value.start else []
+                return WrongKey(key, wrong.at, wrong.why, may_be + inside)
+        return None
+
+    def missing(self, op: str, key: str, members: dict[str, Any]) -> str:
+        known = {"op", *self.schema.fields(op)}
+        near = nearest(key, [it for it in members if it not in known])
+        return f"the field {key} is missing" + (f"; is it written {quoted(near)}?" if near else "")
+
+    def extra_key(self, op: str, row: Part, members: dict[str, Any]) -> WrongKey | None:
+        """The first key of an op that its row doesn't have."""
+        fields = self.schema.fields(op)
+        for key, (at, _) in members.items():
+            if key == "op" or key in fields:
+                continue
+            near = nearest(key, fields)
+            why = f"{op} has no field {quoted(key)}" + (f"; did you mean {quoted(near)}?" if near else "")
+            optional = [it for it in fields if it not in row["required"]]
+            may = f"; of these {listed(optional)} may be missing" if optional else ""
+            return WrongKey("extra key", at, why, [f"The fields of {op} are {listed(fields)}{may}."])
+        return None
+
+    def keep_name(self, place: int, op: str, members: dict[str, Any], mark: object) -> None:
+        """Keeps the name that an op gives. Behind a wrong op it is kept too, so that the ops that use it aren't wrong."""
+        if "as" not in members or "as" not in self.schema.fields(op):
+            return
+        name = members["as"][1].value
+        if isinstance(name, str):
+            self.names[name] = Given(place, op, sort_given(op, mark))
+
+    def name_wrong(self, node: Node, sort: str) -> str | None:
+        """What is wrong of a name that has to stand for a value of a sort."""
+        name, given = quoted(node.value), self.names.get(node.value)
+        if given is None:
+            hint = self.elsewhere(node.value) or self.near(node.value, sort)
+            return f"no earlier op of script {self.number} gives the name {name}; {hint}"
+        if given.sort in (sort, None):
+            return None
+        giver = f"op {given.place} ({given.op})"
+        wanted = f"{with_article(sort)} is wanted; {self.near(node.value, sort)}"
+        return f"{name} is {with_article(given.sort)} that {giver} gave, and {wanted}"
+
+    def elsewhere(self, name: str) -> str | None:
+        """Which op gives a name where it isn't known: a later one, or one of another script."""
+        for number, script in enumerate(self.scripts, 1):
+            ops = script.value if isinstance(script.value, list) else []
+            for place, op in enumerate(ops, 1):
+                if isinstance(op.value, dict) and "as" in op.value and op.value["as"][1].value == name:
+                    is_mine = number == self.number
+                    rule = "doesn't stand before this one" if is_mine else "gives it to its own script alone"
+                    return f"{'' if is_mine else f'script {number} '}op {place} does, and {rule}"
+        return None
+
+    def near(self, name: str, sort: str) -> str:
+        """The nearest name of a sort that was given, or the first of them."""
+        of_sort = [it for it, given in self.names.items() if given.sort in (sort, None)]
+        if not of_sort:
+            return f"no {sort} was named so far"
+        found = nearest(name, of_sort)
+        if found is None:
+            return f"{sort}s so far: {listed(map(quoted, of_sort[:8]))}{' ..' * (len(of_sort) > 8)}"
+        given = self.names[found]
+        return f"the nearest {sort} is {quoted(found)}, which op {given.place} ({given.op}) gave"
+
+
+def with_article(sort: str | None) -> str:
+    return {"handle": "a handle", "atom": "an atom", "number": "a number"}.get(sort or "", "a value")

@@ -1,0 +1,66 @@
+"""Texts as they are shown: escaped, without characters that can't be seen, and measured."""
+from __future__ import annotations
+
+import json
+import re
+from typing import Any
+
+MOST = 160
+_UNSEEN = re.compile(
+    "[\x00-\x1f\x7f-\x9f\xad\u061c\u200b-\u200f\u2028-\u202e\u2060-\u206f\ud800-\udfff\ufeff\ufff0-\uffff]"
+)
+_NARROW = frozenset("ijltfI.,:;'|!()[]/ \u00b7")
+_WIDE = frozenset("mwMW@%\u2026")
+
+
+def seen(text: str) -> str:
+    """The text with each character that can't be seen, or that XML has not, as an escape of JSON."""
+    return _UNSEEN.sub(lambda found: f"\\u{ord(found[0]):04x}", text)
+
+
+def escaped(text: str) -> str:
+    """The text for XML and HTML, in content and in quoted attributes."""
+    text = seen(text).replace("&", "&amp;").replace("<", "&lt;").replace(">", "&gt;")
+    return text.replace('"', "&quot;").replace("'", "&#39;")
+
+
+def cut(text: str, most: int = MOST) -> str:
+    """The text, or its front and a sign that more follows."""
+    return text if len(text) <= most else text[: most - 1] + "\u2026"
+
+
+def width_of(text: str, size: float) -> float:
+    """About how wide a text is in a plain sans-serif of this size: rather too much than too little."""
+    units = 0.0
+    for letter in text:
+        if letter in _NARROW:
+            units += 0.34
+        elif letter in _WIDE or ord(letter) > 0x2000:
+            units += 0.92
+        else:
+            units += 0.7 if letter.isupper() else 0.58
+    return units * size
+
+
+def arguments(args: dict[str, Any] | None) -> str:
+    """The arguments of an op as words, `as` last."""
+    if not args:
+        return ""
+    words = []
+    for key, value in args.items():
+        if key not in ("op", "as"):
+            plain = isinstance(value, str) and re.fullmatch(r"[A-Za-z0-9_./-]+", value)
+            words.append(f"{key}={value if plain else json.dumps(value, ensure_ascii=False, separators=(',', ':'))}")
+    if isinstance(args.get("as"), str):
+        words.append(f"as {args['as']}")
+    return cut(" ".join(words))
+
+
+def number(count: int) -> str:
+    """A count with its thousands set apart."""
+    return f"{count:,}"
+
+
+def counted(count: int, one: str, many: str = "") -> str:
+    """A count with its word, as `1 call` or `2 calls`."""
+    return f"{count:,} {one if count == 1 else many or one + 's'}"
