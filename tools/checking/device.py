@@ -13,12 +13,24 @@ MOST_LINE = 255
 MOST_FINDINGS = 5
 LAST_TIME = 2**62 - 1
 
-# the lines that are run so far, by their first word: the ranges of their numbers; .ci/check compares them with the program
-TIME, PERIOD, MARK = (0, LAST_TIME), (1, 1_000_000_000), (1, 64)
-NUMBERS = {"clock": (TIME,), "grid": (TIME, PERIOD), "mark": (MARK,), "await": (MARK,)}
-WISHES = ("rest", "ready", "visible", "focused")
-FORMS = {it.partition(" ")[0]: it for it in ("clock T", "grid B P", "wish W", "loss", "lost", "mark M", "await M")}
-UNRUN = ("stage", "profile", "input", "pose")
+# the lines that are run so far, by their first word: the words that may be its second, and its numbers, each with its place
+# and range; .ci/check compares them with the program
+ORIGINS = ("view", "local", "stage") + tuple(
+    f"/user/hand/{hand}/input/{pose}/pose" for hand in ("left", "right") for pose in ("grip", "aim")
+)
+WORDS = {"wish": ("rest", "ready", "visible", "focused"), "stage": ("on", "off"), "pose": ORIGINS}
+NUMBERS = {
+    "clock": ((1, 0, LAST_TIME),),
+    "grid": ((1, 0, LAST_TIME), (2, 1, 1_000_000_000)),
+    "pose": ((2, 0, LAST_TIME), (3, 1, 2**63 - 1)),
+    "mark": ((1, 1, 64),),
+    "await": ((1, 1, 64),),
+}
+FORMS = {
+    it.partition(" ")[0]: it
+    for it in ("clock T", "grid B P", "wish W", "loss", "lost", "stage S", "pose O T N", "mark M", "await M")
+}
+UNRUN = ("profile", "input")
 
 DIGITS = re.compile(r"0|[1-9][0-9]*")
 ESCAPES = {"\t": "\\t", "\r": "\\r", "\0": "\\0", "\\": "\\\\"}
@@ -26,7 +38,7 @@ ESCAPES = {"\t": "\\t", "\r": "\\r", "\0": "\\0", "\\": "\\\\"}
 # most of the lines that tell an event, so that long texts are read quickly; the others are looked at word by word
 SURE = re.compile(
     rb"(?:mark|await) (?:[1-9]|[1-5][0-9])|clock [1-9][0-9]{0,17}|grid [1-9][0-9]{0,17} [1-9][0-9]{0,8}"
-    rb"|wish (?:rest|ready|visible|focused)|loss|lost"
+    rb"|wish (?:rest|ready|visible|focused)|loss|lost|stage (?:on|off)"
 )
 
 
@@ -86,11 +98,11 @@ def wrong_words(words: list[str]) -> str | None:
     wanted = FORMS[first].count(" ") + 1
     if len(words) != wanted:
         return f"the line has {count(len(words), 'word')}, and `{FORMS[first]}` has {wanted}"
-    if first == "wish" and words[1] not in WISHES:
-        near = nearest(words[1].lower(), WISHES)
+    if first in WORDS and words[1] not in WORDS[first]:
+        near = nearest(words[1].lower(), WORDS[first])
         hint = f"; did you mean `{near}`?" if near else ""
-        return f"`{words[1]}` is none of {listed(WISHES)}{hint}"
-    found = (wrong_number(words, place, *it) for place, it in enumerate(NUMBERS.get(first, ()), 1))
+        return f"`{words[1]}` is none of {listed(WORDS[first])}{hint}"
+    found = (wrong_number(words, *it) for it in NUMBERS.get(first, ()))
     return next(filter(None, found), None)
 
 

@@ -32,18 +32,20 @@ fn is_own(call: &Call<'_>) -> bool
             | Call::PollEvent { .. }
             | Call::CreateSession { .. }
             | Call::DestroySession { .. }
+            | Call::CreateReferenceSpace { .. }
+            | Call::LocateSpace { .. }
     )
 }
 
 /// Whether the core may be asked once more.
-fn has_places(core: &Core) -> bool
+pub(crate) fn has_places(core: &Core) -> bool
     ensures { IsTrue result → core.now.locked < 2 ^ 44 }
 {
     core.calls() < 1 << 44
 }
 
 /// What a call of the only application gives, nothing where it can't be made.
-fn ask(core: &mut Core, call: &Call<'_>) -> Gives {
+pub(crate) fn ask(core: &mut Core, call: &Call<'_>) -> Gives {
     if !is_own(call) || !core.is_present(1) || !has_places(core) {
         return Gives::Nothing;
     }
@@ -54,7 +56,7 @@ fn ask(core: &mut Core, call: &Call<'_>) -> Gives {
 }
 
 /// The handle that was given, or 0.
-fn handle(gives: Gives) -> u64 {
+pub(crate) fn handle(gives: Gives) -> u64 {
     match gives {
         Gives::Handle(handle) => handle,
         _ => 0,

@@ -4,4 +4,6 @@ pub mod PartRefusals
 pub mod SessionCalls
 pub mod SessionEvents
 pub mod Listed
+pub mod Housed
+pub mod SpaceCalls
 pub mod Pairing

@@ -78,6 +78,11 @@ pub listed_instance : (h new : Handles) (xs : List Session) (o : Option Refusal)
 listed_instance h new xs None parent given is listed = rw is listed
 listed_instance h new xs (Some r) parent given is listed = rw is listed
 
+-- a space more, or none where there was no room
+pub listed_space : (h new : Handles) (xs : List Session) (o : Option Refusal) (parent given : ℕ) → new ≡ unless o h (with_handle h kind.Space parent given) → AreListed h xs → AreListed new xs
+listed_space h new xs None parent given is listed = rw is listed
+listed_space h new xs (Some r) parent given is listed = rw is listed
+
 pub listed_give : (h new : Handles) (xs ys : List Session) (x : Session) (instance given : ℕ) → has_room h kind.Session ≡ true → new ≡ unless (first_of (no_room h kind.Session ∷ [])) h (with_handle h kind.Session instance given)
     → x.handle ≡ given → (given == 0) ≡ false → ys ≡ xs ++ x ∷ [] → AreListed h xs → AreListed new ys
 listed_give h new xs ys x instance given room is named nz more listed =

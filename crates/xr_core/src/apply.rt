@@ -60,6 +60,9 @@ impl Core {
             | Call::BeginSession { .. }
             | Call::EndSession { .. }
             | Call::RequestExitSession { .. } => self.session_call(call),
+            Call::CreateReferenceSpace { .. }
+            | Call::DestroySpace { .. }
+            | Call::LocateSpace { .. } => self.space_call(call),
             Call::Mark { .. } | Call::AwaitMark { .. } | Call::Leave | Call::NextFrame => {
                 self.own_call(who, call)
             }

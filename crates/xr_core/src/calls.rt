@@ -4,3 +4,4 @@ mod instance;
 mod own;
 mod paths;
 mod session;
+mod spaces;

@@ -9,14 +9,15 @@ use xr_types::Wish;
 /// The period of frames until the device tells another, in ns.
 const FIRST_PERIOD: i64 = 11_111_111;
 
-/// The device's clock, the base and the period of frames, all in ns of device time, and the state that it wishes
-/// sessions to be in.
+/// The device's clock, the base and the period of frames, all in ns of device time, the state that it wishes sessions to
+/// be in, and whether it has a stage.
 #[derive(Drop)]
 pub(crate) struct DeviceValues {
     clock: i64,
     base: i64,
     period: i64,
     wish: Wish,
+    stage: bool,
 }
 
 impl Model for DeviceValues {
@@ -24,7 +25,7 @@ impl Model for DeviceValues {
 
     ghost Value = { Device };
 
-    ghost view = { λ d. record { clock = d.clock; base = d.base; period = d.period; wish = d.wish } };
+    ghost view = { λ d. record { clock = d.clock; base = d.base; period = d.period; wish = d.wish; stage = d.stage } };
 }
 
 impl DeviceValues {
@@ -37,6 +38,7 @@ impl DeviceValues {
             base: 0,
             period: FIRST_PERIOD,
             wish: Wish::Rest,
+            stage: false,
         }
     }
 
@@ -50,6 +52,12 @@ impl DeviceValues {
         ensures { result ≡ self.now.wish }
     {
         self.wish
+    }
+
+    pub(crate) fn has_stage(&self) -> bool
+        ensures { result ≡ self.now.stage }
+    {
+        self.stage
     }
 
     /// The clock goes on, and never back.
@@ -72,5 +80,11 @@ impl DeviceValues {
         ensures { self.new ≡ record self.old { wish = wish } }
     {
         self.wish = wish;
+    }
+
+    pub(crate) fn set_stage(&mut self, stage: bool)
+        ensures { self.new ≡ record self.old { stage = stage } }
+    {
+        self.stage = stage;
     }
 }

@@ -173,6 +173,30 @@ pub(crate) fn change_each(sessions: &mut [LiveSession], change: Change, events: 
     }
 }
 
+/// Whether a session is lost. One that isn't listed isn't.
+pub(crate) fn is_lost(sessions: &[LiveSession], handle: u64) -> bool
+    ensures { result ≡ (life_in (session_at sessions.now handle)).lost }
+{
+    for session in sessions {
+        if session.handle() == handle {
+            return session.life.lost();
+        }
+    }
+    false
+}
+
+/// What a plain success on a session is answered as.
+pub(crate) fn success_on(sessions: &[LiveSession], handle: u64) -> Code
+    ensures { result ≡ code_on (life_in (session_at sessions.now handle)) Success }
+{
+    for session in sessions {
+        if session.handle() == handle {
+            return session.success();
+        }
+    }
+    Code::Success
+}
+
 /// Where a session stands.
 pub(crate) fn place_of(sessions: &[LiveSession], handle: u64) -> Option<usize>
     ensures { result ≡ place_at sessions.now handle }

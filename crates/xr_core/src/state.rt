@@ -2,6 +2,7 @@
 ghost use Rattle.std.specs.Prelude.{◌≡◌, ◌≤◌, ◌<◌, ◌^◌, ◌+◌, ◌↔◌, IfOk, IsTrue, length};
 ghost use Rattle.xr_model.specs.machine.Destroyed.{without_handle};
 ghost use Rattle.xr_model.specs.machine.LiveSessions.{still_live};
+ghost use Rattle.xr_model.specs.machine.Spaces.{without_spaces};
 ghost use Rattle.xr_model.specs.machine.Rules.Device.{with_changes};
 ghost use Rattle.xr_core.specs.inside.Changes.{change_by};
 ghost use Rattle.xr_model.specs.machine.State.{with_apps, opening_core};
@@ -15,12 +16,29 @@ use std::marker::Model;
 use xr_events::Events;
 use xr_handles::Handles;
 use xr_paths::Paths;
+use xr_spaces::Spaces;
 use xr_types::{
-    Actor, Code, Gives, Kind, MOST_HANDLES, MOST_MARK, MOST_SCRIPTS, NoMemory, Reply, SESSIONS,
+    ACTIONS, Actor, Code, Column, Gives, Kind, MOST_HANDLES, MOST_MARK, MOST_SCRIPTS, NoMemory,
+    Reply, SESSIONS, States,
 };
 
 /// How many marks there are.
 pub(crate) const MARKS: usize = MOST_MARK as usize;
+
+/// A column of a sync that found nothing.
+const INACTIVE: Column = Column {
+    x: 0,
+    y: 0,
+    changed: false,
+    time: 0,
+    active: false,
+    origin: None,
+};
+
+/// What is known before any sync: each column is inactive.
+const NO_STATES: States = States {
+    columns: [[INACTIVE; 6]; ACTIONS],
+};
 
 /// What the machine of one thread keeps beside its cells, seen by contracts as the core's half of the state.
 #[derive(Drop)]
@@ -32,6 +50,10 @@ pub struct Core {
     pub(crate) sessions: ArrayVec<LiveSession, SESSIONS>,
     /// How many sessions were created.
     pub(crate) created: u64,
+    /// The live spaces, in the order of their creation, and the samples of their origins.
+    pub(crate) spaces: Spaces,
+    /// What the last sync found. None was made yet.
+    pub(crate) states: States,
     /// What the device has told of itself.
     pub(crate) device: DeviceValues,
     /// The value of each mark that is set, from mark 1 on.
@@ -45,6 +67,8 @@ impl Model for Core {
     ghost use Rattle.std.specs.Prelude.{◌≡◌, ◌≤◌, take, length};
     ghost use Rattle.xr_types.specs.declared.limits.TheConstants.{MOST_SCRIPTS};
     ghost use Rattle.xr_model.specs.laws.SessionLaws.{AreListed};
+    ghost use Rattle.xr_model.specs.machine.Spaces.{no_states};
+    ghost use Rattle.xr_core.specs.inside.Housed.{AreHoused};
     ghost use Rattle.xr_model.specs.machine.State.{CoreState};
 
     ghost Value = { CoreState };
@@ -55,6 +79,7 @@ impl Model for Core {
       events = c.events;
       sessions = c.sessions.items;
       created = c.created;
+      spaces = c.spaces;
       device = c.device;
       marks = c.marks;
       apps = c.apps;
@@ -62,7 +87,7 @@ impl Model for Core {
       locked = c.calls;
     } };
 
-    ghost invariant = { λ c. AreListed c.handles c.sessions.items × (length c.handles.given ≤ c.calls) × (c.created ≤ c.calls) × (c.apps ≤ MOST_SCRIPTS) };
+    ghost invariant = { λ c. AreListed c.handles c.sessions.items × (length c.handles.given ≤ c.calls) × (c.created ≤ c.calls) × (c.apps ≤ MOST_SCRIPTS) × AreHoused c.spaces.spaces c.handles.spaces × (c.states ≡ no_states) };
 }
 
 /// Only the sessions whose handles are live are kept.
@@ -70,6 +95,15 @@ fn keep_live(handles: &Handles, sessions: &mut ArrayVec<LiveSession, SESSIONS>)
     ensures { sessions.new.items ≡ still_live handles.now sessions.old.items }
 {
     sessions.retain(|session| handles.is_live(Kind::Session, session.handle()));
+}
+
+/// The spaces of these handles go.
+fn forget_spaces(spaces: &mut Spaces, handles: &[u64])
+    ensures { spaces.new ≡ without_spaces spaces.old handles.now }
+{
+    for handle in handles {
+        spaces.remove(*handle);
+    }
 }
 
 impl Core {
@@ -82,12 +116,15 @@ impl Core {
     {
         let paths = Paths::start(alloc)?;
         let events = Events::start(alloc)?;
+        let spaces = Spaces::start(alloc)?;
         Ok(Core {
             handles: Handles::start(),
             paths,
             events,
             sessions: ArrayVec::new(),
             created: 0,
+            spaces,
+            states: NO_STATES,
             device: DeviceValues::start(),
             marks: [None; MARKS],
             apps,
@@ -128,6 +165,7 @@ impl Core {
         let mut destroyed: ArrayVec<u64, MOST_HANDLES> = ArrayVec::new();
         self.handles.destroy(handle, &mut destroyed);
         keep_live(&self.handles, &mut self.sessions);
+        forget_spaces(&mut self.spaces, destroyed.as_slice());
     }
 
     /// Changes all live sessions, in the order of their creation.

@@ -60,20 +60,20 @@ words_at line place cut = ap words_of (first_parts 32 line place cut) ∙ words_
 pub words_at_place : (line : List ℕ) (place : ℕ) → IsFirstAt 32 line place → words_of line ≡ take place line ∷ words_of (take (length line - (place + 1)) (drop (place + 1) line))
 words_at_place line place cut = words_at line place cut ∙ ap (λ l. take place line ∷ words_of l) (sym (take_rest line (place + 1)))
 
--- ---- lines of more than three words
+-- ---- lines of more than four words
 
-no_event : (w a b : List ℕ) (ws : List (List ℕ)) (x : ℕ) → event_by (w ∷ a ∷ b ∷ before_first x ws) ≡ None
-no_event w a b [] x = refl
-no_event w a b (c ∷ ws) x = refl
+no_event : (w a b c : List ℕ) (ws : List (List ℕ)) (x : ℕ) → event_by (w ∷ a ∷ b ∷ c ∷ before_first x ws) ≡ None
+no_event w a b c [] x = refl
+no_event w a b c (d ∷ ws) x = refl
 
-many_words : (w a b rest : List ℕ) → event_by (w ∷ a ∷ b ∷ words_of rest) ≡ None
-many_words w a b [] = refl
-many_words w a b (x ∷ xs) = by (x == 32) refl
+many_words : (w a b c rest : List ℕ) → event_by (w ∷ a ∷ b ∷ c ∷ words_of rest) ≡ None
+many_words w a b c [] = refl
+many_words w a b c (x ∷ xs) = by (x == 32) refl
   where
-    by : (t : Bool) → (x == 32) ≡ t → event_by (w ∷ a ∷ b ∷ words_of (x ∷ xs)) ≡ None
+    by : (t : Bool) → (x == 32) ≡ t → event_by (w ∷ a ∷ b ∷ c ∷ words_of (x ∷ xs)) ≡ None
     by true h = rw h refl
-    by false h = rw h (no_event w a b (words_of xs) x)
+    by false h = rw h (no_event w a b c (words_of xs) x)
 
-pub no_event_of_many : (line w a b r s t : List ℕ) → words_of line ≡ w ∷ words_of r → words_of r ≡ a ∷ words_of s → words_of s ≡ b ∷ words_of t → event_of line ≡ None
-no_event_of_many line w a b r s t first second third =
-    ap (λ ws. if_checked (event_by ws)) (first ∙ ap (λ ws. w ∷ ws) (second ∙ ap (λ ws. a ∷ ws) third)) ∙ ap if_checked (many_words w a b t)
+pub no_event_of_many : (line w a b c r s t u : List ℕ) → words_of line ≡ w ∷ words_of r → words_of r ≡ a ∷ words_of s → words_of s ≡ b ∷ words_of t → words_of t ≡ c ∷ words_of u → event_of line ≡ None
+no_event_of_many line w a b c r s t u first second third fourth =
+    ap (λ ws. if_checked (event_by ws)) (first ∙ ap (λ ws. w ∷ ws) (second ∙ ap (λ ws. a ∷ ws) (third ∙ ap (λ ws. b ∷ ws) fourth))) ∙ ap if_checked (many_words w a b c u)

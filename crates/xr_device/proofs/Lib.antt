@@ -1,4 +1,5 @@
 pub mod FirstBytes
 pub mod Digits
+pub mod Poses
 pub mod TextLines
 pub mod HeldBytes

@@ -4,12 +4,13 @@ ghost use Rattle.std.specs.List.{list_all};
 ghost use Rattle.xr_types.specs.declared.limits.TheConstants.{MOST_DEVICE};
 ghost use Rattle.xr_device.specs.Answers.{may_tell};
 
+use crate::numbers::GREATEST;
 use crate::{Device, Next};
 use std::marker::Model;
 use xr_types::DeviceEvent;
 
 /// Whether a device may tell an event: its numbers are in range, it is none of the two ways in which a device ends early,
-/// and its part is built.
+/// its part is built, and its pose is one that a line tells.
 pub fn may_tell(event: &DeviceEvent) -> bool
     ensures { result ≡ may_tell event.now }
 {
@@ -21,6 +22,11 @@ pub fn may_tell(event: &DeviceEvent) -> bool
                 | DeviceEvent::Wish(_)
                 | DeviceEvent::Loss
                 | DeviceEvent::Lost
+                | DeviceEvent::Stage(_)
+                | DeviceEvent::Pose {
+                    pose: 0..=GREATEST,
+                    ..
+                }
                 | DeviceEvent::Mark(_)
                 | DeviceEvent::Await(_)
         )

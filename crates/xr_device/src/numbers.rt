@@ -4,7 +4,7 @@ ghost use Rattle.xr_model.specs.device_text.DeviceText.{number_of, digits_behind
 ghost use Rattle.xr_device.specs.inside.Said.{up_to, ranged, whole};
 
 /// The greatest number that is read, 2^63 - 1.
-const GREATEST: u64 = (1 << 63) - 1;
+pub(crate) const GREATEST: u64 = (1 << 63) - 1;
 
 /// A tenth of 2^63 - 1. A number past it is past 2^63 - 1 with one more digit, or at most two more than it.
 const TENTH: u64 = 922_337_203_685_477_580;

@@ -1,19 +1,20 @@
 -- A device text tells no garbled event: a line that is none ends what it tells.
 use Rattle.std.proofs.Common.{◌≡◌, ◌+◌, ℕ, ℤ, Bool, true, false, List, [], ◌∷◌, Option, Some, None, option_map, refl, sym, ap, subst, ◌∙◌}
-use Rattle.std.specs.Prelude.{◌||◌, ◌==◌, nat_lt, length, if◌then◌else◌, codes}
+use Rattle.std.specs.Prelude.{◌||◌, ◌==◌, nat_lt, nat_le, length, if◌then◌else◌, codes}
 use Rattle.std.specs.List.{list_any}
 use Rattle.std.proofs.lemmas.Option.{none-some, same_Some}
 use Rattle.xr_types.specs.declared.calls.Actor.TheVariants as actor
 use Rattle.xr_types.specs.declared.device.DeviceEvent.{DeviceEvent}
 use Rattle.xr_types.specs.declared.device.DeviceEvent.TheVariants as event
 use Rattle.xr_types.specs.declared.device.Wish.{Wish}
+use Rattle.xr_types.specs.declared.spaces.Origin.{Origin}
 use Rattle.xr_types.specs.declared.made.Lists.{Lists}
 use Rattle.xr_types.specs.declared.scenario.Scenario.{Scenario}
 use Rattle.xr_types.specs.declared.limits.TheConstants.{MOST_LINE, MOST_DEVICE}
 use Rattle.xr_types.specs.Device.{checks}
-use Rattle.xr_types.specs.Printed.{wish_name, all_wishes}
+use Rattle.xr_types.specs.Printed.{wish_name, all_wishes, origin_name, all_origins}
 use Rattle.xr_types.specs.Words.{named}
-use Rattle.xr_model.specs.device_text.DeviceText.{Line, lines_in, line_size, is_word, Meaning, skipped, tells, malformed, event_or_none, meaning_of, words_of, number_of, integer_of, grid_by, event_by, if_checked, event_of, Ending, ends, garbled_at, DeviceStream, nothing_more, told_by, told_from, told_in}
+use Rattle.xr_model.specs.device_text.DeviceText.{Line, lines_in, line_size, is_word, Meaning, skipped, tells, malformed, event_or_none, meaning_of, words_of, number_of, integer_of, grid_by, switch_of, most_pose, pose_by, event_by, if_checked, event_of, Ending, ends, garbled_at, DeviceStream, nothing_more, told_by, told_from, told_in}
 use Rattle.xr_model.specs.machine.History.{calls_of}
 use Rattle.xr_model.specs.runs.Lists.{events_in}
 use Rattle.xr_model.specs.report.RunEnding.{is_garbled}
@@ -38,28 +39,45 @@ one_clean true lost = refl
 one_clean false true = refl
 one_clean false false = tt
 
-two_clean : (clock wish mark await : Bool) (t : Option ℤ) (n : Option ℕ) (w : Option Wish)
-    → IsCleanIfSome (if clock then option_map (λ t. event.Clock t) t else (if wish then option_map (λ w. event.Wish w) w else (if mark then option_map (λ n. event.Mark n) n else (if await then option_map (λ n. event.Await n) n else None))))
-two_clean true wish mark await None n w = tt
-two_clean true wish mark await (Some t) n w = refl
-two_clean false true mark await t n None = tt
-two_clean false true mark await t n (Some w) = refl
-two_clean false false true await t None w = tt
-two_clean false false true await t (Some n) w = refl
-two_clean false false false true t None w = tt
-two_clean false false false true t (Some n) w = refl
-two_clean false false false false t n w = tt
+two_clean : (clock wish stage mark await : Bool) (t : Option ℤ) (n : Option ℕ) (w : Option Wish) (s : Option Bool)
+    → IsCleanIfSome (if clock then option_map (λ t. event.Clock t) t else (if wish then option_map (λ w. event.Wish w) w else (if stage then option_map (λ on. event.Stage on) s else (if mark then option_map (λ n. event.Mark n) n else (if await then option_map (λ n. event.Await n) n else None)))))
+two_clean true wish stage mark await None n w s = tt
+two_clean true wish stage mark await (Some t) n w s = refl
+two_clean false true stage mark await t n None s = tt
+two_clean false true stage mark await t n (Some w) s = refl
+two_clean false false true mark await t n w None = tt
+two_clean false false true mark await t n w (Some on) = refl
+two_clean false false false true await t None w s = tt
+two_clean false false false true await t (Some n) w s = refl
+two_clean false false false false true t None w s = tt
+two_clean false false false false true t (Some n) w s = refl
+two_clean false false false false false t n w s = tt
 
 three_clean : (grid : Bool) (base period : Option ℤ) → IsCleanIfSome (if grid then grid_by base period else None)
 three_clean true base period = grid_clean base period
 three_clean false base period = tt
 
+pose_clean : (o : Option Origin) (t : Option ℤ) (n : Option ℕ) → IsCleanIfSome (pose_by o t n)
+pose_clean None t n = tt
+pose_clean (Some o) None n = tt
+pose_clean (Some o) (Some t) None = tt
+pose_clean (Some o) (Some t) (Some n) = by (nat_le n most_pose)
+  where
+    by : (b : Bool) → IsCleanIfSome (if b then Some (event.Pose o t n) else None)
+    by true = refl
+    by false = tt
+
+four_clean : (pose : Bool) (o : Option Origin) (t : Option ℤ) (n : Option ℕ) → IsCleanIfSome (if pose then pose_by o t n else None)
+four_clean true o t n = pose_clean o t n
+four_clean false o t n = tt
+
 by_clean : (words : List (List ℕ)) → IsCleanIfSome (event_by words)
 by_clean [] = tt
 by_clean (word ∷ []) = one_clean (is_word word (codes "loss")) (is_word word (codes "lost"))
-by_clean (word ∷ a ∷ []) = two_clean (is_word word (codes "clock")) (is_word word (codes "wish")) (is_word word (codes "mark")) (is_word word (codes "await")) (integer_of a) (number_of a) (named wish_name all_wishes a)
+by_clean (word ∷ a ∷ []) = two_clean (is_word word (codes "clock")) (is_word word (codes "wish")) (is_word word (codes "stage")) (is_word word (codes "mark")) (is_word word (codes "await")) (integer_of a) (number_of a) (named wish_name all_wishes a) (switch_of a)
 by_clean (word ∷ a ∷ b ∷ []) = three_clean (is_word word (codes "grid")) (integer_of a) (integer_of b)
-by_clean (word ∷ a ∷ b ∷ c ∷ ws) = tt
+by_clean (word ∷ a ∷ b ∷ c ∷ []) = four_clean (is_word word (codes "pose")) (named origin_name all_origins a) (integer_of b) (number_of c)
+by_clean (word ∷ a ∷ b ∷ c ∷ d ∷ ws) = tt
 
 checked_clean : (o : Option DeviceEvent) → IsCleanIfSome o → IsCleanIfSome (if_checked o)
 checked_clean None h = tt

@@ -21,6 +21,9 @@ fn is_built(op: &Op) -> bool
             | Op::BeginSession { .. }
             | Op::EndSession { .. }
             | Op::RequestExitSession { .. }
+            | Op::CreateReferenceSpace { .. }
+            | Op::DestroySpace { .. }
+            | Op::LocateSpace { .. }
             | Op::Mark { .. }
             | Op::Await { .. }
     )

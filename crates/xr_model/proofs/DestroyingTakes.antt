@@ -6,7 +6,7 @@ use Rattle.xr_types.specs.Code.{is_success}
 use Rattle.xr_types.specs.declared.handles.Kind.{Kind}
 use Rattle.xr_types.specs.declared.handles.Kind.TheVariants.{Instance, Session, ActionSet, Action, Space, Swapchain}
 use Rattle.xr_types.specs.declared.handles.Slot.{Slot}
-use Rattle.xr_model.specs.machine.Request.{Entry, Request, destroy_instance, destroy_session}
+use Rattle.xr_model.specs.machine.Request.{Entry, Request, destroy_instance, destroy_session, destroy_space}
 use Rattle.xr_model.specs.machine.Handles.{Handles, free, has, is_live, row_of, put_in, first_free, goes, going, cleared, destroyed_instances, destroyed_parents, without}
 use Rattle.xr_model.specs.machine.HandlePlaces.{slot_in, parent_of}
 use Rattle.xr_model.specs.laws.HandleLaws.{count_in, places_with, is_under, AreUnder, StandOnce, is_within, destroys, DestroyingTakes}
@@ -146,7 +146,7 @@ any_append f (x ∷ xs) ys = by (f x) (any_append f xs ys)
 
 -- ---- instances have no parent
 
-abbrev AreRoots : Handles → Type 0
+abbrev pub AreRoots : Handles → Type 0
 AreRoots h = list_all (λ s. s.parent == 0) h.instances ≡ true
 
 root_parent : (row : List Slot) (p : ℕ) → list_all (λ s. s.parent == 0) row ≡ true → parent_in row p ≡ 0
@@ -176,10 +176,11 @@ roots_step s e roots = kept_by_step (λ h. list_all (λ s. s.parent == 0) h.inst
   same = roots;
   instance = λ gives. roots_put e.given s.core.handles.instances roots;
   session = λ gives instance live. roots;
+  space = λ gives session live. roots;
   without = λ handle. roots_cleared handle [] s.core.handles.instances roots;
 })
 
-roots_after : (s : State) (es : List Entry) → AreRoots s.core.handles → AreRoots (after s es).core.handles
+pub roots_after : (s : State) (es : List Entry) → AreRoots s.core.handles → AreRoots (after s es).core.handles
 roots_after s [] roots = roots
 roots_after s (e ∷ es) roots = roots_after (step s e).0 es (roots_step s e roots)
 
@@ -335,9 +336,26 @@ takes_step s e handle once under roots = by e.request
     by (destroy_session session) names good =
         destroyed (λ new. Takes s.core.handles handle new) s.core (is_live s.core.handles Session session) (rule s.core (reads_of s) (record e { request = destroy_session session })).effect good
         (λ live. taken Session session names live)
+    by (destroy_space space) names good =
+        destroyed (λ new. Takes s.core.handles handle new) s.core (is_live s.core.handles Space space) (rule s.core (reads_of s) (record e { request = destroy_space space })).effect good
+        (λ live. taken Space space names live)
     by _ names good = absurd (true≢false (sym names))
 
 pub destroying_takes : DestroyingTakes
 destroying_takes settings es e handle legal names good =
     let s = after (opening settings) es in
     takes_step (after (opening settings) es) e handle (handles_stand_once settings es legal) (no_orphans settings es) (roots_after (opening settings) es refl) names good
+
+-- ---- the parent of a space
+
+some_same : (a b : ℕ) → Some a ≡ Some b → a ≡ b
+some_same a b e = cc
+
+-- it is a live session
+pub live_parent : (h : Handles) → StandOnce h → AreUnder h → AreRoots h → (space session : ℕ) → is_live h Space space ≡ true → parent_of h space ≡ Some session → is_live h Session session ≡ true
+live_parent h once under roots space session live is =
+    let parts = both_of (not (space == 0)) (has h.spaces space) live in
+    let nz = not_true (space == 0) parts.0 in
+    let parent = under_parent h.sessions h.spaces space nz under.spaces parts.1 in
+    let same = some_same (parent_in h.spaces space) session (sym (space_parent h 1 refl once under roots space nz parts.1) ∙ is) in
+    subst (λ (n : ℕ). is_live h Session n ≡ true) same (rw (parent.0, parent.1) refl)

@@ -1,16 +1,22 @@
 -- A line of a device's text, printed from its event, reads back as that event.
 use Rattle.std.proofs.Common.{◌≡◌, ◌<◌, ◌≤◌, ◌+◌, ◌-◌, ◌*◌, ◌/◌, ◌%◌, ◌==◌, ◌^◌, ℕ, pos, negsuc, Bool, true, false, List, [], ◌∷◌, ◌++◌, length, get_or, Option, Some, None, option_map, option_and_then, refl, sym, ap, ◌∙◌, arith, append_assoc, true≢false}
-use Rattle.std.specs.Prelude.{codes, decimal, if◌then◌else◌}
+use Rattle.std.specs.List.{list_all}
+use Rattle.std.specs.Prelude.{◌&&◌, not, nat_le, codes, decimal, if◌then◌else◌}
 use Rattle.std.proofs.lemmas.Fmt.{decimal_by_steps, decimal_nonempty, first_decimal, length-decimal-le_succ}
 use Rattle.std.proofs.lemmas.Bool.Decides.{nat_tests}
 use Rattle.xr_types.specs.declared.device.DeviceEvent.{DeviceEvent}
 use Rattle.xr_types.specs.declared.device.DeviceEvent.TheVariants as event
 use Rattle.xr_types.specs.declared.device.Wish.TheVariants as wish
-use Rattle.xr_types.specs.Device.{checks, is_time, is_mark, in_range}
-use Rattle.xr_model.specs.device_text.DeviceText.{words_of, is_digit, digits_behind, number_of, below_0, integer_of, event_by, if_checked}
+use Rattle.xr_types.specs.declared.input.User.TheVariants as user
+use Rattle.xr_types.specs.declared.spaces.Origin.{Origin}
+use Rattle.xr_types.specs.declared.spaces.Origin.TheVariants as origin
+use Rattle.xr_types.specs.Device.{checks, is_time, is_mark, is_hand, in_range}
+use Rattle.xr_types.specs.Printed.{origin_name, all_origins}
+use Rattle.xr_types.specs.Words.{named}
+use Rattle.xr_model.specs.device_text.DeviceText.{words_of, is_digit, digits_behind, number_of, below_0, integer_of, most_pose, event_by, if_checked}
 use Rattle.xr_model.specs.device_text.DeviceLines.{line_of}
 use Rattle.xr_model.specs.laws.DeviceLaws.{LinesReadBack}
-use Rattle.xr_model.proofs.Rows.{both_of, same_key}
+use Rattle.xr_model.proofs.Rows.{both_of, not_true, same_key}
 
 -- ---- numbers
 
@@ -116,6 +122,9 @@ small_time n e = grind (arith, nat_tests, e)
 small_mark : (n : ℕ) → is_mark n ≡ true → n < 2 ^ 64
 small_mark n e = grind (arith, nat_tests, e)
 
+small_pose : (n : ℕ) → nat_le n most_pose ≡ true → n < 2 ^ 64
+small_pose n e = grind (arith, nat_tests, e)
+
 small_period : (n : ℕ) → in_range (pos n) (pos 1) (pos 1000000000) ≡ true → n < 2 ^ 64
 small_period n e = grind (arith, nat_tests, e)
 
@@ -127,6 +136,31 @@ grid_words base period small few =
     ap words_of (append_assoc (codes "grid " ++ decimal base) (codes " ") (decimal period) ∙ append_assoc (codes "grid ") (decimal base) (codes " " ++ decimal period))
     ∙ words_then (codes "grid") (decimal base ++ (codes " " ++ decimal period)) (refl, (refl, (refl, (refl, tt))))
     ∙ ap (λ (ws : List (List ℕ)). codes "grid" ∷ ws) (words_then (decimal base) (decimal period) (reads base small).1 ∙ ap (λ (ws : List (List ℕ)). decimal base ∷ ws) (words_alone (decimal period) (reads period few).1))
+
+-- the words of a pose
+no_space_by : (ds : List ℕ) → list_all (λ b. not (b == 32)) ds ≡ true → NoSpace ds
+no_space_by [] none = tt
+no_space_by (b ∷ bs) none = let two = both_of (not (b == 32)) (list_all (λ b. not (b == 32)) bs) none in (not_true (b == 32) two.0, no_space_by bs two.1)
+
+pieces : (a b c d e f : List ℕ) → ((((a ++ b) ++ c) ++ d) ++ e) ++ f ≡ a ++ (b ++ (c ++ (d ++ (e ++ f))))
+pieces a b c d e f = simp append_assoc
+
+pose_words : (name : List ℕ) (time pose : ℕ) → NoSpace name → time < 2 ^ 64 → pose < 2 ^ 64
+    → words_of (((((codes "pose " ++ name) ++ codes " ") ++ decimal time) ++ codes " ") ++ decimal pose) ≡ codes "pose" ∷ name ∷ decimal time ∷ decimal pose ∷ []
+pose_words name time pose none small few =
+    ap words_of (pieces (codes "pose ") name (codes " ") (decimal time) (codes " ") (decimal pose))
+    ∙ words_then (codes "pose") (name ++ (codes " " ++ (decimal time ++ (codes " " ++ decimal pose)))) (refl, (refl, (refl, (refl, tt))))
+    ∙ ap (λ (ws : List (List ℕ)). codes "pose" ∷ ws) (words_then name (decimal time ++ (codes " " ++ decimal pose)) none
+    ∙ ap (λ (ws : List (List ℕ)). name ∷ ws) (words_then (decimal time) (decimal pose) (reads time small).1
+    ∙ ap (λ (ws : List (List ℕ)). decimal time ∷ ws) (words_alone (decimal pose) (reads pose few).1)))
+
+-- a pose of an origin that has a word of its own
+pose_back : (o : Origin) (time pose : ℕ) → list_all (λ b. not (b == 32)) (origin_name o) ≡ true → named origin_name all_origins (origin_name o) ≡ Some o
+    → nat_le pose most_pose ≡ true → is_time (pos time) ≡ true → event_by (words_of (line_of (event.Pose o (pos time) pose))) ≡ Some (event.Pose o (pos time) pose)
+pose_back o time pose none own line good =
+    let small = small_time time good in
+    let few = small_pose pose line in
+    rw (pose_words (origin_name o) time pose (no_space_by (origin_name o) none) small few, own, integer_reads time small, number_reads pose few, line) refl
 
 checked : (e : DeviceEvent) (found : Option DeviceEvent) → found ≡ Some e → checks e ≡ true → if_checked found ≡ Some e
 checked e found is good = rw (is, good) refl
@@ -153,6 +187,27 @@ lines_read_back (event.Wish wish.Rest) line good = refl
 lines_read_back (event.Wish wish.Ready) line good = refl
 lines_read_back (event.Wish wish.Visible) line good = refl
 lines_read_back (event.Wish wish.Focused) line good = refl
+lines_read_back (event.Stage true) line good = refl
+lines_read_back (event.Stage false) line good = refl
+lines_read_back (event.Pose o (pos time) pose) line good = by o (both_of (is_hand o) (is_time (pos time)) (both_of (is_hand o && is_time (pos time)) (nat_le 1 pose) good).0).0 good
+  where
+    back : (o : Origin) → list_all (λ b. not (b == 32)) (origin_name o) ≡ true → named origin_name all_origins (origin_name o) ≡ Some o → checks (event.Pose o (pos time) pose) ≡ true
+        → if_checked (event_by (words_of (line_of (event.Pose o (pos time) pose)))) ≡ Some (event.Pose o (pos time) pose)
+    back o none own good =
+        checked (event.Pose o (pos time) pose) (event_by (words_of (line_of (event.Pose o (pos time) pose))))
+        (pose_back o time pose none own line (both_of (is_hand o) (is_time (pos time)) (both_of (is_hand o && is_time (pos time)) (nat_le 1 pose) good).0).1) good
+
+    by : (o : Origin) → is_hand o ≡ true → checks (event.Pose o (pos time) pose) ≡ true → if_checked (event_by (words_of (line_of (event.Pose o (pos time) pose)))) ≡ Some (event.Pose o (pos time) pose)
+    by origin.View hand good = back origin.View refl refl good
+    by origin.Local hand good = back origin.Local refl refl good
+    by origin.Stage hand good = back origin.Stage refl refl good
+    by (origin.Grip user.Left) hand good = back (origin.Grip user.Left) refl refl good
+    by (origin.Grip user.Right) hand good = back (origin.Grip user.Right) refl refl good
+    by (origin.Aim user.Left) hand good = back (origin.Aim user.Left) refl refl good
+    by (origin.Aim user.Right) hand good = back (origin.Aim user.Right) refl refl good
+    by (origin.Grip _) hand good = absurd (true≢false (sym hand))
+    by (origin.Aim _) hand good = absurd (true≢false (sym hand))
+lines_read_back (event.Pose o (negsuc time) pose) line good = absurd (true≢false (sym (both_of (is_hand o) false (both_of (is_hand o && false) (nat_le 1 pose) good).0).1))
 lines_read_back event.Loss line good = refl
 lines_read_back event.Lost line good = refl
 lines_read_back _ line good = absurd (true≢false (sym line))

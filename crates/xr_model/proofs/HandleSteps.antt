@@ -6,7 +6,7 @@ use Rattle.xr_types.specs.declared.code.Code.TheVariants.{HandleInvalid, CallOrd
 use Rattle.xr_types.specs.declared.calls.Actor.{Actor}
 use Rattle.xr_types.specs.declared.calls.Actor.TheVariants.{App, Compositor, Device}
 use Rattle.xr_types.specs.declared.handles.Kind.TheVariants as kind
-use Rattle.xr_model.specs.machine.Request.{Entry, Request, create_instance, destroy_instance, create_session, destroy_session, begin_session, end_session, request_exit_session, leave, device}
+use Rattle.xr_model.specs.machine.Request.{Entry, Request, create_instance, destroy_instance, create_session, destroy_session, begin_session, end_session, request_exit_session, create_reference_space, destroy_space, leave, device}
 use Rattle.xr_model.specs.machine.Handles.{Handles, is_live, with_handle, without}
 use Rattle.xr_model.specs.machine.Refusals.{Refusal, when, first_of}
 use Rattle.xr_model.specs.machine.State.{CoreState, CellReads}
@@ -14,9 +14,10 @@ use Rattle.xr_model.specs.machine.Rule.{Effect, refusals, unless_refused}
 use Rattle.xr_types.specs.declared.device.DeviceEvent.{DeviceEvent}
 use Rattle.xr_types.specs.declared.device.DeviceEvent.TheVariants as event
 use Rattle.xr_model.specs.machine.Rules.Own.{with_left}
-use Rattle.xr_model.specs.machine.SessionLife.{Life, Changed}
+use Rattle.xr_model.specs.machine.SessionLife.{Life, Changed, is_lost}
 use Rattle.xr_model.specs.machine.LiveSessions.{Session, session_at}
-use Rattle.xr_model.specs.machine.Rules.Session.{with_change}
+use Rattle.xr_model.specs.machine.Rules.Session.{life_of, with_change}
+use Rattle.xr_model.proofs.Successes.{success_succeeds}
 use Rattle.xr_model.specs.machine.Rules.Device.{behind_event}
 use Rattle.xr_model.specs.machine.Machine.{core_step, rule, is_creation}
 
@@ -29,6 +30,7 @@ pub record Keeps (P : Handles → Type 0) (s : CoreState) (reads : CellReads) (e
   pub same : P s.handles
   pub instance : gives_handle s reads e ≡ true → P (with_handle s.handles kind.Instance 0 e.given)
   pub session : gives_handle s reads e ≡ true → (instance : ℕ) → is_live s.handles kind.Instance instance ≡ true → P (with_handle s.handles kind.Session instance e.given)
+  pub space : gives_handle s reads e ≡ true → (session : ℕ) → is_live s.handles kind.Session session ≡ true → P (with_handle s.handles kind.Space session e.given)
   pub without : (handle : ℕ) → P (without s.handles handle)
 
 -- a refused effect leaves the handles
@@ -87,6 +89,14 @@ kept_by_step P s reads e = by e.request
     by (request_exit_session session) k =
         let f = rule s reads (record e { request = request_exit_session session }) in
         kept P s (first_of (refusals f)) f.effect k.same (λ none. change_leaves P s (session_at s.sessions session) _ k.same)
+    by (create_reference_space session what offset) k =
+        let f = rule s reads (record e { request = create_reference_space session what offset }) in
+        kept P s (first_of (refusals f)) f.effect k.same
+        (λ none. k.space (succeeds s (first_of (refusals f)) f.effect (success_succeeds (life_of s session)) none) session
+        (first_fails (is_live s.handles kind.Session session) HandleInvalid (is_lost (life_of s session) ∷ when f.disorder CallOrderInvalid ∷ f.behind) none))
+    by (destroy_space space) k =
+        let f = rule s reads (record e { request = destroy_space space }) in
+        kept P s (first_of (refusals f)) f.effect k.same (λ none. k.without space)
     by leave k = left_alone P s e.actor k.same
     by (device what) k = events_leave P s what k.same
     by r k = let f = rule s reads (record e { request = r }) in kept P s (first_of (refusals f)) f.effect k.same (λ none. k.same)

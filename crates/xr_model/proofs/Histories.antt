@@ -4,11 +4,10 @@ use Rattle.std.proofs.Common.{◌≡◌, ◌+◌, ℕ, List, Bool, zero, suc, tr
 use Rattle.xr_types.specs.Code.{is_success}
 use Rattle.xr_types.specs.declared.code.Code.{Code}
 use Rattle.xr_types.specs.declared.code.Code.TheVariants.{Success, SessionLossPending, FrameDiscarded}
-use Rattle.xr_types.specs.declared.session.SessionState.TheVariants.{LossPending}
-use Rattle.xr_model.specs.machine.SessionLife.{Life, is_state}
-use Rattle.xr_model.specs.machine.SessionRule.{code_on}
 use Rattle.xr_model.specs.machine.Rules.Session.{life_of}
-use Rattle.xr_model.specs.machine.Request.{Entry, Outcome, is_locked, Request, create_instance, string_to_path, path_to_string, begin_session, end_session, request_exit_session, leave, next_frame}
+use Rattle.xr_model.specs.machine.Rules.Spaces.{session_above}
+use Rattle.xr_model.proofs.Successes.{success_succeeds}
+use Rattle.xr_model.specs.machine.Request.{Entry, Outcome, is_locked, Request, create_instance, string_to_path, path_to_string, begin_session, end_session, request_exit_session, create_reference_space, locate_space, leave, next_frame}
 use Rattle.xr_model.specs.machine.Refusals.{Refusal, first_of}
 use Rattle.xr_model.specs.machine.State.{CoreState, CellReads, State}
 use Rattle.xr_model.specs.machine.Rule.{Effect, refusals, unless_refused, locked_after}
@@ -29,13 +28,6 @@ refused_or_done : (s : CoreState) (o : Option Refusal) (e : Effect) → is_succe
 refused_or_done s None e good bad = absurd (success_has_effect e.code good bad)
 refused_or_done s (Some r) e good bad = refl
 
-success_succeeds : (life : Life) → is_success (code_on life Success) ≡ true
-success_succeeds life = by (is_state life.state LossPending)
-  where
-    by : (pending : Bool) → is_success (if pending then SessionLossPending else Success) ≡ true
-    by true = refl
-    by false = refl
-
 effects_succeed : (s : CoreState) (reads : CellReads) (e : Entry) → is_success (rule s reads e).effect.code ≡ true
 effects_succeed s reads e = by e.request
   where
@@ -46,6 +38,8 @@ effects_succeed s reads e = by e.request
     by (begin_session session view) = success_succeeds (life_of s session)
     by (end_session session) = success_succeeds (life_of s session)
     by (request_exit_session session) = success_succeeds (life_of s session)
+    by (create_reference_space session what offset) = success_succeeds (life_of s session)
+    by (locate_space space base time) = success_succeeds (life_of s (session_above s.handles space))
     by leave = refl
     by next_frame = refl
     by _ = refl

@@ -1,3 +1,4 @@
+pub mod Successes
 pub mod Histories
 pub mod InRange
 pub mod ScriptForm
@@ -14,3 +15,4 @@ pub mod LostSessions
 pub mod DeviceLines
 pub mod StandOnce
 pub mod DestroyingTakes
+pub mod SessionAnswers

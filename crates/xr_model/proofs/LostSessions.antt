@@ -1,24 +1,18 @@
 -- Which sessions are listed, and which of them are lost, after every legal history.
 use Rattle.std.proofs.Common.{◌≡◌, ◌≢◌, ◌==◌, ◌&&◌, ◌||◌, ◌⊎◌, inl, inr, ℕ, ℤ, Bool, true, false, not, List, [], ◌∷◌, ◌++◌, Option, Some, None, refl, sym, ap, subst, ◌∙◌, true≢false}
-use Rattle.std.specs.Prelude.{◌↔◌, is_some, if◌then◌else◌}
+use Rattle.std.specs.Prelude.{is_some, if◌then◌else◌}
 use Rattle.std.specs.List.{filter}
 use Rattle.xr_types.specs.declared.handles.Kind.TheVariants as kind
 use Rattle.xr_types.specs.Code.{is_success}
-use Rattle.xr_types.specs.declared.code.Code.{Code}
-use Rattle.xr_types.specs.declared.code.Code.TheVariants.{Success, SessionLost, SessionLossPending, HandleInvalid, CallOrderInvalid}
-use Rattle.xr_types.specs.declared.session.SessionState.TheVariants.{LossPending}
-use Rattle.xr_model.specs.machine.Request.{Entry, Request, create_session, begin_session, end_session, request_exit_session}
+use Rattle.xr_model.specs.machine.Request.{Entry, Request, create_session}
 use Rattle.xr_model.specs.machine.Handles.{Handles, is_live, was_given, without}
-use Rattle.xr_model.specs.machine.Refusals.{Refusal, when, first_of}
-use Rattle.xr_model.specs.machine.State.{CoreState, Settings, State, opening}
-use Rattle.xr_model.specs.machine.Rule.{Effect, refusals, unless_refused, carried_out}
-use Rattle.xr_model.specs.machine.SessionRule.{code_on}
-use Rattle.xr_model.specs.machine.SessionLife.{Life, Changed, unchanged, started_session, begin_checks, begun_session, end_checks, ended_session, exit_checks, exiting_session, lost_session, is_state}
+use Rattle.xr_model.specs.machine.State.{Settings, State, opening}
+use Rattle.xr_model.specs.machine.SessionLife.{Life, Changed, unchanged, started_session, lost_session}
 use Rattle.xr_model.specs.machine.LiveSessions.{Session, session_at, life_in, with_life, with_life_at, each_changed}
-use Rattle.xr_model.specs.machine.Rules.Session.{new_session, life_of, changing_rule}
-use Rattle.xr_model.specs.machine.Machine.{step, rule, reads_of, is_creation, IsAllowed, IsGiven}
+use Rattle.xr_model.specs.machine.Rules.Session.{new_session, life_of}
+use Rattle.xr_model.specs.machine.Machine.{step, reads_of, is_creation, IsAllowed, IsGiven}
 use Rattle.xr_model.specs.machine.History.{after, opening_clocks, clocks_after, IsLegalFrom}
-use Rattle.xr_model.specs.laws.SessionLaws.{AreListed, SessionsAreListed, session_of, is_device_lost, is_session_creation, creates_session, was_lost, LostSessions, PendingLosses}
+use Rattle.xr_model.specs.laws.SessionLaws.{AreListed, SessionsAreListed, is_device_lost, is_session_creation, creates_session, was_lost}
 use Rattle.xr_model.proofs.Rows.{itself, same_key}
 use Rattle.xr_model.proofs.Listed.{listed_none, listed_lives, listed_each, listed_more, listed_left}
 use Rattle.xr_model.proofs.SessionSteps.{kept_by_step}
@@ -61,6 +55,7 @@ listed_step s e allowed listed = kept_by_step (λ h xs. AreListed h xs) s.core (
   same = λ d c. listed;
   instance = λ d c. listed;
   session = λ d c good room instance. let new = new_session_given s e allowed c good in listed_more s.core.handles s.core.sessions _ instance e.given listed refl (nonzero e.given new.0) room;
+  space = λ d c session. listed;
   without = λ d c handle. listed_left s.core.handles handle s.core.sessions listed;
   lives = λ d c session x found life same. listed_lives s.core.handles s.core.sessions x.handle life listed;
   each = λ d c f keeps. listed_each s.core.handles f s.core.sessions listed;
@@ -213,6 +208,7 @@ module _ (s : State) (e : Entry) (allowed : IsAllowed s e) (known : AreKnown s.c
     same = λ d c session x found. lost_before session x found ∙ as_before session d (not_created session x found c);
     instance = λ d c session x found. lost_before session x found ∙ as_before session d (uncreated session c);
     session = λ d c good room instance session x found. created d c good session x (found_more s.core.sessions _ session x found);
+    space = λ d c above session x found. lost_before session x found ∙ as_before session d (uncreated session c);
     without = λ d c handle session x found. let there = found_left (λ n. is_live (without s.core.handles handle) kind.Session n) s.core.sessions session x found in lost_before session x there ∙ as_before session d (uncreated session c);
     lives = λ d c named y there life same session x found. let one = found_lives s.core.sessions y.handle life (λ z found_z. same ∙ ap (λ (w : Session). w.life.lost) (some_is y z (sym (at_own named y there) ∙ found_z))) session x found in one.2 ∙ lost_before session one.0 one.1 ∙ as_before session d (uncreated session c);
     each = λ d c f keeps session x found. let one = found_each f s.core.sessions session x found in ap (λ (l : Life). l.lost) one.2 ∙ keeps one.0.life ∙ lost_before session one.0 one.1 ∙ as_before session d (uncreated session c);
@@ -237,50 +233,7 @@ lost_after s clocks [] legal known listed before lost_before session x found = l
 lost_after s clocks (e ∷ es) legal known listed before lost_before session x found =
     lost_after (step s e).0 (clocks_after clocks e (step s e).0) es legal.3 (known_step s e known) (listed_step s e legal.0 listed) (after_entry e before) (lost_step s e legal.0 known listed before lost_before) session x found
 
--- ---- the answers of calls on sessions
-
-abbrev NoneIs : Code → List Refusal → Type 0
-NoneIs code [] = Unit {0}
-NoneIs code (r ∷ rs) = (r.code ≡ code → ⊥) × NoneIs code rs
-
-first_is_not : (code : Code) (rs : List Refusal) (r : Refusal) → NoneIs code rs → first_of rs ≡ Some r → r.code ≡ code → ⊥
-first_is_not code [] r none found is = cc
-first_is_not code (x ∷ rs) r none found is = by x.holds found (λ later. first_is_not code rs r none.1 later is)
-  where
-    same : (a b : Refusal) → Some a ≡ Some b → a ≡ b
-    same a b e = cc
-
-    by : (b : Bool) → (if b then Some x else first_of rs) ≡ Some r → (first_of rs ≡ Some r → ⊥) → ⊥
-    by true found later = none.0 (ap (λ (y : Refusal). y.code) (same x r found) ∙ is)
-    by false found later = later found
-
--- a refusal of others is no loss, nor is a success
-other_code : (s : CoreState) (code : Code) (rs : List Refusal) (x : Effect) → NoneIs code rs → (x.code ≡ code → ⊥) → (unless_refused s (first_of rs) x).code ≡ code → ⊥
-other_code s code rs x none success is = by (first_of rs) refl is
-  where
-    by : (o : Option Refusal) → first_of rs ≡ o → (unless_refused s o x).code ≡ code → ⊥
-    by None found is = success is
-    by (Some r) found is = first_is_not code rs r none found is
-
-success_is_not_lost : (life : Life) → code_on life Success ≡ SessionLost → ⊥
-success_is_not_lost life = by (is_state life.state LossPending)
-  where
-    by : (b : Bool) → (if b then SessionLossPending else Success) ≡ SessionLost → ⊥
-    by true e = cc
-    by false e = cc
-
-answered_lost : (s : CoreState) (session : ℕ) (checks : List Refusal) (f : Life → Changed) → NoneIs SessionLost (checks ++ when false CallOrderInvalid ∷ [])
-    → ((carried_out s (changing_rule s session checks f)).code ≡ SessionLost) ↔ ((is_live s.handles kind.Session session ≡ true) × ((life_of s session).lost ≡ true))
-answered_lost s session checks f others = by (is_live s.handles kind.Session session) refl (life_of s session).lost refl
-  where
-    by : (a : Bool) → is_live s.handles kind.Session session ≡ a → (b : Bool) → (life_of s session).lost ≡ b
-        → ((carried_out s (changing_rule s session checks f)).code ≡ SessionLost) ↔ ((is_live s.handles kind.Session session ≡ true) × ((life_of s session).lost ≡ true))
-    by false ea b eb = ((λ code. let no_loss : HandleInvalid ≡ SessionLost = rw ea at code in absurd (apart no_loss)), (λ both. absurd (true≢false (sym both.0 ∙ ea))))
-      where
-        apart : HandleInvalid ≡ SessionLost → ⊥
-        apart e = cc
-    by true ea true eb = ((λ code. (ea, eb)), (λ both. rw (ea, eb) refl))
-    by true ea false eb = ((λ code. absurd (other_code s SessionLost (checks ++ when false CallOrderInvalid ∷ []) (changing_rule s session checks f).effect others (success_is_not_lost (life_of s session)) (rw (ea, eb) at code))), (λ both. absurd (true≢false (sym both.1 ∙ eb))))
+-- ---- the loss that a live session answers
 
 is_the_life : (xs : List Session) (session : ℕ) (known : Bool) → is_some (session_at xs session) ≡ true → ((x : Session) → session_at xs session ≡ Some x → x.life.lost ≡ known) → (life_in (session_at xs session)).lost ≡ known
 is_the_life xs session known there lost = by (session_at xs session) there lost
@@ -289,7 +242,7 @@ is_the_life xs session known there lost = by (session_at xs session) there lost
     by None there lost = absurd (true≢false (sym there))
     by (Some x) there lost = lost x refl
 
-known_loss : (settings : Settings) (es : List Entry) (session : ℕ) → IsLegalFrom (opening settings) (opening_clocks settings) es → is_live (after (opening settings) es).core.handles kind.Session session ≡ true
+pub known_loss : (settings : Settings) (es : List Entry) (session : ℕ) → IsLegalFrom (opening settings) (opening_clocks settings) es → is_live (after (opening settings) es).core.handles kind.Session session ≡ true
     → (life_of (after (opening settings) es).core session).lost ≡ was_lost session false es
 known_loss settings es session legal live =
     is_the_life (after (opening settings) es).core.sessions session (was_lost session false es) (sessions_are_listed settings es legal session ∙ live)
@@ -297,49 +250,3 @@ known_loss settings es session legal live =
   where
     nothing : (x : Session) → None ≡ Some x → x.life.lost ≡ false
     nothing x e = cc
-
-named_is : (a b : ℕ) → Some a ≡ Some b → a ≡ b
-named_is a b e = cc
-
-pub lost_sessions : LostSessions
-lost_sessions settings es e session legal named = by e.request named
-  where
-    joined : (code : Code) → ((code ≡ SessionLost) ↔ ((is_live (after (opening settings) es).core.handles kind.Session session ≡ true) × ((life_of (after (opening settings) es).core session).lost ≡ true)))
-        → (code ≡ SessionLost) ↔ ((is_live (after (opening settings) es).core.handles kind.Session session ≡ true) × (was_lost session false es ≡ true))
-    joined code both =
-        ((λ is. let two = both.0 is in (two.0, sym (known_loss settings es session legal two.0) ∙ two.1)), (λ two. both.1 (two.0, known_loss settings es session legal two.0 ∙ two.1)))
-
-    by : (r : Request) → session_of r ≡ Some session
-        → ((step (after (opening settings) es) (record e { request = r })).1.reply.code ≡ SessionLost) ↔ ((is_live (after (opening settings) es).core.handles kind.Session session ≡ true) × (was_lost session false es ≡ true))
-    by (begin_session other view) named = joined _ (subst (λ (n : ℕ). ((step (after (opening settings) es) (record e { request = begin_session other view })).1.reply.code ≡ SessionLost) ↔ ((is_live (after (opening settings) es).core.handles kind.Session n ≡ true) × ((life_of (after (opening settings) es).core n).lost ≡ true))) (named_is other session named) (answered_lost (after (opening settings) es).core other (begin_checks (life_of (after (opening settings) es).core other) view) (λ life. unchanged (begun_session life)) ((λ c. cc), ((λ c. cc), ((λ c. cc), ((λ c. cc), tt))))))
-    by (end_session other) named = joined _ (subst (λ (n : ℕ). ((step (after (opening settings) es) (record e { request = end_session other })).1.reply.code ≡ SessionLost) ↔ ((is_live (after (opening settings) es).core.handles kind.Session n ≡ true) × ((life_of (after (opening settings) es).core n).lost ≡ true))) (named_is other session named) (answered_lost (after (opening settings) es).core other (end_checks (life_of (after (opening settings) es).core other)) (ended_session (after (opening settings) es).core.device.wish) ((λ c. cc), ((λ c. cc), ((λ c. cc), tt)))))
-    by (request_exit_session other) named = joined _ (subst (λ (n : ℕ). ((step (after (opening settings) es) (record e { request = request_exit_session other })).1.reply.code ≡ SessionLost) ↔ ((is_live (after (opening settings) es).core.handles kind.Session n ≡ true) × ((life_of (after (opening settings) es).core n).lost ≡ true))) (named_is other session named) (answered_lost (after (opening settings) es).core other (exit_checks (life_of (after (opening settings) es).core other)) (exiting_session (after (opening settings) es).core.device.wish) ((λ c. cc), ((λ c. cc), tt))))
-    by _ named = cc
-
--- ---- pending losses
-
-answered_pending : (s : CoreState) (session : ℕ) (checks : List Refusal) (f : Life → Changed) → NoneIs SessionLossPending (refusals (changing_rule s session checks f))
-    → ((carried_out s (changing_rule s session checks f)).code ≡ SessionLossPending) ↔ ((first_of (refusals (changing_rule s session checks f)) ≡ None) × (is_state (life_of s session).state LossPending ≡ true))
-answered_pending s session checks f others = by (first_of (refusals (changing_rule s session checks f))) refl (is_state (life_of s session).state LossPending) refl
-  where
-    by : (o : Option Refusal) → first_of (refusals (changing_rule s session checks f)) ≡ o → (b : Bool) → is_state (life_of s session).state LossPending ≡ b
-        → ((carried_out s (changing_rule s session checks f)).code ≡ SessionLossPending) ↔ ((first_of (refusals (changing_rule s session checks f)) ≡ None) × (is_state (life_of s session).state LossPending ≡ true))
-    by None eo true eb = ((λ code. (eo, eb)), (λ both. rw (eo, eb) refl))
-    by None eo false eb = ((λ code. let plain : Success ≡ SessionLossPending = rw (eo, eb) at code in absurd (apart plain)), (λ both. absurd (true≢false (sym both.1 ∙ eb))))
-      where
-        apart : Success ≡ SessionLossPending → ⊥
-        apart e = cc
-    by (Some r) eo b eb = ((λ code. absurd (first_is_not SessionLossPending (refusals (changing_rule s session checks f)) r others eo (rw eo at code))), (λ both. absurd (none_found (sym both.0 ∙ eo))))
-      where
-        none_found : None ≡ Some r → ⊥
-        none_found e = cc
-
-pub pending_losses : PendingLosses
-pending_losses s e session named = by e.request named
-  where
-    by : (r : Request) → session_of r ≡ Some session
-        → ((step s (record e { request = r })).1.reply.code ≡ SessionLossPending) ↔ ((first_of (refusals (rule s.core (reads_of s) (record e { request = r }))) ≡ None) × (is_state (life_of s.core session).state LossPending ≡ true))
-    by (begin_session other view) named = subst (λ (n : ℕ). ((step s (record e { request = begin_session other view })).1.reply.code ≡ SessionLossPending) ↔ ((first_of (refusals (rule s.core (reads_of s) (record e { request = begin_session other view }))) ≡ None) × (is_state (life_of s.core n).state LossPending ≡ true))) (named_is other session named) (answered_pending s.core other (begin_checks (life_of s.core other) view) (λ life. unchanged (begun_session life)) ((λ c. cc), ((λ c. cc), ((λ c. cc), ((λ c. cc), ((λ c. cc), ((λ c. cc), tt)))))))
-    by (end_session other) named = subst (λ (n : ℕ). ((step s (record e { request = end_session other })).1.reply.code ≡ SessionLossPending) ↔ ((first_of (refusals (rule s.core (reads_of s) (record e { request = end_session other }))) ≡ None) × (is_state (life_of s.core n).state LossPending ≡ true))) (named_is other session named) (answered_pending s.core other (end_checks (life_of s.core other)) (ended_session s.core.device.wish) ((λ c. cc), ((λ c. cc), ((λ c. cc), ((λ c. cc), ((λ c. cc), tt))))))
-    by (request_exit_session other) named = subst (λ (n : ℕ). ((step s (record e { request = request_exit_session other })).1.reply.code ≡ SessionLossPending) ↔ ((first_of (refusals (rule s.core (reads_of s) (record e { request = request_exit_session other }))) ≡ None) × (is_state (life_of s.core n).state LossPending ≡ true))) (named_is other session named) (answered_pending s.core other (exit_checks (life_of s.core other)) (exiting_session s.core.device.wish) ((λ c. cc), ((λ c. cc), ((λ c. cc), ((λ c. cc), tt)))))
-    by _ named = cc

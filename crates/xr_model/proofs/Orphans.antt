@@ -1,6 +1,6 @@
 -- No live handle is without its parent after any history.
 use Rattle.std.proofs.Common.{◌≡◌, ℕ, ◌==◌, not, true, List, [], ◌∷◌, refl}
-use Rattle.xr_types.specs.declared.handles.Kind.TheVariants.{Instance, Session}
+use Rattle.xr_types.specs.declared.handles.Kind.TheVariants.{Instance, Session, Space}
 use Rattle.xr_types.specs.declared.handles.Slot.{Slot}
 use Rattle.xr_model.specs.machine.Request.{Entry}
 use Rattle.xr_model.specs.machine.Handles.{Handles, is_live, has, with_handle, going, destroyed_instances, destroyed_parents, without}
@@ -61,11 +61,24 @@ session_under h instance given live u =
     new : Slot
     new = record { handle = given; parent = instance }
 
+-- with a space more, of a live session
+space_under : (h : Handles) (session given : ℕ) → is_live h Session session ≡ true → AreUnder h → AreUnder (with_handle h Space session given)
+space_under h session given live u =
+    let parts = both_of (not (session == 0)) (has h.sessions session) live in
+    record {
+      sessions = u.sessions;
+      sets = u.sets;
+      actions = u.actions;
+      spaces = under_put (record { handle = given; parent = session }) h.spaces h.sessions u.spaces (rw (parts.0, parts.1) (or_true (given == 0)));
+      chains = u.chains;
+    }
+
 under_step : (s : State) (e : Entry) → AreUnder s.core.handles → AreUnder (step s e).0.core.handles
 under_step s e u = kept_by_step (λ h. AreUnder h) s.core (reads_of s) e (record {
   same = u;
   instance = λ gives. instance_under s.core.handles e.given u;
   session = λ gives instance live. session_under s.core.handles instance e.given live u;
+  space = λ gives session live. space_under s.core.handles session e.given live u;
   without = λ handle. without_under s.core.handles handle u;
 })
 

@@ -30,7 +30,7 @@ pub or_true : (b : Bool) → b || true ≡ true
 or_true true = refl
 or_true false = refl
 
-any_more : (p : ℕ → Bool) (xs ys : List ℕ) → list_any p (xs ++ ys) ≡ false → (list_any p xs ≡ false) × (list_any p ys ≡ false)
+pub any_more : (p : ℕ → Bool) (xs ys : List ℕ) → list_any p (xs ++ ys) ≡ false → (list_any p xs ≡ false) × (list_any p ys ≡ false)
 any_more p [] ys e = (refl, e)
 any_more p (x ∷ xs) ys e = let two = neither_of (p x) (list_any p (xs ++ ys)) e in let more = any_more p xs ys two.1 in (rw two.0 more.0, more.1)
 

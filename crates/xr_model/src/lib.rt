@@ -94,13 +94,12 @@ pub fn sessions_are_listed()
 
 /// A call on a session is answered by its loss exactly where the session is live and the device was lost after its
 /// creation.
-#[tactic(auto, using(crate::proofs::LostSessions::lost_sessions))]
 pub fn lost_sessions()
     ensures { LostSessions }
 {}
 
 /// A call on a session is answered by a pending loss exactly where nothing refuses it and the session is in that state.
-#[tactic(auto, using(crate::proofs::LostSessions::pending_losses))]
+#[tactic(auto, using(crate::proofs::SessionAnswers::pending_losses))]
 pub fn pending_losses()
     ensures { PendingLosses }
 {}

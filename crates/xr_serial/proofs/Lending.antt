@@ -7,7 +7,7 @@ use Rattle.std.proofs.lemmas.Option.{same_Some}
 use Rattle.xr_types.specs.declared.calls.Actor.{Actor}
 use Rattle.xr_types.specs.declared.calls.Gives.TheVariants.{Size}
 use Rattle.xr_types.specs.declared.calls.Reply.{Reply}
-use Rattle.xr_model.specs.machine.Request.{Request, create_instance, destroy_instance, get_system, string_to_path, path_to_string, poll_event, create_session, destroy_session, begin_session, end_session, request_exit_session, leave, next_frame, Entry, Outcome}
+use Rattle.xr_model.specs.machine.Request.{Request, create_instance, destroy_instance, get_system, string_to_path, path_to_string, poll_event, create_session, destroy_session, begin_session, end_session, request_exit_session, create_reference_space, destroy_space, locate_space, leave, next_frame, Entry, Outcome}
 use Rattle.xr_model.specs.machine.CoreCalls.{entry_of}
 use Rattle.xr_types.specs.declared.session.Event.{Event}
 use Rattle.xr_model.specs.machine.Events.{polled}
@@ -83,6 +83,9 @@ text_fits s e = by e.request
     by (begin_session session view) = carried_fits s.core 0 (refusals (rule s.core (reads_of s) (record e { request = begin_session session view }))) (rule s.core (reads_of s) (record e { request = begin_session session view })).effect ((λ h. refl), ((λ h. refl), ((λ h. refl), ((λ h. refl), ((λ h. refl), ((λ h. refl), tt)))))) refl
     by (end_session session) = carried_fits s.core 0 (refusals (rule s.core (reads_of s) (record e { request = end_session session }))) (rule s.core (reads_of s) (record e { request = end_session session })).effect ((λ h. refl), ((λ h. refl), ((λ h. refl), ((λ h. refl), ((λ h. refl), tt))))) refl
     by (request_exit_session session) = carried_fits s.core 0 (refusals (rule s.core (reads_of s) (record e { request = request_exit_session session }))) (rule s.core (reads_of s) (record e { request = request_exit_session session })).effect ((λ h. refl), ((λ h. refl), ((λ h. refl), ((λ h. refl), tt)))) refl
+    by (create_reference_space session what offset) = carried_fits s.core 0 (refusals (rule s.core (reads_of s) (record e { request = create_reference_space session what offset }))) (rule s.core (reads_of s) (record e { request = create_reference_space session what offset })).effect ((λ h. refl), ((λ h. refl), ((λ h. refl), ((λ h. refl), ((λ h. refl), ((λ h. refl), tt)))))) refl
+    by (destroy_space space) = carried_fits s.core 0 (refusals (rule s.core (reads_of s) (record e { request = destroy_space space }))) (rule s.core (reads_of s) (record e { request = destroy_space space })).effect ((λ h. refl), ((λ h. refl), tt)) refl
+    by (locate_space space base time) = carried_fits s.core 0 (refusals (rule s.core (reads_of s) (record e { request = locate_space space base time }))) (rule s.core (reads_of s) (record e { request = locate_space space base time })).effect ((λ h. refl), ((λ h. refl), ((λ h. refl), ((λ h. refl), ((λ h. refl), tt))))) refl
     by leave = refl
     by next_frame = refl
     by _ = refl

@@ -39,6 +39,7 @@ made_length place (t ∷ calls) = ap suc (made_length (place + 1) calls)
 line_built : (e : DeviceEvent) → is_of_line e ≡ true → is_built_event e ≡ true
 line_built event.Fault h = absurd (true≢false (sym h))
 line_built (event.Garbled line) h = absurd (true≢false (sym h))
+line_built (event.Pose origin time pose) h = refl
 line_built _ h = h
 
 line_faultless : (e : DeviceEvent) → is_of_line e ≡ true → is_fault e ≡ false

@@ -17,8 +17,8 @@ device's as --device=-x too. The scenario's holds a JSON object of at most
 docs/scenario.schema.json describes. Each script is an application, and they
 take turns. These ops are run: create_instance, destroy_instance, get_system,
 string_to_path, path_to_string, poll_event, create_session, destroy_session,
-begin_session, end_session, request_exit_session, mark and await. What is more
-isn't built yet.
+begin_session, end_session, request_exit_session, create_reference_space,
+destroy_space, locate_space, mark and await. What is more isn't built yet.
 With --device the events of the device are read from a text, one on a line;
 without it there are none.
 With --places each line of a call ends in '@' and its reply's place, the count

@@ -1,5 +1,5 @@
 -- The calls by groups: a group is a file of calls/, and one function of the core.
-use Rattle.xr_model.specs.machine.Request.{Request, create_instance, destroy_instance, get_system, poll_event, string_to_path, path_to_string, create_session, destroy_session, begin_session, end_session, request_exit_session, mark, await_mark, leave, next_frame}
+use Rattle.xr_model.specs.machine.Request.{Request, create_instance, destroy_instance, get_system, poll_event, string_to_path, path_to_string, create_session, destroy_session, begin_session, end_session, request_exit_session, create_reference_space, destroy_space, locate_space, mark, await_mark, leave, next_frame}
 
 abbrev pub IsInstanceCall : Request → Type 0
 IsInstanceCall (create_instance major minor) = Unit {0}
@@ -20,6 +20,12 @@ IsSessionCall (begin_session session view) = Unit {0}
 IsSessionCall (end_session session) = Unit {0}
 IsSessionCall (request_exit_session session) = Unit {0}
 IsSessionCall _ = ⊥
+
+abbrev pub IsSpaceCall : Request → Type 0
+IsSpaceCall (create_reference_space session what offset) = Unit {0}
+IsSpaceCall (destroy_space space) = Unit {0}
+IsSpaceCall (locate_space space base time) = Unit {0}
+IsSpaceCall _ = ⊥
 
 -- marks, and how applications and the compositor end
 abbrev pub IsOwnCall : Request → Type 0

@@ -28,6 +28,8 @@ impl Core {
             DeviceEvent::Lost | DeviceEvent::Fault | DeviceEvent::Garbled(_) => self.change_all(
                 Change::Lost,
             ),
+            DeviceEvent::Stage(stage) => self.device.set_stage(stage),
+            DeviceEvent::Pose { origin, time, pose } => self.spaces.sample(origin, time, pose),
             DeviceEvent::Mark(mark) => self.set_mark(mark, 0),
             _ => {}
         }

@@ -1,12 +1,13 @@
 -- Device texts: which lines give which events, and where the first line stands that is none. The format is this
 -- project's own. A line whose part isn't built yet is none.
-use Rattle.std.specs.Prelude.{ℕ, ℤ, pos, negsuc, ◌+◌, ◌-◌, ◌*◌, ◌&&◌, ◌||◌, ◌==◌, Bool, true, false, nat_eq, nat_lt, nat_le, List, [], ◌∷◌, length, codes, Option, Some, None, option_map, option_and_then, if◌then◌else◌}
+use Rattle.std.specs.Prelude.{ℕ, ℤ, pos, negsuc, ◌+◌, ◌-◌, ◌*◌, ◌^◌, ◌&&◌, ◌||◌, ◌==◌, Bool, true, false, nat_eq, nat_lt, nat_le, List, [], ◌∷◌, length, codes, Option, Some, None, option_map, option_and_then, if◌then◌else◌}
 use Rattle.std.specs.Cmp.Lexicographic.{pointwise}
 use Rattle.xr_types.specs.declared.device.DeviceEvent.{DeviceEvent}
 use Rattle.xr_types.specs.declared.device.DeviceEvent.TheVariants as event
 use Rattle.xr_types.specs.declared.limits.TheConstants.{MOST_LINE, MOST_DEVICE}
+use Rattle.xr_types.specs.declared.spaces.Origin.{Origin}
 use Rattle.xr_types.specs.Device.{checks}
-use Rattle.xr_types.specs.Printed.{wish_name, all_wishes}
+use Rattle.xr_types.specs.Printed.{wish_name, all_wishes, origin_name, all_origins}
 use Rattle.xr_types.specs.Words.{named}
 
 -- ---- lines
@@ -73,6 +74,18 @@ abbrev pub grid_by : Option ℤ → Option ℤ → Option DeviceEvent
 grid_by (Some base) (Some period) = Some (event.Grid base period)
 grid_by _ _ = None
 
+-- the device has a stage, or has none
+abbrev pub switch_of : List ℕ → Option Bool
+switch_of word = if is_word word (codes "on") then Some true else (if is_word word (codes "off") then Some false else None)
+
+-- the greatest pose that a line tells
+abbrev pub most_pose : ℕ
+most_pose = 2 ^ 63 - 1
+
+abbrev pub pose_by : Option Origin → Option ℤ → Option ℕ → Option DeviceEvent
+pose_by (Some what) (Some time) (Some pose) = if nat_le pose most_pose then Some (event.Pose what time pose) else None
+pose_by _ _ _ = None
+
 -- the event of a line's words, whatever its numbers
 abbrev pub event_by : List (List ℕ) → Option DeviceEvent
 event_by [] = None
@@ -83,11 +96,13 @@ event_by (word ∷ []) =
 event_by (word ∷ a ∷ []) =
     if is_word word (codes "clock") then option_map (λ n. event.Clock n) (integer_of a)
     else (if is_word word (codes "wish") then option_map (λ w. event.Wish w) (named wish_name all_wishes a)
+    else (if is_word word (codes "stage") then option_map (λ on. event.Stage on) (switch_of a)
     else (if is_word word (codes "mark") then option_map (λ n. event.Mark n) (number_of a)
     else (if is_word word (codes "await") then option_map (λ n. event.Await n) (number_of a)
-    else None)))
+    else None))))
 event_by (word ∷ a ∷ b ∷ []) = if is_word word (codes "grid") then grid_by (integer_of a) (integer_of b) else None
-event_by (word ∷ a ∷ b ∷ c ∷ ws) = None
+event_by (word ∷ a ∷ b ∷ c ∷ []) = if is_word word (codes "pose") then pose_by (named origin_name all_origins a) (integer_of b) (number_of c) else None
+event_by (word ∷ a ∷ b ∷ c ∷ d ∷ ws) = None
 
 -- its numbers have to be in range
 abbrev pub if_checked : Option DeviceEvent → Option DeviceEvent

@@ -7,7 +7,7 @@ use Rattle.xr_types.specs.declared.calls.Actor.TheVariants.{App, Compositor, Dev
 use Rattle.xr_types.specs.declared.device.DeviceEvent.{DeviceEvent}
 use Rattle.xr_types.specs.declared.device.DeviceEvent.TheVariants.{Await}
 use Rattle.xr_types.specs.Code.{is_success}
-use Rattle.xr_model.specs.machine.Request.{Request, create_instance, destroy_instance, get_system, string_to_path, path_to_string, poll_event, create_session, destroy_session, begin_session, end_session, request_exit_session, mark, await_mark, leave, device, next_frame, Entry, Outcome}
+use Rattle.xr_model.specs.machine.Request.{Request, create_instance, destroy_instance, get_system, string_to_path, path_to_string, poll_event, create_session, destroy_session, begin_session, end_session, request_exit_session, create_reference_space, destroy_space, locate_space, mark, await_mark, leave, device, next_frame, Entry, Outcome}
 use Rattle.xr_model.specs.machine.Handles.{Handles, was_given}
 use Rattle.xr_model.specs.machine.Paths.{is_new}
 use Rattle.xr_model.specs.machine.Marks.{is_set}
@@ -17,6 +17,7 @@ use Rattle.xr_model.specs.machine.State.{CoreState, Cells, State, CellReads}
 use Rattle.xr_model.specs.machine.Rule.{Rule, Effect, Did, refusals, carried_out, decided_call}
 use Rattle.xr_model.specs.machine.Rules.Instance.{create_instance_rule, destroy_instance_rule, get_system_rule, poll_event_rule}
 use Rattle.xr_model.specs.machine.Rules.Session.{create_session_rule, destroy_session_rule, begin_session_rule, end_session_rule, request_exit_session_rule}
+use Rattle.xr_model.specs.machine.Rules.Spaces.{create_reference_space_rule, destroy_space_rule, locate_space_rule}
 use Rattle.xr_model.specs.machine.Rules.Device.{device_rule}
 use Rattle.xr_model.specs.machine.Rules.Paths.{string_to_path_rule, path_to_string_rule}
 use Rattle.xr_model.specs.machine.Rules.Own.{leave_rule, mark_rule, await_mark_rule, next_frame_rule, unbuilt_rule}
@@ -34,6 +35,9 @@ rule_of s reads who given short (destroy_session session) = destroy_session_rule
 rule_of s reads who given short (begin_session session view) = begin_session_rule s session view
 rule_of s reads who given short (end_session session) = end_session_rule s session
 rule_of s reads who given short (request_exit_session session) = request_exit_session_rule s session
+rule_of s reads who given short (create_reference_space session kind offset) = create_reference_space_rule s given session kind offset
+rule_of s reads who given short (destroy_space space) = destroy_space_rule s space
+rule_of s reads who given short (locate_space space base time) = locate_space_rule s space base time
 rule_of s reads who given short (mark number value) = mark_rule s number value
 rule_of s reads who given short (await_mark number) = await_mark_rule s number
 rule_of s reads who given short leave = leave_rule s who
@@ -101,6 +105,9 @@ is_built (destroy_session session) = true
 is_built (begin_session session view) = true
 is_built (end_session session) = true
 is_built (request_exit_session session) = true
+is_built (create_reference_space session kind offset) = true
+is_built (destroy_space space) = true
+is_built (locate_space space base time) = true
 is_built (mark number value) = true
 is_built (await_mark number) = true
 is_built leave = true
@@ -112,6 +119,7 @@ is_built _ = false
 abbrev pub is_creation : Request → Bool
 is_creation (create_instance major minor) = true
 is_creation (create_session instance system) = true
+is_creation (create_reference_space session kind offset) = true
 is_creation _ = false
 
 -- the calls that take memory in this state

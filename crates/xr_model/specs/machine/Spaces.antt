@@ -4,6 +4,7 @@
 use Rattle.std.specs.Prelude.{ℕ, ℤ, pos, ◌+◌, ◌==◌, ◌&&◌, not, Bool, true, false, int_le, int_lt, List, [], ◌∷◌, ◌++◌, map, take, replicate, slice_get, slice_set, Option, Some, None, option_map, option_and_then, unwrap_or, if◌then◌else◌}
 use Rattle.std.specs.List.{find, filter}
 use Rattle.xr_types.specs.declared.code.Code.TheVariants.{ReferenceSpaceUnsupported, PoseInvalid}
+use Rattle.xr_types.specs.declared.handles.TheConstants.{ACTIONS}
 use Rattle.xr_types.specs.declared.input.Column.{Column}
 use Rattle.xr_types.specs.declared.input.States.{States}
 use Rattle.xr_types.specs.declared.input.User.{User}
@@ -108,6 +109,11 @@ is_of_action place (Action p column) = p == place
 abbrev pub without_action : ℕ → Space → Space
 without_action place x = record x { root = option_and_then (λ r. if is_of_action place r then None else Some r) x.root }
 
+-- without the spaces of these handles
+abbrev pub without_spaces : Spaces → List ℕ → Spaces
+without_spaces s [] = s
+without_spaces s (handle ∷ handles) = without_spaces (without_space s handle) handles
+
 -- the action of a place was destroyed
 abbrev pub forgotten : Spaces → ℕ → Spaces
 forgotten s place = record s { spaces = map (without_action place) s.spaces }
@@ -116,6 +122,13 @@ abbrev pub sampled : Spaces → Origin → ℤ → ℕ → Spaces
 sampled s what time pose = record s { samples = with_sample_of s.samples what time pose }
 
 -- ---- locating
+
+-- no sync was made: each column is inactive
+abbrev pub inactive : Column
+inactive = record { x = pos 0; y = pos 0; changed = false; time = pos 0; active = false; origin = None }
+
+abbrev pub no_states : States
+no_states = record { columns = replicate ACTIONS (replicate 6 inactive) }
 
 abbrev pub origin_of_kind : RefKind → Origin
 origin_of_kind kind.View = origin.View

@@ -6,10 +6,11 @@ use Rattle.xr_model.specs.machine.Handles.{Handles, no_handles}
 use Rattle.xr_model.specs.machine.Events.{Queue, no_events}
 use Rattle.xr_model.specs.machine.LiveSessions.{Session}
 use Rattle.xr_model.specs.machine.Marks.{no_marks}
+use Rattle.xr_model.specs.machine.Spaces.{Spaces, no_spaces}
 use Rattle.xr_model.specs.machine.Device.{Device, first_device}
 
 -- What a core keeps: the handles, the atoms' texts, the events that wait, the live sessions in the order of their
--- creation, how many were created in the run, what the device has told of itself, the marks, how many applications
+-- creation, how many were created in the run, the spaces with the samples of their origins, what the device has told of itself, the marks, how many applications
 -- there are, which of them have left, and how many locked calls were decided.
 pub record CoreState : Type 0 where
   pub handles : Handles
@@ -17,6 +18,7 @@ pub record CoreState : Type 0 where
   pub events : Queue
   pub sessions : List Session
   pub created : ℕ
+  pub spaces : Spaces
   pub device : Device
   pub marks : List (Option ℕ)
   pub apps : ℕ
@@ -56,6 +58,7 @@ opening_core settings = record {
   events = no_events;
   sessions = [];
   created = 0;
+  spaces = no_spaces;
   device = first_device;
   marks = no_marks;
   apps = settings.apps;

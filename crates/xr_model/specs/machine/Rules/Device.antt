@@ -6,6 +6,7 @@ use Rattle.xr_types.specs.declared.calls.Gives.TheVariants.{Nothing}
 use Rattle.xr_model.specs.machine.SessionLife.{Life, Changed, unchanged, settled_session, losing_session, lost_session}
 use Rattle.xr_model.specs.machine.LiveSessions.{each_changed, told_changes}
 use Rattle.xr_model.specs.machine.Marks.{with_mark}
+use Rattle.xr_model.specs.machine.Spaces.{sampled}
 use Rattle.xr_model.specs.machine.State.{CoreState}
 use Rattle.xr_model.specs.machine.Rule.{Rule, done}
 
@@ -27,6 +28,8 @@ behind_event s (event.Grid base period) = record s { device = record s.device { 
 behind_event s (event.Wish wish) = with_changes (record s { device = record s.device { wish = wish } }) (settled_session wish)
 behind_event s event.Loss = with_changes s losing_session
 behind_event s event.Lost = with_lost s
+behind_event s (event.Stage on) = record s { device = record s.device { stage = on } }
+behind_event s (event.Pose origin time pose) = record s { spaces = sampled s.spaces origin time pose }
 behind_event s (event.Mark mark) = record s { marks = with_mark s.marks mark 0 }
 behind_event s event.Fault = with_lost s
 behind_event s (event.Garbled line) = with_lost s

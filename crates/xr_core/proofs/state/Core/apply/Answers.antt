@@ -26,6 +26,10 @@ pub returns-in-CreateSession : goal.returns-in-CreateSession
 returns-in-CreateSession c reads =
     made_answers c.args.self.now reads c.args.who _ c.session_call-reply.new.self c.session_call-reply.result c.args.text.now c.requires.may.present (sym (c.if-is_held_back.ensures reads)) c.session_call-reply.ensures
 
+pub returns-in-CreateReferenceSpace : goal.returns-in-CreateReferenceSpace
+returns-in-CreateReferenceSpace c reads =
+    made_answers c.args.self.now reads c.args.who _ c.space_call-reply.new.self c.space_call-reply.result c.args.text.now c.requires.may.present (sym (c.if-is_held_back.ensures reads)) c.space_call-reply.ensures
+
 pub returns-in-Mark : goal.returns-in-Mark
 returns-in-Mark c reads = answers_over c.args.self.now reads _ c.own_call-reply.new.self c.own_call-reply.result c.args.text.now (c.own_call-reply.ensures reads)
 
