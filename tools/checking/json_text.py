@@ -132,6 +132,16 @@ class Reader:
             raise JsonFault(at, f"`{shown}` is no value of JSON: {why}")
         self.refuse(at, "a value")
 
+    def behind_item(self, at: int, close: str) -> tuple[bool, int]:
+        """Whether the array or object ends behind an item, and the place of what follows."""
+        place = self.skip(at)
+        after = self.text[place : place + 1]
+        if after == close:
+            return True, place + 1
+        if after != ",":
+            self.refuse(place, f"`,` or `{close}`")
+        return False, self.skip(place + 1)
+
     def array(self, at: int, depth: int) -> Node:
         text, items, place = self.text, [], self.skip(at + 1)
         if text[place : place + 1] == "]":
@@ -141,13 +151,9 @@ class Reader:
                 raise JsonFault(place, "a comma stands before this `]`, with no value behind it")
             item = self.value(place, depth)
             items.append(item)
-            place = self.skip(item.end)
-            after = text[place : place + 1]
-            if after == "]":
-                return Node(items, at, place + 1)
-            if after != ",":
-                self.refuse(place, "`,` or `]`")
-            place = self.skip(place + 1)
+            has_ended, place = self.behind_item(item.end, "]")
+            if has_ended:
+                return Node(items, at, place)
 
     def object(self, at: int, depth: int) -> Node:
         text, members, place = self.text, {}, self.skip(at + 1)
@@ -158,13 +164,9 @@ class Reader:
             if key in members:
                 self.repeated.append((key, key_at))
             members[key] = (key_at, item)
-            place = self.skip(item.end)
-            after = text[place : place + 1]
-            if after == "}":
-                return Node(members, at, place + 1)
-            if after != ",":
-                self.refuse(place, "`,` or `}`")
-            place = self.skip(place + 1)
+            has_ended, place = self.behind_item(item.end, "}")
+            if has_ended:
+                return Node(members, at, place)
 
     def member(self, at: int, depth: int, is_behind_comma: bool) -> tuple[str, int, Node]:
         """A key, its place, and its value."""
