@@ -15,7 +15,8 @@ MOST_FINDINGS = 5
 # the ops that a run makes so far; .ci/check compares this with the program
 RUN_OPS = frozenset(
     "create_instance destroy_instance get_system string_to_path path_to_string poll_event create_session destroy_session "
-    "begin_session end_session request_exit_session create_reference_space destroy_space locate_space mark await".split()
+    "begin_session end_session request_exit_session create_reference_space destroy_space locate_space create_action_set "
+    "destroy_action_set create_action destroy_action suggest_bindings attach_sets mark await".split()
 )
 
 

@@ -1,12 +1,13 @@
 //! `xr_bench` measures how many calls a second the core answers, beside how many ops a second `serde_json`
-//! reads of the same calls as a scenario, how often a second a space is located, how many lines a second a device text is read, and how many calls and turns
-//! a second a run of eight scripts makes. A measure and no test. It touches the clock and standard output.
+//! reads of the same calls as a scenario, how often a second a space is located, how many bindings a second are suggested, how
+//! many lines a second a device text is read, and how many calls and turns a second a run of eight scripts makes. A measure and no test. It touches the clock and standard output.
 #![tactic(auto)]
 
 mod lines;
 mod locates;
 mod round;
 mod runs;
+mod suggests;
 mod texts;
 
 use lines::{read_lines, text_of_lines};
@@ -19,19 +20,22 @@ use std::io::Print;
 use std::process::ExitCode;
 use std::time::{Clock, Instant};
 use std::{env, io};
+use suggests::{set_up, suggest_often};
 use texts::{text_of_marks, text_of_names, text_of_polls, time_readings};
 use xr_core::Core;
+use xr_types::MOST_SUGGESTED;
 
 const HELP: &str = "\
 xr_bench ROUNDS
 Makes ROUNDS rounds of calls, 1 to 100000000, on a core of one application, and prints how many calls a
-second it answers. It locates a head in a room as often as there are rounds, and prints how often a second.
-Then it reads the calls of a round as a scenario with serde_json, a tenth as often and at most 100000 times,
-and prints how many ops a second are read; and then a device text of 16777208 bytes, and prints how many
-lines a second are read. Last it runs eight scripts that pass marks round, 20 times, and prints how many calls
-a second these make; and seven scripts that wait for an eighth, and prints how many turns a second there are.
-It reads three scenarios of 16001 ops, 10 times each, and prints how long that took, beside how long their
-JSON alone took to be read: of polls, of marks, and of names that differ at their ends alone.
+second it answers. It locates a head in a room as often as there are rounds, and prints how often a
+second. It suggests as many bindings, 512 at once, and prints how many a second are taken. Then it reads
+the calls of a round as a scenario with serde_json, a tenth as often and at most 100000 times, and prints
+how many ops a second are read; and then a device text of 16777208 bytes, and prints how many lines a
+second are read. Last it runs eight scripts that pass marks round, 20 times, and prints how many calls a
+second these make; and seven scripts that wait for an eighth, and prints how many turns a second there
+are. It reads three scenarios of 16001 ops, 10 times each, and prints how long that took, beside how long
+their JSON alone took to be read: of polls, of marks, and of names that differ at their ends alone.
 ";
 
 /// So many things in so many microseconds, a second.
@@ -85,6 +89,23 @@ fn measure_locating<R: Clock + Print>(rt: &R, alloc: Global, rounds: u64) -> io:
     println!(rt;
         "locating: {found} spaces in {spent} microseconds, {} a second",
         rate(found, spent)
+    )?;
+    Ok(true)
+}
+
+/// Measures suggesting: as many bindings as there are rounds, and at least as many as a profile has.
+fn measure_suggesting<R: Clock + Print>(rt: &R, alloc: Global, rounds: u64) -> io::Result<bool> {
+    let Ok(mut core) = Core::start(alloc, 1) else {
+        return Ok(false);
+    };
+    let suggestions = set_up(&mut core);
+    let times = (rounds / MOST_SUGGESTED as u64).max(1);
+    let start = Instant::now(rt)?;
+    let taken = suggest_often(&mut core, &suggestions, times);
+    let spent = start.elapsed(rt)?.as_micros();
+    println!(rt;
+        "suggesting: {taken} bindings in {spent} microseconds, {} a second",
+        rate(taken, spent)
     )?;
     Ok(true)
 }
@@ -179,16 +200,17 @@ fn measure_texts<R: Clock + Print>(rt: &R, alloc: Global) -> io::Result<bool> {
     Ok(polls && marks && names)
 }
 
-/// Measures all six; whether memory was found.
+/// Measures all seven; whether memory was found.
 fn measure<R: Clock + Print>(rt: &R, alloc: Global, rounds: u64) -> io::Result<bool> {
     let readings = (rounds / 10).min(100_000);
     let core = measure_core(rt, alloc, rounds)?;
     let locating = measure_locating(rt, alloc, rounds)?;
+    let suggesting = measure_suggesting(rt, alloc, rounds)?;
     let reading = measure_reading(rt, alloc, readings)?;
     let lines = measure_lines(rt, alloc)?;
     let runs = measure_runs(rt, alloc)?;
     let texts = measure_texts(rt, alloc)?;
-    Ok(core && locating && reading && lines && runs && texts)
+    Ok(core && locating && suggesting && reading && lines && runs && texts)
 }
 
 /// The rounds that the words ask for.

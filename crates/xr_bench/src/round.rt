@@ -6,7 +6,7 @@ ghost use Rattle.xr_model.specs.machine.Machine.{is_built};
 ghost use Rattle.xr_model.specs.machine.CoreCalls.{IsCaller, HasNumbers, FitsBuffer};
 
 use xr_core::Core;
-use xr_types::{Actor, Call, Form, Gives, Step};
+use xr_types::{Actor, Call, Form, Gives, Reply, Step};
 
 /// How many calls a round makes.
 pub(crate) const CALLS: u64 = 11;
@@ -34,6 +34,9 @@ fn is_own(call: &Call<'_>) -> bool
             | Call::DestroySession { .. }
             | Call::CreateReferenceSpace { .. }
             | Call::LocateSpace { .. }
+            | Call::CreateActionSet { .. }
+            | Call::CreateAction { .. }
+            | Call::SuggestBindings { .. }
     )
 }
 
@@ -44,14 +47,22 @@ pub(crate) fn has_places(core: &Core) -> bool
     core.calls() < 1 << 44
 }
 
-/// What a call of the only application gives, nothing where it can't be made.
-pub(crate) fn ask(core: &mut Core, call: &Call<'_>) -> Gives {
+/// The reply to a call of the only application, where it can be made.
+pub(crate) fn answer(core: &mut Core, call: &Call<'_>) -> Option<Reply> {
     if !is_own(call) || !core.is_present(1) || !has_places(core) {
-        return Gives::Nothing;
+        return None;
     }
     match core.apply(Actor::App(1), call, &mut []) {
-        Step::Done(reply) => reply.gives,
-        Step::NotReady => Gives::Nothing,
+        Step::Done(reply) => Some(reply),
+        Step::NotReady => None,
+    }
+}
+
+/// What a call of the only application gives, nothing where it can't be made.
+pub(crate) fn ask(core: &mut Core, call: &Call<'_>) -> Gives {
+    match answer(core, call) {
+        Some(reply) => reply.gives,
+        None => Gives::Nothing,
     }
 }
 

@@ -1,9 +1,14 @@
 pub mod Start
 pub mod CallAnswers
 pub mod PartRefusals
+pub mod Refused
 pub mod SessionCalls
 pub mod SessionEvents
+pub mod SetCalls
 pub mod Listed
 pub mod Housed
+pub mod Kept
+pub mod Going
+pub mod Suggesting
 pub mod SpaceCalls
 pub mod Pairing

@@ -83,6 +83,15 @@ pub listed_space : (h new : Handles) (xs : List Session) (o : Option Refusal) (p
 listed_space h new xs None parent given is listed = rw is listed
 listed_space h new xs (Some r) parent given is listed = rw is listed
 
+-- a set more, or an action more
+pub listed_set : (h new : Handles) (xs : List Session) (o : Option Refusal) (parent given : ℕ) → new ≡ unless o h (with_handle h kind.ActionSet parent given) → AreListed h xs → AreListed new xs
+listed_set h new xs None parent given is listed = rw is listed
+listed_set h new xs (Some r) parent given is listed = rw is listed
+
+pub listed_action : (h new : Handles) (xs : List Session) (o : Option Refusal) (parent given : ℕ) → new ≡ unless o h (with_handle h kind.Action parent given) → AreListed h xs → AreListed new xs
+listed_action h new xs None parent given is listed = rw is listed
+listed_action h new xs (Some r) parent given is listed = rw is listed
+
 pub listed_give : (h new : Handles) (xs ys : List Session) (x : Session) (instance given : ℕ) → has_room h kind.Session ≡ true → new ≡ unless (first_of (no_room h kind.Session ∷ [])) h (with_handle h kind.Session instance given)
     → x.handle ≡ given → (given == 0) ≡ false → ys ≡ xs ++ x ∷ [] → AreListed h xs → AreListed new ys
 listed_give h new xs ys x instance given room is named nz more listed =

@@ -18,7 +18,7 @@ use Rattle.xr_model.specs.machine.Rules.Session.{life_of, with_change, changing_
 use Rattle.xr_model.specs.machine.State.{CoreState, CellReads}
 use Rattle.xr_model.specs.machine.Rule.{Rule, refusals}
 use Rattle.xr_model.specs.machine.Machine.{rule_of, is_built, is_creation}
-use Rattle.xr_states.specs.Codes.{code_by}
+use Rattle.xr_model.specs.machine.PartAnswers.{code_by}
 use Rattle.xr_core.specs.inside.Calls.{Makes}
 use Rattle.xr_core.specs.inside.Changes.{life_request, checks_of, change_of, refusals_of, changed_life, answer_to}
 use Rattle.xr_core.specs.declared.sessions.LifeCall.{LifeCall}

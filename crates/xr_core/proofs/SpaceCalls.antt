@@ -35,7 +35,7 @@ success_good life = by (is_state life.state LossPending)
     by true = refl
     by false = refl
 
-success_found : (life : Life) → is_out_of_memory (code_on life Success) ≡ false
+pub success_found : (life : Life) → is_out_of_memory (code_on life Success) ≡ false
 success_found life = by (is_state life.state LossPending)
   where
     by : (b : Bool) → is_out_of_memory (if b then SessionLossPending else Success) ≡ false

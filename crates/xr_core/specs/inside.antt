@@ -3,3 +3,4 @@ pub mod Calls
 pub mod Changes
 pub mod Groups
 pub mod Housed
+pub mod Refusing

@@ -40,7 +40,8 @@ impl Core {
     /// Makes a call that is built, or says that it has to wait and leaves all as it was. `text` is the buffer that
     /// `path_to_string` is lent, of the call's `capacity`; for other calls it may have any size and stays.
     /// Whatever the cells tell, the reply is the machine's to an allowed entry: it gives a handle exactly where a creation
-    /// succeeds, and `OutOfMemory` comes only to a new path text that would else be interned.
+    /// succeeds, and `OutOfMemory` comes only to a new path text that would else be interned, and to suggestions that would
+    /// else be taken.
     pub fn apply(&mut self, who: Actor, call: &Call<'_>, text: &mut [u8]) -> Step
         requires calls { self.old.locked < 2 ^ 44 }
         requires may { MayMake self.old who (request_of call.now) (length text.old) }
@@ -63,6 +64,16 @@ impl Core {
             Call::CreateReferenceSpace { .. }
             | Call::DestroySpace { .. }
             | Call::LocateSpace { .. } => self.space_call(call),
+            Call::CreateActionSet { .. }
+            | Call::DestroyActionSet { .. }
+            | Call::CreateAction { .. }
+            | Call::DestroyAction { .. }
+            | Call::AttachSets { .. } => self.set_call(call),
+            Call::SuggestBindings {
+                instance,
+                profile,
+                list,
+            } => self.suggest_bindings(*instance, *profile, list),
             Call::Mark { .. } | Call::AwaitMark { .. } | Call::Leave | Call::NextFrame => {
                 self.own_call(who, call)
             }

@@ -1,7 +1,9 @@
 // What each call does, a method a call.
+mod bindings;
 mod device;
 mod instance;
 mod own;
 mod paths;
 mod session;
+mod sets;
 mod spaces;

@@ -3,12 +3,14 @@
 #![tactic(auto)]
 
 mod apply;
+mod bound;
 mod calls;
 mod device_values;
 mod plain_cells;
 mod plain_core;
 mod sessions;
 mod state;
+mod subactions;
 
 pub use plain_cells::PlainCells;
 pub use plain_core::PlainCore;

@@ -1,7 +1,9 @@
 // The state, and how a call ends. It touches no part's inside.
 ghost use Rattle.std.specs.Prelude.{◌≡◌, ◌≤◌, ◌<◌, ◌^◌, ◌+◌, ◌↔◌, IfOk, IsTrue, length};
+ghost use Rattle.xr_model.specs.machine.Bindings.{without_suggestions};
 ghost use Rattle.xr_model.specs.machine.Destroyed.{without_handle};
 ghost use Rattle.xr_model.specs.machine.LiveSessions.{still_live};
+ghost use Rattle.xr_model.specs.machine.Sets.{without_inputs};
 ghost use Rattle.xr_model.specs.machine.Spaces.{without_spaces};
 ghost use Rattle.xr_model.specs.machine.Rules.Device.{with_changes};
 ghost use Rattle.xr_core.specs.inside.Changes.{change_by};
@@ -13,9 +15,11 @@ use crate::sessions::{Change, LiveSession, change_each};
 use arrayvec::ArrayVec;
 use std::alloc::Global;
 use std::marker::Model;
+use xr_bindings::Bindings;
 use xr_events::Events;
 use xr_handles::Handles;
 use xr_paths::Paths;
+use xr_sets::Sets;
 use xr_spaces::Spaces;
 use xr_types::{
     ACTIONS, Actor, Code, Column, Gives, Kind, MOST_HANDLES, MOST_MARK, MOST_SCRIPTS, NoMemory,
@@ -50,6 +54,10 @@ pub struct Core {
     pub(crate) sessions: ArrayVec<LiveSession, SESSIONS>,
     /// How many sessions were created.
     pub(crate) created: u64,
+    /// The live action sets and actions, in the order of their creation.
+    pub(crate) sets: Sets,
+    /// What is suggested for each profile.
+    pub(crate) bindings: Bindings,
     /// The live spaces, in the order of their creation, and the samples of their origins.
     pub(crate) spaces: Spaces,
     /// What the last sync found. None was made yet.
@@ -68,7 +76,7 @@ impl Model for Core {
     ghost use Rattle.xr_types.specs.declared.limits.TheConstants.{MOST_SCRIPTS};
     ghost use Rattle.xr_model.specs.laws.SessionLaws.{AreListed};
     ghost use Rattle.xr_model.specs.machine.Spaces.{no_states};
-    ghost use Rattle.xr_core.specs.inside.Housed.{AreHoused};
+    ghost use Rattle.xr_core.specs.inside.Housed.{KeepsLive};
     ghost use Rattle.xr_model.specs.machine.State.{CoreState};
 
     ghost Value = { CoreState };
@@ -79,6 +87,8 @@ impl Model for Core {
       events = c.events;
       sessions = c.sessions.items;
       created = c.created;
+      sets = c.sets;
+      suggestions = c.bindings;
       spaces = c.spaces;
       device = c.device;
       marks = c.marks;
@@ -87,7 +97,7 @@ impl Model for Core {
       locked = c.calls;
     } };
 
-    ghost invariant = { λ c. AreListed c.handles c.sessions.items × (length c.handles.given ≤ c.calls) × (c.created ≤ c.calls) × (c.apps ≤ MOST_SCRIPTS) × AreHoused c.spaces.spaces c.handles.spaces × (c.states ≡ no_states) };
+    ghost invariant = { λ c. AreListed c.handles c.sessions.items × (length c.handles.given ≤ c.calls) × (c.created ≤ c.calls) × (c.apps ≤ MOST_SCRIPTS) × KeepsLive c.spaces c.sets c.handles × (c.states ≡ no_states) };
 }
 
 /// Only the sessions whose handles are live are kept.
@@ -106,8 +116,26 @@ fn forget_spaces(spaces: &mut Spaces, handles: &[u64])
     }
 }
 
+/// The action sets and the actions of these handles go.
+fn forget_sets(sets: &mut Sets, handles: &[u64])
+    ensures { sets.new ≡ without_inputs sets.old handles.now }
+{
+    for handle in handles {
+        sets.remove(*handle);
+    }
+}
+
+/// The suggestions of the actions among these handles go.
+fn forget_suggestions(bindings: &mut Bindings, handles: &[u64])
+    ensures { bindings.new ≡ without_suggestions bindings.old handles.now }
+{
+    for handle in handles {
+        bindings.forget(*handle);
+    }
+}
+
 impl Core {
-    /// A core of 1 to 8 applications before any call. Takes all memory but that of new path texts.
+    /// A core of 1 to 8 applications before any call. Takes all memory but that of new path texts and of suggestions.
     #[tactic(auto, using(crate::proofs::Start::none_left))]
     pub fn start(alloc: Global, apps: u8) -> Result<Core, NoMemory>
         requires some { 1 ≤ apps }
@@ -123,6 +151,8 @@ impl Core {
             events,
             sessions: ArrayVec::new(),
             created: 0,
+            sets: Sets::start(),
+            bindings: Bindings::start(alloc),
             spaces,
             states: NO_STATES,
             device: DeviceValues::start(),
@@ -166,6 +196,8 @@ impl Core {
         self.handles.destroy(handle, &mut destroyed);
         keep_live(&self.handles, &mut self.sessions);
         forget_spaces(&mut self.spaces, destroyed.as_slice());
+        forget_sets(&mut self.sets, destroyed.as_slice());
+        forget_suggestions(&mut self.bindings, destroyed.as_slice());
     }
 
     /// Changes all live sessions, in the order of their creation.

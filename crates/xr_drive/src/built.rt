@@ -24,6 +24,12 @@ fn is_built(op: &Op) -> bool
             | Op::CreateReferenceSpace { .. }
             | Op::DestroySpace { .. }
             | Op::LocateSpace { .. }
+            | Op::CreateActionSet { .. }
+            | Op::DestroyActionSet { .. }
+            | Op::CreateAction { .. }
+            | Op::DestroyAction { .. }
+            | Op::SuggestBindings { .. }
+            | Op::AttachSets { .. }
             | Op::Mark { .. }
             | Op::Await { .. }
     )

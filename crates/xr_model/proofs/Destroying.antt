@@ -3,10 +3,10 @@ use Rattle.std.proofs.Common.{◌≡◌, ℕ, ℤ, ◌==◌, ◌&&◌, ◌||◌,
 use Rattle.xr_types.specs.Code.{is_success}
 use Rattle.xr_types.specs.declared.code.Code.TheVariants.{HandleInvalid}
 use Rattle.xr_types.specs.declared.handles.Kind.{Kind}
-use Rattle.xr_types.specs.declared.handles.Kind.TheVariants.{Instance, Session, Space}
+use Rattle.xr_types.specs.declared.handles.Kind.TheVariants.{Instance, Session, ActionSet, Action, Space}
 use Rattle.xr_types.specs.declared.handles.Slot.{Slot}
 use Rattle.xr_types.specs.declared.handles.TheConstants.{INSTANCES, SESSIONS, ACTION_SETS, ACTIONS, SPACES, SWAPCHAINS}
-use Rattle.xr_model.specs.machine.Request.{Entry, Request, destroy_instance, destroy_session, destroy_space}
+use Rattle.xr_model.specs.machine.Request.{Entry, Request, destroy_instance, destroy_session, destroy_space, destroy_action_set, destroy_action}
 use Rattle.xr_model.specs.machine.Handles.{Handles, has, is_live, was_given, with_handle, destroyed_instances, destroyed_parents, without}
 use Rattle.xr_model.specs.machine.HandlePlaces.{kind_of}
 use Rattle.xr_model.specs.machine.Refusals.{when, first_of}
@@ -70,6 +70,14 @@ module _ (h : Handles) (parent given handle : ℕ) (other : (given == handle) �
   unfolding slot
   absent_session = record { instances = a.instances; sessions = hasnt_put slot h.sessions handle a.sessions other; sets = a.sets; actions = a.actions; spaces = a.spaces; chains = a.chains }
 
+  absent_set : IsAbsent (with_handle h ActionSet parent given) handle
+  unfolding slot
+  absent_set = record { instances = a.instances; sessions = a.sessions; sets = hasnt_put slot h.sets handle a.sets other; actions = a.actions; spaces = a.spaces; chains = a.chains }
+
+  absent_action : IsAbsent (with_handle h Action parent given) handle
+  unfolding slot
+  absent_action = record { instances = a.instances; sessions = a.sessions; sets = a.sets; actions = hasnt_put slot h.actions handle a.actions other; spaces = a.spaces; chains = a.chains }
+
   absent_space : IsAbsent (with_handle h Space parent given) handle
   unfolding slot
   absent_space = record { instances = a.instances; sessions = a.sessions; sets = a.sets; actions = a.actions; spaces = hasnt_put slot h.spaces handle a.spaces other; chains = a.chains }
@@ -84,6 +92,8 @@ known_step s e known = kept_by_step AreKnown s.core (reads_of s) e (record {
   same = known;
   instance = λ gives handle nz new. let two = neither_of (e.given == handle) (was_given s.core.handles handle) new in absent_instance s.core.handles 0 e.given handle two.0 (known handle nz two.1);
   session = λ gives instance live handle nz new. let two = neither_of (e.given == handle) (was_given s.core.handles handle) new in absent_session s.core.handles instance e.given handle two.0 (known handle nz two.1);
+  set = λ gives instance live handle nz new. let two = neither_of (e.given == handle) (was_given s.core.handles handle) new in absent_set s.core.handles instance e.given handle two.0 (known handle nz two.1);
+  action = λ gives set live handle nz new. let two = neither_of (e.given == handle) (was_given s.core.handles handle) new in absent_action s.core.handles set e.given handle two.0 (known handle nz two.1);
   space = λ gives session live handle nz new. let two = neither_of (e.given == handle) (was_given s.core.handles handle) new in absent_space s.core.handles session e.given handle two.0 (known handle nz two.1);
   without = λ gone handle nz new. absent_without s.core.handles gone handle nz (known handle nz new);
 })
@@ -129,6 +139,10 @@ over_step s e handle allowed over = kept_by_step (IsOver handle) s.core (reads_o
       record { some = over.some; given = or_given (e.given == handle) (was_given s.core.handles handle) over.given; absent = absent_instance s.core.handles 0 e.given handle other over.absent };
   session = λ gives instance live. let other = is_other s.core.handles handle e.given (gives_handle s.core (reads_of s) e) over allowed.handle gives in
       record { some = over.some; given = or_given (e.given == handle) (was_given s.core.handles handle) over.given; absent = absent_session s.core.handles instance e.given handle other over.absent };
+  set = λ gives instance live. let other = is_other s.core.handles handle e.given (gives_handle s.core (reads_of s) e) over allowed.handle gives in
+      record { some = over.some; given = or_given (e.given == handle) (was_given s.core.handles handle) over.given; absent = absent_set s.core.handles instance e.given handle other over.absent };
+  action = λ gives set live. let other = is_other s.core.handles handle e.given (gives_handle s.core (reads_of s) e) over allowed.handle gives in
+      record { some = over.some; given = or_given (e.given == handle) (was_given s.core.handles handle) over.given; absent = absent_action s.core.handles set e.given handle other over.absent };
   space = λ gives session live. let other = is_other s.core.handles handle e.given (gives_handle s.core (reads_of s) e) over allowed.handle gives in
       record { some = over.some; given = or_given (e.given == handle) (was_given s.core.handles handle) over.given; absent = absent_space s.core.handles session e.given handle other over.absent };
   without = λ gone. record { some = over.some; given = over.given; absent = absent_without s.core.handles gone handle over.some over.absent };
@@ -172,6 +186,14 @@ over_destroyed s e handle known = by e.request
         destroyed (IsOver handle) s.core (is_live s.core.handles Space space) (rule s.core (reads_of s) (record e { request = destroy_space space })).effect good
         (λ live. subst (λ (n : ℕ). IsOver n (without s.core.handles space)) (same_key space handle names)
         (over_without s.core.handles Space space known live (λ a. rw a.spaces (and_false (not (space == 0))))))
+    by (destroy_action_set set) names good =
+        destroyed (IsOver handle) s.core (is_live s.core.handles ActionSet set) (rule s.core (reads_of s) (record e { request = destroy_action_set set })).effect good
+        (λ live. subst (λ (n : ℕ). IsOver n (without s.core.handles set)) (same_key set handle names)
+        (over_without s.core.handles ActionSet set known live (λ a. rw a.sets (and_false (not (set == 0))))))
+    by (destroy_action action) names good =
+        destroyed (IsOver handle) s.core (is_live s.core.handles Action action) (rule s.core (reads_of s) (record e { request = destroy_action action })).effect good
+        (λ live. subst (λ (n : ℕ). IsOver n (without s.core.handles action)) (same_key action handle names)
+        (over_without s.core.handles Action action known live (λ a. rw a.actions (and_false (not (action == 0))))))
     by _ names good = absurd (true≢false (sym names))
 
 -- ---- the law

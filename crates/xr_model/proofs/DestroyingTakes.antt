@@ -6,7 +6,7 @@ use Rattle.xr_types.specs.Code.{is_success}
 use Rattle.xr_types.specs.declared.handles.Kind.{Kind}
 use Rattle.xr_types.specs.declared.handles.Kind.TheVariants.{Instance, Session, ActionSet, Action, Space, Swapchain}
 use Rattle.xr_types.specs.declared.handles.Slot.{Slot}
-use Rattle.xr_model.specs.machine.Request.{Entry, Request, destroy_instance, destroy_session, destroy_space}
+use Rattle.xr_model.specs.machine.Request.{Entry, Request, destroy_instance, destroy_session, destroy_space, destroy_action_set, destroy_action}
 use Rattle.xr_model.specs.machine.Handles.{Handles, free, has, is_live, row_of, put_in, first_free, goes, going, cleared, destroyed_instances, destroyed_parents, without}
 use Rattle.xr_model.specs.machine.HandlePlaces.{slot_in, parent_of}
 use Rattle.xr_model.specs.laws.HandleLaws.{count_in, places_with, is_under, AreUnder, StandOnce, is_within, destroys, DestroyingTakes}
@@ -176,6 +176,8 @@ roots_step s e roots = kept_by_step (λ h. list_all (λ s. s.parent == 0) h.inst
   same = roots;
   instance = λ gives. roots_put e.given s.core.handles.instances roots;
   session = λ gives instance live. roots;
+  set = λ gives instance live. roots;
+  action = λ gives set live. roots;
   space = λ gives session live. roots;
   without = λ handle. roots_cleared handle [] s.core.handles.instances roots;
 })
@@ -339,6 +341,12 @@ takes_step s e handle once under roots = by e.request
     by (destroy_space space) names good =
         destroyed (λ new. Takes s.core.handles handle new) s.core (is_live s.core.handles Space space) (rule s.core (reads_of s) (record e { request = destroy_space space })).effect good
         (λ live. taken Space space names live)
+    by (destroy_action_set set) names good =
+        destroyed (λ new. Takes s.core.handles handle new) s.core (is_live s.core.handles ActionSet set) (rule s.core (reads_of s) (record e { request = destroy_action_set set })).effect good
+        (λ live. taken ActionSet set names live)
+    by (destroy_action action) names good =
+        destroyed (λ new. Takes s.core.handles handle new) s.core (is_live s.core.handles Action action) (rule s.core (reads_of s) (record e { request = destroy_action action })).effect good
+        (λ live. taken Action action names live)
     by _ names good = absurd (true≢false (sym names))
 
 pub destroying_takes : DestroyingTakes

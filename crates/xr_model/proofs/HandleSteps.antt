@@ -6,7 +6,7 @@ use Rattle.xr_types.specs.declared.code.Code.TheVariants.{HandleInvalid, CallOrd
 use Rattle.xr_types.specs.declared.calls.Actor.{Actor}
 use Rattle.xr_types.specs.declared.calls.Actor.TheVariants.{App, Compositor, Device}
 use Rattle.xr_types.specs.declared.handles.Kind.TheVariants as kind
-use Rattle.xr_model.specs.machine.Request.{Entry, Request, create_instance, destroy_instance, create_session, destroy_session, begin_session, end_session, request_exit_session, create_reference_space, destroy_space, leave, device}
+use Rattle.xr_model.specs.machine.Request.{Entry, Request, create_instance, destroy_instance, create_session, destroy_session, begin_session, end_session, request_exit_session, create_reference_space, destroy_space, create_action_set, destroy_action_set, create_action, destroy_action, leave, device}
 use Rattle.xr_model.specs.machine.Handles.{Handles, is_live, with_handle, without}
 use Rattle.xr_model.specs.machine.Refusals.{Refusal, when, first_of}
 use Rattle.xr_model.specs.machine.State.{CoreState, CellReads}
@@ -30,6 +30,8 @@ pub record Keeps (P : Handles → Type 0) (s : CoreState) (reads : CellReads) (e
   pub same : P s.handles
   pub instance : gives_handle s reads e ≡ true → P (with_handle s.handles kind.Instance 0 e.given)
   pub session : gives_handle s reads e ≡ true → (instance : ℕ) → is_live s.handles kind.Instance instance ≡ true → P (with_handle s.handles kind.Session instance e.given)
+  pub set : gives_handle s reads e ≡ true → (instance : ℕ) → is_live s.handles kind.Instance instance ≡ true → P (with_handle s.handles kind.ActionSet instance e.given)
+  pub action : gives_handle s reads e ≡ true → (set : ℕ) → is_live s.handles kind.ActionSet set ≡ true → P (with_handle s.handles kind.Action set e.given)
   pub space : gives_handle s reads e ≡ true → (session : ℕ) → is_live s.handles kind.Session session ≡ true → P (with_handle s.handles kind.Space session e.given)
   pub without : (handle : ℕ) → P (without s.handles handle)
 
@@ -97,6 +99,20 @@ kept_by_step P s reads e = by e.request
     by (destroy_space space) k =
         let f = rule s reads (record e { request = destroy_space space }) in
         kept P s (first_of (refusals f)) f.effect k.same (λ none. k.without space)
+    by (create_action_set instance name localized priority) k =
+        let f = rule s reads (record e { request = create_action_set instance name localized priority }) in
+        kept P s (first_of (refusals f)) f.effect k.same
+        (λ none. k.set (succeeds s (first_of (refusals f)) f.effect refl none) instance (first_fails (is_live s.handles kind.Instance instance) HandleInvalid (when f.disorder CallOrderInvalid ∷ f.behind) none))
+    by (destroy_action_set set) k =
+        let f = rule s reads (record e { request = destroy_action_set set }) in
+        kept P s (first_of (refusals f)) f.effect k.same (λ none. k.without set)
+    by (create_action set name type subs localized) k =
+        let f = rule s reads (record e { request = create_action set name type subs localized }) in
+        kept P s (first_of (refusals f)) f.effect k.same
+        (λ none. k.action (succeeds s (first_of (refusals f)) f.effect refl none) set (first_fails (is_live s.handles kind.ActionSet set) HandleInvalid (when f.disorder CallOrderInvalid ∷ f.behind) none))
+    by (destroy_action action) k =
+        let f = rule s reads (record e { request = destroy_action action }) in
+        kept P s (first_of (refusals f)) f.effect k.same (λ none. k.without action)
     by leave k = left_alone P s e.actor k.same
     by (device what) k = events_leave P s what k.same
     by r k = let f = rule s reads (record e { request = r }) in kept P s (first_of (refusals f)) f.effect k.same (λ none. k.same)

@@ -7,7 +7,7 @@ use Rattle.xr_types.specs.declared.code.Code.TheVariants.{Success, SessionLossPe
 use Rattle.xr_model.specs.machine.Rules.Session.{life_of}
 use Rattle.xr_model.specs.machine.Rules.Spaces.{session_above}
 use Rattle.xr_model.proofs.Successes.{success_succeeds}
-use Rattle.xr_model.specs.machine.Request.{Entry, Outcome, is_locked, Request, create_instance, string_to_path, path_to_string, begin_session, end_session, request_exit_session, create_reference_space, locate_space, leave, next_frame}
+use Rattle.xr_model.specs.machine.Request.{Entry, Outcome, is_locked, Request, create_instance, string_to_path, path_to_string, begin_session, end_session, request_exit_session, create_reference_space, locate_space, attach_sets, leave, next_frame}
 use Rattle.xr_model.specs.machine.Refusals.{Refusal, first_of}
 use Rattle.xr_model.specs.machine.State.{CoreState, CellReads, State}
 use Rattle.xr_model.specs.machine.Rule.{Effect, refusals, unless_refused, locked_after}
@@ -39,6 +39,7 @@ effects_succeed s reads e = by e.request
     by (end_session session) = success_succeeds (life_of s session)
     by (request_exit_session session) = success_succeeds (life_of s session)
     by (create_reference_space session what offset) = success_succeeds (life_of s session)
+    by (attach_sets session handles) = success_succeeds (life_of s session)
     by (locate_space space base time) = success_succeeds (life_of s (session_above s.handles space))
     by leave = refl
     by next_frame = refl

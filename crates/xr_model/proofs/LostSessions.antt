@@ -55,6 +55,8 @@ listed_step s e allowed listed = kept_by_step (λ h xs. AreListed h xs) s.core (
   same = λ d c. listed;
   instance = λ d c. listed;
   session = λ d c good room instance. let new = new_session_given s e allowed c good in listed_more s.core.handles s.core.sessions _ instance e.given listed refl (nonzero e.given new.0) room;
+  set = λ d c instance. listed;
+  action = λ d c set. listed;
   space = λ d c session. listed;
   without = λ d c handle. listed_left s.core.handles handle s.core.sessions listed;
   lives = λ d c session x found life same. listed_lives s.core.handles s.core.sessions x.handle life listed;
@@ -208,6 +210,8 @@ module _ (s : State) (e : Entry) (allowed : IsAllowed s e) (known : AreKnown s.c
     same = λ d c session x found. lost_before session x found ∙ as_before session d (not_created session x found c);
     instance = λ d c session x found. lost_before session x found ∙ as_before session d (uncreated session c);
     session = λ d c good room instance session x found. created d c good session x (found_more s.core.sessions _ session x found);
+    set = λ d c above session x found. lost_before session x found ∙ as_before session d (uncreated session c);
+    action = λ d c above session x found. lost_before session x found ∙ as_before session d (uncreated session c);
     space = λ d c above session x found. lost_before session x found ∙ as_before session d (uncreated session c);
     without = λ d c handle session x found. let there = found_left (λ n. is_live (without s.core.handles handle) kind.Session n) s.core.sessions session x found in lost_before session x there ∙ as_before session d (uncreated session c);
     lives = λ d c named y there life same session x found. let one = found_lives s.core.sessions y.handle life (λ z found_z. same ∙ ap (λ (w : Session). w.life.lost) (some_is y z (sym (at_own named y there) ∙ found_z))) session x found in one.2 ∙ lost_before session one.0 one.1 ∙ as_before session d (uncreated session c);

@@ -1,6 +1,6 @@
 -- No live handle is without its parent after any history.
 use Rattle.std.proofs.Common.{◌≡◌, ℕ, ◌==◌, not, true, List, [], ◌∷◌, refl}
-use Rattle.xr_types.specs.declared.handles.Kind.TheVariants.{Instance, Session, Space}
+use Rattle.xr_types.specs.declared.handles.Kind.TheVariants.{Instance, Session, ActionSet, Action, Space}
 use Rattle.xr_types.specs.declared.handles.Slot.{Slot}
 use Rattle.xr_model.specs.machine.Request.{Entry}
 use Rattle.xr_model.specs.machine.Handles.{Handles, is_live, has, with_handle, going, destroyed_instances, destroyed_parents, without}
@@ -61,6 +61,33 @@ session_under h instance given live u =
     new : Slot
     new = record { handle = given; parent = instance }
 
+-- with an action set more, of a live instance
+set_under : (h : Handles) (instance given : ℕ) → is_live h Instance instance ≡ true → AreUnder h → AreUnder (with_handle h ActionSet instance given)
+set_under h instance given live u =
+    let parts = both_of (not (instance == 0)) (has h.instances instance) live in
+    record {
+      sessions = u.sessions;
+      sets = under_put new h.sets h.instances u.sets (rw (parts.0, parts.1) (or_true (given == 0)));
+      actions = under_more h.sets _ (has_put new h.sets) h.actions u.actions;
+      spaces = u.spaces;
+      chains = u.chains;
+    }
+  where
+    new : Slot
+    new = record { handle = given; parent = instance }
+
+-- with an action more, of a live action set
+action_under : (h : Handles) (set given : ℕ) → is_live h ActionSet set ≡ true → AreUnder h → AreUnder (with_handle h Action set given)
+action_under h set given live u =
+    let parts = both_of (not (set == 0)) (has h.sets set) live in
+    record {
+      sessions = u.sessions;
+      sets = u.sets;
+      actions = under_put (record { handle = given; parent = set }) h.actions h.sets u.actions (rw (parts.0, parts.1) (or_true (given == 0)));
+      spaces = u.spaces;
+      chains = u.chains;
+    }
+
 -- with a space more, of a live session
 space_under : (h : Handles) (session given : ℕ) → is_live h Session session ≡ true → AreUnder h → AreUnder (with_handle h Space session given)
 space_under h session given live u =
@@ -78,6 +105,8 @@ under_step s e u = kept_by_step (λ h. AreUnder h) s.core (reads_of s) e (record
   same = u;
   instance = λ gives. instance_under s.core.handles e.given u;
   session = λ gives instance live. session_under s.core.handles instance e.given live u;
+  set = λ gives instance live. set_under s.core.handles instance e.given live u;
+  action = λ gives set live. action_under s.core.handles set e.given live u;
   space = λ gives session live. space_under s.core.handles session e.given live u;
   without = λ handle. without_under s.core.handles handle u;
 })

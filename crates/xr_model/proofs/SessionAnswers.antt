@@ -1,5 +1,5 @@
 -- The answers of calls on sessions: by a loss, and by a pending one.
-use Rattle.std.proofs.Common.{◌≡◌, ◌&&◌, ℕ, Bool, true, false, not, List, [], ◌∷◌, ◌++◌, Option, Some, None, refl, sym, ap, subst, ◌∙◌, append_assoc, true≢false}
+use Rattle.std.proofs.Common.{◌≡◌, ◌&&◌, ℕ, Bool, true, false, not, List, [], ◌∷◌, ◌++◌, map, Option, Some, None, refl, sym, ap, subst, ◌∙◌, append_assoc, true≢false}
 use Rattle.std.specs.Prelude.{◌↔◌, pos, int_le, unwrap_or, if◌then◌else◌}
 use Rattle.xr_types.specs.declared.handles.Kind.TheVariants as kind
 use Rattle.xr_types.specs.declared.code.Code.{Code}
@@ -7,7 +7,7 @@ use Rattle.xr_types.specs.declared.code.Code.TheVariants.{Success, SessionLost, 
 use Rattle.xr_types.specs.declared.calls.Gives.TheVariants.{Nothing, Handle, Location}
 use Rattle.xr_types.specs.declared.spaces.Location.TheVariants.{Missing}
 use Rattle.xr_types.specs.declared.session.SessionState.TheVariants.{LossPending}
-use Rattle.xr_model.specs.machine.Request.{Entry, Request, begin_session, end_session, request_exit_session, create_reference_space, locate_space}
+use Rattle.xr_model.specs.machine.Request.{Entry, Request, begin_session, end_session, request_exit_session, create_reference_space, locate_space, attach_sets}
 use Rattle.xr_model.specs.machine.Handles.{is_live, no_handle, no_room}
 use Rattle.xr_model.specs.machine.HandlePlaces.{parent_of}
 use Rattle.xr_model.specs.machine.Refusals.{Refusal, when, first_of}
@@ -16,6 +16,9 @@ use Rattle.xr_model.specs.machine.Rule.{Rule, Effect, refusals, unless_refused, 
 use Rattle.xr_model.specs.machine.SessionRule.{code_on, on_session}
 use Rattle.xr_model.specs.machine.SessionLife.{Life, unchanged, begin_checks, begun_session, end_checks, ended_session, exit_checks, exiting_session, is_state, is_lost}
 use Rattle.xr_model.specs.machine.LiveSessions.{session_at}
+use Rattle.xr_model.specs.machine.Handles.{Handles}
+use Rattle.xr_types.specs.declared.handles.Kind.{Kind}
+use Rattle.xr_model.specs.machine.Sets.{attach_checks, with_attached}
 use Rattle.xr_model.specs.machine.Spaces.{reference_checks, located, no_states}
 use Rattle.xr_model.specs.machine.Rules.Session.{life_of, with_change}
 use Rattle.xr_model.specs.machine.Rules.Spaces.{session_above, with_reference_space}
@@ -29,7 +32,7 @@ use Rattle.xr_model.proofs.LostSessions.{known_loss}
 
 -- ---- the first refusal of two lists
 
-first_stays : (xs ys : List Refusal) (r : Refusal) → first_of xs ≡ Some r → first_of (xs ++ ys) ≡ Some r
+pub first_stays : (xs ys : List Refusal) (r : Refusal) → first_of xs ≡ Some r → first_of (xs ++ ys) ≡ Some r
 first_stays [] ys r found = cc
 first_stays (x ∷ xs) ys r found = by x.holds found (first_stays xs ys r)
   where
@@ -37,7 +40,7 @@ first_stays (x ∷ xs) ys r found = by x.holds found (first_stays xs ys r)
     by true e more = e
     by false e more = more e
 
-first_skips : (xs ys : List Refusal) → first_of xs ≡ None → first_of (xs ++ ys) ≡ first_of ys
+pub first_skips : (xs ys : List Refusal) → first_of xs ≡ None → first_of (xs ++ ys) ≡ first_of ys
 first_skips [] ys none = refl
 first_skips (x ∷ xs) ys none = by x.holds none (first_skips xs ys)
   where
@@ -51,6 +54,11 @@ first_skips (x ∷ xs) ys none = by x.holds none (first_skips xs ys)
 abbrev NoneIs : Code → List Refusal → Type 0
 NoneIs code [] = Unit {0}
 NoneIs code (r ∷ rs) = (r.code ≡ code → ⊥) × NoneIs code rs
+
+-- handles that have to be live are refused as no handles
+none_handles : (code : Code) (h : Handles) (kind : Kind) (handles : List ℕ) → (HandleInvalid ≡ code → ⊥) → NoneIs code (map (no_handle h kind) handles)
+none_handles code h kind [] other = tt
+none_handles code h kind (handle ∷ handles) other = (other, none_handles code h kind handles other)
 
 first_is_not : (code : Code) (rs : List Refusal) (r : Refusal) → NoneIs code rs → first_of rs ≡ Some r → r.code ≡ code → ⊥
 first_is_not code [] r none found is = cc
@@ -181,6 +189,7 @@ lost_sessions settings es e session legal named = by e.request named
     by (end_session other) named = by_handle _ other (named_is other session named) (answered_lost (after (opening settings) es).core (no_handle (after (opening settings) es).core.handles kind.Session other ∷ []) (life_of (after (opening settings) es).core other) (record { before = end_checks (life_of (after (opening settings) es).core other); disorder = false; behind = []; effect = done (with_change (after (opening settings) es).core (session_at (after (opening settings) es).core.sessions other) (ended_session (after (opening settings) es).core.device.wish)) Nothing }) ((λ c. cc), tt) ((λ c. cc), ((λ c. cc), ((λ c. cc), tt))) refl)
     by (request_exit_session other) named = by_handle _ other (named_is other session named) (answered_lost (after (opening settings) es).core (no_handle (after (opening settings) es).core.handles kind.Session other ∷ []) (life_of (after (opening settings) es).core other) (record { before = exit_checks (life_of (after (opening settings) es).core other); disorder = false; behind = []; effect = done (with_change (after (opening settings) es).core (session_at (after (opening settings) es).core.sessions other) (exiting_session (after (opening settings) es).core.device.wish)) Nothing }) ((λ c. cc), tt) ((λ c. cc), ((λ c. cc), tt)) refl)
     by (create_reference_space other what offset) named = by_handle _ other (named_is other session named) (answered_lost (after (opening settings) es).core (no_handle (after (opening settings) es).core.handles kind.Session other ∷ []) (life_of (after (opening settings) es).core other) (record { before = []; disorder = false; behind = reference_checks what offset (after (opening settings) es).core.device.stage ++ no_room (after (opening settings) es).core.handles kind.Space ∷ []; effect = done (with_reference_space (after (opening settings) es).core other e.given what offset) (Handle e.given) }) ((λ c. cc), tt) ((λ c. cc), ((λ c. cc), ((λ c. cc), ((λ c. cc), tt)))) refl)
+    by (attach_sets other handles) named = by_handle _ other (named_is other session named) (answered_lost (after (opening settings) es).core (no_handle (after (opening settings) es).core.handles kind.Session other ∷ []) (life_of (after (opening settings) es).core other) (record { before = []; disorder = false; behind = attach_checks (after (opening settings) es).core.sets handles ++ map (no_handle (after (opening settings) es).core.handles kind.ActionSet) handles; effect = done (record (after (opening settings) es).core { sets = with_attached (after (opening settings) es).core.sets handles }) Nothing }) ((λ c. cc), tt) ((λ c. cc), ((λ c. cc), ((λ c. cc), none_handles SessionLost (after (opening settings) es).core.handles kind.ActionSet handles (λ c. cc)))) refl)
     by (locate_space space base time) named = by_spaces _ space base named (answered_lost (after (opening settings) es).core (no_handle (after (opening settings) es).core.handles kind.Space space ∷ no_handle (after (opening settings) es).core.handles kind.Space base ∷ []) (life_of (after (opening settings) es).core (session_above (after (opening settings) es).core.handles space)) (record { before = []; disorder = false; behind = when (int_le time (pos 0)) TimeInvalid ∷ []; effect = done (after (opening settings) es).core (Location (unwrap_or (located (after (opening settings) es).core.spaces no_states space base time) Missing)) }) ((λ c. cc), ((λ c. cc), tt)) ((λ c. cc), ((λ c. cc), tt)) refl)
     by _ named = cc
 
@@ -197,6 +206,7 @@ pending_losses s e session named = by e.request named
     by (end_session other) named = subst (λ (n : ℕ). Pending s e (end_session other) n) (named_is other session named) (answered_pending s.core (no_handle s.core.handles kind.Session other ∷ []) (life_of s.core other) (record { before = end_checks (life_of s.core other); disorder = false; behind = []; effect = done (with_change s.core (session_at s.core.sessions other) (ended_session s.core.device.wish)) Nothing }) ((λ c. cc), ((λ c. cc), ((λ c. cc), ((λ c. cc), ((λ c. cc), tt))))) refl)
     by (request_exit_session other) named = subst (λ (n : ℕ). Pending s e (request_exit_session other) n) (named_is other session named) (answered_pending s.core (no_handle s.core.handles kind.Session other ∷ []) (life_of s.core other) (record { before = exit_checks (life_of s.core other); disorder = false; behind = []; effect = done (with_change s.core (session_at s.core.sessions other) (exiting_session s.core.device.wish)) Nothing }) ((λ c. cc), ((λ c. cc), ((λ c. cc), ((λ c. cc), tt)))) refl)
     by (create_reference_space other what offset) named = subst (λ (n : ℕ). Pending s e (create_reference_space other what offset) n) (named_is other session named) (answered_pending s.core (no_handle s.core.handles kind.Session other ∷ []) (life_of s.core other) (record { before = []; disorder = false; behind = reference_checks what offset s.core.device.stage ++ no_room s.core.handles kind.Space ∷ []; effect = done (with_reference_space s.core other e.given what offset) (Handle e.given) }) ((λ c. cc), ((λ c. cc), ((λ c. cc), ((λ c. cc), ((λ c. cc), ((λ c. cc), tt)))))) refl)
+    by (attach_sets other handles) named = subst (λ (n : ℕ). Pending s e (attach_sets other handles) n) (named_is other session named) (answered_pending s.core (no_handle s.core.handles kind.Session other ∷ []) (life_of s.core other) (record { before = []; disorder = false; behind = attach_checks s.core.sets handles ++ map (no_handle s.core.handles kind.ActionSet) handles; effect = done (record s.core { sets = with_attached s.core.sets handles }) Nothing }) ((λ c. cc), ((λ c. cc), ((λ c. cc), ((λ c. cc), ((λ c. cc), none_handles SessionLossPending s.core.handles kind.ActionSet handles (λ c. cc)))))) refl)
     by (locate_space space base time) named = subst (λ (n : ℕ). Pending s e (locate_space space base time) n) (above named)
         (answered_pending s.core (no_handle s.core.handles kind.Space space ∷ no_handle s.core.handles kind.Space base ∷ []) (life_of s.core (session_above s.core.handles space)) (record { before = []; disorder = false; behind = when (int_le time (pos 0)) TimeInvalid ∷ []; effect = done s.core (Location (unwrap_or (located s.core.spaces no_states space base time) Missing)) }) ((λ c. cc), ((λ c. cc), ((λ c. cc), ((λ c. cc), ((λ c. cc), tt))))) refl)
       where

@@ -7,7 +7,7 @@ use Rattle.xr_types.specs.Code.{is_success}
 use Rattle.xr_types.specs.declared.device.DeviceEvent.{DeviceEvent}
 use Rattle.xr_types.specs.declared.device.DeviceEvent.TheVariants as event
 use Rattle.xr_types.specs.declared.handles.Kind.TheVariants as kind
-use Rattle.xr_model.specs.machine.Request.{Entry, Request, create_instance, destroy_instance, create_session, destroy_session, begin_session, end_session, request_exit_session, create_reference_space, destroy_space, leave, device}
+use Rattle.xr_model.specs.machine.Request.{Entry, Request, create_instance, destroy_instance, create_session, destroy_session, begin_session, end_session, request_exit_session, create_reference_space, destroy_space, create_action_set, destroy_action_set, create_action, destroy_action, leave, device}
 use Rattle.xr_model.specs.machine.Handles.{Handles, is_live, has_room, with_handle, without}
 use Rattle.xr_model.specs.machine.Refusals.{Refusal, first_of}
 use Rattle.xr_model.specs.machine.State.{CoreState, CellReads}
@@ -28,6 +28,8 @@ pub record Keeps (P : Handles → List Session → Type 0) (s : CoreState) (read
   pub instance : is_device_lost e.request ≡ false → is_session_creation e.request ≡ false → P (with_handle s.handles kind.Instance 0 e.given) s.sessions
   pub session : is_device_lost e.request ≡ false → is_session_creation e.request ≡ true → is_success (core_step s reads e).1.reply.code ≡ true → has_room s.handles kind.Session ≡ true
       → (instance : ℕ) → P (with_handle s.handles kind.Session instance e.given) (s.sessions ++ new_session s e.given (started_session s.device.wish).life ∷ [])
+  pub set : is_device_lost e.request ≡ false → is_session_creation e.request ≡ false → (instance : ℕ) → P (with_handle s.handles kind.ActionSet instance e.given) s.sessions
+  pub action : is_device_lost e.request ≡ false → is_session_creation e.request ≡ false → (set : ℕ) → P (with_handle s.handles kind.Action set e.given) s.sessions
   pub space : is_device_lost e.request ≡ false → is_session_creation e.request ≡ false → (session : ℕ) → P (with_handle s.handles kind.Space session e.given) s.sessions
   pub without : is_device_lost e.request ≡ false → is_session_creation e.request ≡ false → (handle : ℕ) → P (without s.handles handle) (still_live (without s.handles handle) s.sessions)
   pub lives : is_device_lost e.request ≡ false → is_session_creation e.request ≡ false → (session : ℕ) (x : Session) → session_at s.sessions session ≡ Some x → (life : Life) → life.lost ≡ x.life.lost → P s.handles (with_life_at x.handle life s.sessions)
@@ -102,6 +104,18 @@ kept_by_step P s reads e = by e.request
     by (destroy_space space) k =
         let f = rule s reads (record e { request = destroy_space space }) in
         kept P s (first_of (refusals f)) f.effect (k.same refl refl) (λ none. k.without refl refl space)
+    by (create_action_set instance name localized priority) k =
+        let f = rule s reads (record e { request = create_action_set instance name localized priority }) in
+        kept P s (first_of (refusals f)) f.effect (k.same refl refl) (λ none. k.set refl refl instance)
+    by (destroy_action_set set) k =
+        let f = rule s reads (record e { request = destroy_action_set set }) in
+        kept P s (first_of (refusals f)) f.effect (k.same refl refl) (λ none. k.without refl refl set)
+    by (create_action set name type subs localized) k =
+        let f = rule s reads (record e { request = create_action set name type subs localized }) in
+        kept P s (first_of (refusals f)) f.effect (k.same refl refl) (λ none. k.action refl refl set)
+    by (destroy_action action) k =
+        let f = rule s reads (record e { request = destroy_action action }) in
+        kept P s (first_of (refusals f)) f.effect (k.same refl refl) (λ none. k.without refl refl action)
     by (destroy_session session) k =
         let f = rule s reads (record e { request = destroy_session session }) in
         kept P s (first_of (refusals f)) f.effect (k.same refl refl) (λ none. k.without refl refl session)

@@ -5,7 +5,7 @@ use Rattle.xr_types.specs.declared.handles.Kind.{Kind}
 use Rattle.xr_types.specs.declared.handles.Kind.TheVariants.{Instance, Session, ActionSet, Action, Space, Swapchain}
 use Rattle.xr_types.specs.declared.handles.Slot.{Slot}
 use Rattle.xr_types.specs.declared.handles.TheConstants.{INSTANCES, SESSIONS, ACTION_SETS, ACTIONS, SPACES, SWAPCHAINS}
-use Rattle.xr_model.specs.machine.Request.{Entry, Request, create_instance, create_session, create_reference_space}
+use Rattle.xr_model.specs.machine.Request.{Entry, Request, create_instance, create_session, create_reference_space, create_action_set, create_action}
 use Rattle.xr_model.specs.machine.Handles.{Handles, free, has, is_live, was_given, first_free, put_in, cleared, goes, destroyed_instances, destroyed_parents, with_handle, without, no_handles}
 use Rattle.xr_model.specs.laws.HandleLaws.{count_in, places_with, StandOnce, HandlesStandOnce, CreatingAdds}
 use Rattle.xr_model.specs.machine.Refusals.{Refusal, first_of}
@@ -110,6 +110,16 @@ module _ (h : Handles) (given : ℕ) (fresh : was_given h given ≡ false) (nonz
       let more = count_put (record { handle = given; parent = parent }) h.sessions k nz in
       put_once 0 k nz (places_with (with_handle h Session parent given) k) (omega (arith, more))
 
+  set_once : (parent : ℕ) → StandOnce (with_handle h ActionSet parent given)
+  set_once parent k nz =
+      let more = count_put (record { handle = given; parent = parent }) h.sets k nz in
+      put_once 0 k nz (places_with (with_handle h ActionSet parent given) k) (omega (arith, more))
+
+  action_once : (parent : ℕ) → StandOnce (with_handle h Action parent given)
+  action_once parent k nz =
+      let more = count_put (record { handle = given; parent = parent }) h.actions k nz in
+      put_once 0 k nz (places_with (with_handle h Action parent given) k) (omega (arith, more))
+
   space_once : (parent : ℕ) → StandOnce (with_handle h Space parent given)
   space_once parent k nz =
       let more = count_put (record { handle = given; parent = parent }) h.spaces k nz in
@@ -131,6 +141,8 @@ once_step s e allowed known once = kept_by_step StandOnce s.core (reads_of s) e 
   same = once;
   instance = λ gives. let new = given_one (gives_handle s.core (reads_of s) e) s.core.handles e.given gives allowed.handle in instance_once s.core.handles e.given new.1 new.0 known once 0;
   session = λ gives instance live. let new = given_one (gives_handle s.core (reads_of s) e) s.core.handles e.given gives allowed.handle in session_once s.core.handles e.given new.1 new.0 known once instance;
+  set = λ gives instance live. let new = given_one (gives_handle s.core (reads_of s) e) s.core.handles e.given gives allowed.handle in set_once s.core.handles e.given new.1 new.0 known once instance;
+  action = λ gives set live. let new = given_one (gives_handle s.core (reads_of s) e) s.core.handles e.given gives allowed.handle in action_once s.core.handles e.given new.1 new.0 known once set;
   space = λ gives session live. let new = given_one (gives_handle s.core (reads_of s) e) s.core.handles e.given gives allowed.handle in space_once s.core.handles e.given new.1 new.0 known once session;
   without = λ top. without_once s.core.handles top once;
 })
@@ -184,6 +196,22 @@ session_same h parent given Action other apart = refl
 session_same h parent given Space other apart = refl
 session_same h parent given Swapchain other apart = refl
 
+set_same : (h : Handles) (parent given : ℕ) (kind : Kind) (other : ℕ) → (other == given) ≡ false → is_live (with_handle h ActionSet parent given) kind other ≡ is_live h kind other
+set_same h parent given Instance other apart = refl
+set_same h parent given Session other apart = refl
+set_same h parent given ActionSet other apart = same_put (record { handle = given; parent = parent }) h.sets other apart
+set_same h parent given Action other apart = refl
+set_same h parent given Space other apart = refl
+set_same h parent given Swapchain other apart = refl
+
+action_same : (h : Handles) (parent given : ℕ) (kind : Kind) (other : ℕ) → (other == given) ≡ false → is_live (with_handle h Action parent given) kind other ≡ is_live h kind other
+action_same h parent given Instance other apart = refl
+action_same h parent given Session other apart = refl
+action_same h parent given ActionSet other apart = refl
+action_same h parent given Action other apart = same_put (record { handle = given; parent = parent }) h.actions other apart
+action_same h parent given Space other apart = refl
+action_same h parent given Swapchain other apart = refl
+
 space_same : (h : Handles) (parent given : ℕ) (kind : Kind) (other : ℕ) → (other == given) ≡ false → is_live (with_handle h Space parent given) kind other ≡ is_live h kind other
 space_same h parent given Instance other apart = refl
 space_same h parent given Session other apart = refl
@@ -209,4 +237,10 @@ creating_adds s e creates kind other apart = by e.request creates
     by (create_reference_space session what offset) creates =
         let f = rule s.core (reads_of s) (record e { request = create_reference_space session what offset }) in
         refused_same s.core (first_of (refusals f)) f.effect kind other (space_same s.core.handles session e.given kind other apart)
+    by (create_action_set instance name localized priority) creates =
+        let f = rule s.core (reads_of s) (record e { request = create_action_set instance name localized priority }) in
+        refused_same s.core (first_of (refusals f)) f.effect kind other (set_same s.core.handles instance e.given kind other apart)
+    by (create_action set name type subs localized) creates =
+        let f = rule s.core (reads_of s) (record e { request = create_action set name type subs localized }) in
+        refused_same s.core (first_of (refusals f)) f.effect kind other (action_same s.core.handles set e.given kind other apart)
     by _ creates = absurd (true≢false (sym creates))

@@ -10,6 +10,9 @@ pub mod LiveSessions
 pub mod Marks
 pub mod Device
 pub mod Paths
+pub mod Sets
+pub mod Profiles
+pub mod Bindings
 pub mod Spaces
 pub mod State
 pub mod Destroyed

@@ -63,8 +63,8 @@ impl Paths {
         self.texts.get_index_of(text)
     }
 
-    /// The text of an atom.
-    fn text_at(&self, atom: u64) -> Option<&[u8]>
+    /// The text of an atom, where there is one. OpenXR 1.0 section 6.2.
+    pub fn text_at(&self, atom: u64) -> Option<&[u8]>
         ensures { option_copied result ≡ text_at self.now atom }
     {
         if atom == 0 {

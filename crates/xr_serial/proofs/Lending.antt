@@ -1,5 +1,5 @@
 -- How much of a lent buffer a call has written, by what its reply gives.
-use Rattle.std.proofs.Common.{◌≡◌, ◌&&◌, ℕ, Bool, true, false, nat_lt, nat_le, List, [], ◌∷◌, ◌++◌, length, take, drop, Option, Some, None, refl, sym, subst, ◌∙◌, ap, arith, length-append}
+use Rattle.std.proofs.Common.{◌≡◌, ◌&&◌, ℕ, Bool, true, false, nat_lt, nat_le, List, [], ◌∷◌, ◌++◌, map, length, take, drop, Option, Some, None, refl, sym, subst, ◌∙◌, ap, arith, length-append}
 use Rattle.std.specs.Prelude.{if◌then◌else◌}
 use Rattle.std.proofs.lemmas.Bool.Decides.{nat_tests}
 use Rattle.std.proofs.lemmas.Grind.{common_steps}
@@ -7,13 +7,22 @@ use Rattle.std.proofs.lemmas.Option.{same_Some}
 use Rattle.xr_types.specs.declared.calls.Actor.{Actor}
 use Rattle.xr_types.specs.declared.calls.Gives.TheVariants.{Size}
 use Rattle.xr_types.specs.declared.calls.Reply.{Reply}
-use Rattle.xr_model.specs.machine.Request.{Request, create_instance, destroy_instance, get_system, string_to_path, path_to_string, poll_event, create_session, destroy_session, begin_session, end_session, request_exit_session, create_reference_space, destroy_space, locate_space, leave, next_frame, Entry, Outcome}
+use Rattle.xr_model.specs.machine.Request.{Request, create_instance, destroy_instance, get_system, string_to_path, path_to_string, poll_event, create_session, destroy_session, begin_session, end_session, request_exit_session, create_reference_space, destroy_space, locate_space, create_action_set, destroy_action_set, create_action, destroy_action, suggest_bindings, attach_sets, leave, next_frame, Entry, Outcome}
 use Rattle.xr_model.specs.machine.CoreCalls.{entry_of}
 use Rattle.xr_types.specs.declared.session.Event.{Event}
 use Rattle.xr_model.specs.machine.Events.{polled}
 use Rattle.xr_model.specs.machine.Rules.Instance.{told_event}
 use Rattle.xr_model.specs.machine.Paths.{text_at, copied, size_at, size_of}
-use Rattle.xr_model.specs.machine.Refusals.{Refusal, first_of}
+use Rattle.xr_types.specs.declared.handles.Kind.{Kind}
+use Rattle.xr_types.specs.declared.handles.Kind.TheVariants as kind
+use Rattle.xr_model.specs.machine.Handles.{Handles, no_handle, no_room}
+use Rattle.xr_model.specs.machine.Sets.{no_users, action_label_checks}
+use Rattle.xr_types.specs.declared.code.Code.TheVariants.{OutOfMemory}
+use Rattle.xr_types.specs.declared.input.Binding.{Binding}
+use Rattle.xr_types.specs.declared.input.Profile.{Profile}
+use Rattle.xr_model.specs.machine.Rules.Bindings.{bindings_checks, profile_at}
+use Rattle.xr_model.specs.machine.Rules.Sets.{sub_checks, with_user, user_at}
+use Rattle.xr_model.specs.machine.Refusals.{Refusal, when, first_of}
 use Rattle.xr_model.specs.machine.State.{CoreState, State}
 use Rattle.xr_model.specs.machine.Rule.{Effect, refusals, unless_refused}
 use Rattle.xr_model.specs.machine.CoreCalls.{written_over}
@@ -65,6 +74,21 @@ told_writes_none : (told : Option Event) → 0 ≡ written_size (told_event told
 told_writes_none None = refl
 told_writes_none (Some event) = refl
 
+-- no user path and no handle of a list gives anything where it is refused
+subs_give_none : (atoms : List (List ℕ)) (declared : List Bool) (subs : List ℕ) (tail : List Refusal) → GiveNone 0 tail → GiveNone 0 (sub_checks atoms declared subs ++ tail)
+subs_give_none atoms declared [] tail none = none
+subs_give_none atoms declared (sub ∷ subs) tail none = ((λ h. refl), ((λ h. refl), subs_give_none atoms (with_user declared (user_at atoms sub)) subs tail none))
+
+handles_give_none : (h : Handles) (kind : Kind) (handles : List ℕ) → GiveNone 0 (map (no_handle h kind) handles)
+handles_give_none h kind [] = tt
+handles_give_none h kind (handle ∷ handles) = ((λ x. refl), handles_give_none h kind handles)
+
+-- nor does any binding
+bindings_give_none : (s : CoreState) (which : Option Profile) (list : List Binding) (tail : List Refusal) → GiveNone 0 tail → GiveNone 0 (bindings_checks s which list ++ tail)
+bindings_give_none s None list tail none = none
+bindings_give_none s (Some which) [] tail none = none
+bindings_give_none s (Some which) (b ∷ bs) tail none = ((λ h. refl), ((λ h. refl), ((λ h. refl), ((λ h. refl), bindings_give_none s (Some which) bs tail none))))
+
 -- the bytes that a call writes are as many as its reply says
 pub text_fits : (s : State) (e : Entry) → length (step s e).1.text ≡ written_size (step s e).1.reply.gives (lent_size e.request)
 text_fits s e = by e.request
@@ -86,6 +110,12 @@ text_fits s e = by e.request
     by (create_reference_space session what offset) = carried_fits s.core 0 (refusals (rule s.core (reads_of s) (record e { request = create_reference_space session what offset }))) (rule s.core (reads_of s) (record e { request = create_reference_space session what offset })).effect ((λ h. refl), ((λ h. refl), ((λ h. refl), ((λ h. refl), ((λ h. refl), ((λ h. refl), tt)))))) refl
     by (destroy_space space) = carried_fits s.core 0 (refusals (rule s.core (reads_of s) (record e { request = destroy_space space }))) (rule s.core (reads_of s) (record e { request = destroy_space space })).effect ((λ h. refl), ((λ h. refl), tt)) refl
     by (locate_space space base time) = carried_fits s.core 0 (refusals (rule s.core (reads_of s) (record e { request = locate_space space base time }))) (rule s.core (reads_of s) (record e { request = locate_space space base time })).effect ((λ h. refl), ((λ h. refl), ((λ h. refl), ((λ h. refl), ((λ h. refl), tt))))) refl
+    by (create_action_set instance name localized priority) = carried_fits s.core 0 (refusals (rule s.core (reads_of s) (record e { request = create_action_set instance name localized priority }))) (rule s.core (reads_of s) (record e { request = create_action_set instance name localized priority })).effect ((λ h. refl), ((λ h. refl), ((λ h. refl), ((λ h. refl), ((λ h. refl), ((λ h. refl), ((λ h. refl), ((λ h. refl), tt)))))))) refl
+    by (destroy_action_set set) = carried_fits s.core 0 (refusals (rule s.core (reads_of s) (record e { request = destroy_action_set set }))) (rule s.core (reads_of s) (record e { request = destroy_action_set set })).effect ((λ h. refl), ((λ h. refl), tt)) refl
+    by (create_action set name type subs localized) = carried_fits s.core 0 (refusals (rule s.core (reads_of s) (record e { request = create_action set name type subs localized }))) (rule s.core (reads_of s) (record e { request = create_action set name type subs localized })).effect ((λ h. refl), ((λ h. refl), ((λ h. refl), ((λ h. refl), ((λ h. refl), ((λ h. refl), subs_give_none s.core.atoms no_users subs (action_label_checks s.core.sets set localized ++ no_room s.core.handles kind.Action ∷ []) ((λ h. refl), ((λ h. refl), ((λ h. refl), tt))))))))) refl
+    by (destroy_action action) = carried_fits s.core 0 (refusals (rule s.core (reads_of s) (record e { request = destroy_action action }))) (rule s.core (reads_of s) (record e { request = destroy_action action })).effect ((λ h. refl), ((λ h. refl), tt)) refl
+    by (suggest_bindings instance profile list) = carried_fits s.core 0 (refusals (rule s.core (reads_of s) (record e { request = suggest_bindings instance profile list }))) (rule s.core (reads_of s) (record e { request = suggest_bindings instance profile list })).effect ((λ h. refl), ((λ h. refl), ((λ h. refl), ((λ h. refl), ((λ h. refl), ((λ h. refl), bindings_give_none s.core (profile_at s.core.atoms profile) list (when e.short OutOfMemory ∷ []) ((λ h. refl), tt))))))) refl
+    by (attach_sets session handles) = carried_fits s.core 0 (refusals (rule s.core (reads_of s) (record e { request = attach_sets session handles }))) (rule s.core (reads_of s) (record e { request = attach_sets session handles })).effect ((λ h. refl), ((λ h. refl), ((λ h. refl), ((λ h. refl), ((λ h. refl), handles_give_none s.core.handles kind.ActionSet handles))))) refl
     by leave = refl
     by next_frame = refl
     by _ = refl

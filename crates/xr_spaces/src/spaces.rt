@@ -1,9 +1,9 @@
 // The spaces with the samples of all origins, and the calls on them.
 ghost use Rattle.std.specs.Prelude.{◌≡◌, ◌<◌, length, map, IfOk};
 ghost use Rattle.std.specs.Option.{option_copied};
+ghost use Rattle.xr_model.specs.machine.PartAnswers.{code_by};
 ghost use Rattle.xr_model.specs.machine.Refusals.{first_of};
 ghost use Rattle.xr_model.specs.machine.Spaces.{no_spaces, reference_checks, with_space, without_space, without_action, forgotten, sampled, space_at, pose_of, location, located};
-ghost use Rattle.xr_spaces.specs.Codes.{code_by};
 
 use crate::roots::origin_by;
 use crate::samples::{Samples, note, pose_in};

@@ -1,9 +1,9 @@
 // A session's life, and what changes it.
 ghost use Rattle.std.specs.Prelude.{◌≡◌, []};
+ghost use Rattle.xr_model.specs.machine.PartAnswers.{code_by};
 ghost use Rattle.xr_model.specs.machine.SessionLife as model;
 ghost use Rattle.xr_model.specs.machine.SessionLife.{started_session, begin_refusals, begun_session, end_refusals, ended_session, exit_refusals, exiting_session, settled_session, losing_session};
 ghost use Rattle.xr_model.specs.machine.Refusals.{first_of, unless};
-ghost use Rattle.xr_states.specs.Codes.{code_by};
 
 use crate::Changes;
 use crate::table::{enter, settle};

@@ -44,8 +44,9 @@ impl Word for ActionType {
 }
 
 /// A top-level user path (section 6.3.1).
-#[derive(Clone, Copy)]
+#[derive(Clone, Copy, Default)]
 pub enum User {
+    #[default]
     Left,
     Right,
     Head,
@@ -180,18 +181,19 @@ pub struct ActiveSet {
 
 /// Which rows of a controller's inputs a suggestion picks: a digital input, an analogue one, the two
 /// axes of a vector, a pose, or an output. Rows count from 1.
-#[derive(Clone, Copy)]
+#[derive(Clone, Copy, Default)]
 pub enum Part {
     Digital(u8),
     Analogue(u8),
     Both(u8, u8),
     Pose(u8),
+    #[default]
     Output,
 }
 
 /// What a suggested path picks: its user path, the place of its identifier among all identifiers and
 /// outputs, and the part of the controller.
-#[derive(Clone, Copy)]
+#[derive(Clone, Copy, Default)]
 pub struct Pick {
     pub user: User,
     pub identifier: u8,
@@ -199,7 +201,7 @@ pub struct Pick {
 }
 
 /// A suggestion that was accepted: an action, and what its path picks.
-#[derive(Clone, Copy)]
+#[derive(Clone, Copy, Default)]
 pub struct Bound {
     pub action: u64,
     pub pick: Pick,

@@ -24,8 +24,11 @@ pub const MOST_SUBACTIONS: usize = 8;
 /// The action sets that are attached at once.
 pub const MOST_ATTACHED: usize = 32;
 
-/// The bindings that are suggested at once.
+/// The bindings that an op lists. A profile has fewer.
 pub const MOST_BINDINGS: usize = 600;
+
+/// The bindings that are suggested for a profile.
+pub const MOST_SUGGESTED: usize = 512;
 
 /// The action sets that are synced at once.
 pub const MOST_ACTIVE: usize = 128;

@@ -7,7 +7,7 @@ use Rattle.xr_types.specs.declared.session.SessionState.{SessionState}
 use Rattle.xr_model.specs.machine.Refusals.{Refusal, first_of, unless}
 use Rattle.xr_model.specs.machine.Request.{Request, begin_session, end_session, request_exit_session}
 use Rattle.xr_model.specs.machine.SessionLife.{Life, Changed, unchanged, settled_session, losing_session, lost_session, is_lost, begin_checks, begun_session, end_checks, ended_session, exit_checks, exiting_session}
-use Rattle.xr_states.specs.Codes.{code_by}
+use Rattle.xr_model.specs.machine.PartAnswers.{code_by}
 use Rattle.xr_model.specs.machine.LiveSessions.{Session, session_at}
 use Rattle.xr_model.specs.machine.State.{CoreState}
 use Rattle.xr_model.specs.machine.Rules.Session.{life_of, with_change}

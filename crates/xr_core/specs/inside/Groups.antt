@@ -1,5 +1,5 @@
 -- The calls by groups: a group is a file of calls/, and one function of the core.
-use Rattle.xr_model.specs.machine.Request.{Request, create_instance, destroy_instance, get_system, poll_event, string_to_path, path_to_string, create_session, destroy_session, begin_session, end_session, request_exit_session, create_reference_space, destroy_space, locate_space, mark, await_mark, leave, next_frame}
+use Rattle.xr_model.specs.machine.Request.{Request, create_instance, destroy_instance, get_system, poll_event, string_to_path, path_to_string, create_session, destroy_session, begin_session, end_session, request_exit_session, create_reference_space, destroy_space, locate_space, create_action_set, destroy_action_set, create_action, destroy_action, attach_sets, mark, await_mark, leave, next_frame}
 
 abbrev pub IsInstanceCall : Request → Type 0
 IsInstanceCall (create_instance major minor) = Unit {0}
@@ -26,6 +26,14 @@ IsSpaceCall (create_reference_space session what offset) = Unit {0}
 IsSpaceCall (destroy_space space) = Unit {0}
 IsSpaceCall (locate_space space base time) = Unit {0}
 IsSpaceCall _ = ⊥
+
+abbrev pub IsSetCall : Request → Type 0
+IsSetCall (create_action_set instance name localized priority) = Unit {0}
+IsSetCall (destroy_action_set set) = Unit {0}
+IsSetCall (create_action set name kind subs localized) = Unit {0}
+IsSetCall (destroy_action action) = Unit {0}
+IsSetCall (attach_sets session sets) = Unit {0}
+IsSetCall _ = ⊥
 
 -- marks, and how applications and the compositor end
 abbrev pub IsOwnCall : Request → Type 0

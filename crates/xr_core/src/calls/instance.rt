@@ -53,6 +53,7 @@ impl Core {
         }
         self.destroy(instance);
         self.paths.clear();
+        self.bindings.clear();
         self.events.clear();
         self.answered(Code::Success, Gives::Nothing)
     }

@@ -83,6 +83,7 @@ impl Core {
             &mut self.events,
         );
         self.sessions.push(session);
+        self.sets.detach();
         self.calls += 1;
         Reply {
             code: Code::Success,

@@ -6,7 +6,7 @@ use Rattle.std.specs.List.{list_all}
 use Rattle.xr_types.specs.Code.{is_success}
 use Rattle.xr_types.specs.declared.handles.Kind.{Kind}
 use Rattle.xr_types.specs.declared.handles.Slot.{Slot}
-use Rattle.xr_model.specs.machine.Request.{Request, destroy_instance, destroy_session, destroy_space, Entry}
+use Rattle.xr_model.specs.machine.Request.{Request, destroy_instance, destroy_session, destroy_space, destroy_action_set, destroy_action, Entry}
 use Rattle.xr_model.specs.machine.Handles.{Handles, has, is_live}
 use Rattle.xr_model.specs.machine.HandlePlaces.{kind_of, parent_of}
 use Rattle.xr_model.specs.machine.State.{Settings, State, opening}
@@ -34,6 +34,8 @@ abbrev pub destroys : Request → ℕ → Bool
 destroys (destroy_instance instance) handle = instance == handle
 destroys (destroy_session session) handle = session == handle
 destroys (destroy_space space) handle = space == handle
+destroys (destroy_action_set set) handle = set == handle
+destroys (destroy_action action) handle = action == handle
 destroys _ handle = false
 
 -- a handle that was destroyed is never live again

@@ -4,7 +4,7 @@ use Rattle.xr_types.specs.declared.code.Code.TheVariants.{SessionLost, SessionLo
 use Rattle.xr_types.specs.declared.device.DeviceEvent.TheVariants as event
 use Rattle.xr_types.specs.declared.handles.Kind.TheVariants as kind
 use Rattle.xr_types.specs.declared.session.SessionState.TheVariants.{LossPending}
-use Rattle.xr_model.specs.machine.Request.{Request, create_session, begin_session, end_session, request_exit_session, create_reference_space, locate_space, device, Entry}
+use Rattle.xr_model.specs.machine.Request.{Request, create_session, begin_session, end_session, request_exit_session, create_reference_space, locate_space, attach_sets, device, Entry}
 use Rattle.xr_model.specs.machine.Handles.{Handles, is_live}
 use Rattle.xr_model.specs.machine.HandlePlaces.{parent_of}
 use Rattle.xr_model.specs.machine.Refusals.{first_of}
@@ -33,6 +33,7 @@ session_of h (begin_session session view) = Some session
 session_of h (end_session session) = Some session
 session_of h (request_exit_session session) = Some session
 session_of h (create_reference_space session what offset) = Some session
+session_of h (attach_sets session sets) = Some session
 session_of h (locate_space space base time) = if is_live h kind.Space space && is_live h kind.Space base then parent_of h space else None
 session_of h _ = None
 

@@ -1,7 +1,9 @@
 -- What a core keeps once a handle was destroyed with all below it (OpenXR 1.0 chapter 2, "Handles").
 use Rattle.std.specs.Prelude.{ℕ}
+use Rattle.xr_model.specs.machine.Bindings.{without_suggestions}
 use Rattle.xr_model.specs.machine.Handles.{without, destroyed_by}
 use Rattle.xr_model.specs.machine.LiveSessions.{still_live}
+use Rattle.xr_model.specs.machine.Sets.{without_inputs}
 use Rattle.xr_model.specs.machine.Spaces.{without_spaces}
 use Rattle.xr_model.specs.machine.State.{CoreState}
 
@@ -9,5 +11,7 @@ abbrev pub without_handle : CoreState → ℕ → CoreState
 without_handle s handle = record s {
   handles = without s.handles handle;
   sessions = still_live (without s.handles handle) s.sessions;
+  sets = without_inputs s.sets (destroyed_by s.handles handle);
+  suggestions = without_suggestions s.suggestions (destroyed_by s.handles handle);
   spaces = without_spaces s.spaces (destroyed_by s.handles handle);
 }

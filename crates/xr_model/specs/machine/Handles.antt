@@ -91,9 +91,13 @@ with_handle h kind parent handle =
 
 -- ---- destroying a handle
 
+-- it is one of these handles
+abbrev pub is_among : List ℕ → ℕ → Bool
+is_among handles k = list_any (λ g. g == k) handles
+
 -- the slot's handle is the one that is destroyed, or its parent is among those that go
 unfoldable pub goes : ℕ → List ℕ → Slot → Bool
-goes handle above s = not (s.handle == 0) && ((s.handle == handle) || list_any (λ g. g == s.parent) above)
+goes handle above s = not (s.handle == 0) && ((s.handle == handle) || is_among above s.parent)
 
 -- the handles of a row that go
 abbrev pub going : ℕ → List ℕ → List Slot → List ℕ

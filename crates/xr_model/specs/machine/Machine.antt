@@ -7,7 +7,7 @@ use Rattle.xr_types.specs.declared.calls.Actor.TheVariants.{App, Compositor, Dev
 use Rattle.xr_types.specs.declared.device.DeviceEvent.{DeviceEvent}
 use Rattle.xr_types.specs.declared.device.DeviceEvent.TheVariants.{Await}
 use Rattle.xr_types.specs.Code.{is_success}
-use Rattle.xr_model.specs.machine.Request.{Request, create_instance, destroy_instance, get_system, string_to_path, path_to_string, poll_event, create_session, destroy_session, begin_session, end_session, request_exit_session, create_reference_space, destroy_space, locate_space, mark, await_mark, leave, device, next_frame, Entry, Outcome}
+use Rattle.xr_model.specs.machine.Request.{Request, create_instance, destroy_instance, get_system, string_to_path, path_to_string, poll_event, create_session, destroy_session, begin_session, end_session, request_exit_session, create_reference_space, destroy_space, locate_space, create_action_set, destroy_action_set, create_action, destroy_action, suggest_bindings, attach_sets, mark, await_mark, leave, device, next_frame, Entry, Outcome}
 use Rattle.xr_model.specs.machine.Handles.{Handles, was_given}
 use Rattle.xr_model.specs.machine.Paths.{is_new}
 use Rattle.xr_model.specs.machine.Marks.{is_set}
@@ -18,6 +18,8 @@ use Rattle.xr_model.specs.machine.Rule.{Rule, Effect, Did, refusals, carried_out
 use Rattle.xr_model.specs.machine.Rules.Instance.{create_instance_rule, destroy_instance_rule, get_system_rule, poll_event_rule}
 use Rattle.xr_model.specs.machine.Rules.Session.{create_session_rule, destroy_session_rule, begin_session_rule, end_session_rule, request_exit_session_rule}
 use Rattle.xr_model.specs.machine.Rules.Spaces.{create_reference_space_rule, destroy_space_rule, locate_space_rule}
+use Rattle.xr_model.specs.machine.Rules.Sets.{create_action_set_rule, destroy_action_set_rule, create_action_rule, destroy_action_rule, attach_sets_rule}
+use Rattle.xr_model.specs.machine.Rules.Bindings.{suggest_bindings_rule}
 use Rattle.xr_model.specs.machine.Rules.Device.{device_rule}
 use Rattle.xr_model.specs.machine.Rules.Paths.{string_to_path_rule, path_to_string_rule}
 use Rattle.xr_model.specs.machine.Rules.Own.{leave_rule, mark_rule, await_mark_rule, next_frame_rule, unbuilt_rule}
@@ -38,6 +40,12 @@ rule_of s reads who given short (request_exit_session session) = request_exit_se
 rule_of s reads who given short (create_reference_space session kind offset) = create_reference_space_rule s given session kind offset
 rule_of s reads who given short (destroy_space space) = destroy_space_rule s space
 rule_of s reads who given short (locate_space space base time) = locate_space_rule s space base time
+rule_of s reads who given short (create_action_set instance name localized priority) = create_action_set_rule s given instance name localized priority
+rule_of s reads who given short (destroy_action_set set) = destroy_action_set_rule s set
+rule_of s reads who given short (create_action set name kind subs localized) = create_action_rule s given set name kind subs localized
+rule_of s reads who given short (destroy_action action) = destroy_action_rule s action
+rule_of s reads who given short (suggest_bindings instance profile list) = suggest_bindings_rule s short instance profile list
+rule_of s reads who given short (attach_sets session handles) = attach_sets_rule s session handles
 rule_of s reads who given short (mark number value) = mark_rule s number value
 rule_of s reads who given short (await_mark number) = await_mark_rule s number
 rule_of s reads who given short leave = leave_rule s who
@@ -108,6 +116,12 @@ is_built (request_exit_session session) = true
 is_built (create_reference_space session kind offset) = true
 is_built (destroy_space space) = true
 is_built (locate_space space base time) = true
+is_built (create_action_set instance name localized priority) = true
+is_built (destroy_action_set set) = true
+is_built (create_action set name kind subs localized) = true
+is_built (destroy_action action) = true
+is_built (suggest_bindings instance profile list) = true
+is_built (attach_sets session handles) = true
 is_built (mark number value) = true
 is_built (await_mark number) = true
 is_built leave = true
@@ -120,11 +134,14 @@ abbrev pub is_creation : Request → Bool
 is_creation (create_instance major minor) = true
 is_creation (create_session instance system) = true
 is_creation (create_reference_space session kind offset) = true
+is_creation (create_action_set instance name localized priority) = true
+is_creation (create_action set name kind subs localized) = true
 is_creation _ = false
 
 -- the calls that take memory in this state
 abbrev pub takes_memory : CoreState → Request → Bool
 takes_memory s (string_to_path instance text) = is_new s.atoms text
+takes_memory s (suggest_bindings instance profile list) = true
 takes_memory s _ = false
 
 -- a handle that is nonzero and was never given before, or none

@@ -1,5 +1,6 @@
 -- What a part of the core answers by its refusals.
 use Rattle.std.specs.Prelude.{ℕ, Option, Some, None}
+use Rattle.xr_types.specs.declared.code.Code.{Code}
 use Rattle.xr_types.specs.declared.code.Code.TheVariants.{Success}
 use Rattle.xr_types.specs.declared.calls.Gives.{Gives}
 use Rattle.xr_types.specs.declared.calls.Gives.TheVariants.{Handle, Number, Size}
@@ -17,3 +18,8 @@ answered_number _ = 0
 abbrev pub answer_by : Option Refusal → ℕ → Answer
 answer_by None n = record { code = Success; number = n }
 answer_by (Some r) n = record { code = r.code; number = answered_number r.gives }
+
+-- what a part answers that gives nothing: the code of the refusal, or success where there is none
+abbrev pub code_by : Option Refusal → Code
+code_by None = Success
+code_by (Some r) = r.code

@@ -1,6 +1,8 @@
 -- One rule a call, a file a group.
 pub mod Instance
 pub mod Session
+pub mod Sets
+pub mod Bindings
 pub mod Spaces
 pub mod Device
 pub mod Paths

@@ -18,6 +18,7 @@ use Rattle.xr_types.specs.declared.spaces.RefKind.TheVariants as kind
 use Rattle.xr_types.specs.declared.spaces.Root.{Root}
 use Rattle.xr_types.specs.declared.spaces.Root.TheVariants.{Fixed, Action}
 use Rattle.xr_types.specs.declared.spaces.TheConstants.{ORIGINS, SAMPLES}
+use Rattle.xr_model.specs.machine.Handles.{is_among}
 use Rattle.xr_model.specs.machine.Refusals.{Refusal, when}
 
 -- ---- samples
@@ -111,8 +112,7 @@ without_action place x = record x { root = option_and_then (λ r. if is_of_actio
 
 -- without the spaces of these handles
 abbrev pub without_spaces : Spaces → List ℕ → Spaces
-without_spaces s [] = s
-without_spaces s (handle ∷ handles) = without_spaces (without_space s handle) handles
+without_spaces s handles = record s { spaces = filter (λ x. not (is_among handles x.handle)) s.spaces }
 
 -- the action of a place was destroyed
 abbrev pub forgotten : Spaces → ℕ → Spaces

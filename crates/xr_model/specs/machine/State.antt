@@ -2,22 +2,28 @@
 use Rattle.std.specs.Prelude.{ℕ, ◌*◌, Option, Bool, false, replicate, List, []}
 use Rattle.xr_types.specs.declared.frames.Image.{Image}
 use Rattle.xr_types.specs.declared.handles.TheConstants.{SWAPCHAINS}
+use Rattle.xr_types.specs.declared.input.Bound.{Bound}
 use Rattle.xr_model.specs.machine.Handles.{Handles, no_handles}
+use Rattle.xr_model.specs.machine.Bindings.{no_suggestions}
 use Rattle.xr_model.specs.machine.Events.{Queue, no_events}
 use Rattle.xr_model.specs.machine.LiveSessions.{Session}
 use Rattle.xr_model.specs.machine.Marks.{no_marks}
+use Rattle.xr_model.specs.machine.Sets.{Sets, no_sets}
 use Rattle.xr_model.specs.machine.Spaces.{Spaces, no_spaces}
 use Rattle.xr_model.specs.machine.Device.{Device, first_device}
 
 -- What a core keeps: the handles, the atoms' texts, the events that wait, the live sessions in the order of their
--- creation, how many were created in the run, the spaces with the samples of their origins, what the device has told of itself, the marks, how many applications
--- there are, which of them have left, and how many locked calls were decided.
+-- creation, how many were created in the run, the action sets with their actions, what is suggested for each profile, the
+-- spaces with the samples of their origins, what the device has told of itself, the marks, how many applications there are,
+-- which of them have left, and how many locked calls were decided.
 pub record CoreState : Type 0 where
   pub handles : Handles
   pub atoms : List (List ℕ)
   pub events : Queue
   pub sessions : List Session
   pub created : ℕ
+  pub sets : Sets
+  pub suggestions : List (List Bound)
   pub spaces : Spaces
   pub device : Device
   pub marks : List (Option ℕ)
@@ -58,6 +64,8 @@ opening_core settings = record {
   events = no_events;
   sessions = [];
   created = 0;
+  sets = no_sets;
+  suggestions = no_suggestions;
   spaces = no_spaces;
   device = first_device;
   marks = no_marks;

@@ -1,4 +1,4 @@
-// Handles of all kinds, most of which no call makes yet.
+// Handles of all kinds, of which no call makes all yet.
 ghost use Rattle.std.specs.Prelude.{◌<◌, ◌^◌, IsTrue, length};
 
 use arrayvec::ArrayVec;

@@ -1,65 +1,7 @@
-// Names of action sets and actions at the bounds of what is valid.
+// Localized names that are no UTF-8, as no scenario has them, beside some that are.
 use std::test::Fail;
-use xr_names::{check_localized, check_name};
+use xr_names::check_localized;
 use xr_types::Code;
-
-/// Names, and what they are answered with.
-const NAMES: &[(&[u8], Code)] = &[
-    (b"a", Code::Success),
-    (b"play", Code::Success),
-    (b"abcdefghijklmnopqrstuvwxyz0123456789-_.", Code::Success),
-    (b"-", Code::Success),
-    (b"_", Code::Success),
-    (b"0", Code::Success),
-    (b"a.", Code::Success),
-    (b".a", Code::Success),
-    (b"..-", Code::Success),
-    (b"", Code::NameInvalid),
-    (b".", Code::NameInvalid),
-    (b"..", Code::NameInvalid),
-    (b"a b", Code::PathFormatInvalid),
-    (b" ", Code::PathFormatInvalid),
-    (b"A", Code::PathFormatInvalid),
-    (b"Z", Code::PathFormatInvalid),
-    (b"a/b", Code::PathFormatInvalid),
-    (b"/", Code::PathFormatInvalid),
-    (b":", Code::PathFormatInvalid),
-    (b",", Code::PathFormatInvalid),
-    (b"`", Code::PathFormatInvalid),
-    (b"{", Code::PathFormatInvalid),
-    (b"^", Code::PathFormatInvalid),
-    (b".. ", Code::PathFormatInvalid),
-    (b"a\x00", Code::PathFormatInvalid),
-    (b"a\n", Code::PathFormatInvalid),
-    (b"\x7f", Code::PathFormatInvalid),
-    (b"\x80", Code::PathFormatInvalid),
-    (b"\xff", Code::PathFormatInvalid),
-    (b"\xc3\xa9", Code::PathFormatInvalid),
-];
-
-/// A name of 63 letters but for one byte.
-fn with_byte(place: usize, byte: u8) -> [u8; 63] {
-    let mut name = [b'a'; 63];
-    if let Some(there) = name.get_mut(place) {
-        *there = byte;
-    }
-    name
-}
-
-#[test]
-fn names_have_1_to_63_of_some_bytes_and_are_not_periods_alone(rt: HostRuntime) -> Result<(), Fail> {
-    for (name, code) in NAMES {
-        assert!(rt; check_name(name) == *code, "{name:?}");
-    }
-    let all_told = (0..63).all(|place| check_name(&with_byte(place, b'A'))
-        == Code::PathFormatInvalid);
-    let longest = check_name(&with_byte(0, b'a')) == Code::Success;
-    let too_long = check_name(&[b'a'; 64]) == Code::NameInvalid;
-    let periods = check_name(&[b'.'; 63]) == Code::NameInvalid
-        && check_name(&[b'.'; 64]) == Code::NameInvalid;
-    assert!(rt; all_told && longest && too_long && periods);
-    Ok(())
-}
 
 /// Localized names, and what they are answered with.
 const LOCALIZED: &[(&[u8], Code)] = &[

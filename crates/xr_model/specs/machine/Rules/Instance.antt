@@ -7,6 +7,7 @@ use Rattle.xr_types.specs.declared.handles.Kind.TheVariants.{Instance}
 use Rattle.xr_types.specs.declared.session.Event as event
 use Rattle.xr_types.specs.declared.session.Form.{Form}
 use Rattle.xr_types.specs.declared.session.Form.TheVariants.{Head, Hand}
+use Rattle.xr_model.specs.machine.Bindings.{no_suggestions}
 use Rattle.xr_model.specs.machine.Handles.{no_handle, no_room, with_handle, destroyed_by}
 use Rattle.xr_model.specs.machine.Events.{no_events, polled, behind_poll}
 use Rattle.xr_model.specs.machine.Refusals.{when}
@@ -23,14 +24,14 @@ create_instance_rule s given major minor = record {
   effect = done (record s { handles = with_handle s.handles Instance 0 given }) (Handle given);
 }
 
--- xrDestroyInstance (section 4.2): all below the instance goes, and its atoms, events and count of lost
--- events with it
+-- xrDestroyInstance (section 4.2): all below the instance goes, and its atoms, suggestions, events and count
+-- of lost events with it
 abbrev pub destroy_instance_rule : CoreState → ℕ → Rule
 destroy_instance_rule s instance = record {
   before = no_handle s.handles Instance instance ∷ [];
   disorder = false;
   behind = [];
-  effect = destroying (record (without_handle s instance) { atoms = []; events = no_events }) (destroyed_by s.handles instance);
+  effect = destroying (record (without_handle s instance) { atoms = []; suggestions = no_suggestions; events = no_events }) (destroyed_by s.handles instance);
 }
 
 -- the one system of a runtime

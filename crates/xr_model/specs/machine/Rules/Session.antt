@@ -9,6 +9,7 @@ use Rattle.xr_model.specs.machine.Refusals.{Refusal, when}
 use Rattle.xr_model.specs.machine.SessionLife.{Life, Changed, unchanged, started_session, begin_checks, begun_session, end_checks, ended_session, exit_checks, exiting_session}
 use Rattle.xr_model.specs.machine.LiveSessions as sessions
 use Rattle.xr_model.specs.machine.LiveSessions.{session_at, life_in, with_life_at, told_states}
+use Rattle.xr_model.specs.machine.Sets.{without_attached}
 use Rattle.xr_model.specs.machine.State.{CoreState}
 use Rattle.xr_model.specs.machine.Destroyed.{without_handle}
 use Rattle.xr_model.specs.machine.Rule.{Rule, done, destroying}
@@ -20,11 +21,12 @@ use Rattle.xr_model.specs.machine.Rules.Instance.{the_system}
 abbrev pub new_session : CoreState → ℕ → Life → sessions.Session
 new_session s given life = record { handle = given; ordinal = s.created + 1; life = life }
 
--- a new session stands behind the others, and its first states are told
+-- a new session stands behind the others with no sets attached, and its first states are told
 abbrev pub with_session : CoreState → ℕ → ℕ → Changed → CoreState
 with_session s instance given c = record s {
   handles = with_handle s.handles Session instance given;
   sessions = s.sessions ++ new_session s given c.life ∷ [];
+  sets = without_attached s.sets;
   events = told_states s.events (s.created + 1) given c.through;
   created = s.created + 1;
 }

@@ -30,6 +30,15 @@ pub returns-in-CreateReferenceSpace : goal.returns-in-CreateReferenceSpace
 returns-in-CreateReferenceSpace c reads =
     made_answers c.args.self.now reads c.args.who _ c.space_call-reply.new.self c.space_call-reply.result c.args.text.now c.requires.may.present (sym (c.if-is_held_back.ensures reads)) c.space_call-reply.ensures
 
+pub returns-in-CreateActionSet : goal.returns-in-CreateActionSet
+returns-in-CreateActionSet c reads =
+    made_answers c.args.self.now reads c.args.who _ c.set_call-reply.new.self c.set_call-reply.result c.args.text.now c.requires.may.present (sym (c.if-is_held_back.ensures reads)) c.set_call-reply.ensures
+
+pub returns-in-SuggestBindings : goal.returns-in-SuggestBindings
+returns-in-SuggestBindings c reads =
+    made_answers c.args.self.now reads c.args.who _ c.suggest_bindings-reply.new.self c.suggest_bindings-reply.result c.args.text.now c.requires.may.present (sym (c.if-is_held_back.ensures reads))
+    (subst (λ (r : Request). Makes c.args.self.now r c.suggest_bindings-reply.new.self c.suggest_bindings-reply.result []) (sym (ap request_of c.in-SuggestBindings.is)) c.suggest_bindings-reply.ensures)
+
 pub returns-in-Mark : goal.returns-in-Mark
 returns-in-Mark c reads = answers_over c.args.self.now reads _ c.own_call-reply.new.self c.own_call-reply.result c.args.text.now (c.own_call-reply.ensures reads)
 

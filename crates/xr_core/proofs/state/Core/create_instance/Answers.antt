@@ -4,7 +4,7 @@ use Rattle.xr_types.specs.declared.handles.Kind.TheVariants as kind
 use Rattle.xr_model.specs.machine.Handles.{no_room, with_handle}
 use Rattle.xr_model.specs.machine.Refusals.{first_of}
 use Rattle.xr_core.proofs.Listed.{listed_instance}
-use Rattle.xr_core.proofs.Housed.{housed_same}
+use Rattle.xr_core.proofs.Kept.{kept_same}
 use Rattle.xr_core.proofs.PartRefusals.{instance_refused}
 use Rattle.xr_core.proofs.state.Core.create_instance.Goals as goal
 
@@ -14,7 +14,7 @@ invariant_of-self c = (
   search rules,
   c.self.invariant.2,
   c.self.invariant.3,
-  housed_same c.self.inside.spaces.spaces c.self.inside.handles c.give-answer.new.self (with_handle c.self.inside.handles kind.Instance 0 c.give-answer.result.number) (first_of (no_room c.self.inside.handles kind.Instance ∷ [])) c.give-answer.ensures.kept refl c.self.invariant.4,
+  kept_same c.self.inside.spaces c.self.inside.sets c.self.inside.handles c.give-answer.new.self (with_handle c.self.inside.handles kind.Instance 0 c.give-answer.result.number) (first_of (no_room c.self.inside.handles kind.Instance ∷ [])) c.give-answer.ensures.kept refl refl refl c.self.invariant.4,
   c.self.invariant.5,
 )
 

@@ -5,7 +5,7 @@ use Rattle.xr_model.specs.machine.Handles.{has_room, no_room, with_handle}
 use Rattle.xr_model.specs.machine.Refusals.{first_of}
 use Rattle.xr_model.specs.machine.State.{CoreState}
 use Rattle.xr_core.proofs.Listed.{room_for_one, listed_give}
-use Rattle.xr_core.proofs.Housed.{housed_same}
+use Rattle.xr_core.proofs.Kept.{kept_same, kept_detached}
 use Rattle.xr_core.proofs.state.Core.give_session.Goals as goal
 
 pub push-requires : goal.push-requires
@@ -22,6 +22,6 @@ invariant_of-self c =
       search rules,
       search rules,
       c.self.invariant.3,
-      housed_same c.self.inside.spaces.spaces c.self.inside.handles c.give-answer.new.self (with_handle c.self.inside.handles kind.Session c.args.instance c.give-answer.result.number) (first_of (no_room c.self.inside.handles kind.Session ∷ [])) c.give-answer.ensures.kept refl c.self.invariant.4,
+      rw c.detach.ensures (kept_detached c.self.inside.spaces c.self.inside.sets c.give-answer.new.self (kept_same c.self.inside.spaces c.self.inside.sets c.self.inside.handles c.give-answer.new.self (with_handle c.self.inside.handles kind.Session c.args.instance c.give-answer.result.number) (first_of (no_room c.self.inside.handles kind.Session ∷ [])) c.give-answer.ensures.kept refl refl refl c.self.invariant.4)),
       c.self.invariant.5,
     )
