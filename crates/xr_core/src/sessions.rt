@@ -1,4 +1,5 @@
 // The live sessions, what changes them, and what is told of that.
+ghost use Rattle.std.specs.Option.{option_copied};
 ghost use Rattle.std.specs.Prelude.{◌≡◌, ◌<◌, [], length, Some};
 ghost use Rattle.xr_types.specs.declared.code.Code.TheVariants.{Success};
 ghost use Rattle.xr_model.specs.machine.SessionLife.{started_session};
@@ -173,28 +174,28 @@ pub(crate) fn change_each(sessions: &mut [LiveSession], change: Change, events: 
     }
 }
 
+/// A listed session by its handle.
+fn session_at(sessions: &[LiveSession], handle: u64) -> Option<&LiveSession>
+    ensures { option_copied result ≡ session_at sessions.now handle }
+{
+    sessions.iter().find(|session| session.handle() == handle)
+}
+
 /// Whether a session is lost. One that isn't listed isn't.
 pub(crate) fn is_lost(sessions: &[LiveSession], handle: u64) -> bool
     ensures { result ≡ (life_in (session_at sessions.now handle)).lost }
 {
-    for session in sessions {
-        if session.handle() == handle {
-            return session.life.lost();
-        }
-    }
-    false
+    session_at(sessions, handle).is_some_and(|session| session.life.lost())
 }
 
 /// What a plain success on a session is answered as.
 pub(crate) fn success_on(sessions: &[LiveSession], handle: u64) -> Code
     ensures { result ≡ code_on (life_in (session_at sessions.now handle)) Success }
 {
-    for session in sessions {
-        if session.handle() == handle {
-            return session.success();
-        }
+    match session_at(sessions, handle) {
+        Some(session) => session.success(),
+        None => Code::Success,
     }
-    Code::Success
 }
 
 /// Where a session stands.

@@ -6,8 +6,9 @@ ghost use Rattle.xr_model.specs.machine.Rules.Sets.{sub_checks, declared_by};
 ghost use Rattle.xr_core.specs.inside.Refusing.{or_refused};
 
 use xr_paths::Paths;
+use xr_profiles::user_of;
 use xr_sets::{USERS, user_place};
-use xr_types::{Code, User, named};
+use xr_types::Code;
 
 /// For each user path, whether it is among those of these atoms. Refused is the first that is no atom (`PathInvalid`), or
 /// is no user path or stood there before (`PathUnsupported`).
@@ -19,7 +20,7 @@ pub(crate) fn declared_by(paths: &Paths, subs: &[u64]) -> Result<[bool; USERS], 
         let Some(text) = paths.text_at(*sub) else {
             return Err(Code::PathInvalid);
         };
-        let Some(user) = named::<User>(text) else {
+        let Some(user) = user_of(text) else {
             return Err(Code::PathUnsupported);
         };
         let place = user_place(user);

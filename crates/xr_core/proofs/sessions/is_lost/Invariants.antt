@@ -1,6 +1,0 @@
-use Rattle.std.proofs.Common.{◌≡◌, drop}
-use Rattle.xr_model.specs.machine.LiveSessions.{session_at}
-use Rattle.xr_core.proofs.sessions.is_lost.Given as goal
-
-abbrev pub invariant-loop-session : goal.invariant-loop-session
-invariant-loop-session l = session_at l.sessions l.handle ≡ session_at (drop l.session-index l.sessions) l.handle
