@@ -1,9 +1,8 @@
 // A core with a head that moves, and how it is located.
-ghost use Rattle.std.specs.Prelude.{◌≡◌, IsTrue, true};
+ghost use Rattle.std.specs.Prelude.{IsTrue};
 ghost use Rattle.xr_types.specs.declared.calls.Actor.TheVariants.{Device};
 ghost use Rattle.xr_model.specs.machine.Request.{request_of};
-ghost use Rattle.xr_model.specs.machine.Machine.{is_built};
-ghost use Rattle.xr_model.specs.machine.CoreCalls.{IsCaller, HasNumbers, FitsBuffer};
+ghost use Rattle.xr_model.specs.machine.CoreCalls.{MayAsk};
 
 use crate::round::{ask, handle, has_places};
 use xr_core::Core;
@@ -11,10 +10,7 @@ use xr_types::{Actor, Call, DeviceEvent, Gives, Location, Origin, RefKind};
 
 /// Whether the device may tell this: a pose whose numbers are in range.
 fn is_pose(call: &Call<'_>) -> bool
-    ensures built { IsTrue result → is_built (request_of call.now) ≡ true }
-    ensures caller { IsTrue result → IsCaller Device (request_of call.now) }
-    ensures numbers { IsTrue result → HasNumbers (request_of call.now) }
-    ensures buffer { IsTrue result → FitsBuffer (request_of call.now) 0 }
+    ensures { IsTrue result → MayAsk Device (request_of call.now) 0 }
 {
     match call {
         Call::Device(event) => match event {

@@ -1,9 +1,8 @@
 // One round of calls, on a core and as a scenario.
-ghost use Rattle.std.specs.Prelude.{◌≡◌, ◌<◌, ◌^◌, IsTrue, true};
+ghost use Rattle.std.specs.Prelude.{◌<◌, ◌^◌, IsTrue};
 ghost use Rattle.xr_types.specs.declared.calls.Actor.TheVariants.{App};
 ghost use Rattle.xr_model.specs.machine.Request.{request_of};
-ghost use Rattle.xr_model.specs.machine.Machine.{is_built};
-ghost use Rattle.xr_model.specs.machine.CoreCalls.{IsCaller, HasNumbers, FitsBuffer};
+ghost use Rattle.xr_model.specs.machine.CoreCalls.{MayAsk};
 
 use xr_core::Core;
 use xr_types::{Actor, Call, Form, Gives, Reply, Step};
@@ -17,10 +16,7 @@ pub(crate) const TEXT: &str =
 
 /// Whether an application may make this call and be lent no bytes.
 fn is_own(call: &Call<'_>) -> bool
-    ensures built { IsTrue result → is_built (request_of call.now) ≡ true }
-    ensures caller { IsTrue result → IsCaller (App 1) (request_of call.now) }
-    ensures numbers { IsTrue result → HasNumbers (request_of call.now) }
-    ensures buffer { IsTrue result → FitsBuffer (request_of call.now) 0 }
+    ensures { IsTrue result → MayAsk (App 1) (request_of call.now) 0 }
 {
     matches!(
         call,

@@ -15,7 +15,6 @@ use xr_types::{Bound, Code, MOST_SUGGESTED, Profile};
 #[derive(Drop)]
 pub struct Bindings {
     lists: [Suggestions; PROFILES],
-    alloc: Global,
 }
 
 impl Model for Bindings {
@@ -29,23 +28,24 @@ impl Model for Bindings {
 
 impl Bindings {
     /// Nothing is suggested for any profile. Takes no memory: each new list takes its own.
-    pub fn start(alloc: Global) -> Bindings
+    pub fn start() -> Bindings
         ensures { result ≡ no_suggestions }
     {
-        let lists = [
-            Suggestions::new(alloc),
-            Suggestions::new(alloc),
-            Suggestions::new(alloc),
-            Suggestions::new(alloc),
-        ];
-        Bindings { lists, alloc }
+        Bindings {
+            lists: [
+                Suggestions::none(),
+                Suggestions::none(),
+                Suggestions::none(),
+                Suggestions::none(),
+            ],
+        }
     }
 
     /// Suggests these bindings for a profile, in this order, in the place of those that were suggested for it before.
     /// Refused are, in this order, an empty list (`ValidationFailure`), one of more than 512 (`LimitReached`), and one
-    /// for which there is no memory (`OutOfMemory`); each leaves all as it was. The time is linear in the list's length.
-    /// OpenXR 1.0 chapter 11, xrSuggestInteractionProfileBindings.
-    pub fn suggest(&mut self, profile: Profile, list: &[Bound]) -> Code
+    /// for which there is no memory (`OutOfMemory`); each leaves all as it was. No other call takes memory. The time is linear
+    /// in the list's length. OpenXR 1.0 chapter 11, xrSuggestInteractionProfileBindings.
+    pub fn suggest(&mut self, alloc: Global, profile: Profile, list: &[Bound]) -> Code
         ensures kept { self.new ≡ unless (first_of (suggest_refusals list.now (is_out_of_memory result))) self.old (with_suggestions self.old profile list.now) }
         ensures code { result ≡ code_by (first_of (suggest_refusals list.now (is_out_of_memory result))) }
         ensures memory { is_out_of_memory result ≡ true → first_of (number_checks list.now) ≡ None }
@@ -56,7 +56,7 @@ impl Bindings {
         if list.len() > MOST_SUGGESTED {
             return Code::LimitReached;
         }
-        let Ok(suggestions) = Suggestions::from_slice(self.alloc, list) else {
+        let Ok(suggestions) = Suggestions::from_slice(alloc, list) else {
             return Code::OutOfMemory;
         };
         self.lists[profile_place(profile)] = suggestions;
@@ -84,6 +84,6 @@ impl Bindings {
     pub fn clear(&mut self)
         ensures { self.new ≡ no_suggestions }
     {
-        *self = Bindings::start(self.alloc);
+        *self = Bindings::start();
     }
 }

@@ -11,7 +11,7 @@ use Rattle.xr_model.specs.machine.Sets.{Set, Action, Sets, without_input, withou
 use Rattle.xr_model.specs.machine.Spaces.{Space, Spaces, without_space, without_spaces}
 use Rattle.xr_model.proofs.Rows.{same_key, itself}
 
-equals_back : (a b : ℕ) → (a == b) ≡ (b == a)
+pub equals_back : (a b : ℕ) → (a == b) ≡ (b == a)
 equals_back a b = by (a == b) refl (b == a) refl
   where
     by : (x : Bool) → (a == b) ≡ x → (y : Bool) → (b == a) ≡ y → x ≡ y

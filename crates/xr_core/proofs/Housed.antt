@@ -1,12 +1,14 @@
 -- How many handles are listed, and what keeps them listed.
-use Rattle.std.proofs.Common.{◌≡◌, ◌≤◌, ◌<◌, ◌+◌, ◌==◌, ℕ, suc, Bool, true, false, not, List, [], ◌∷◌, ◌++◌, length, Option, Some, None, option_map, refl, sym, ap, subst, ◌∙◌, arith, true≢false}
+use Rattle.std.proofs.Common.{◌≡◌, ◌≤◌, ◌<◌, ◌+◌, ◌==◌, ◌&&◌, ◌||◌, ℕ, suc, Bool, true, false, not, List, [], ◌∷◌, ◌++◌, length, Option, Some, None, option_map, refl, sym, ap, subst, ◌∙◌, arith, true≢false}
 use Rattle.std.specs.Prelude.{is_some, if◌then◌else◌}
 use Rattle.std.specs.List.{list_all, filter, position_from}
 use Rattle.xr_types.specs.declared.handles.Slot.{Slot}
 use Rattle.xr_model.specs.machine.Handles.{is_among, free, first_free, put_in, goes, going, cleared}
 use Rattle.xr_model.specs.laws.HandleLaws.{count_in}
 use Rattle.xr_model.proofs.Rows.{one_later, put_first, put_is_first, same_key, itself, both_of, not_true, not_zero}
+use Rattle.xr_model.proofs.Keyed.{filters_agree}
 use Rattle.xr_core.specs.inside.Housed.{count_listed, AreHoused}
+use Rattle.xr_core.proofs.Going.{equals_back}
 
 one_if : Bool → ℕ
 one_if true = 1
@@ -220,3 +222,28 @@ housed_left xs row handle above gone all among = record { named = all_without xs
             let fewer = listed_fewer xs gone k in
             let before = all.housed k kz in
             omega (arith, same, fewer, before)
+
+-- ---- one handle goes alone
+
+going_alone : (h : ℕ) (row : List Slot) (k : ℕ) → (h == k) ≡ false → is_among (going h [] row) k ≡ false
+unfolding goes
+going_alone h [] k other = refl
+going_alone h (s ∷ ss) k other = by (s.handle == 0) (s.handle == h) refl (going_alone h ss k other)
+  where
+    by : (z b : Bool) → (s.handle == h) ≡ b → is_among (going h [] ss) k ≡ false → is_among (if not z && (b || false) then s.handle ∷ going h [] ss else going h [] ss) k ≡ false
+    by true b eb more = more
+    by false true eb more = rw (subst (λ (n : ℕ). (n == k) ≡ false) (sym (same_key s.handle h eb)) other) more
+    by false false eb more = more
+
+pub housed_alone : (xs : List ℕ) (row : List Slot) (handle : ℕ) → AreHoused xs row → AreHoused (filter (λ k. not (k == handle)) xs) (cleared handle [] row)
+housed_alone xs row handle all =
+    subst (λ (l : List ℕ). AreHoused l (cleared handle [] row)) (filters_agree (λ x. not (is_among (handle ∷ []) x)) (λ x. not (x == handle)) (λ x. true) xs (anything xs) (λ x there. ap (λ b. not b) (or_no (handle == x) ∙ equals_back handle x)))
+    (housed_left xs row handle [] (handle ∷ []) all (λ k stays. going_alone handle row k (sym (or_no (handle == k)) ∙ stays)))
+  where
+    or_no : (b : Bool) → b || false ≡ b
+    or_no true = refl
+    or_no false = refl
+
+    anything : (l : List ℕ) → list_all (λ x. true) l ≡ true
+    anything [] = refl
+    anything (x ∷ l) = anything l

@@ -1,15 +1,14 @@
 -- That the spaces, the action sets and the actions that a core keeps are live ones, call by call.
-use Rattle.std.proofs.Common.{◌≡◌, ◌==◌, ◌++◌, ℕ, suc, Bool, true, false, not, List, [], ◌∷◌, length, map, Option, Some, None, refl, ap, ◌∙◌}
+use Rattle.std.proofs.Common.{◌≡◌, ◌==◌, ◌++◌, ℕ, suc, Bool, true, false, not, List, [], ◌∷◌, length, map, refl, ap, ◌∙◌}
 use Rattle.std.specs.Prelude.{is_some, if◌then◌else◌}
 use Rattle.std.specs.List.{filter}
 use Rattle.xr_types.specs.declared.handles.Kind.TheVariants as kind
-use Rattle.xr_model.specs.machine.Handles.{Handles, is_among, first_free, going, no_room, with_handle, without, destroyed_by, destroyed_instances, destroyed_parents}
-use Rattle.xr_model.specs.machine.Refusals.{Refusal, first_of, unless}
-use Rattle.xr_model.specs.machine.Sets.{Set, Action, Sets, without_inputs, attached_by, with_attached, detached, without_attached}
-use Rattle.xr_model.specs.machine.Spaces.{Space, Spaces, without_spaces}
+use Rattle.xr_model.specs.machine.Handles.{Handles, is_among, first_free, going, with_handle, without, without_alone, destroyed_by, destroyed_instances, destroyed_parents}
+use Rattle.xr_model.specs.machine.Sets.{Set, Action, Sets, without_inputs, sealed_by, with_sealed}
+use Rattle.xr_model.specs.machine.Spaces.{Space, Spaces, without_space, without_spaces}
 use Rattle.xr_model.proofs.Rows.{any_more}
 use Rattle.xr_core.specs.inside.Housed.{KeepsLive}
-use Rattle.xr_core.proofs.Housed.{housed_more, housed_left}
+use Rattle.xr_core.proofs.Housed.{housed_more, housed_left, housed_alone}
 
 -- ---- the handles of what is kept
 
@@ -31,20 +30,16 @@ names_left f keeps (x ∷ xs) = by (keeps (f x)) (names_left f keeps xs)
     by true more = ap (λ (l : List ℕ). f x ∷ l) more
     by false more = more
 
-attached_name : (handles : List ℕ) (x : Set) → (attached_by handles x).handle ≡ x.handle
-attached_name handles x = by (is_among handles x.handle)
+sealed_name : (handles : List ℕ) (x : Set) → (sealed_by handles x).handle ≡ x.handle
+sealed_name handles x = by (is_among handles x.handle)
   where
-    by : (b : Bool) → (if b then record x { attached = true; sealed = true } else x).handle ≡ x.handle
+    by : (b : Bool) → (if b then record x { sealed = true } else x).handle ≡ x.handle
     by true = refl
     by false = refl
 
-attached_names : (handles : List ℕ) (xs : List Set) → map (λ x. x.handle) (map (attached_by handles) xs) ≡ map (λ x. x.handle) xs
-attached_names handles [] = refl
-attached_names handles (x ∷ xs) = ap (λ (n : ℕ). n ∷ map (λ (y : Set). y.handle) (map (attached_by handles) xs)) (attached_name handles x) ∙ ap (λ (l : List ℕ). x.handle ∷ l) (attached_names handles xs)
-
-detached_names : (xs : List Set) → map (λ x. x.handle) (map detached xs) ≡ map (λ x. x.handle) xs
-detached_names [] = refl
-detached_names (x ∷ xs) = ap (λ (l : List ℕ). x.handle ∷ l) (detached_names xs)
+sealed_names : (handles : List ℕ) (xs : List Set) → map (λ x. x.handle) (map (sealed_by handles) xs) ≡ map (λ x. x.handle) xs
+sealed_names handles [] = refl
+sealed_names handles (x ∷ xs) = ap (λ (n : ℕ). n ∷ map (λ (y : Set). y.handle) (map (sealed_by handles) xs)) (sealed_name handles x) ∙ ap (λ (l : List ℕ). x.handle ∷ l) (sealed_names handles xs)
 
 -- ---- what goes with a handle
 
@@ -76,46 +71,45 @@ kept_left spaces sets h handle kept =
       actions = rw (names_left (λ (x : Action). x.handle) keeps sets.actions) (housed_left (map (λ x. x.handle) sets.actions) h.actions handle (destroyed_parents h handle) (destroyed_by h handle) kept.actions (λ k stays. action_among h handle k stays));
     }
 
--- a handle of another kind was given, or none was
-pub kept_same : (spaces : Spaces) (sets : Sets) (h new taken : Handles) (o : Option Refusal) → new ≡ unless o h taken → taken.spaces ≡ h.spaces → taken.sets ≡ h.sets → taken.actions ≡ h.actions → KeepsLive spaces sets h → KeepsLive spaces sets new
-kept_same spaces sets h new taken None is a b c kept = rw is (record { spaces = rw a kept.spaces; sets = rw b kept.sets; actions = rw c kept.actions })
-kept_same spaces sets h new taken (Some r) is a b c kept = rw is kept
+-- a handle of another kind was given
+pub kept_same : (spaces : Spaces) (sets : Sets) (h new taken : Handles) → new ≡ taken → taken.spaces ≡ h.spaces → taken.sets ≡ h.sets → taken.actions ≡ h.actions → KeepsLive spaces sets h → KeepsLive spaces sets new
+kept_same spaces sets h new taken is a b c kept = rw is (record { spaces = rw a kept.spaces; sets = rw b kept.sets; actions = rw c kept.actions })
 
 -- a space more
 pub kept_space : (spaces : Spaces) (sets : Sets) (h new : Handles) (x : Space) (parent given : ℕ) → KeepsLive spaces sets h → x.handle ≡ given → (given == 0) ≡ false → is_some (first_free h.spaces) ≡ true
-    → new ≡ unless (first_of (no_room h kind.Space ∷ [])) h (with_handle h kind.Space parent given) → KeepsLive (record spaces { spaces = spaces.spaces ++ x ∷ [] }) sets new
-kept_space spaces sets h new x parent given kept named nz room is =
-    let one : new ≡ with_handle h kind.Space parent given = rw room at is in
-    rw one (record {
-      spaces = rw (names_more (λ (y : Space). y.handle) spaces.spaces x, named) (housed_more (map (λ y. y.handle) spaces.spaces) h.spaces given parent kept.spaces nz room);
-      sets = kept.sets;
-      actions = kept.actions;
-    })
+    → new ≡ with_handle h kind.Space parent given → KeepsLive (record spaces { spaces = spaces.spaces ++ x ∷ [] }) sets new
+kept_space spaces sets h new x parent given kept named nz room is = rw is (record {
+  spaces = rw (names_more (λ (y : Space). y.handle) spaces.spaces x, named) (housed_more (map (λ y. y.handle) spaces.spaces) h.spaces given parent kept.spaces nz room);
+  sets = kept.sets;
+  actions = kept.actions;
+})
 
 -- an action set more
 pub kept_set : (spaces : Spaces) (sets : Sets) (h new : Handles) (x : Set) (parent given : ℕ) → KeepsLive spaces sets h → x.handle ≡ given → (given == 0) ≡ false → is_some (first_free h.sets) ≡ true
-    → new ≡ unless (first_of (no_room h kind.ActionSet ∷ [])) h (with_handle h kind.ActionSet parent given) → KeepsLive spaces (record sets { sets = sets.sets ++ x ∷ [] }) new
-kept_set spaces sets h new x parent given kept named nz room is =
-    let one : new ≡ with_handle h kind.ActionSet parent given = rw room at is in
-    rw one (record {
-      spaces = kept.spaces;
-      sets = rw (names_more (λ (y : Set). y.handle) sets.sets x, named) (housed_more (map (λ y. y.handle) sets.sets) h.sets given parent kept.sets nz room);
-      actions = kept.actions;
-    })
+    → new ≡ with_handle h kind.ActionSet parent given → KeepsLive spaces (record sets { sets = sets.sets ++ x ∷ [] }) new
+kept_set spaces sets h new x parent given kept named nz room is = rw is (record {
+  spaces = kept.spaces;
+  sets = rw (names_more (λ (y : Set). y.handle) sets.sets x, named) (housed_more (map (λ y. y.handle) sets.sets) h.sets given parent kept.sets nz room);
+  actions = kept.actions;
+})
 
 -- an action more
 pub kept_action : (spaces : Spaces) (sets : Sets) (h new : Handles) (x : Action) (parent given : ℕ) → KeepsLive spaces sets h → x.handle ≡ given → (given == 0) ≡ false → is_some (first_free h.actions) ≡ true
-    → new ≡ unless (first_of (no_room h kind.Action ∷ [])) h (with_handle h kind.Action parent given) → KeepsLive spaces (record sets { actions = sets.actions ++ x ∷ [] }) new
-kept_action spaces sets h new x parent given kept named nz room is =
-    let one : new ≡ with_handle h kind.Action parent given = rw room at is in
-    rw one (record {
-      spaces = kept.spaces;
-      sets = kept.sets;
-      actions = rw (names_more (λ (y : Action). y.handle) sets.actions x, named) (housed_more (map (λ y. y.handle) sets.actions) h.actions given parent kept.actions nz room);
-    })
+    → new ≡ with_handle h kind.Action parent given → KeepsLive spaces (record sets { actions = sets.actions ++ x ∷ [] }) new
+kept_action spaces sets h new x parent given kept named nz room is = rw is (record {
+  spaces = kept.spaces;
+  sets = kept.sets;
+  actions = rw (names_more (λ (y : Action). y.handle) sets.actions x, named) (housed_more (map (λ y. y.handle) sets.actions) h.actions given parent kept.actions nz room);
+})
 
-pub kept_attached : (spaces : Spaces) (sets : Sets) (h : Handles) (handles : List ℕ) → KeepsLive spaces sets h → KeepsLive spaces (with_attached sets handles) h
-kept_attached spaces sets h handles kept = record { spaces = kept.spaces; sets = rw (attached_names handles sets.sets) kept.sets; actions = kept.actions }
+-- sets are sealed
+pub kept_sealed : (spaces : Spaces) (sets : Sets) (h : Handles) (handles : List ℕ) → KeepsLive spaces sets h → KeepsLive spaces (with_sealed sets handles) h
+kept_sealed spaces sets h handles kept = record { spaces = kept.spaces; sets = rw (sealed_names handles sets.sets) kept.sets; actions = kept.actions }
 
-pub kept_detached : (spaces : Spaces) (sets : Sets) (h : Handles) → KeepsLive spaces sets h → KeepsLive spaces (without_attached sets) h
-kept_detached spaces sets h kept = record { spaces = kept.spaces; sets = rw (detached_names sets.sets) kept.sets; actions = kept.actions }
+-- a space goes alone
+pub kept_alone : (spaces : Spaces) (sets : Sets) (h : Handles) (space : ℕ) → KeepsLive spaces sets h → KeepsLive (without_space spaces space) sets (without_alone h kind.Space space)
+kept_alone spaces sets h space kept = record {
+  spaces = rw (names_left (λ (x : Space). x.handle) (λ k. not (k == space)) spaces.spaces) (housed_alone (map (λ x. x.handle) spaces.spaces) h.spaces space kept.spaces);
+  sets = kept.sets;
+  actions = kept.actions;
+}

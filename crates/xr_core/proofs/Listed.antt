@@ -5,10 +5,8 @@ use Rattle.std.specs.List.{position_from}
 use Rattle.xr_types.specs.declared.handles.Kind.TheVariants as kind
 use Rattle.xr_types.specs.declared.handles.Slot.{Slot}
 use Rattle.xr_types.specs.declared.handles.TheConstants.{SESSIONS}
-use Rattle.xr_model.specs.machine.Handles.{Handles, is_live, has_room, no_room, first_free, with_handle}
-use Rattle.xr_model.specs.machine.LiveSessions.{Session, no_life, session_at, with_life, with_life_at}
-use Rattle.xr_model.specs.machine.SessionLife.{Life}
-use Rattle.xr_model.specs.machine.Refusals.{Refusal, first_of, unless}
+use Rattle.xr_model.specs.machine.Handles.{Handles, is_live, has_room, first_free, with_handle}
+use Rattle.xr_model.specs.machine.LiveSessions.{Session, no_life, session_at, with_session_at}
 use Rattle.xr_core.specs.inside.Changes.{place_at}
 use Rattle.xr_model.specs.laws.SessionLaws.{AreListed}
 use Rattle.xr_model.proofs.Rows.{one_later, same_key, itself}
@@ -20,7 +18,7 @@ pub record Stands (xs : List Session) (handle place : ℕ) (d : Session) : Type 
   pub found : session_at xs handle ≡ Some (slice_index_or xs place d)
   pub within : place < length xs
   pub named : (slice_index_or xs place d).handle ≡ handle
-  pub replaces : (life : Life) → slice_set xs place (with_life life (slice_index_or xs place d)) ≡ with_life_at handle life xs
+  pub replaces : (f : Session → Session) → slice_set xs place (f (slice_index_or xs place d)) ≡ with_session_at handle f xs
 
 zero_is : (place : ℕ) → Some 0 ≡ Some place → place ≡ 0
 zero_is place e = cc
@@ -34,7 +32,7 @@ stands [] handle place d e = cc
 stands (x ∷ xs) handle place d e = by (x.handle == handle) refl e (λ q more. stands xs handle q d more)
   where
     by : (b : Bool) → (x.handle == handle) ≡ b → (if b then Some 0 else position_from (λ y. y.handle == handle) 1 xs) ≡ Some place → ((q : ℕ) → place_at xs handle ≡ Some q → Stands xs handle q d) → Stands (x ∷ xs) handle place d
-    by true is e more = rw (zero_is place e) (record { found = rw is refl; within = omega arith; named = same_key x.handle handle is; replaces = λ life. rw is refl })
+    by true is e more = rw (zero_is place e) (record { found = rw is refl; within = omega arith; named = same_key x.handle handle is; replaces = λ f. rw is refl })
     by false is e more =
         let next = next_is place (place_at xs handle) (sym (one_later (λ y. y.handle == handle) 0 xs) ∙ e) in
         let there = more next.0 next.1 in
@@ -43,12 +41,12 @@ stands (x ∷ xs) handle place d e = by (x.handle == handle) refl e (λ q more. 
           found = rw is there.found;
           within = omega (arith, within);
           named = there.named;
-          replaces = λ life. rw is (ap (λ (ys : List Session). x ∷ ys) (there.replaces life));
+          replaces = λ f. rw is (ap (λ (ys : List Session). x ∷ ys) (there.replaces f));
         })
 
 -- any session, for the places where none stands
 abbrev nobody : Session
-nobody = record { handle = 0; ordinal = 0; life = no_life }
+nobody = record { handle = 0; ordinal = 0; life = no_life; attached = None }
 
 pub stands_within : (xs : List Session) (handle place : ℕ) → place_at xs handle ≡ Some place → place < length xs
 stands_within xs handle place found = (stands xs handle place nobody found).within
@@ -73,30 +71,10 @@ stands_nowhere (x ∷ xs) handle e = by (x.handle == handle) refl e (stands_nowh
 
 -- ---- what keeps them listed
 
--- an instance more, or none where there was no room
-pub listed_instance : (h new : Handles) (xs : List Session) (o : Option Refusal) (parent given : ℕ) → new ≡ unless o h (with_handle h kind.Instance parent given) → AreListed h xs → AreListed new xs
-listed_instance h new xs None parent given is listed = rw is listed
-listed_instance h new xs (Some r) parent given is listed = rw is listed
-
--- a space more, or none where there was no room
-pub listed_space : (h new : Handles) (xs : List Session) (o : Option Refusal) (parent given : ℕ) → new ≡ unless o h (with_handle h kind.Space parent given) → AreListed h xs → AreListed new xs
-listed_space h new xs None parent given is listed = rw is listed
-listed_space h new xs (Some r) parent given is listed = rw is listed
-
--- a set more, or an action more
-pub listed_set : (h new : Handles) (xs : List Session) (o : Option Refusal) (parent given : ℕ) → new ≡ unless o h (with_handle h kind.ActionSet parent given) → AreListed h xs → AreListed new xs
-listed_set h new xs None parent given is listed = rw is listed
-listed_set h new xs (Some r) parent given is listed = rw is listed
-
-pub listed_action : (h new : Handles) (xs : List Session) (o : Option Refusal) (parent given : ℕ) → new ≡ unless o h (with_handle h kind.Action parent given) → AreListed h xs → AreListed new xs
-listed_action h new xs None parent given is listed = rw is listed
-listed_action h new xs (Some r) parent given is listed = rw is listed
-
-pub listed_give : (h new : Handles) (xs ys : List Session) (x : Session) (instance given : ℕ) → has_room h kind.Session ≡ true → new ≡ unless (first_of (no_room h kind.Session ∷ [])) h (with_handle h kind.Session instance given)
+-- a session more, which stands behind the others
+pub listed_give : (h new : Handles) (xs ys : List Session) (x : Session) (instance given : ℕ) → has_room h kind.Session ≡ true → new ≡ with_handle h kind.Session instance given
     → x.handle ≡ given → (given == 0) ≡ false → ys ≡ xs ++ x ∷ [] → AreListed h xs → AreListed new ys
-listed_give h new xs ys x instance given room is named nz more listed =
-    let given_one : new ≡ with_handle h kind.Session instance given = rw room at is in
-    rw (given_one, more) (listed_more h xs x instance given listed named nz room)
+listed_give h new xs ys x instance given room is named nz more listed = rw (is, more) (listed_more h xs x instance given listed named nz room)
 
 -- ---- room
 

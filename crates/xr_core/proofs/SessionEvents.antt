@@ -4,7 +4,7 @@ use Rattle.std.specs.Prelude.{slice_set, slice_index_or}
 use Rattle.xr_model.specs.machine.Refusals.{Refusal, first_of, unless}
 use Rattle.xr_model.specs.machine.SessionLife.{Life, Changed}
 use Rattle.xr_model.specs.machine.LiveSessions.{Session, session_at, with_life, with_life_at, each_changed, told_states}
-use Rattle.xr_model.specs.machine.Rules.Session.{life_of, with_change}
+use Rattle.xr_model.specs.machine.Rules.Session.{life_of}
 use Rattle.xr_model.specs.machine.State.{CoreState}
 use Rattle.xr_core.specs.inside.Changes.{place_at, ordinal_in, refusals_of, change_of, life_after, told_after, changed_life}
 use Rattle.xr_core.specs.declared.sessions.LifeCall.{LifeCall}
@@ -20,7 +20,7 @@ put_back (x ∷ xs) (suc place) d within = ap (λ (ys : List Session). x ∷ ys)
 
 -- a life that stays leaves the sessions as they were
 lives_on : (xs : List Session) (handle place : ℕ) (d : Session) → (there : Stands xs handle place d) → with_life_at handle (slice_index_or xs place d).life xs ≡ xs
-lives_on xs handle place d there = sym (there.replaces (slice_index_or xs place d).life) ∙ put_back xs place d there.within
+lives_on xs handle place d there = sym (there.replaces (with_life (slice_index_or xs place d).life)) ∙ put_back xs place d there.within
 
 -- what the call made of the sessions and of the events is what it makes of the core
 pub changes_one : (s : CoreState) (session place : ℕ) (d : Session) (call : LifeCall) → place_at s.sessions session ≡ Some place
@@ -41,16 +41,6 @@ changes_one s session place d call found =
         } ≡ unless o s (record s { sessions = with_life_at (slice_index_or s.sessions place d).handle c.life s.sessions; events = told_states s.events (slice_index_or s.sessions place d).ordinal (slice_index_or s.sessions place d).handle c.through })
     by None c there = rw there.named refl
     by (Some r) c there = ap (λ (xs : List Session). record s { sessions = xs }) (lives_on s.sessions session place d there)
-
--- no call of a session is counted by what it changes
-pub uncounted : (s : CoreState) (session : ℕ) (call : LifeCall) → (changed_life s session call).locked ≡ s.locked
-unfolding changed_life
-uncounted s session call = by (first_of (refusals_of call (life_of s session))) (session_at s.sessions session)
-  where
-    by : (o : Option Refusal) (x : Option Session) → (unless o s (with_change s x (change_of s.device.wish call))).locked ≡ s.locked
-    by None None = refl
-    by None (Some x) = refl
-    by (Some r) x = refl
 
 -- ---- all sessions change
 

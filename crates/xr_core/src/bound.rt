@@ -6,12 +6,12 @@ ghost use Rattle.xr_model.specs.machine.Refusals.{first_of};
 ghost use Rattle.xr_model.specs.machine.Rules.Bindings.{profile_at, profile_checks, pick_of, binding_checks, bound_of};
 ghost use Rattle.xr_core.specs.inside.Refusing.{or_refused, some_or_refused};
 
-use crate::Core;
+use crate::parts::Parts;
 use arrayvec::ArrayVec;
 use xr_profiles::{component, profile_of};
 use xr_types::{Binding, Bound, Code, Kind, MOST_SUGGESTED, Pick, Profile};
 
-impl Core {
+impl Parts {
     /// The profile of an atom. Refused are what is no atom (`PathInvalid`), and the atom of another path
     /// (`PathUnsupported`).
     pub(crate) fn profile_at(&self, atom: u64) -> Result<Profile, Code>

@@ -2,16 +2,18 @@
 //! knows calls and parts, and no bytes of scenarios, devices or reports.
 #![tactic(auto)]
 
-mod apply;
 mod bound;
 mod calls;
+mod counted;
+mod decide;
 mod device_values;
+mod halt;
+mod parts;
 mod plain_cells;
 mod plain_core;
 mod sessions;
-mod state;
 mod subactions;
 
+pub use counted::Core;
 pub use plain_cells::PlainCells;
 pub use plain_core::PlainCore;
-pub use state::Core;

@@ -1,33 +1,39 @@
 // The live sessions, what changes them, and what is told of that.
 ghost use Rattle.std.specs.Option.{option_copied};
-ghost use Rattle.std.specs.Prelude.{◌≡◌, ◌<◌, [], length, Some};
+ghost use Rattle.std.specs.Prelude.{◌≡◌, ◌<◌, [], ◌∷◌, length, map, not, is_some, Some, None};
+ghost use Rattle.std.specs.List.{filter};
 ghost use Rattle.xr_types.specs.declared.code.Code.TheVariants.{Success};
-ghost use Rattle.xr_model.specs.machine.SessionLife.{started_session};
-ghost use Rattle.xr_model.specs.machine.LiveSessions.{session_at, life_in, with_life, with_life_at, each_changed, told_states, told_changes};
-ghost use Rattle.xr_model.specs.machine.SessionRule.{code_on};
+ghost use Rattle.xr_model.specs.machine.SessionLife.{started_session, is_lost};
+ghost use Rattle.xr_model.specs.machine.Handles.{is_among};
+ghost use Rattle.xr_model.specs.machine.Refusals.{first_of};
+ghost use Rattle.xr_model.specs.machine.LiveSessions.{session_at, life_in, with_life, with_life_at, with_session_at, with_attached, without_sets, each_changed, told_states, told_changes};
+ghost use Rattle.xr_model.specs.machine.SessionRule.{loss_of, code_on};
 ghost use Rattle.xr_core.specs.inside.Changes.{change_by, place_at, ordinal_in, life_after, told_after, answer_to};
+ghost use Rattle.xr_core.specs.inside.Refusing.{or_refused};
 
 use arrayvec::ArrayVec;
 use std::marker::Model;
 use xr_events::Events;
-use xr_states::{Changes, Session};
-use xr_types::{Code, Event, SESSIONS, SessionState, ViewConfig, Wish};
+use xr_states::{Changes, Life};
+use xr_types::{ACTION_SETS, Code, Event, SESSIONS, SessionState, ViewConfig, Wish};
 
-/// A live session: its handle, its ordinal, which is the count of sessions that were created in the run, itself
-/// included, and its life.
+/// A live session: its handle; its ordinal, which is the count of sessions that were created in the run, itself included; its
+/// life; and the action sets that it has attached, each once, where it has attached any.
 #[derive(Default, Drop)]
-pub(crate) struct LiveSession {
+pub(crate) struct Session {
     handle: u64,
     ordinal: u64,
-    life: Session,
+    life: Life,
+    attached: Option<ArrayVec<u64, ACTION_SETS>>,
 }
 
-impl Model for LiveSession {
+impl Model for Session {
+    ghost use Rattle.std.specs.Prelude.{option_map};
     ghost use Rattle.xr_model.specs.machine.LiveSessions as sessions;
 
     ghost Value = { sessions.Session };
 
-    ghost view = { λ x. record { handle = x.handle; ordinal = x.ordinal; life = x.life } };
+    ghost view = { λ x. record { handle = x.handle; ordinal = x.ordinal; life = x.life; attached = option_map (λ sets. sets.items) x.attached } };
 }
 
 /// A call that changes the life of one session.
@@ -46,6 +52,13 @@ pub(crate) enum Change {
     Lost,
 }
 
+/// Takes these handles out of a list.
+fn forget_among(sets: &mut ArrayVec<u64, ACTION_SETS>, gone: &[u64])
+    ensures { sets.new.items ≡ filter (λ set. not (is_among gone.now set)) sets.old.items }
+{
+    sets.retain(|set| !gone.contains(&*set));
+}
+
 /// Tells the states that a session went through.
 fn tell(events: &mut Events, ordinal: u64, session: u64, changes: &Changes)
     ensures { events.new ≡ told_states events.old ordinal session changes.now }
@@ -61,7 +74,7 @@ fn tell(events: &mut Events, ordinal: u64, session: u64, changes: &Changes)
 
 /// Begins a session.
 #[tactic(auto, unfolding(crate::specs::inside::Changes::life_after, crate::specs::inside::Changes::told_after, crate::specs::inside::Changes::answer_to))]
-fn begin(life: &mut Session, view: ViewConfig, wish: Wish) -> Code
+fn begin(life: &mut Life, view: ViewConfig, wish: Wish) -> Code
     ensures life { life.new ≡ life_after wish (LifeCall.Begin view) life.old }
     ensures through { [] ≡ told_after wish (LifeCall.Begin view) life.old }
     ensures code { result ≡ answer_to (LifeCall.Begin view) life.old }
@@ -71,7 +84,7 @@ fn begin(life: &mut Session, view: ViewConfig, wish: Wish) -> Code
 
 /// Ends a session.
 #[tactic(auto, unfolding(crate::specs::inside::Changes::life_after, crate::specs::inside::Changes::told_after, crate::specs::inside::Changes::answer_to))]
-fn end(life: &mut Session, wish: Wish, changes: &mut Changes) -> Code
+fn end(life: &mut Life, wish: Wish, changes: &mut Changes) -> Code
     requires { changes.old ≡ [] }
     ensures life { life.new ≡ life_after wish LifeCall.End life.old }
     ensures through { changes.new ≡ told_after wish LifeCall.End life.old }
@@ -82,7 +95,7 @@ fn end(life: &mut Session, wish: Wish, changes: &mut Changes) -> Code
 
 /// Asks for a session's end.
 #[tactic(auto, unfolding(crate::specs::inside::Changes::life_after, crate::specs::inside::Changes::told_after, crate::specs::inside::Changes::answer_to))]
-fn request_exit(life: &mut Session, wish: Wish, changes: &mut Changes) -> Code
+fn request_exit(life: &mut Life, wish: Wish, changes: &mut Changes) -> Code
     requires { changes.old ≡ [] }
     ensures life { life.new ≡ life_after wish LifeCall.RequestExit life.old }
     ensures through { changes.new ≡ told_after wish LifeCall.RequestExit life.old }
@@ -92,7 +105,7 @@ fn request_exit(life: &mut Session, wish: Wish, changes: &mut Changes) -> Code
 }
 
 /// Makes a call that changes a session's life, of which nothing is told yet.
-fn live(life: &mut Session, call: LifeCall, wish: Wish, changes: &mut Changes) -> Code
+fn live(life: &mut Life, call: LifeCall, wish: Wish, changes: &mut Changes) -> Code
     requires { changes.old ≡ [] }
     ensures life { life.new ≡ life_after wish call life.old }
     ensures through { changes.new ≡ told_after wish call life.old }
@@ -105,19 +118,20 @@ fn live(life: &mut Session, call: LifeCall, wish: Wish, changes: &mut Changes) -
     }
 }
 
-impl LiveSession {
+impl Session {
     /// A new session, which tells its first states.
-    pub(crate) fn create(handle: u64, ordinal: u64, wish: Wish, events: &mut Events) -> LiveSession
-        ensures session { result ≡ record { handle = handle; ordinal = ordinal; life = (started_session wish).life } }
+    pub(crate) fn create(handle: u64, ordinal: u64, wish: Wish, events: &mut Events) -> Session
+        ensures session { result ≡ record { handle = handle; ordinal = ordinal; life = (started_session wish).life; attached = None } }
         ensures events { events.new ≡ told_states events.old ordinal handle (started_session wish).through }
     {
         let mut changes = Changes::new();
-        let life = Session::start(wish, &mut changes);
+        let life = Life::start(wish, &mut changes);
         tell(events, ordinal, handle, &changes);
-        LiveSession {
+        Session {
             handle,
             ordinal,
             life,
+            attached: None,
         }
     }
 
@@ -127,13 +141,47 @@ impl LiveSession {
         self.handle
     }
 
-    /// What a plain success on the session is answered as.
-    fn success(&self) -> Code
-        ensures { result ≡ code_on self.now.life Success }
+    /// What a plain success on the session is answered as, whether or not it is lost.
+    fn success_code(&self) -> Code
+        ensures { result ≡ code_on (loss_of self.now.life) Success }
     {
         match self.life.state() {
             SessionState::LossPending => Code::SessionLossPending,
             _ => Code::Success,
+        }
+    }
+
+    /// What a plain success on the session is answered as, where it isn't lost.
+    pub(crate) fn success(&self) -> Result<Code, Code>
+        ensures { result ≡ or_refused (first_of (is_lost self.now.life ∷ [])) (code_on (loss_of self.now.life) Success) }
+    {
+        if self.life.lost() {
+            Err(Code::SessionLost)
+        } else {
+            Ok(self.success_code())
+        }
+    }
+
+    /// Whether it has attached action sets.
+    pub(crate) fn has_attached(&self) -> bool
+        ensures { result ≡ is_some self.now.attached }
+    {
+        self.attached.is_some()
+    }
+
+    /// It has attached these action sets.
+    fn attach(&mut self, sets: ArrayVec<u64, ACTION_SETS>)
+        ensures { self.new ≡ with_attached sets.items self.old }
+    {
+        self.attached = Some(sets);
+    }
+
+    /// These handles went: the action sets among them are attached no more.
+    fn forget_sets(&mut self, gone: &[u64])
+        ensures { self.new ≡ without_sets gone.now self.old }
+    {
+        if let Some(sets) = &mut self.attached {
+            forget_among(sets, gone);
         }
     }
 
@@ -165,7 +213,7 @@ impl LiveSession {
 }
 
 /// Changes all sessions, in the order of their creation.
-pub(crate) fn change_each(sessions: &mut [LiveSession], change: Change, events: &mut Events)
+pub(crate) fn change_each(sessions: &mut [Session], change: Change, events: &mut Events)
     ensures sessions { sessions.new ≡ each_changed (change_by change) sessions.old }
     ensures events { events.new ≡ told_changes events.old (change_by change) sessions.old }
 {
@@ -174,32 +222,31 @@ pub(crate) fn change_each(sessions: &mut [LiveSession], change: Change, events: 
     }
 }
 
+/// These handles went: none of these sessions has any of them attached.
+fn forget_each(sessions: &mut [Session], gone: &[u64])
+    ensures { sessions.new ≡ map (without_sets gone.now) sessions.old }
+{
+    for session in sessions.iter_mut() {
+        session.forget_sets(gone);
+    }
+}
+
+/// These handles went: no session has any of them attached.
+pub(crate) fn forget_attached(sessions: &mut ArrayVec<Session, SESSIONS>, gone: &[u64])
+    ensures { sessions.new.items ≡ map (without_sets gone.now) sessions.old.items }
+{
+    forget_each(sessions.as_mut_slice(), gone);
+}
+
 /// A listed session by its handle.
-fn session_at(sessions: &[LiveSession], handle: u64) -> Option<&LiveSession>
+pub(crate) fn session_at(sessions: &[Session], handle: u64) -> Option<&Session>
     ensures { option_copied result ≡ session_at sessions.now handle }
 {
     sessions.iter().find(|session| session.handle() == handle)
 }
 
-/// Whether a session is lost. One that isn't listed isn't.
-pub(crate) fn is_lost(sessions: &[LiveSession], handle: u64) -> bool
-    ensures { result ≡ (life_in (session_at sessions.now handle)).lost }
-{
-    session_at(sessions, handle).is_some_and(|session| session.life.lost())
-}
-
-/// What a plain success on a session is answered as.
-pub(crate) fn success_on(sessions: &[LiveSession], handle: u64) -> Code
-    ensures { result ≡ code_on (life_in (session_at sessions.now handle)) Success }
-{
-    match session_at(sessions, handle) {
-        Some(session) => session.success(),
-        None => Code::Success,
-    }
-}
-
 /// Where a session stands.
-pub(crate) fn place_of(sessions: &[LiveSession], handle: u64) -> Option<usize>
+pub(crate) fn place_of(sessions: &[Session], handle: u64) -> Option<usize>
     ensures { result ≡ place_at sessions.now handle }
 {
     sessions
@@ -208,17 +255,17 @@ pub(crate) fn place_of(sessions: &[LiveSession], handle: u64) -> Option<usize>
 }
 
 /// What a plain success on the session in a place is answered as.
-pub(crate) fn success_of(sessions: &[LiveSession], handle: u64, place: usize) -> Code
+pub(crate) fn success_of(sessions: &[Session], handle: u64, place: usize) -> Code
     requires found { place_at sessions.now handle ≡ Some place }
     requires within { place < length sessions.now }
-    ensures { result ≡ code_on (life_in (session_at sessions.now handle)) Success }
+    ensures { result ≡ code_on (loss_of (life_in (session_at sessions.now handle))) Success }
 {
-    sessions[place].success()
+    sessions[place].success_code()
 }
 
 /// Makes a call that changes the life of the session in a place, and tells what it went through.
 pub(crate) fn change_life(
-    sessions: &mut ArrayVec<LiveSession, SESSIONS>,
+    sessions: &mut ArrayVec<Session, SESSIONS>,
     handle: u64,
     place: usize,
     call: LifeCall,
@@ -232,4 +279,18 @@ pub(crate) fn change_life(
     ensures code { result ≡ answer_to call (life_in (session_at sessions.old.items handle)) }
 {
     sessions[place].make(call, wish, events)
+}
+
+/// The session in a place has attached these action sets.
+pub(crate) fn attach_at(
+    sessions: &mut ArrayVec<Session, SESSIONS>,
+    handle: u64,
+    place: usize,
+    sets: ArrayVec<u64, ACTION_SETS>,
+)
+    requires found { place_at sessions.old.items handle ≡ Some place }
+    requires within { place < length sessions.old.items }
+    ensures { sessions.new.items ≡ with_session_at handle (with_attached sets.items) sessions.old.items }
+{
+    sessions[place].attach(sets);
 }

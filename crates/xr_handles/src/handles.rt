@@ -1,7 +1,7 @@
 // The rows of all kinds, and the calls on them.
 ghost use Rattle.std.specs.Prelude.{◌≡◌, ◌≢◌, ◌<◌, ◌^◌, [], ◌∷◌, false, length, is_some, IfSome};
 ghost use Rattle.xr_model.specs.machine.Handles as model;
-ghost use Rattle.xr_model.specs.machine.Handles.{no_handles, row_of, is_live, first_free, no_room, was_given, with_handle, without};
+ghost use Rattle.xr_model.specs.machine.Handles.{no_handles, row_of, is_live, first_free, no_room, was_given, with_handle, without, without_alone};
 ghost use Rattle.xr_model.specs.machine.HandlePlaces.{limit_of};
 ghost use Rattle.xr_model.specs.machine.HandlePlaces.{kind_of, parent_of, place_of, place_among, handle_at};
 ghost use Rattle.xr_model.specs.machine.Refusals.{first_of, unless};
@@ -176,6 +176,7 @@ impl Handles {
         ensures kept { self.new ≡ unless (first_of (no_room self.old kind ∷ [])) self.old (with_handle self.old kind parent result.number) }
         ensures answer { result ≡ answer_by (first_of (no_room self.old kind ∷ [])) (next_number self.old) }
         ensures fresh { was_given self.old (next_number self.old) ≡ false }
+        ensures row { length (row_of self.old kind) ≡ limit_of kind }
     {
         let handle = self.given + 1;
         let put = match kind {
@@ -207,5 +208,20 @@ impl Handles {
         row::sweep(&mut self.actions, handle, parents.as_slice(), destroyed);
         row::sweep(&mut self.spaces, handle, parents.as_slice(), destroyed);
         row::sweep(&mut self.chains, handle, parents.as_slice(), destroyed);
+    }
+
+    /// A handle was destroyed of a kind below which nothing stands: its place is free. Where it isn't live, all stays as it
+    /// was. OpenXR 1.0 chapter 7, xrDestroySpace.
+    pub fn remove(&mut self, kind: Kind, handle: u64)
+        ensures { self.new ≡ without_alone self.old kind handle }
+    {
+        match kind {
+            Kind::Instance => row::clear(&mut self.instances, handle),
+            Kind::Session => row::clear(&mut self.sessions, handle),
+            Kind::ActionSet => row::clear(&mut self.sets, handle),
+            Kind::Action => row::clear(&mut self.actions, handle),
+            Kind::Space => row::clear(&mut self.spaces, handle),
+            Kind::Swapchain => row::clear(&mut self.chains, handle),
+        }
     }
 }

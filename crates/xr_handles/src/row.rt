@@ -1,6 +1,6 @@
 // One row of places: what is found in it, put into it, and swept out of it.
-ghost use Rattle.std.specs.Prelude.{◌≡◌, ◌≤◌, ◌<◌, ◌+◌, ◌++◌, length, is_some, option_map, IfSome};
-ghost use Rattle.xr_model.specs.machine.Handles.{first_free, put_in, has, goes, going, cleared};
+ghost use Rattle.std.specs.Prelude.{◌≡◌, ◌≤◌, ◌<◌, ◌+◌, ◌++◌, [], length, is_some, option_map, IfSome, if◌then◌else◌};
+ghost use Rattle.xr_model.specs.machine.Handles.{free, first_free, put_in, has, goes, going, cleared};
 ghost use Rattle.xr_model.specs.machine.HandlePlaces.{place_in, slot_in};
 
 use arrayvec::ArrayVec;
@@ -84,6 +84,24 @@ pub(crate) fn sweep(
             destroyed.push(slot.handle);
             row[i] = FREE;
         }
+    }
+}
+
+/// Frees a place where this handle stands in it, below which nothing stands.
+fn vacate(slot: &mut Slot, handle: u64)
+    ensures { slot.new ≡ if goes handle [] slot.old then free else slot.old }
+{
+    if leaves(*slot, handle, &[]) {
+        *slot = FREE;
+    }
+}
+
+/// Frees the place of a handle, below which nothing stands.
+pub(crate) fn clear(row: &mut [Slot], handle: u64)
+    ensures { row.new ≡ cleared handle [] row.old }
+{
+    for slot in row.iter_mut() {
+        vacate(slot, handle);
     }
 }
 

@@ -1,21 +1,19 @@
 -- A handle that was destroyed is never live again: it stands in no row, and no new handle was given before.
-use Rattle.std.proofs.Common.{◌≡◌, ℕ, ℤ, ◌==◌, ◌&&◌, ◌||◌, not, Bool, true, false, List, [], ◌∷◌, ◌++◌, None, refl, sym, ap, ◌∙◌, subst, true≢false}
+use Rattle.std.proofs.Common.{◌≡◌, ℕ, ℤ, ◌==◌, ◌&&◌, ◌||◌, not, Bool, true, false, List, [], ◌∷◌, None, refl, sym, ap, ◌∙◌, true≢false}
 use Rattle.xr_types.specs.Code.{is_success}
 use Rattle.xr_types.specs.declared.code.Code.TheVariants.{HandleInvalid}
 use Rattle.xr_types.specs.declared.handles.Kind.{Kind}
 use Rattle.xr_types.specs.declared.handles.Kind.TheVariants.{Instance, Session, ActionSet, Action, Space}
 use Rattle.xr_types.specs.declared.handles.Slot.{Slot}
 use Rattle.xr_types.specs.declared.handles.TheConstants.{INSTANCES, SESSIONS, ACTION_SETS, ACTIONS, SPACES, SWAPCHAINS}
-use Rattle.xr_model.specs.machine.Request.{Entry, Request, destroy_instance, destroy_session, destroy_space, destroy_action_set, destroy_action}
-use Rattle.xr_model.specs.machine.Handles.{Handles, has, is_live, was_given, with_handle, destroyed_instances, destroyed_parents, without}
+use Rattle.xr_model.specs.machine.Request.{Entry}
+use Rattle.xr_model.specs.machine.Handles.{Handles, has, is_live, was_given, with_handle, destroyed_instances, destroyed_parents, without, without_alone}
 use Rattle.xr_model.specs.machine.HandlePlaces.{kind_of}
 use Rattle.xr_model.specs.machine.Refusals.{when, first_of}
 use Rattle.xr_model.specs.machine.State.{CoreState, Settings, State, opening}
 use Rattle.xr_model.specs.machine.Rule.{Effect, unless_refused}
-use Rattle.xr_model.specs.machine.Machine.{step, rule, reads_of, IsGiven, IsAllowed}
-use Rattle.xr_model.specs.machine.History.{after, opening_clocks, clocks_after, IsLegalFrom}
-use Rattle.xr_model.specs.laws.HandleLaws.{destroys, DestroyedForGood}
-use Rattle.xr_model.proofs.Histories.{after_is_in_turn}
+use Rattle.xr_model.specs.machine.Machine.{step, reads_of, IsGiven, IsAllowed}
+use Rattle.xr_model.specs.machine.History.{after, clocks_after, IsLegalFrom}
 use Rattle.xr_model.proofs.Rows.{same_key, both_of, neither_of, not_true, hasnt_put, hasnt_free, hasnt_cleared, cleared_away}
 use Rattle.xr_model.proofs.HandleSteps.{gives_handle, kept_by_step}
 
@@ -33,7 +31,7 @@ and_false true = refl
 and_false false = refl
 
 -- so it is of no kind
-absent_kind : (h : Handles) (handle : ℕ) → IsAbsent h handle → kind_of h handle ≡ None
+pub absent_kind : (h : Handles) (handle : ℕ) → IsAbsent h handle → kind_of h handle ≡ None
 absent_kind h handle a = rw (a.instances, a.sessions, a.sets, a.actions, a.spaces, a.chains, and_false (not (handle == 0))) refl
 
 absent_without : (h : Handles) (gone handle : ℕ) → (handle == 0) ≡ false → IsAbsent h handle → IsAbsent (without h gone) handle
@@ -55,6 +53,17 @@ absent_itself h handle nz = record {
   actions = cleared_away handle (destroyed_parents h handle) h.actions nz;
   spaces = cleared_away handle (destroyed_parents h handle) h.spaces nz;
   chains = cleared_away handle (destroyed_parents h handle) h.chains nz;
+}
+
+-- nor where one handle of a row is taken out
+absent_alone : (h : Handles) (gone handle : ℕ) → (handle == 0) ≡ false → IsAbsent h handle → IsAbsent (without_alone h Space gone) handle
+absent_alone h gone handle nz a = record {
+  instances = a.instances;
+  sessions = a.sessions;
+  sets = a.sets;
+  actions = a.actions;
+  spaces = hasnt_cleared gone [] h.spaces handle nz a.spaces;
+  chains = a.chains;
 }
 
 module _ (h : Handles) (parent given handle : ℕ) (other : (given == handle) ≡ false) (a : IsAbsent h handle) where
@@ -88,7 +97,7 @@ abbrev pub AreKnown : Handles → Type 0
 AreKnown h = (handle : ℕ) → (handle == 0) ≡ false → was_given h handle ≡ false → IsAbsent h handle
 
 pub known_step : (s : State) (e : Entry) → AreKnown s.core.handles → AreKnown (step s e).0.core.handles
-known_step s e known = kept_by_step AreKnown s.core (reads_of s) e (record {
+known_step s e known = kept_by_step AreKnown s.core (reads_of s e.request) e (record {
   same = known;
   instance = λ gives handle nz new. let two = neither_of (e.given == handle) (was_given s.core.handles handle) new in absent_instance s.core.handles 0 e.given handle two.0 (known handle nz two.1);
   session = λ gives instance live handle nz new. let two = neither_of (e.given == handle) (was_given s.core.handles handle) new in absent_session s.core.handles instance e.given handle two.0 (known handle nz two.1);
@@ -96,9 +105,10 @@ known_step s e known = kept_by_step AreKnown s.core (reads_of s) e (record {
   action = λ gives set live handle nz new. let two = neither_of (e.given == handle) (was_given s.core.handles handle) new in absent_action s.core.handles set e.given handle two.0 (known handle nz two.1);
   space = λ gives session live handle nz new. let two = neither_of (e.given == handle) (was_given s.core.handles handle) new in absent_space s.core.handles session e.given handle two.0 (known handle nz two.1);
   without = λ gone handle nz new. absent_without s.core.handles gone handle nz (known handle nz new);
+  alone = λ gone handle nz new. absent_alone s.core.handles gone handle nz (known handle nz new);
 })
 
-known_after : (s : State) (es : List Entry) → AreKnown s.core.handles → AreKnown (after s es).core.handles
+pub known_after : (s : State) (es : List Entry) → AreKnown s.core.handles → AreKnown (after s es).core.handles
 known_after s [] known = known
 known_after s (e ∷ es) known = known_after (step s e).0 es (known_step s e known)
 
@@ -114,10 +124,10 @@ known_opening settings handle nz new = record {
 
 -- ---- a handle that was given and stands nowhere
 
-record IsOver (handle : ℕ) (h : Handles) : Type 0 where
-  some : (handle == 0) ≡ false
-  given : was_given h handle ≡ true
-  absent : IsAbsent h handle
+pub record IsOver (handle : ℕ) (h : Handles) : Type 0 where
+  pub some : (handle == 0) ≡ false
+  pub given : was_given h handle ≡ true
+  pub absent : IsAbsent h handle
 
 -- a new handle is another one
 is_other : (h : Handles) (handle new : ℕ) (gives : Bool) → IsOver handle h → IsGiven gives h new → gives ≡ true → (new == handle) ≡ false
@@ -133,29 +143,30 @@ or_given true c e = refl
 or_given false c e = e
 
 over_step : (s : State) (e : Entry) (handle : ℕ) → IsAllowed s e → IsOver handle s.core.handles → IsOver handle (step s e).0.core.handles
-over_step s e handle allowed over = kept_by_step (IsOver handle) s.core (reads_of s) e (record {
+over_step s e handle allowed over = kept_by_step (IsOver handle) s.core (reads_of s e.request) e (record {
   same = over;
-  instance = λ gives. let other = is_other s.core.handles handle e.given (gives_handle s.core (reads_of s) e) over allowed.handle gives in
+  instance = λ gives. let other = is_other s.core.handles handle e.given (gives_handle s.core (reads_of s e.request) e) over allowed.handle gives in
       record { some = over.some; given = or_given (e.given == handle) (was_given s.core.handles handle) over.given; absent = absent_instance s.core.handles 0 e.given handle other over.absent };
-  session = λ gives instance live. let other = is_other s.core.handles handle e.given (gives_handle s.core (reads_of s) e) over allowed.handle gives in
+  session = λ gives instance live. let other = is_other s.core.handles handle e.given (gives_handle s.core (reads_of s e.request) e) over allowed.handle gives in
       record { some = over.some; given = or_given (e.given == handle) (was_given s.core.handles handle) over.given; absent = absent_session s.core.handles instance e.given handle other over.absent };
-  set = λ gives instance live. let other = is_other s.core.handles handle e.given (gives_handle s.core (reads_of s) e) over allowed.handle gives in
+  set = λ gives instance live. let other = is_other s.core.handles handle e.given (gives_handle s.core (reads_of s e.request) e) over allowed.handle gives in
       record { some = over.some; given = or_given (e.given == handle) (was_given s.core.handles handle) over.given; absent = absent_set s.core.handles instance e.given handle other over.absent };
-  action = λ gives set live. let other = is_other s.core.handles handle e.given (gives_handle s.core (reads_of s) e) over allowed.handle gives in
+  action = λ gives set live. let other = is_other s.core.handles handle e.given (gives_handle s.core (reads_of s e.request) e) over allowed.handle gives in
       record { some = over.some; given = or_given (e.given == handle) (was_given s.core.handles handle) over.given; absent = absent_action s.core.handles set e.given handle other over.absent };
-  space = λ gives session live. let other = is_other s.core.handles handle e.given (gives_handle s.core (reads_of s) e) over allowed.handle gives in
+  space = λ gives session live. let other = is_other s.core.handles handle e.given (gives_handle s.core (reads_of s e.request) e) over allowed.handle gives in
       record { some = over.some; given = or_given (e.given == handle) (was_given s.core.handles handle) over.given; absent = absent_space s.core.handles session e.given handle other over.absent };
   without = λ gone. record { some = over.some; given = over.given; absent = absent_without s.core.handles gone handle over.some over.absent };
+  alone = λ gone. record { some = over.some; given = over.given; absent = absent_alone s.core.handles gone handle over.some over.absent };
 })
 
-over_after : (s : State) (clocks : List ℤ) (es : List Entry) (handle : ℕ) → IsLegalFrom s clocks es → IsOver handle s.core.handles → IsOver handle (after s es).core.handles
+pub over_after : (s : State) (clocks : List ℤ) (es : List Entry) (handle : ℕ) → IsLegalFrom s clocks es → IsOver handle s.core.handles → IsOver handle (after s es).core.handles
 over_after s clocks [] handle legal over = over
 over_after s clocks (e ∷ es) handle legal over = over_after (step s e).0 (clocks_after clocks e (step s e).0) es handle legal.3 (over_step s e handle legal.0 over)
 
 -- ---- a handle is destroyed
 
 -- one that was live is over
-over_without : (h : Handles) (kind : Kind) (handle : ℕ) → AreKnown h → is_live h kind handle ≡ true → (IsAbsent h handle → is_live h kind handle ≡ false) → IsOver handle (without h handle)
+pub over_without : (h : Handles) (kind : Kind) (handle : ℕ) → AreKnown h → is_live h kind handle ≡ true → (IsAbsent h handle → is_live h kind handle ≡ false) → IsOver handle (without h handle)
 over_without h kind handle known live dead =
     let some = not_true (handle == 0) (both_of (not (handle == 0)) _ live).0 in
     record { some = some; given = by (was_given h handle) refl some; absent = absent_itself h handle some }
@@ -169,50 +180,3 @@ pub destroyed : (P : Handles → Type 0) (s : CoreState) (live : Bool) (x : Effe
     → (live ≡ true → P x.state.handles) → P (unless_refused s (first_of (when (not live) HandleInvalid ∷ [])) x).state.handles
 destroyed P s true x good done = done refl
 destroyed P s false x good done = absurd (true≢false (sym good))
-
-over_destroyed : (s : State) (e : Entry) (handle : ℕ) → AreKnown s.core.handles → destroys e.request handle ≡ true → is_success (step s e).1.reply.code ≡ true → IsOver handle (step s e).0.core.handles
-over_destroyed s e handle known = by e.request
-  where
-    by : (r : Request) → destroys r handle ≡ true → is_success (step s (record e { request = r })).1.reply.code ≡ true → IsOver handle (step s (record e { request = r })).0.core.handles
-    by (destroy_instance instance) names good =
-        destroyed (IsOver handle) s.core (is_live s.core.handles Instance instance) (rule s.core (reads_of s) (record e { request = destroy_instance instance })).effect good
-        (λ live. subst (λ (n : ℕ). IsOver n (without s.core.handles instance)) (same_key instance handle names)
-        (over_without s.core.handles Instance instance known live (λ a. rw a.instances (and_false (not (instance == 0))))))
-    by (destroy_session session) names good =
-        destroyed (IsOver handle) s.core (is_live s.core.handles Session session) (rule s.core (reads_of s) (record e { request = destroy_session session })).effect good
-        (λ live. subst (λ (n : ℕ). IsOver n (without s.core.handles session)) (same_key session handle names)
-        (over_without s.core.handles Session session known live (λ a. rw a.sessions (and_false (not (session == 0))))))
-    by (destroy_space space) names good =
-        destroyed (IsOver handle) s.core (is_live s.core.handles Space space) (rule s.core (reads_of s) (record e { request = destroy_space space })).effect good
-        (λ live. subst (λ (n : ℕ). IsOver n (without s.core.handles space)) (same_key space handle names)
-        (over_without s.core.handles Space space known live (λ a. rw a.spaces (and_false (not (space == 0))))))
-    by (destroy_action_set set) names good =
-        destroyed (IsOver handle) s.core (is_live s.core.handles ActionSet set) (rule s.core (reads_of s) (record e { request = destroy_action_set set })).effect good
-        (λ live. subst (λ (n : ℕ). IsOver n (without s.core.handles set)) (same_key set handle names)
-        (over_without s.core.handles ActionSet set known live (λ a. rw a.sets (and_false (not (set == 0))))))
-    by (destroy_action action) names good =
-        destroyed (IsOver handle) s.core (is_live s.core.handles Action action) (rule s.core (reads_of s) (record e { request = destroy_action action })).effect good
-        (λ live. subst (λ (n : ℕ). IsOver n (without s.core.handles action)) (same_key action handle names)
-        (over_without s.core.handles Action action known live (λ a. rw a.actions (and_false (not (action == 0))))))
-    by _ names good = absurd (true≢false (sym names))
-
--- ---- the law
-
--- the clocks after a history
-abbrev clocks_behind : State → List ℤ → List Entry → List ℤ
-clocks_behind s clocks [] = clocks
-clocks_behind s clocks (e ∷ es) = clocks_behind (step s e).0 (clocks_after clocks e (step s e).0) es
-
--- the end of a legal history is legal from where its front leads
-legal_behind : (s : State) (clocks : List ℤ) (es fs : List Entry) → IsLegalFrom s clocks (es ++ fs) → IsLegalFrom (after s es) (clocks_behind s clocks es) fs
-legal_behind s clocks [] fs legal = legal
-legal_behind s clocks (e ∷ es) fs legal = legal_behind (step s e).0 (clocks_after clocks e (step s e).0) es fs legal.3
-
-pub destroyed_for_good : DestroyedForGood
-destroyed_for_good settings es fs e handle legal names good =
-    let known = known_after (opening settings) es (known_opening settings) in
-    let clocks = clocks_behind (opening settings) (opening_clocks settings) es in
-    let there = after (opening settings) es in
-    let rest = legal_behind (opening settings) (opening_clocks settings) es (e ∷ fs) legal in
-    let over = over_after (step there e).0 (clocks_after clocks e (step there e).0) fs handle rest.3 (over_destroyed (after (opening settings) es) e handle known names good) in
-    ap (λ (t : State). kind_of t.core.handles handle) (after_is_in_turn (opening settings) es (e ∷ fs)) ∙ absent_kind (after (step (after (opening settings) es) e).0 fs).core.handles handle over.absent

@@ -13,9 +13,10 @@ use Rattle.xr_model.specs.laws.HandleLaws.{count_in, places_with, is_under, AreU
 use Rattle.xr_model.specs.machine.State.{State, opening}
 use Rattle.xr_model.specs.machine.Machine.{step, rule, reads_of}
 use Rattle.xr_model.specs.machine.History.{after}
-use Rattle.xr_model.proofs.Rows.{same_key, both_of, neither_of, not_true, not_zero, hasnt_cleared, put_is_first, each_put}
+use Rattle.xr_model.proofs.Rows.{uncounted, counted, same_key, both_of, neither_of, not_true, not_zero, hasnt_cleared, put_is_first, each_put}
 use Rattle.xr_model.proofs.HandleSteps.{kept_by_step}
 use Rattle.xr_model.proofs.Destroying.{destroyed}
+use Rattle.xr_model.proofs.DestroyedForGood.{alone_is_whole}
 use Rattle.xr_model.proofs.Orphans.{no_orphans}
 use Rattle.xr_model.proofs.StandOnce.{handles_stand_once}
 
@@ -26,7 +27,7 @@ or_false false = refl
 -- ---- one row
 
 -- the parent of a handle in a row, 0 where it doesn't stand there
-parent_in : List Slot → ℕ → ℕ
+unfoldable pub parent_in : List Slot → ℕ → ℕ
 parent_in [] p = 0
 parent_in (s ∷ ss) p = if s.handle == p then s.parent else parent_in ss p
 
@@ -38,26 +39,6 @@ slot_parent (s ∷ ss) p there = by (s.handle == p) there (slot_parent ss p)
     by : (b : Bool) → b || has ss p ≡ true → (has ss p ≡ true → option_map (λ s. s.parent) (slot_in ss p) ≡ Some (parent_in ss p))
         → option_map (λ s. s.parent) (if b then Some s else slot_in ss p) ≡ Some (if b then s.parent else parent_in ss p)
     by true there more = refl
-    by false there more = more there
-
-one_more : (n : ℕ) → n + 1 ≡ 0 → ⊥
-one_more n e = omega (arith, e)
-
--- one that stands in no place of a row doesn't stand in it, and one that stands in it has a place
-uncounted : (row : List Slot) (p : ℕ) → count_in row p ≡ 0 → has row p ≡ false
-uncounted [] p none = refl
-uncounted (s ∷ ss) p none = by (s.handle == p) none (uncounted ss p)
-  where
-    by : (b : Bool) → (if b then count_in ss p + 1 else count_in ss p) ≡ 0 → (count_in ss p ≡ 0 → has ss p ≡ false) → b || has ss p ≡ false
-    by true none more = absurd (one_more (count_in ss p) none)
-    by false none more = more none
-
-counted : (row : List Slot) (p : ℕ) → has row p ≡ true → 1 ≤ count_in row p
-counted [] p there = absurd (true≢false (sym there))
-counted (s ∷ ss) p there = by (s.handle == p) there (counted ss p)
-  where
-    by : (b : Bool) → b || has ss p ≡ true → (has ss p ≡ true → 1 ≤ count_in ss p) → 1 ≤ (if b then count_in ss p + 1 else count_in ss p)
-    by true there more = omega arith
     by false there more = more there
 
 -- the parent of a live handle stands in the row above
@@ -85,7 +66,7 @@ named h above s p nz e =
     let z : (s.handle == 0) ≡ false = subst (λ (n : ℕ). (n == 0) ≡ false) (sym same) nz in
     rw z (ap (λ (n : ℕ). (n == h) || list_any (λ g. g == s.parent) above) same)
 
-none_going : (h : ℕ) (above : List ℕ) (row : List Slot) (p : ℕ) → has row p ≡ false → list_any (λ g. g == p) (going h above row) ≡ false
+pub none_going : (h : ℕ) (above : List ℕ) (row : List Slot) (p : ℕ) → has row p ≡ false → list_any (λ g. g == p) (going h above row) ≡ false
 none_going h above [] p none = refl
 none_going h above (s ∷ ss) p none = let two = neither_of (s.handle == p) (has ss p) none in by (goes h above s) two.0 (none_going h above ss p two.1)
   where
@@ -98,7 +79,7 @@ behind_first : (n : ℕ) → n + 1 ≤ 1 → n ≡ 0
 behind_first n most = omega (arith, most)
 
 module _ (h : ℕ) (above : List ℕ) (p : ℕ) (nz : (p == 0) ≡ false) where
-  one_going : (row : List Slot) → has row p ≡ true → count_in row p ≤ 1 → list_any (λ g. g == p) (going h above row) ≡ (p == h) || list_any (λ g. g == parent_in row p) above
+  pub one_going : (row : List Slot) → has row p ≡ true → count_in row p ≤ 1 → list_any (λ g. g == p) (going h above row) ≡ (p == h) || list_any (λ g. g == parent_in row p) above
   unfolding parent_in
   one_going [] there most = absurd (true≢false (sym there))
   one_going (s ∷ ss) there most = by (s.handle == p) refl there most (one_going ss)
@@ -117,7 +98,7 @@ module _ (h : ℕ) (above : List ℕ) (p : ℕ) (nz : (p == 0) ≡ false) where
       by true e there most more = first (goes h above s) e (uncounted ss p (behind_first (count_in ss p) most)) ∙ named h above s p nz e
       by false e there most more = later (goes h above s) e ∙ more there most
 
-  one_cleared : (row : List Slot) → has row p ≡ true → count_in row p ≤ 1 → has (cleared h above row) p ≡ not ((p == h) || list_any (λ g. g == parent_in row p) above)
+  pub one_cleared : (row : List Slot) → has row p ≡ true → count_in row p ≤ 1 → has (cleared h above row) p ≡ not ((p == h) || list_any (λ g. g == parent_in row p) above)
   unfolding parent_in
   one_cleared [] there most = absurd (true≢false (sym there))
   one_cleared (s ∷ ss) there most = by (s.handle == p) refl there most (one_cleared ss)
@@ -136,7 +117,7 @@ module _ (h : ℕ) (above : List ℕ) (p : ℕ) (nz : (p == 0) ≡ false) where
       by true e there most more = first (goes h above s) e (uncounted ss p (behind_first (count_in ss p) most)) ∙ ap (λ b. not b) (named h above s p nz e)
       by false e there most more = later (goes h above s) e ∙ more there most
 
-any_append : (f : ℕ → Bool) (xs ys : List ℕ) → list_any f (xs ++ ys) ≡ list_any f xs || list_any f ys
+pub any_append : (f : ℕ → Bool) (xs ys : List ℕ) → list_any f (xs ++ ys) ≡ list_any f xs || list_any f ys
 any_append f [] ys = refl
 any_append f (x ∷ xs) ys = by (f x) (any_append f xs ys)
   where
@@ -172,7 +153,7 @@ roots_put given row roots =
     subst (λ l. list_all (λ s. s.parent == 0) l ≡ true) (sym (put_is_first new row)) (each_put (λ s. s.parent == 0) new row roots refl)
 
 roots_step : (s : State) (e : Entry) → AreRoots s.core.handles → AreRoots (step s e).0.core.handles
-roots_step s e roots = kept_by_step (λ h. list_all (λ s. s.parent == 0) h.instances ≡ true) s.core (reads_of s) e (record {
+roots_step s e roots = kept_by_step (λ h. list_all (λ s. s.parent == 0) h.instances ≡ true) s.core (reads_of s e.request) e (record {
   same = roots;
   instance = λ gives. roots_put e.given s.core.handles.instances roots;
   session = λ gives instance live. roots;
@@ -180,6 +161,7 @@ roots_step s e roots = kept_by_step (λ h. list_all (λ s. s.parent == 0) h.inst
   action = λ gives set live. roots;
   space = λ gives session live. roots;
   without = λ handle. roots_cleared handle [] s.core.handles.instances roots;
+  alone = λ space. roots;
 })
 
 pub roots_after : (s : State) (es : List Entry) → AreRoots s.core.handles → AreRoots (after s es).core.handles
@@ -206,7 +188,7 @@ module _ (h : Handles) (top : ℕ) (some : (top == 0) ≡ false) (once : StandOn
     set_parent : has h.sets p ≡ true → parent_of h p ≡ Some (parent_in h.sets p)
     set_parent there = rw (nz, there, aside h.sets h.instances p nz there (omega arith), aside h.sets h.sessions p nz there (omega arith)) (slot_parent h.sets p there)
 
-    action_parent : has h.actions p ≡ true → parent_of h p ≡ Some (parent_in h.actions p)
+    pub action_parent : has h.actions p ≡ true → parent_of h p ≡ Some (parent_in h.actions p)
     action_parent there =
         let a = aside h.actions h.instances p nz there (omega arith) in
         let b = aside h.actions h.sessions p nz there (omega arith) in
@@ -310,7 +292,7 @@ module _ (h : Handles) (top : ℕ) (some : (top == 0) ≡ false) (once : StandOn
       (λ there. let parent = under_parent h.sessions h.chains other nz under.chains there in session_within (parent_in h.chains other) parent.0 parent.1)
       (chain_parent other nz)
 
-  without_takes : (kind : Kind) (other : ℕ) → is_live (without h top) kind other ≡ is_live h kind other && not (is_within 2 h other top)
+  pub without_takes : (kind : Kind) (other : ℕ) → is_live (without h top) kind other ≡ is_live h kind other && not (is_within 2 h other top)
   without_takes kind other = by (other == 0) refl
     where
       by : (z : Bool) → (other == 0) ≡ z → not z && has (row_of (without h top) kind) other ≡ (not z && has (row_of h kind) other) && not (is_within 2 h other top)
@@ -333,19 +315,19 @@ takes_step s e handle once under roots = by e.request
 
     by : (r : Request) → destroys r handle ≡ true → is_success (step s (record e { request = r })).1.reply.code ≡ true → Takes s.core.handles handle (step s (record e { request = r })).0.core.handles
     by (destroy_instance instance) names good =
-        destroyed (λ new. Takes s.core.handles handle new) s.core (is_live s.core.handles Instance instance) (rule s.core (reads_of s) (record e { request = destroy_instance instance })).effect good
+        destroyed (λ new. Takes s.core.handles handle new) s.core (is_live s.core.handles Instance instance) (rule s.core (reads_of s (destroy_instance instance)) (record e { request = destroy_instance instance })).effect good
         (λ live. taken Instance instance names live)
     by (destroy_session session) names good =
-        destroyed (λ new. Takes s.core.handles handle new) s.core (is_live s.core.handles Session session) (rule s.core (reads_of s) (record e { request = destroy_session session })).effect good
+        destroyed (λ new. Takes s.core.handles handle new) s.core (is_live s.core.handles Session session) (rule s.core (reads_of s (destroy_session session)) (record e { request = destroy_session session })).effect good
         (λ live. taken Session session names live)
     by (destroy_space space) names good =
-        destroyed (λ new. Takes s.core.handles handle new) s.core (is_live s.core.handles Space space) (rule s.core (reads_of s) (record e { request = destroy_space space })).effect good
-        (λ live. taken Space space names live)
+        destroyed (λ new. Takes s.core.handles handle new) s.core (is_live s.core.handles Space space) (rule s.core (reads_of s (destroy_space space)) (record e { request = destroy_space space })).effect good
+        (λ live. subst (λ (h : Handles). Takes s.core.handles handle h) (sym (alone_is_whole s.core.handles space once live)) (taken Space space names live))
     by (destroy_action_set set) names good =
-        destroyed (λ new. Takes s.core.handles handle new) s.core (is_live s.core.handles ActionSet set) (rule s.core (reads_of s) (record e { request = destroy_action_set set })).effect good
+        destroyed (λ new. Takes s.core.handles handle new) s.core (is_live s.core.handles ActionSet set) (rule s.core (reads_of s (destroy_action_set set)) (record e { request = destroy_action_set set })).effect good
         (λ live. taken ActionSet set names live)
     by (destroy_action action) names good =
-        destroyed (λ new. Takes s.core.handles handle new) s.core (is_live s.core.handles Action action) (rule s.core (reads_of s) (record e { request = destroy_action action })).effect good
+        destroyed (λ new. Takes s.core.handles handle new) s.core (is_live s.core.handles Action action) (rule s.core (reads_of s (destroy_action action)) (record e { request = destroy_action action })).effect good
         (λ live. taken Action action names live)
     by _ names good = absurd (true≢false (sym names))
 

@@ -1,29 +1,27 @@
 -- What an entry does to the handles: it adds one, destroys one with all below it, or leaves them.
+use Rattle.std.specs.Prelude.{is_some}
 use Rattle.std.proofs.Common.{◌≡◌, ℕ, ◌&&◌, not, Bool, true, false, List, ◌∷◌, Option, Some, None, refl}
 use Rattle.xr_types.specs.Code.{is_success}
 use Rattle.xr_types.specs.declared.code.Code.{Code}
 use Rattle.xr_types.specs.declared.code.Code.TheVariants.{HandleInvalid, CallOrderInvalid}
-use Rattle.xr_types.specs.declared.calls.Actor.{Actor}
-use Rattle.xr_types.specs.declared.calls.Actor.TheVariants.{App, Compositor, Device}
 use Rattle.xr_types.specs.declared.handles.Kind.TheVariants as kind
-use Rattle.xr_model.specs.machine.Request.{Entry, Request, create_instance, destroy_instance, create_session, destroy_session, begin_session, end_session, request_exit_session, create_reference_space, destroy_space, create_action_set, destroy_action_set, create_action, destroy_action, leave, device}
-use Rattle.xr_model.specs.machine.Handles.{Handles, is_live, with_handle, without}
+use Rattle.xr_model.specs.machine.Request.{Entry, Request, create_instance, destroy_instance, create_session, destroy_session, create_reference_space, destroy_space, create_action_set, destroy_action_set, create_action, destroy_action, device}
+use Rattle.xr_model.specs.machine.Handles.{Handles, is_live, with_handle, without, without_alone}
 use Rattle.xr_model.specs.machine.Refusals.{Refusal, when, first_of}
 use Rattle.xr_model.specs.machine.State.{CoreState, CellReads}
-use Rattle.xr_model.specs.machine.Rule.{Effect, refusals, unless_refused}
+use Rattle.xr_model.specs.machine.Rule.{Effect, refusal, told_on, unless_refused}
 use Rattle.xr_types.specs.declared.device.DeviceEvent.{DeviceEvent}
 use Rattle.xr_types.specs.declared.device.DeviceEvent.TheVariants as event
-use Rattle.xr_model.specs.machine.Rules.Own.{with_left}
-use Rattle.xr_model.specs.machine.SessionLife.{Life, Changed, is_lost}
-use Rattle.xr_model.specs.machine.LiveSessions.{Session, session_at}
-use Rattle.xr_model.specs.machine.Rules.Session.{life_of, with_change}
+use Rattle.xr_model.specs.machine.SessionLife.{is_lost}
+use Rattle.xr_model.specs.machine.Rules.Session.{life_of}
+use Rattle.xr_model.specs.machine.SessionRule.{loss_of}
 use Rattle.xr_model.proofs.Successes.{success_succeeds}
 use Rattle.xr_model.specs.machine.Rules.Device.{behind_event}
-use Rattle.xr_model.specs.machine.Machine.{core_step, rule, is_creation}
+use Rattle.xr_model.specs.machine.Machine.{core_step, rule}
 
 -- the entry gives a new handle
 abbrev pub gives_handle : CoreState → CellReads → Entry → Bool
-gives_handle s reads e = is_creation e.request && is_success (core_step s reads e).1.reply.code
+gives_handle s reads e = is_some (rule s reads e).creates && is_success (core_step s reads e).1.reply.code
 
 -- A property that the handles have before an entry, and that each thing that the entry may do to them keeps.
 pub record Keeps (P : Handles → Type 0) (s : CoreState) (reads : CellReads) (e : Entry) : Type 0 where
@@ -34,35 +32,26 @@ pub record Keeps (P : Handles → Type 0) (s : CoreState) (reads : CellReads) (e
   pub action : gives_handle s reads e ≡ true → (set : ℕ) → is_live s.handles kind.ActionSet set ≡ true → P (with_handle s.handles kind.Action set e.given)
   pub space : gives_handle s reads e ≡ true → (session : ℕ) → is_live s.handles kind.Session session ≡ true → P (with_handle s.handles kind.Space session e.given)
   pub without : (handle : ℕ) → P (without s.handles handle)
+  pub alone : (space : ℕ) → P (without_alone s.handles kind.Space space)
 
 -- a refused effect leaves the handles
 kept : (P : Handles → Type 0) (s : CoreState) (o : Option Refusal) (x : Effect) → P s.handles → (o ≡ None → P x.state.handles) → P (unless_refused s o x).state.handles
 kept P s None x same done = done refl
 kept P s (Some r) x same done = same
 
-succeeds : (s : CoreState) (o : Option Refusal) (x : Effect) → is_success x.code ≡ true → o ≡ None → is_success (unless_refused s o x).code ≡ true
+pub succeeds : (s : CoreState) (o : Option Refusal) (x : Effect) → is_success x.code ≡ true → o ≡ None → is_success (unless_refused s o x).code ≡ true
 succeeds s None x good none = good
 succeeds s (Some r) x good none = cc
 
 -- the first refusal doesn't hold where none does
-first_fails : (test : Bool) (code : Code) (rest : List Refusal) → first_of (when (not test) code ∷ rest) ≡ None → test ≡ true
+pub first_fails : (test : Bool) (code : Code) (rest : List Refusal) → first_of (when (not test) code ∷ rest) ≡ None → test ≡ true
 first_fails true code rest none = refl
 first_fails false code rest none = cc
-
-left_alone : (P : Handles → Type 0) (s : CoreState) (who : Actor) → P s.handles → P (with_left s who).handles
-left_alone P s (App k) same = same
-left_alone P s Compositor same = same
-left_alone P s Device same = same
 
 -- no event of the device moves a handle
 events_leave : (P : Handles → Type 0) (s : CoreState) (what : DeviceEvent) → P s.handles → P (behind_event s what).handles
 events_leave P s (event.Clock time) same = same
 events_leave P s _ same = same
-
--- nor does a session's change
-change_leaves : (P : Handles → Type 0) (s : CoreState) (x : Option Session) (f : Life → Changed) → P s.handles → P (with_change s x f).handles
-change_leaves P s None f same = same
-change_leaves P s (Some x) f same = same
 
 -- the property holds after the entry
 pub kept_by_step : (P : Handles → Type 0) (s : CoreState) (reads : CellReads) (e : Entry) → Keeps P s reads e → P (core_step s reads e).0.handles
@@ -71,48 +60,38 @@ kept_by_step P s reads e = by e.request
     by : (r : Request) → Keeps P s reads (record e { request = r }) → P (core_step s reads (record e { request = r })).0.handles
     by (create_instance major minor) k =
         let f = rule s reads (record e { request = create_instance major minor }) in
-        kept P s (first_of (refusals f)) f.effect k.same (λ none. k.instance (succeeds s (first_of (refusals f)) f.effect refl none))
+        kept P s (refusal e.short f) (told_on f.on f.effect) k.same (λ none. k.instance (succeeds s (refusal e.short f) (told_on f.on f.effect) refl none))
     by (create_session instance system) k =
         let f = rule s reads (record e { request = create_session instance system }) in
-        kept P s (first_of (refusals f)) f.effect k.same
-        (λ none. k.session (succeeds s (first_of (refusals f)) f.effect refl none) instance (first_fails (is_live s.handles kind.Instance instance) HandleInvalid (when f.disorder CallOrderInvalid ∷ f.behind) none))
+        kept P s (refusal e.short f) (told_on f.on f.effect) k.same
+        (λ none. k.session (succeeds s (refusal e.short f) (told_on f.on f.effect) refl none) instance (first_fails (is_live s.handles kind.Instance instance) HandleInvalid (when f.disorder CallOrderInvalid ∷ f.behind) none))
     by (destroy_instance instance) k =
         let f = rule s reads (record e { request = destroy_instance instance }) in
-        kept P s (first_of (refusals f)) f.effect k.same (λ none. k.without instance)
+        kept P s (refusal e.short f) (told_on f.on f.effect) k.same (λ none. k.without instance)
     by (destroy_session session) k =
         let f = rule s reads (record e { request = destroy_session session }) in
-        kept P s (first_of (refusals f)) f.effect k.same (λ none. k.without session)
-    by (begin_session session view) k =
-        let f = rule s reads (record e { request = begin_session session view }) in
-        kept P s (first_of (refusals f)) f.effect k.same (λ none. change_leaves P s (session_at s.sessions session) _ k.same)
-    by (end_session session) k =
-        let f = rule s reads (record e { request = end_session session }) in
-        kept P s (first_of (refusals f)) f.effect k.same (λ none. change_leaves P s (session_at s.sessions session) _ k.same)
-    by (request_exit_session session) k =
-        let f = rule s reads (record e { request = request_exit_session session }) in
-        kept P s (first_of (refusals f)) f.effect k.same (λ none. change_leaves P s (session_at s.sessions session) _ k.same)
+        kept P s (refusal e.short f) (told_on f.on f.effect) k.same (λ none. k.without session)
     by (create_reference_space session what offset) k =
         let f = rule s reads (record e { request = create_reference_space session what offset }) in
-        kept P s (first_of (refusals f)) f.effect k.same
-        (λ none. k.space (succeeds s (first_of (refusals f)) f.effect (success_succeeds (life_of s session)) none) session
+        kept P s (refusal e.short f) (told_on f.on f.effect) k.same
+        (λ none. k.space (succeeds s (refusal e.short f) (told_on f.on f.effect) (success_succeeds (loss_of (life_of s session))) none) session
         (first_fails (is_live s.handles kind.Session session) HandleInvalid (is_lost (life_of s session) ∷ when f.disorder CallOrderInvalid ∷ f.behind) none))
     by (destroy_space space) k =
         let f = rule s reads (record e { request = destroy_space space }) in
-        kept P s (first_of (refusals f)) f.effect k.same (λ none. k.without space)
+        kept P s (refusal e.short f) (told_on f.on f.effect) k.same (λ none. k.alone space)
     by (create_action_set instance name localized priority) k =
         let f = rule s reads (record e { request = create_action_set instance name localized priority }) in
-        kept P s (first_of (refusals f)) f.effect k.same
-        (λ none. k.set (succeeds s (first_of (refusals f)) f.effect refl none) instance (first_fails (is_live s.handles kind.Instance instance) HandleInvalid (when f.disorder CallOrderInvalid ∷ f.behind) none))
+        kept P s (refusal e.short f) (told_on f.on f.effect) k.same
+        (λ none. k.set (succeeds s (refusal e.short f) (told_on f.on f.effect) refl none) instance (first_fails (is_live s.handles kind.Instance instance) HandleInvalid (when f.disorder CallOrderInvalid ∷ f.behind) none))
     by (destroy_action_set set) k =
         let f = rule s reads (record e { request = destroy_action_set set }) in
-        kept P s (first_of (refusals f)) f.effect k.same (λ none. k.without set)
+        kept P s (refusal e.short f) (told_on f.on f.effect) k.same (λ none. k.without set)
     by (create_action set name type subs localized) k =
         let f = rule s reads (record e { request = create_action set name type subs localized }) in
-        kept P s (first_of (refusals f)) f.effect k.same
-        (λ none. k.action (succeeds s (first_of (refusals f)) f.effect refl none) set (first_fails (is_live s.handles kind.ActionSet set) HandleInvalid (when f.disorder CallOrderInvalid ∷ f.behind) none))
+        kept P s (refusal e.short f) (told_on f.on f.effect) k.same
+        (λ none. k.action (succeeds s (refusal e.short f) (told_on f.on f.effect) refl none) set (first_fails (is_live s.handles kind.ActionSet set) HandleInvalid (when f.disorder CallOrderInvalid ∷ f.behind) none))
     by (destroy_action action) k =
         let f = rule s reads (record e { request = destroy_action action }) in
-        kept P s (first_of (refusals f)) f.effect k.same (λ none. k.without action)
-    by leave k = left_alone P s e.actor k.same
+        kept P s (refusal e.short f) (told_on f.on f.effect) k.same (λ none. k.without action)
     by (device what) k = events_leave P s what k.same
-    by r k = let f = rule s reads (record e { request = r }) in kept P s (first_of (refusals f)) f.effect k.same (λ none. k.same)
+    by r k = let f = rule s reads (record e { request = r }) in kept P s (refusal e.short f) (told_on f.on f.effect) k.same (λ none. k.same)

@@ -4,13 +4,12 @@ use Rattle.std.proofs.Common.{◌≡◌, ◌+◌, ℕ, List, Bool, zero, suc, tr
 use Rattle.xr_types.specs.Code.{is_success}
 use Rattle.xr_types.specs.declared.code.Code.{Code}
 use Rattle.xr_types.specs.declared.code.Code.TheVariants.{Success, SessionLossPending, FrameDiscarded}
-use Rattle.xr_model.specs.machine.Rules.Session.{life_of}
-use Rattle.xr_model.specs.machine.Rules.Spaces.{session_above}
-use Rattle.xr_model.proofs.Successes.{success_succeeds}
-use Rattle.xr_model.specs.machine.Request.{Entry, Outcome, is_locked, Request, create_instance, string_to_path, path_to_string, begin_session, end_session, request_exit_session, create_reference_space, locate_space, attach_sets, leave, next_frame}
-use Rattle.xr_model.specs.machine.Refusals.{Refusal, first_of}
+use Rattle.xr_model.specs.machine.SessionRule.{Loss}
+use Rattle.xr_model.proofs.Successes.{success_still}
+use Rattle.xr_model.specs.machine.Request.{Entry, Outcome, is_locked, Request, leave}
+use Rattle.xr_model.specs.machine.Refusals.{Refusal}
 use Rattle.xr_model.specs.machine.State.{CoreState, CellReads, State}
-use Rattle.xr_model.specs.machine.Rule.{Effect, refusals, unless_refused, locked_after}
+use Rattle.xr_model.specs.machine.Rule.{Effect, refusal, told_on, unless_refused, locked_after}
 use Rattle.xr_model.specs.machine.Machine.{step, rule, reads_of}
 use Rattle.xr_model.specs.machine.History.{clocks_after}
 use Rattle.xr_model.specs.machine.Positions.{outcome_from}
@@ -28,27 +27,23 @@ refused_or_done : (s : CoreState) (o : Option Refusal) (e : Effect) → is_succe
 refused_or_done s None e good bad = absurd (success_has_effect e.code good bad)
 refused_or_done s (Some r) e good bad = refl
 
+-- the effect of every rule is a success
 effects_succeed : (s : CoreState) (reads : CellReads) (e : Entry) → is_success (rule s reads e).effect.code ≡ true
 effects_succeed s reads e = by e.request
   where
     by : (r : Request) → is_success (rule s reads (record e { request = r })).effect.code ≡ true
-    by (create_instance major minor) = refl
-    by (string_to_path instance text) = refl
-    by (path_to_string instance path capacity) = refl
-    by (begin_session session view) = success_succeeds (life_of s session)
-    by (end_session session) = success_succeeds (life_of s session)
-    by (request_exit_session session) = success_succeeds (life_of s session)
-    by (create_reference_space session what offset) = success_succeeds (life_of s session)
-    by (attach_sets session handles) = success_succeeds (life_of s session)
-    by (locate_space space base time) = success_succeeds (life_of s (session_above s.handles space))
     by leave = refl
-    by next_frame = refl
     by _ = refl
+
+told_succeeds : (on : Option Loss) (x : Effect) → is_success x.code ≡ true → is_success (told_on on x).code ≡ true
+told_succeeds None x good = good
+told_succeeds (Some loss) x good = success_still loss x.code good
 
 pub refusals_change_nothing : RefusalsChangeNothing
 refusals_change_nothing s e bad =
+    let f = rule s.core (reads_of s e.request) e in
     ap (λ (t : CoreState). record s { core = record t { apps = s.core.apps; locked = locked_after s.core e.request } })
-    (refused_or_done s.core (first_of (refusals (rule s.core (reads_of s) e))) (rule s.core (reads_of s) e).effect (effects_succeed s.core (reads_of s) e) bad)
+    (refused_or_done s.core (refusal e.short f) (told_on f.on f.effect) (told_succeeds f.on f.effect (effects_succeed s.core (reads_of s e.request) e)) bad)
 
 pub after_is_in_turn : AfterIsInTurn
 after_is_in_turn s [] fs = refl

@@ -4,11 +4,12 @@ use Rattle.std.specs.Prelude.{is_some, if◌then◌else◌}
 use Rattle.std.specs.List.{filter}
 use Rattle.xr_types.specs.declared.handles.Kind.TheVariants as kind
 use Rattle.xr_types.specs.declared.handles.TheConstants.{SESSIONS}
-use Rattle.xr_model.specs.machine.Handles.{Handles, no_handles, is_live, has, has_room, with_handle, without, destroyed_instances}
-use Rattle.xr_model.specs.machine.LiveSessions.{Session, session_at, with_life, with_life_at, still_live, each_changed}
+use Rattle.xr_model.specs.machine.Handles.{Handles, no_handles, is_live, has, has_room, with_handle, without, destroyed_instances, destroyed_by}
+use Rattle.xr_model.specs.machine.LiveSessions.{Session, session_at, with_life, with_session_at, without_sets, still_live, sessions_left, each_changed}
 use Rattle.xr_model.specs.machine.SessionLife.{Life, Changed}
 use Rattle.xr_model.specs.laws.SessionLaws.{AreListed}
 use Rattle.xr_model.proofs.Rows.{or_true, same_key, has_put, has_new, hasnt_put, hasnt_free, hasnt_cleared}
+use Rattle.xr_model.proofs.Keyed.{found_map}
 
 pub listed_none : AreListed no_handles []
 listed_none handle = by (handle == 0) refl
@@ -17,25 +18,40 @@ listed_none handle = by (handle == 0) refl
     by true is = refl
     by false is = sym (hasnt_free SESSIONS handle is)
 
--- a life that changes leaves each handle
-found_lives : (xs : List Session) (handle : ℕ) (life : Life) (k : ℕ) → is_some (session_at (with_life_at handle life xs) k) ≡ is_some (session_at xs k)
-found_lives [] handle life k = refl
-found_lives (x ∷ xs) handle life k = by (x.handle == handle) (found_lives xs handle life k)
+-- a session that changes keeps its handle
+found_lives : (xs : List Session) (handle : ℕ) (f : Session → Session) → ((x : Session) → (f x).handle ≡ x.handle) → (k : ℕ) → is_some (session_at (with_session_at handle f xs) k) ≡ is_some (session_at xs k)
+found_lives [] handle f same k = refl
+found_lives (x ∷ xs) handle f same k = by (x.handle == handle) (found_lives xs handle f same k)
   where
-    next : (b : Bool) → is_some (session_at (with_life_at handle life xs) k) ≡ is_some (session_at xs k) → is_some (if b then Some x else session_at (with_life_at handle life xs) k) ≡ is_some (if b then Some x else session_at xs k)
+    next : (b : Bool) → is_some (session_at (with_session_at handle f xs) k) ≡ is_some (session_at xs k) → is_some (if b then Some x else session_at (with_session_at handle f xs) k) ≡ is_some (if b then Some x else session_at xs k)
     next true more = refl
     next false more = more
 
-    here : (b : Bool) → is_some (if b then Some (with_life life x) else session_at xs k) ≡ is_some (if b then Some x else session_at xs k)
+    here : (b : Bool) → is_some (if b then Some (f x) else session_at xs k) ≡ is_some (if b then Some x else session_at xs k)
     here true = refl
     here false = refl
 
-    by : (b : Bool) → is_some (session_at (with_life_at handle life xs) k) ≡ is_some (session_at xs k) → is_some (session_at (if b then with_life life x ∷ xs else x ∷ with_life_at handle life xs) k) ≡ is_some (session_at (x ∷ xs) k)
-    by true more = here (x.handle == k)
+    by : (b : Bool) → is_some (session_at (with_session_at handle f xs) k) ≡ is_some (session_at xs k) → is_some (session_at (if b then f x ∷ xs else x ∷ with_session_at handle f xs) k) ≡ is_some (session_at (x ∷ xs) k)
+    by true more = ap (λ (n : ℕ). is_some (if n == k then Some (f x) else session_at xs k)) (same x) ∙ here (x.handle == k)
     by false more = next (x.handle == k) more
 
-pub listed_lives : (h : Handles) (xs : List Session) (handle : ℕ) (life : Life) → AreListed h xs → AreListed h (with_life_at handle life xs)
-listed_lives h xs handle life listed k = found_lives xs handle life k ∙ listed k
+pub listed_lives : (h : Handles) (xs : List Session) (handle : ℕ) (f : Session → Session) → ((x : Session) → (f x).handle ≡ x.handle) → AreListed h xs → AreListed h (with_session_at handle f xs)
+listed_lives h xs handle f same listed k = found_lives xs handle f same k ∙ listed k
+
+some_is : (x y : Session) → Some x ≡ Some y → x ≡ y
+some_is x y e = cc
+
+pub handle_of : (xs : List Session) (handle : ℕ) (x : Session) → session_at xs handle ≡ Some x → x.handle ≡ handle
+handle_of [] handle x found = cc
+handle_of (z ∷ xs) handle x found = by (z.handle == handle) refl found (λ there. handle_of xs handle x there)
+  where
+    by : (c : Bool) → (z.handle == handle) ≡ c → (if c then Some z else session_at xs handle) ≡ Some x → (session_at xs handle ≡ Some x → x.handle ≡ handle) → x.handle ≡ handle
+    by true ec found more = ap (λ (w : Session). w.handle) (sym (some_is z x found)) ∙ same_key z.handle handle ec
+    by false ec found more = more found
+
+-- a session is found under its own handle, and no other is
+pub found_once : (xs : List Session) (handle : ℕ) (x y : Session) → session_at xs handle ≡ Some x → session_at xs x.handle ≡ Some y → x ≡ y
+found_once xs handle x y found there = some_is x y (sym found ∙ subst (λ (n : ℕ). session_at xs n ≡ Some y) (handle_of xs handle x found) there)
 
 found_each : (f : Life → Changed) (xs : List Session) (k : ℕ) → is_some (session_at (each_changed f xs) k) ≡ is_some (session_at xs k)
 found_each f [] k = refl
@@ -107,6 +123,7 @@ live_before h handle k = by (k == 0) refl (has h.sessions k) refl
     by false ez true eo = rw eo (and_true (has (without h handle).sessions k))
     by false ez false eo = rw (hasnt_cleared handle (destroyed_instances h handle) h.sessions k ez eo) refl
 
-pub listed_left : (h : Handles) (handle : ℕ) (xs : List Session) → AreListed h xs → AreListed (without h handle) (still_live (without h handle) xs)
+pub listed_left : (h : Handles) (handle : ℕ) (xs : List Session) → AreListed h xs → AreListed (without h handle) (sessions_left (without h handle) (destroyed_by h handle) xs)
 listed_left h handle xs listed k =
-    found_left (λ n. is_live (without h handle) kind.Session n) xs k ∙ ap (λ (b : Bool). is_live (without h handle) kind.Session k && b) (listed k) ∙ live_before h handle k
+    found_map (λ (x : Session). x.handle) (without_sets (destroyed_by h handle)) (λ x. refl) (still_live (without h handle) xs) k
+    ∙ found_left (λ n. is_live (without h handle) kind.Session n) xs k ∙ ap (λ (b : Bool). is_live (without h handle) kind.Session k && b) (listed k) ∙ live_before h handle k

@@ -5,16 +5,18 @@ use Rattle.std.specs.List.{filter}
 use Rattle.xr_types.specs.declared.handles.Kind.TheVariants as kind
 use Rattle.xr_types.specs.Code.{is_success}
 use Rattle.xr_model.specs.machine.Request.{Entry, Request, create_session}
-use Rattle.xr_model.specs.machine.Handles.{Handles, is_live, was_given, without}
-use Rattle.xr_model.specs.machine.State.{Settings, State, opening}
+use Rattle.xr_model.specs.machine.Handles.{Handles, is_live, was_given, without, destroyed_by}
+use Rattle.xr_model.specs.machine.State.{CoreState, CellReads, Settings, State, opening}
 use Rattle.xr_model.specs.machine.SessionLife.{Life, Changed, unchanged, started_session, lost_session}
-use Rattle.xr_model.specs.machine.LiveSessions.{Session, session_at, life_in, with_life, with_life_at, each_changed}
+use Rattle.xr_model.specs.machine.LiveSessions.{Session, session_at, life_in, with_life, with_attached, with_session_at, without_sets, still_live, each_changed}
+use Rattle.xr_model.specs.machine.Sets.{sets_named}
 use Rattle.xr_model.specs.machine.Rules.Session.{new_session, life_of}
-use Rattle.xr_model.specs.machine.Machine.{step, reads_of, is_creation, IsAllowed, IsGiven}
+use Rattle.xr_model.specs.machine.Machine.{rule, step, reads_of, IsAllowed, IsGiven}
 use Rattle.xr_model.specs.machine.History.{after, opening_clocks, clocks_after, IsLegalFrom}
 use Rattle.xr_model.specs.laws.SessionLaws.{AreListed, SessionsAreListed, is_device_lost, is_session_creation, creates_session, was_lost}
 use Rattle.xr_model.proofs.Rows.{itself, same_key}
 use Rattle.xr_model.proofs.Listed.{listed_none, listed_lives, listed_each, listed_more, listed_left}
+use Rattle.xr_model.proofs.Keyed.{which_map}
 use Rattle.xr_model.proofs.SessionSteps.{kept_by_step}
 use Rattle.xr_model.proofs.Destroying.{AreKnown, known_step, known_opening}
 
@@ -35,23 +37,26 @@ not_given_to : (b : Bool) (h : Handles) (given : ℕ) → b ≡ false → IsGive
 not_given_to true h given e is = absurd (true≢false e)
 not_given_to false h given e is = is
 
-creation_of_session : (r : Request) → is_session_creation r ≡ true → is_creation r ≡ true
-creation_of_session (create_session instance system) e = refl
-creation_of_session _ e = absurd (true≢false (sym e))
+creation_of_session : (s : CoreState) (reads : CellReads) (e : Entry) → is_session_creation e.request ≡ true → is_some (rule s reads e).creates ≡ true
+creation_of_session s reads e = by e.request
+  where
+    by : (r : Request) → is_session_creation r ≡ true → is_some (rule s reads (record e { request = r })).creates ≡ true
+    by (create_session instance system) is = refl
+    by _ is = absurd (true≢false (sym is))
 
 and_true : (a b : Bool) → a ≡ true → b ≡ true → a && b ≡ true
 and_true a b e f = rw (e, f) refl
 
 -- what a legal creation of a session gives
-new_session_given : (s : State) (e : Entry) → IsAllowed s e → is_session_creation e.request ≡ true → is_success (step s e).1.reply.code ≡ true → (e.given ≢ 0) × (was_given s.core.handles e.given ≡ false)
+pub new_session_given : (s : State) (e : Entry) → IsAllowed s e → is_session_creation e.request ≡ true → is_success (step s e).1.reply.code ≡ true → (e.given ≢ 0) × (was_given s.core.handles e.given ≡ false)
 new_session_given s e allowed creates good =
-    given_to (is_creation e.request && is_success (step s e).1.reply.code) s.core.handles e.given
-    (and_true (is_creation e.request) (is_success (step s e).1.reply.code) (creation_of_session e.request creates) good) allowed.handle
+    given_to (is_some (rule s.core (reads_of s e.request) e).creates && is_success (step s e).1.reply.code) s.core.handles e.given
+    (and_true (is_some (rule s.core (reads_of s e.request) e).creates) (is_success (step s e).1.reply.code) (creation_of_session s.core (reads_of s e.request) e creates) good) allowed.handle
 
 -- ---- listed
 
 listed_step : (s : State) (e : Entry) → IsAllowed s e → AreListed s.core.handles s.core.sessions → AreListed (step s e).0.core.handles (step s e).0.core.sessions
-listed_step s e allowed listed = kept_by_step (λ h xs. AreListed h xs) s.core (reads_of s) e (record {
+listed_step s e allowed listed = kept_by_step (λ h xs. AreListed h xs) s.core (reads_of s e.request) e (record {
   same = λ d c. listed;
   instance = λ d c. listed;
   session = λ d c good room instance. let new = new_session_given s e allowed c good in listed_more s.core.handles s.core.sessions _ instance e.given listed refl (nonzero e.given new.0) room;
@@ -59,12 +64,14 @@ listed_step s e allowed listed = kept_by_step (λ h xs. AreListed h xs) s.core (
   action = λ d c set. listed;
   space = λ d c session. listed;
   without = λ d c handle. listed_left s.core.handles handle s.core.sessions listed;
-  lives = λ d c session x found life same. listed_lives s.core.handles s.core.sessions x.handle life listed;
+  alone = λ d c space. listed;
+  lives = λ d c session f named same keeps. listed_lives s.core.handles s.core.sessions session f named listed;
+  attach = λ d c session sets. listed_lives s.core.handles s.core.sessions session (with_attached (sets_named s.core.sets sets)) (λ x. refl) listed;
   each = λ d c f keeps. listed_each s.core.handles f s.core.sessions listed;
   lost = λ d c. listed_each s.core.handles (λ life. unchanged (lost_session life)) s.core.sessions listed;
 })
 
-listed_after : (s : State) (clocks : List ℤ) (es : List Entry) → IsLegalFrom s clocks es → AreListed s.core.handles s.core.sessions → AreListed (after s es).core.handles (after s es).core.sessions
+pub listed_after : (s : State) (clocks : List ℤ) (es : List Entry) → IsLegalFrom s clocks es → AreListed s.core.handles s.core.sessions → AreListed (after s es).core.handles (after s es).core.sessions
 listed_after s clocks [] legal listed = listed
 listed_after s clocks (e ∷ es) legal listed = listed_after (step s e).0 (clocks_after clocks e (step s e).0) es legal.3 (listed_step s e legal.0 listed)
 
@@ -85,18 +92,21 @@ some_is x y e = cc
 
 -- ---- what was found before
 
-found_lives : (xs : List Session) (handle : ℕ) (life : Life) (same : (y : Session) → session_at xs handle ≡ Some y → life.lost ≡ y.life.lost) (session : ℕ) (x : Session) → session_at (with_life_at handle life xs) session ≡ Some x
+found_lives : (xs : List Session) (handle : ℕ) (f : Session → Session) → ((x : Session) → (f x).handle ≡ x.handle) → (same : (y : Session) → session_at xs handle ≡ Some y → (f y).life.lost ≡ y.life.lost) (session : ℕ) (x : Session) → session_at (with_session_at handle f xs) session ≡ Some x
     → (y : Session) × (session_at xs session ≡ Some y) × (x.life.lost ≡ y.life.lost)
-found_lives [] handle life same session x found = cc
-found_lives (z ∷ xs) handle life same session x found = by (z.handle == handle) refl (z.handle == session) refl found same (λ rest there. found_lives xs handle life rest session x there)
+found_lives [] handle f named same session x found = cc
+found_lives (z ∷ xs) handle f named same session x found = by (z.handle == handle) refl (z.handle == session) refl found same (λ rest there. found_lives xs handle f named rest session x there)
   where
+    moved : session_at (f z ∷ xs) session ≡ Some x → (if z.handle == session then Some (f z) else session_at xs session) ≡ Some x
+    moved found = subst (λ (n : ℕ). (if n == session then Some (f z) else session_at xs session) ≡ Some x) (named z) found
+
     by : (b : Bool) → (z.handle == handle) ≡ b → (c : Bool) → (z.handle == session) ≡ c
-        → session_at (if b then with_life life z ∷ xs else z ∷ with_life_at handle life xs) session ≡ Some x
-        → ((y : Session) → (if b then Some z else session_at xs handle) ≡ Some y → life.lost ≡ y.life.lost)
-        → (((y : Session) → session_at xs handle ≡ Some y → life.lost ≡ y.life.lost) → session_at (with_life_at handle life xs) session ≡ Some x → (y : Session) × (session_at xs session ≡ Some y) × (x.life.lost ≡ y.life.lost))
+        → session_at (if b then f z ∷ xs else z ∷ with_session_at handle f xs) session ≡ Some x
+        → ((y : Session) → (if b then Some z else session_at xs handle) ≡ Some y → (f y).life.lost ≡ y.life.lost)
+        → (((y : Session) → session_at xs handle ≡ Some y → (f y).life.lost ≡ y.life.lost) → session_at (with_session_at handle f xs) session ≡ Some x → (y : Session) × (session_at xs session ≡ Some y) × (x.life.lost ≡ y.life.lost))
         → (y : Session) × ((if c then Some z else session_at xs session) ≡ Some y) × (x.life.lost ≡ y.life.lost)
-    by true eb true ec found same more = (z, refl, ap (λ (w : Session). w.life.lost) (sym (some_is (with_life life z) x (rw ec at found))) ∙ same z refl)
-    by true eb false ec found same more = (x, rw ec at found, refl)
+    by true eb true ec found same more = let there = moved found in (z, refl, ap (λ (w : Session). w.life.lost) (sym (some_is (f z) x (rw ec at there))) ∙ same z refl)
+    by true eb false ec found same more = let there = moved found in (x, rw ec at there, refl)
     by false eb true ec found same more = (z, refl, ap (λ (w : Session). w.life.lost) (sym (some_is z x (rw ec at found))))
     by false eb false ec found same more = more same (rw ec at found)
 
@@ -109,14 +119,6 @@ found_each f (z ∷ xs) session x found = by (z.handle == session) found (λ the
         → (y : Session) × ((if c then Some z else session_at xs session) ≡ Some y) × (x.life ≡ (f y.life).life)
     by true found more = (z, refl, ap (λ (w : Session). w.life) (sym (some_is (with_life (f z.life).life z) x found)))
     by false found more = more found
-
-handle_of : (xs : List Session) (handle : ℕ) (x : Session) → session_at xs handle ≡ Some x → x.handle ≡ handle
-handle_of [] handle x found = cc
-handle_of (z ∷ xs) handle x found = by (z.handle == handle) refl found (λ there. handle_of xs handle x there)
-  where
-    by : (c : Bool) → (z.handle == handle) ≡ c → (if c then Some z else session_at xs handle) ≡ Some x → (session_at xs handle ≡ Some x → x.handle ≡ handle) → x.handle ≡ handle
-    by true ec found more = ap (λ (w : Session). w.handle) (sym (some_is z x found)) ∙ same_key z.handle handle ec
-    by false ec found more = more found
 
 -- among the others, or the new one
 abbrev Found : List Session → Session → ℕ → Session → Type 0
@@ -198,31 +200,34 @@ module _ (s : State) (e : Entry) (allowed : IsAllowed s e) (known : AreKnown s.c
       by false eb = rw eb refl
       by true eb =
           let failed : is_success (step s e).1.reply.code ≡ false = rw eb at refused in
-          let none : is_creation e.request && is_success (step s e).1.reply.code ≡ false = rw (creation_of_session e.request eb, failed) refl in
-          let zero = not_given_to (is_creation e.request && is_success (step s e).1.reply.code) s.core.handles e.given none allowed.handle in
+          let none : is_some (rule s.core (reads_of s e.request) e).creates && is_success (step s e).1.reply.code ≡ false = rw (creation_of_session s.core (reads_of s e.request) e eb, failed) refl in
+          let zero = not_given_to (is_some (rule s.core (reads_of s e.request) e).creates && is_success (step s e).1.reply.code) s.core.handles e.given none allowed.handle in
           rw eb (is_false (e.given == session) (λ same. never_zero session x found (subst (λ (n : ℕ). (n == 0) ≡ true) (sym zero ∙ same_key e.given session same) refl)))
 
   uncreated : (session : ℕ) → is_session_creation e.request ≡ false → creates_session e session ≡ false
   uncreated session c = rw c refl
 
   lost_step : AreLost (after_entry e before) (step s e).0.core.sessions
-  lost_step = kept_by_step (λ h xs. AreLost (after_entry e before) xs) s.core (reads_of s) e (record {
+  lost_step = kept_by_step (λ h xs. AreLost (after_entry e before) xs) s.core (reads_of s e.request) e (record {
     same = λ d c session x found. lost_before session x found ∙ as_before session d (not_created session x found c);
     instance = λ d c session x found. lost_before session x found ∙ as_before session d (uncreated session c);
     session = λ d c good room instance session x found. created d c good session x (found_more s.core.sessions _ session x found);
     set = λ d c above session x found. lost_before session x found ∙ as_before session d (uncreated session c);
     action = λ d c above session x found. lost_before session x found ∙ as_before session d (uncreated session c);
     space = λ d c above session x found. lost_before session x found ∙ as_before session d (uncreated session c);
-    without = λ d c handle session x found. let there = found_left (λ n. is_live (without s.core.handles handle) kind.Session n) s.core.sessions session x found in lost_before session x there ∙ as_before session d (uncreated session c);
-    lives = λ d c named y there life same session x found. let one = found_lives s.core.sessions y.handle life (λ z found_z. same ∙ ap (λ (w : Session). w.life.lost) (some_is y z (sym (at_own named y there) ∙ found_z))) session x found in one.2 ∙ lost_before session one.0 one.1 ∙ as_before session d (uncreated session c);
+    without = λ d c handle session x found.
+        let one = which_map (λ (y : Session). y.handle) (without_sets (destroyed_by s.core.handles handle)) (λ y. refl) (still_live (without s.core.handles handle) s.core.sessions) session x found in
+        let there = found_left (λ n. is_live (without s.core.handles handle) kind.Session n) s.core.sessions session one.0 one.1 in
+        ap (λ (y : Session). y.life.lost) one.2 ∙ lost_before session one.0 there ∙ as_before session d (uncreated session c);
+    alone = λ d c space session x found. lost_before session x found ∙ as_before session d (uncreated session c);
+    lives = λ d c handle f named same keeps session x found. let one = found_lives s.core.sessions handle f named same session x found in one.2 ∙ lost_before session one.0 one.1 ∙ as_before session d (uncreated session c);
+    attach = λ d c handle sets session x found.
+        let one = found_lives s.core.sessions handle (with_attached (sets_named s.core.sets sets)) (λ y. refl) (λ y there. refl) session x found in
+        one.2 ∙ lost_before session one.0 one.1 ∙ as_before session d (uncreated session c);
     each = λ d c f keeps session x found. let one = found_each f s.core.sessions session x found in ap (λ (l : Life). l.lost) one.2 ∙ keeps one.0.life ∙ lost_before session one.0 one.1 ∙ as_before session d (uncreated session c);
     lost = λ d c session x found. let one = found_each (λ life. unchanged (lost_session life)) s.core.sessions session x found in ap (λ (l : Life). l.lost) one.2 ∙ rw (uncreated session c, d) (sym (or_true (before session)));
   })
     where
-      -- a session is found under its own handle
-      at_own : (named : ℕ) (y : Session) → session_at s.core.sessions named ≡ Some y → session_at s.core.sessions y.handle ≡ Some y
-      at_own named y there = subst (λ (n : ℕ). session_at s.core.sessions n ≡ Some y) (sym (handle_of s.core.sessions named y there)) there
-
       created : is_device_lost e.request ≡ false → is_session_creation e.request ≡ true → is_success (step s e).1.reply.code ≡ true → (session : ℕ) (x : Session) → Found s.core.sessions (new_session s.core e.given (started_session s.core.device.wish).life) session x → x.life.lost ≡ after_entry e before session
       created d c good session x (inl there) =
           let fresh = (new_session_given s e allowed c good).1 in

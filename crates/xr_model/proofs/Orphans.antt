@@ -3,12 +3,12 @@ use Rattle.std.proofs.Common.{◌≡◌, ℕ, ◌==◌, not, true, List, [], ◌
 use Rattle.xr_types.specs.declared.handles.Kind.TheVariants.{Instance, Session, ActionSet, Action, Space}
 use Rattle.xr_types.specs.declared.handles.Slot.{Slot}
 use Rattle.xr_model.specs.machine.Request.{Entry}
-use Rattle.xr_model.specs.machine.Handles.{Handles, is_live, has, with_handle, going, destroyed_instances, destroyed_parents, without}
+use Rattle.xr_model.specs.machine.Handles.{Handles, is_live, has, with_handle, going, destroyed_instances, destroyed_parents, without, without_alone}
 use Rattle.xr_model.specs.machine.State.{State, opening}
 use Rattle.xr_model.specs.machine.Machine.{step, reads_of}
 use Rattle.xr_model.specs.machine.History.{after}
 use Rattle.xr_model.specs.laws.HandleLaws.{AreUnder, NoOrphans}
-use Rattle.xr_model.proofs.Rows.{both_of, or_true, in_none, has_put, under_put, under_more, cleared_under}
+use Rattle.xr_model.proofs.Rows.{both_of, or_true, in_none, has_put, under_put, under_more, row_under, cleared_under}
 use Rattle.xr_model.proofs.HandleSteps.{kept_by_step}
 
 -- what is live without a handle and all below it
@@ -32,6 +32,16 @@ without_under h handle u = record {
 
     sets : List ℕ
     sets = going handle (destroyed_instances h handle) h.sets
+
+-- what is live without one space
+alone_under : (h : Handles) (space : ℕ) → AreUnder h → AreUnder (without_alone h Space space)
+alone_under h space u = record {
+  sessions = u.sessions;
+  sets = u.sets;
+  actions = u.actions;
+  spaces = row_under space [] h.sessions h.spaces u.spaces;
+  chains = u.chains;
+}
 
 -- with an instance more
 instance_under : (h : Handles) (given : ℕ) → AreUnder h → AreUnder (with_handle h Instance 0 given)
@@ -101,7 +111,7 @@ space_under h session given live u =
     }
 
 under_step : (s : State) (e : Entry) → AreUnder s.core.handles → AreUnder (step s e).0.core.handles
-under_step s e u = kept_by_step (λ h. AreUnder h) s.core (reads_of s) e (record {
+under_step s e u = kept_by_step (λ h. AreUnder h) s.core (reads_of s e.request) e (record {
   same = u;
   instance = λ gives. instance_under s.core.handles e.given u;
   session = λ gives instance live. session_under s.core.handles instance e.given live u;
@@ -109,6 +119,7 @@ under_step s e u = kept_by_step (λ h. AreUnder h) s.core (reads_of s) e (record
   action = λ gives set live. action_under s.core.handles set e.given live u;
   space = λ gives session live. space_under s.core.handles session e.given live u;
   without = λ handle. without_under s.core.handles handle u;
+  alone = λ space. alone_under s.core.handles space u;
 })
 
 under_after : (s : State) (es : List Entry) → AreUnder s.core.handles → AreUnder (after s es).core.handles

@@ -1,10 +1,10 @@
 -- Rows of places: what stands in one after a handle was put into it, and after handles were cleared from it.
-use Rattle.std.proofs.Common.{◌≡◌, ◌+◌, ℕ, zero, suc, ◌==◌, ◌&&◌, ◌||◌, not, Bool, true, false, List, [], ◌∷◌, ◌++◌, replicate, Option, Some, None, option_map, refl, sym, ap, ◌∙◌, subst, arith, true≢false, if◌then◌else◌}
+use Rattle.std.proofs.Common.{◌≡◌, ◌≤◌, ◌+◌, ℕ, zero, suc, ◌==◌, ◌&&◌, ◌||◌, not, Bool, true, false, List, [], ◌∷◌, ◌++◌, replicate, Option, Some, None, option_map, refl, sym, ap, ◌∙◌, subst, arith, true≢false, if◌then◌else◌}
 use Rattle.std.specs.Prelude.{is_some}
 use Rattle.std.specs.List.{list_any, list_all, position_from}
 use Rattle.xr_types.specs.declared.handles.Slot.{Slot}
 use Rattle.xr_model.specs.machine.Handles.{free, has, first_free, put_in, goes, going, cleared}
-use Rattle.xr_model.specs.laws.HandleLaws.{is_under}
+use Rattle.xr_model.specs.laws.HandleLaws.{count_in, is_under}
 
 -- ---- tests
 
@@ -70,7 +70,7 @@ put_is_first new (s ∷ ss) = by (s.handle == 0) (put_is_first new ss)
     by false more = ap (λ o. put_in (s ∷ ss) new o) (one_later (λ x. x.handle == 0) 0 ss) ∙ put_behind new s ss (first_free ss) ∙ ap (λ l. s ∷ l) more
 
 -- where a place is free the row has the new handle
-later_is_some : (o : Option ℕ) → is_some (option_map (λ n. suc n) o) ≡ is_some o
+pub later_is_some : (o : Option ℕ) → is_some (option_map (λ n. suc n) o) ≡ is_some o
 later_is_some None = refl
 later_is_some (Some n) = refl
 
@@ -222,3 +222,57 @@ cleared_under h a b above (s ∷ ss) knows u =
         let away : list_any (λ g. g == s.parent) b ≡ false = (neither_of (s.handle == h) (list_any (λ g. g == s.parent) b) (not_named h b s keeps ez)).1 in
         let there = stays h a above s.parent (not_true (s.parent == 0) parts.0) parts.1 (knows s.parent away) in
         rw eg (rw (ez, parts.0, there) more)
+
+-- a row under another is so without some of its handles
+pub row_under : (h : ℕ) (b : List ℕ) (above row : List Slot) → is_under above row ≡ true → is_under above (cleared h b row) ≡ true
+row_under h b above [] u = refl
+row_under h b above (s ∷ ss) u =
+    let two = both_of ((s.handle == 0) || (not (s.parent == 0) && has above s.parent)) (is_under above ss) u in
+    by (goes h b s) two.0 (row_under h b above ss two.1)
+  where
+    by : (g : Bool) → (s.handle == 0) || (not (s.parent == 0) && has above s.parent) ≡ true → is_under above (cleared h b ss) ≡ true → is_under above ((if g then free else s) ∷ cleared h b ss) ≡ true
+    by true here more = more
+    by false here more = rw here more
+
+-- a row in which a handle doesn't stand is the same without it
+pub none_goes : (h : ℕ) (s : Slot) → (s.handle == h) ≡ false → goes h [] s ≡ false
+unfolding goes
+none_goes h s e = rw e (by (s.handle == 0))
+  where
+    by : (z : Bool) → not z && false ≡ false
+    by true = refl
+    by false = refl
+
+pub cleared_same : (h : ℕ) (row : List Slot) → has row h ≡ false → cleared h [] row ≡ row
+cleared_same h [] none = refl
+cleared_same h (s ∷ ss) none =
+    let two = neither_of (s.handle == h) (has ss h) none in
+    rw (none_goes h s two.0) (ap (λ (l : List Slot). s ∷ l) (cleared_same h ss two.1))
+
+pub going_none : (h : ℕ) (row : List Slot) → has row h ≡ false → going h [] row ≡ []
+going_none h [] none = refl
+going_none h (s ∷ ss) none =
+    let two = neither_of (s.handle == h) (has ss h) none in
+    rw (none_goes h s two.0) (going_none h ss two.1)
+
+-- ---- in how many places a handle stands
+
+one_more : (n : ℕ) → n + 1 ≡ 0 → ⊥
+one_more n e = omega (arith, e)
+
+-- one that stands in no place of a row doesn't stand in it, and one that stands in it has a place
+pub uncounted : (row : List Slot) (p : ℕ) → count_in row p ≡ 0 → has row p ≡ false
+uncounted [] p none = refl
+uncounted (s ∷ ss) p none = by (s.handle == p) none (uncounted ss p)
+  where
+    by : (b : Bool) → (if b then count_in ss p + 1 else count_in ss p) ≡ 0 → (count_in ss p ≡ 0 → has ss p ≡ false) → b || has ss p ≡ false
+    by true none more = absurd (one_more (count_in ss p) none)
+    by false none more = more none
+
+pub counted : (row : List Slot) (p : ℕ) → has row p ≡ true → 1 ≤ count_in row p
+counted [] p there = absurd (true≢false (sym there))
+counted (s ∷ ss) p there = by (s.handle == p) there (counted ss p)
+  where
+    by : (b : Bool) → b || has ss p ≡ true → (has ss p ≡ true → 1 ≤ count_in ss p) → 1 ≤ (if b then count_in ss p + 1 else count_in ss p)
+    by true there more = omega arith
+    by false there more = more there

@@ -1,30 +1,28 @@
 -- The answers of calls on sessions: by a loss, and by a pending one.
-use Rattle.std.proofs.Common.{◌≡◌, ◌&&◌, ℕ, Bool, true, false, not, List, [], ◌∷◌, ◌++◌, map, Option, Some, None, refl, sym, ap, subst, ◌∙◌, append_assoc, true≢false}
-use Rattle.std.specs.Prelude.{◌↔◌, pos, int_le, unwrap_or, if◌then◌else◌}
+use Rattle.std.proofs.Common.{◌≡◌, ◌&&◌, ℕ, Bool, true, false, not, List, [], ◌∷◌, ◌++◌, map, Option, Some, None, refl, sym, ap, subst, ◌∙◌, true≢false}
+use Rattle.std.specs.Prelude.{◌↔◌, unwrap_or, if◌then◌else◌}
+use Rattle.std.specs.List.{list_all}
+use Rattle.xr_types.specs.declared.handles.Kind.{Kind}
 use Rattle.xr_types.specs.declared.handles.Kind.TheVariants as kind
 use Rattle.xr_types.specs.declared.code.Code.{Code}
-use Rattle.xr_types.specs.declared.code.Code.TheVariants.{Success, SessionLost, SessionLossPending, HandleInvalid, CallOrderInvalid, TimeInvalid}
-use Rattle.xr_types.specs.declared.calls.Gives.TheVariants.{Nothing, Handle, Location}
-use Rattle.xr_types.specs.declared.spaces.Location.TheVariants.{Missing}
-use Rattle.xr_types.specs.declared.session.SessionState.TheVariants.{LossPending}
-use Rattle.xr_model.specs.machine.Request.{Entry, Request, begin_session, end_session, request_exit_session, create_reference_space, locate_space, attach_sets}
-use Rattle.xr_model.specs.machine.Handles.{is_live, no_handle, no_room}
+use Rattle.xr_types.specs.declared.code.Code.TheVariants.{Success, SessionLost, SessionLossPending, HandleInvalid, CallOrderInvalid}
+use Rattle.xr_types.specs.declared.input.Binding.{Binding}
+use Rattle.xr_types.specs.declared.input.Profile.{Profile}
+use Rattle.xr_model.specs.machine.Request.{Entry, Request, begin_session, end_session, request_exit_session, create_reference_space, locate_space, attach_sets, create_action, suggest_bindings}
+use Rattle.xr_model.specs.machine.Handles.{Handles, is_live, no_handle}
 use Rattle.xr_model.specs.machine.HandlePlaces.{parent_of}
 use Rattle.xr_model.specs.machine.Refusals.{Refusal, when, first_of}
-use Rattle.xr_model.specs.machine.State.{CoreState, Settings, State, opening}
-use Rattle.xr_model.specs.machine.Rule.{Rule, Effect, refusals, unless_refused, carried_out, done}
-use Rattle.xr_model.specs.machine.SessionRule.{code_on, on_session}
-use Rattle.xr_model.specs.machine.SessionLife.{Life, unchanged, begin_checks, begun_session, end_checks, ended_session, exit_checks, exiting_session, is_state, is_lost}
-use Rattle.xr_model.specs.machine.LiveSessions.{session_at}
-use Rattle.xr_model.specs.machine.Handles.{Handles}
-use Rattle.xr_types.specs.declared.handles.Kind.{Kind}
-use Rattle.xr_model.specs.machine.Sets.{attach_checks, with_attached}
-use Rattle.xr_model.specs.machine.Spaces.{reference_checks, located, no_states}
-use Rattle.xr_model.specs.machine.Rules.Session.{life_of, with_change}
-use Rattle.xr_model.specs.machine.Rules.Spaces.{session_above, with_reference_space}
-use Rattle.xr_model.specs.machine.Machine.{step, rule, reads_of}
+use Rattle.xr_model.specs.machine.State.{CoreState, CellReads, Settings, opening}
+use Rattle.xr_model.specs.machine.Rule.{Rule, refusals, refusal, or_short, told_on, unless_refused, carried_out}
+use Rattle.xr_model.specs.machine.SessionRule.{Loss, loss_of, code_on, losses}
+use Rattle.xr_model.specs.machine.Sets.{no_users}
+use Rattle.xr_model.specs.machine.Rules.Bindings.{profile_at, bindings_checks}
+use Rattle.xr_model.specs.machine.Rules.Sets.{sub_checks, with_user, user_at}
+use Rattle.xr_model.specs.machine.Rules.Session.{life_of}
+use Rattle.xr_model.specs.machine.Rules.Spaces.{session_above}
+use Rattle.xr_model.specs.machine.Machine.{rule, reads_of}
 use Rattle.xr_model.specs.machine.History.{after}
-use Rattle.xr_model.specs.laws.SessionLaws.{session_of, was_lost, LostSessions, PendingLosses}
+use Rattle.xr_model.specs.laws.SessionLaws.{session_of, LostSessions, PendingLosses}
 use Rattle.xr_model.proofs.Orphans.{no_orphans}
 use Rattle.xr_model.proofs.StandOnce.{handles_stand_once}
 use Rattle.xr_model.proofs.DestroyingTakes.{live_parent, roots_after}
@@ -51,169 +49,237 @@ first_skips (x ∷ xs) ys none = by x.holds none (first_skips xs ys)
         some_is_not e = cc
     by false e more = more e
 
-abbrev NoneIs : Code → List Refusal → Type 0
-NoneIs code [] = Unit {0}
-NoneIs code (r ∷ rs) = (r.code ≡ code → ⊥) × NoneIs code rs
+-- ---- lists in which no refusal has such a code
 
--- handles that have to be live are refused as no handles
-none_handles : (code : Code) (h : Handles) (kind : Kind) (handles : List ℕ) → (HandleInvalid ≡ code → ⊥) → NoneIs code (map (no_handle h kind) handles)
-none_handles code h kind [] other = tt
-none_handles code h kind (handle ∷ handles) other = (other, none_handles code h kind handles other)
+abbrev pub none_with : (Code → Bool) → List Refusal → Bool
+none_with test rs = list_all (λ r. not (test r.code)) rs
 
-first_is_not : (code : Code) (rs : List Refusal) (r : Refusal) → NoneIs code rs → first_of rs ≡ Some r → r.code ≡ code → ⊥
-first_is_not code [] r none found is = cc
-first_is_not code (x ∷ rs) r none found is = by x.holds found (λ later. first_is_not code rs r none.1 later is)
+abbrev pub none_in : (Code → Bool) → Option Refusal → Bool
+none_in test None = true
+none_in test (Some r) = not (test r.code)
+
+pub none_more : (test : Code → Bool) (xs ys : List Refusal) → none_with test xs ≡ true → none_with test ys ≡ true → none_with test (xs ++ ys) ≡ true
+none_more test [] ys a b = b
+none_more test (x ∷ xs) ys a b = by (not (test x.code)) a (λ more. none_more test xs ys more b)
   where
-    same : (a b : Refusal) → Some a ≡ Some b → a ≡ b
-    same a b e = cc
+    by : (c : Bool) → c && none_with test xs ≡ true → (none_with test xs ≡ true → none_with test (xs ++ ys) ≡ true) → c && none_with test (xs ++ ys) ≡ true
+    by true a more = more a
+    by false a more = absurd (true≢false (sym a))
 
-    by : (b : Bool) → (if b then Some x else first_of rs) ≡ Some r → (first_of rs ≡ Some r → ⊥) → ⊥
-    by true found later = none.0 (ap (λ (y : Refusal). y.code) (same x r found) ∙ is)
-    by false found later = later found
-
--- a refusal of others is no loss, nor is a success
-other_code : (s : CoreState) (code : Code) (rs : List Refusal) (x : Effect) → NoneIs code rs → (x.code ≡ code → ⊥) → (unless_refused s (first_of rs) x).code ≡ code → ⊥
-other_code s code rs x none success is = by (first_of rs) refl is
+pub first_none : (test : Code → Bool) (rs : List Refusal) → none_with test rs ≡ true → none_in test (first_of rs) ≡ true
+first_none test [] none = refl
+first_none test (r ∷ rs) none = by r.holds (not (test r.code)) refl none (first_none test rs)
   where
-    by : (o : Option Refusal) → first_of rs ≡ o → (unless_refused s o x).code ≡ code → ⊥
-    by None found is = success is
-    by (Some r) found is = first_is_not code rs r none found is
+    by : (b c : Bool) → not (test r.code) ≡ c → c && none_with test rs ≡ true → (none_with test rs ≡ true → none_in test (first_of rs) ≡ true) → none_in test (if b then Some r else first_of rs) ≡ true
+    by b false e none more = absurd (true≢false (sym none))
+    by true true e none more = e
+    by false true e none more = more none
 
-success_is_not_lost : (life : Life) → code_on life Success ≡ SessionLost → ⊥
-success_is_not_lost life = by (is_state life.state LossPending)
+-- the code of a loss, or of a pending one
+abbrev pub is_loss : Code → Bool
+is_loss SessionLost = true
+is_loss SessionLossPending = true
+is_loss _ = false
+
+abbrev pub is_pending : Code → Bool
+is_pending SessionLossPending = true
+is_pending _ = false
+
+pending_is_loss : (c : Code) → not (is_loss c) ≡ true → not (is_pending c) ≡ true
+pending_is_loss SessionLossPending e = absurd (true≢false (sym e))
+pending_is_loss _ e = refl
+
+none_pending : (rs : List Refusal) → none_with is_loss rs ≡ true → none_with is_pending rs ≡ true
+none_pending [] none = refl
+none_pending (r ∷ rs) none = by (not (is_loss r.code)) refl none (none_pending rs)
+  where
+    by : (c : Bool) → not (is_loss r.code) ≡ c → c && none_with is_loss rs ≡ true → (none_with is_loss rs ≡ true → none_with is_pending rs ≡ true) → not (is_pending r.code) && none_with is_pending rs ≡ true
+    by true e none more = rw (pending_is_loss r.code e) (more none)
+    by false e none more = absurd (true≢false (sym none))
+
+short_none : (short : Bool) (o : Option Refusal) → none_in is_loss o ≡ true → none_in is_loss (or_short short o) ≡ true
+short_none false o none = none
+short_none true None none = refl
+short_none true (Some r) none = none
+
+short_pending : (short : Bool) (o : Option Refusal) → none_in is_pending o ≡ true → none_in is_pending (or_short short o) ≡ true
+short_pending false o none = none
+short_pending true None none = refl
+short_pending true (Some r) none = none
+
+pub short_some : (short : Bool) (o : Option Refusal) (r : Refusal) → o ≡ Some r → or_short short o ≡ Some r
+short_some false o r e = e
+short_some true o r e = rw e refl
+
+-- ---- no rule itself answers by a loss
+
+-- the refusals behind the session's loss
+abbrev pub own : Rule → List Refusal
+own r = r.before ++ when r.disorder CallOrderInvalid ∷ r.behind
+
+pub record Lossless (r : Rule) : Type 0 where
+  pub handles : none_with is_loss r.handles ≡ true
+  pub own : none_with is_loss (own r) ≡ true
+  pub code : is_loss r.effect.code ≡ false
+
+none_subs : (atoms : List (List ℕ)) (declared : List Bool) (subs : List ℕ) → none_with is_loss (sub_checks atoms declared subs) ≡ true
+none_subs atoms declared [] = refl
+none_subs atoms declared (sub ∷ subs) = none_subs atoms (with_user declared (user_at atoms sub)) subs
+
+none_handles : (h : Handles) (kind : Kind) (handles : List ℕ) → none_with is_loss (map (no_handle h kind) handles) ≡ true
+none_handles h kind [] = refl
+none_handles h kind (handle ∷ handles) = none_handles h kind handles
+
+none_bindings : (s : CoreState) (o : Option Profile) (list : List Binding) → none_with is_loss (bindings_checks s o list) ≡ true
+none_bindings s None list = refl
+none_bindings s (Some which) [] = refl
+none_bindings s (Some which) (b ∷ list) = none_bindings s (Some which) list
+
+pub lossless : (s : CoreState) (reads : CellReads) (e : Entry) → Lossless (rule s reads e)
+lossless s reads e = by e.request
+  where
+    by : (r : Request) → Lossless (rule s reads (record e { request = r }))
+    by (create_action set name type subs localized) = record { handles = refl; own = none_more is_loss (sub_checks s.atoms no_users subs) _ (none_subs s.atoms no_users subs) refl; code = refl }
+    by (suggest_bindings instance profile list) = record { handles = refl; own = none_bindings s (profile_at s.atoms profile) list; code = refl }
+    by (attach_sets session handles) = record { handles = refl; own = none_handles s.handles kind.ActionSet handles; code = refl }
+    by _ = record { handles = refl; own = refl; code = refl }
+
+-- ---- the code of a call on a session
+
+success_is_not_lost : (loss : Loss) → code_on loss Success ≡ SessionLost → ⊥
+success_is_not_lost loss = by (loss.pending)
   where
     by : (b : Bool) → (if b then SessionLossPending else Success) ≡ SessionLost → ⊥
     by true e = cc
     by false e = cc
 
--- ---- by a loss
+told_is_not_lost : (loss : Loss) (code : Code) → is_loss code ≡ false → code_on loss code ≡ SessionLost → ⊥
+told_is_not_lost loss Success apart is = success_is_not_lost loss is
+told_is_not_lost loss _ apart is = true≢false (sym (ap is_loss is) ∙ apart)
 
-module _ (s : CoreState) (handles : List Refusal) (life : Life) (r : Rule) where
-  rest : List Refusal
-  rest = r.before ++ when r.disorder CallOrderInvalid ∷ r.behind
+some_is_none : (r : Refusal) → Some r ≡ None → ⊥
+some_is_none r e = cc
 
-  whole : refusals (on_session handles life r) ≡ handles ++ is_lost life ∷ rest
-  unfolding rest
-  whole = append_assoc handles (is_lost life ∷ r.before) (when r.disorder CallOrderInvalid ∷ r.behind)
+success_pending : (loss : Loss) → (code_on loss Success ≡ SessionLossPending) ↔ ((Success ≡ Success) × (loss.pending ≡ true))
+success_pending loss = by (loss.pending)
+  where
+    by : (b : Bool) → ((if b then SessionLossPending else Success) ≡ SessionLossPending) ↔ ((Success ≡ Success) × (b ≡ true))
+    by true = ((λ e. (refl, refl)), (λ two. refl))
+    by false = ((λ e. cc), (λ two. absurd (true≢false (sym two.1))))
+
+told_pending : (loss : Loss) (code : Code) → is_loss code ≡ false → (code_on loss code ≡ SessionLossPending) ↔ ((code ≡ Success) × (loss.pending ≡ true))
+told_pending loss Success apart = success_pending loss
+told_pending loss _ apart = ((λ is. absurd (true≢false (sym (ap is_loss is) ∙ apart))), (λ two. cc))
+
+module _ (s : CoreState) (short : Bool) (r : Rule) (loss : Loss) (on : r.on ≡ Some loss) (none : Lossless r) where
+  whole : refusals r ≡ r.handles ++ when loss.lost SessionLost ∷ own r
+  whole = ap (λ (o : Option Loss). r.handles ++ (losses o ++ own r)) on
 
   -- the code by the first of all refusals
-  code_by : (o : Option Refusal) → first_of (handles ++ is_lost life ∷ rest) ≡ o → (carried_out s (on_session handles life r)).code ≡ (unless_refused s o (on_session handles life r).effect).code
-  code_by o found = ap (λ (x : Option Refusal). (unless_refused s x (on_session handles life r).effect).code) (ap first_of whole ∙ found)
+  code_by : (o : Option Refusal) → refusal short r ≡ o → (carried_out s short r).code ≡ (unless_refused s o (record r.effect { code = code_on loss r.effect.code })).code
+  code_by o found = ap (λ (x : Option Refusal). (unless_refused s x (told_on r.on r.effect)).code) found ∙ ap (λ (l : Option Loss). (unless_refused s o (told_on l r.effect)).code) on
 
-  answered_lost : NoneIs SessionLost handles → NoneIs SessionLost rest → r.effect.code ≡ Success
-      → ((carried_out s (on_session handles life r)).code ≡ SessionLost) ↔ ((first_of handles ≡ None) × (life.lost ≡ true))
-  answered_lost own others plain = by (first_of handles) refl life.lost refl
+  pub answered_lost : ((carried_out s short r).code ≡ SessionLost) ↔ ((first_of r.handles ≡ None) × (loss.lost ≡ true))
+  answered_lost = by (first_of r.handles) refl loss.lost refl
     where
-      by : (o : Option Refusal) → first_of handles ≡ o → (b : Bool) → life.lost ≡ b
-          → ((carried_out s (on_session handles life r)).code ≡ SessionLost) ↔ ((first_of handles ≡ None) × (life.lost ≡ true))
+      by : (o : Option Refusal) → first_of r.handles ≡ o → (b : Bool) → loss.lost ≡ b → ((carried_out s short r).code ≡ SessionLost) ↔ ((first_of r.handles ≡ None) × (loss.lost ≡ true))
       by (Some x) eo b eb =
-          ((λ code. absurd (first_is_not SessionLost handles x own eo (sym (code_by (Some x) (first_stays handles (is_lost life ∷ rest) x eo)) ∙ code))), (λ both. absurd (some_found (sym eo ∙ both.0))))
-        where
-          some_found : Some x ≡ None → ⊥
-          some_found e = cc
+          let first : first_of (refusals r) ≡ Some x = ap first_of whole ∙ first_stays r.handles (when loss.lost SessionLost ∷ own r) x eo in
+          let told = code_by (Some x) (short_some (r.takes_memory && short) (first_of (refusals r)) x first) in
+          let apart : not (is_loss x.code) ≡ true = ap (none_in is_loss) (sym eo) ∙ first_none is_loss r.handles none.handles in
+          ((λ code. absurd (true≢false (sym apart ∙ ap (λ c. not (is_loss c)) (sym told ∙ code)))), (λ both. absurd (some_is_none x (sym eo ∙ both.0))))
       by None eo true eb =
-          let told = code_by (Some (is_lost life)) (first_skips handles (is_lost life ∷ rest) eo ∙ rw eb refl) in
+          let first : first_of (refusals r) ≡ Some (when loss.lost SessionLost) = ap first_of whole ∙ first_skips r.handles (when loss.lost SessionLost ∷ own r) eo ∙ rw eb refl in
+          let told = code_by (Some (when loss.lost SessionLost)) (short_some (r.takes_memory && short) (first_of (refusals r)) (when loss.lost SessionLost) first) in
           ((λ code. (eo, eb)), (λ both. told))
       by None eo false eb =
-          let found : first_of (handles ++ is_lost life ∷ rest) ≡ first_of rest = first_skips handles (is_lost life ∷ rest) eo ∙ rw eb refl in
-          ((λ code. absurd (other_code s SessionLost rest (on_session handles life r).effect others (λ e. success_is_not_lost life (rw plain at e)) (sym (code_by (first_of rest) found) ∙ code))), (λ both. absurd (true≢false (sym both.1 ∙ eb))))
+          let first : first_of (refusals r) ≡ first_of (own r) = ap first_of whole ∙ first_skips r.handles (when loss.lost SessionLost ∷ own r) eo ∙ rw eb refl in
+          let few = short_none (r.takes_memory && short) (first_of (refusals r)) (ap (none_in is_loss) first ∙ first_none is_loss (own r) none.own) in
+          ((λ code. absurd (neither (refusal short r) refl few code)), (λ both. absurd (true≢false (sym both.1 ∙ eb))))
+        where
+          neither : (o : Option Refusal) → refusal short r ≡ o → none_in is_loss o ≡ true → (carried_out s short r).code ≡ SessionLost → ⊥
+          neither None found few code = told_is_not_lost loss r.effect.code none.code (sym (code_by None found) ∙ code)
+          neither (Some x) found few code = true≢false (sym few ∙ ap (λ c. not (is_loss c)) (sym (code_by (Some x) found) ∙ code))
 
-  -- ---- by a pending loss
-
-  answered_pending : NoneIs SessionLossPending (refusals (on_session handles life r)) → r.effect.code ≡ Success
-      → ((carried_out s (on_session handles life r)).code ≡ SessionLossPending) ↔ ((first_of (refusals (on_session handles life r)) ≡ None) × (is_state life.state LossPending ≡ true))
-  answered_pending others plain = by (first_of (refusals (on_session handles life r))) refl (is_state life.state LossPending) refl
+  pub answered_pending : ((carried_out s short r).code ≡ SessionLossPending) ↔ ((refusal short r ≡ None) × (r.effect.code ≡ Success) × (loss.pending ≡ true))
+  answered_pending = by (refusal short r) refl
     where
-      by : (o : Option Refusal) → first_of (refusals (on_session handles life r)) ≡ o → (b : Bool) → is_state life.state LossPending ≡ b
-          → ((carried_out s (on_session handles life r)).code ≡ SessionLossPending) ↔ ((first_of (refusals (on_session handles life r)) ≡ None) × (is_state life.state LossPending ≡ true))
-      by None eo true eb = ((λ code. (eo, eb)), (λ both. rw (eo, plain, eb) refl))
-      by None eo false eb = ((λ code. let told : Success ≡ SessionLossPending = rw (eo, plain, eb) at code in absurd (apart told)), (λ both. absurd (true≢false (sym both.1 ∙ eb))))
-        where
-          apart : Success ≡ SessionLossPending → ⊥
-          apart e = cc
-      by (Some x) eo b eb = ((λ code. absurd (first_is_not SessionLossPending (refusals (on_session handles life r)) x others eo (rw eo at code))), (λ both. absurd (none_found (sym both.0 ∙ eo))))
-        where
-          none_found : None ≡ Some x → ⊥
-          none_found e = cc
+      few : none_in is_pending (refusal short r) ≡ true
+      few = short_pending (r.takes_memory && short) (first_of (refusals r)) (first_none is_pending (refusals r) (ap (none_with is_pending) whole ∙ none_more is_pending r.handles (when loss.lost SessionLost ∷ own r) (none_pending r.handles none.handles) (none_pending (own r) none.own)))
 
--- ---- the calls
+      by : (o : Option Refusal) → refusal short r ≡ o → ((carried_out s short r).code ≡ SessionLossPending) ↔ ((refusal short r ≡ None) × (r.effect.code ≡ Success) × (loss.pending ≡ true))
+      by None found =
+          let both = told_pending loss r.effect.code none.code in
+          let told = code_by None found in
+          ((λ code. let two = both.0 (sym told ∙ code) in (found, two.0, two.1)), (λ all. told ∙ both.1 (all.1, all.2)))
+      by (Some x) found =
+          let told = code_by (Some x) found in
+          let apart : not (is_pending x.code) ≡ true = ap (none_in is_pending) (sym found) ∙ few in
+          ((λ code. absurd (true≢false (sym apart ∙ ap (λ c. not (is_pending c)) (sym told ∙ code)))), (λ all. absurd (some_is_none x (sym found ∙ all.0))))
+
+-- ---- the session of a call
 
 named_is : (a b : ℕ) → Some a ≡ Some b → a ≡ b
 named_is a b e = cc
+
+module _ (s : CoreState) (session : ℕ) where
+  above_is : (b : Bool) (space : ℕ) → (if b then parent_of s.handles space else None) ≡ Some session → session_above s.handles space ≡ session
+  above_is true space found = ap (λ (o : Option ℕ). unwrap_or o 0) found
+  above_is false space found = cc
+
+  life_is : (other : ℕ) → other ≡ session → Some (loss_of (life_of s other)) ≡ Some (loss_of (life_of s session))
+  life_is other same = ap (λ (n : ℕ). Some (loss_of (life_of s n))) same
+
+  -- its rule is one on that session
+  pub named_on : (reads : CellReads) (e : Entry) → session_of s.handles e.request ≡ Some session → (rule s reads e).on ≡ Some (loss_of (life_of s session))
+  named_on reads e = by e.request
+    where
+      by : (r : Request) → session_of s.handles r ≡ Some session → (rule s reads (record e { request = r })).on ≡ Some (loss_of (life_of s session))
+      by (begin_session other view) named = life_is other (named_is other session named)
+      by (end_session other) named = life_is other (named_is other session named)
+      by (request_exit_session other) named = life_is other (named_is other session named)
+      by (create_reference_space other what offset) named = life_is other (named_is other session named)
+      by (attach_sets other handles) named = life_is other (named_is other session named)
+      by (locate_space space base time) named = life_is (session_above s.handles space) (above_is (is_live s.handles kind.Space space && is_live s.handles kind.Space base) space named)
+      by _ named = cc
+
+pub pending_losses : PendingLosses
+pending_losses s e session named =
+    answered_pending s.core e.short (rule s.core (reads_of s e.request) e) (loss_of (life_of s.core session)) (named_on s.core session (reads_of s e.request) e named) (lossless s.core (reads_of s e.request) e)
 
 -- handles that are live are not refused
 live_first : (live : Bool) → ((first_of (when (not live) HandleInvalid ∷ []) ≡ None) ↔ (live ≡ true))
 live_first true = ((λ e. refl), (λ e. refl))
 live_first false = ((λ e. cc), (λ e. absurd (true≢false (sym e))))
 
-module _ (settings : Settings) (es : List Entry) (session : ℕ) where
-  -- answered by the session's loss, where it is live and was lost
-  abbrev Answer : Code → Type 0
-  Answer code = (code ≡ SessionLost) ↔ ((is_live (after (opening settings) es).core.handles kind.Session session ≡ true) × (was_lost session false es ≡ true))
-
-  -- the same by what is refused and listed of a handle
-  abbrev ByHandle : Code → ℕ → Type 0
-  ByHandle code n = (code ≡ SessionLost) ↔ ((first_of (no_handle (after (opening settings) es).core.handles kind.Session n ∷ []) ≡ None) × ((life_of (after (opening settings) es).core n).lost ≡ true))
+-- its handles are refused but where the session is live
+abbrev AsLive : Settings → List Entry → Entry → ℕ → Request → Type 0
+AsLive settings es e session r =
+    (first_of (rule (after (opening settings) es).core (reads_of (after (opening settings) es) r) (record e { request = r })).handles ≡ None) ↔ (is_live (after (opening settings) es).core.handles kind.Session session ≡ true)
 
 pub lost_sessions : LostSessions
-unfolding rest
-lost_sessions settings es e session legal named = by e.request named
+lost_sessions settings es e session legal named =
+    let s = after (opening settings) es in
+    let answer = answered_lost s.core e.short (rule s.core (reads_of s e.request) e) (loss_of (life_of s.core session)) (named_on s.core session (reads_of s e.request) e named) (lossless s.core (reads_of s e.request) e) in
+    let handles = by_handles e.request named in
+    ((λ code. let two = answer.0 code in let live = handles.0 two.0 in (live, sym (known_loss settings es session legal live) ∙ two.1)), (λ two. answer.1 (handles.1 two.0, known_loss settings es session legal two.0 ∙ two.1)))
   where
-    by_handle : (code : Code) (other : ℕ) → other ≡ session → ByHandle settings es session code other → Answer settings es session code
-    by_handle code other same answer = joined (subst (λ (n : ℕ). ByHandle settings es session code n) same answer)
-      where
-        joined : ByHandle settings es session code session → Answer settings es session code
-        joined both = (
-          (λ is. let two = both.0 is in let live = (live_first (is_live (after (opening settings) es).core.handles kind.Session session)).0 two.0 in (live, sym (known_loss settings es session legal live) ∙ two.1)),
-          (λ two. both.1 ((live_first (is_live (after (opening settings) es).core.handles kind.Session session)).1 two.0, known_loss settings es session legal two.0 ∙ two.1)),
-        )
+    one : (other : ℕ) → other ≡ session → (first_of (no_handle (after (opening settings) es).core.handles kind.Session other ∷ []) ≡ None) ↔ (is_live (after (opening settings) es).core.handles kind.Session session ≡ true)
+    one other same = subst (λ (n : ℕ). (first_of (no_handle (after (opening settings) es).core.handles kind.Session other ∷ []) ≡ None) ↔ (is_live (after (opening settings) es).core.handles kind.Session n ≡ true)) same (live_first (is_live (after (opening settings) es).core.handles kind.Session other))
 
-    -- by two spaces of the session
-    by_spaces : (code : Code) (space base : ℕ) → (if is_live (after (opening settings) es).core.handles kind.Space space && is_live (after (opening settings) es).core.handles kind.Space base then parent_of (after (opening settings) es).core.handles space else None) ≡ Some session
-        → ((code ≡ SessionLost) ↔ ((first_of (no_handle (after (opening settings) es).core.handles kind.Space space ∷ no_handle (after (opening settings) es).core.handles kind.Space base ∷ []) ≡ None) × ((life_of (after (opening settings) es).core (session_above (after (opening settings) es).core.handles space)).lost ≡ true)))
-        → Answer settings es session code
-    by_spaces code space base named both = cases (is_live (after (opening settings) es).core.handles kind.Space space) refl (is_live (after (opening settings) es).core.handles kind.Space base) refl named
+    by_handles : (r : Request) → session_of (after (opening settings) es).core.handles r ≡ Some session → AsLive settings es e session r
+    by_handles (begin_session other view) named = one other (named_is other session named)
+    by_handles (end_session other) named = one other (named_is other session named)
+    by_handles (request_exit_session other) named = one other (named_is other session named)
+    by_handles (create_reference_space other what offset) named = one other (named_is other session named)
+    by_handles (attach_sets other handles) named = one other (named_is other session named)
+    by_handles (locate_space space base time) named = cases (is_live (after (opening settings) es).core.handles kind.Space space) refl (is_live (after (opening settings) es).core.handles kind.Space base) refl named
       where
-        cases : (a : Bool) → is_live (after (opening settings) es).core.handles kind.Space space ≡ a → (b : Bool) → is_live (after (opening settings) es).core.handles kind.Space base ≡ b → (if a && b then parent_of (after (opening settings) es).core.handles space else None) ≡ Some session → Answer settings es session code
+        cases : (a : Bool) → is_live (after (opening settings) es).core.handles kind.Space space ≡ a → (b : Bool) → is_live (after (opening settings) es).core.handles kind.Space base ≡ b → (if a && b then parent_of (after (opening settings) es).core.handles space else None) ≡ Some session
+            → (first_of (no_handle (after (opening settings) es).core.handles kind.Space space ∷ no_handle (after (opening settings) es).core.handles kind.Space base ∷ []) ≡ None) ↔ (is_live (after (opening settings) es).core.handles kind.Session session ≡ true)
         cases false ea b eb found = cc
         cases true ea false eb found = cc
         cases true ea true eb found =
-            let above : session_above (after (opening settings) es).core.handles space ≡ session = ap (λ (o : Option ℕ). unwrap_or o 0) found in
             let live = live_parent (after (opening settings) es).core.handles (handles_stand_once settings es legal) (no_orphans settings es) (roots_after (opening settings) es refl) space session ea found in
-            let none : first_of (no_handle (after (opening settings) es).core.handles kind.Space space ∷ no_handle (after (opening settings) es).core.handles kind.Space base ∷ []) ≡ None = rw (ea, eb) refl in
-            let same : (life_of (after (opening settings) es).core (session_above (after (opening settings) es).core.handles space)).lost ≡ was_lost session false es = ap (λ (n : ℕ). (life_of (after (opening settings) es).core n).lost) above ∙ known_loss settings es session legal live in
-            ((λ is. (live, sym same ∙ (both.0 is).1)), (λ two. both.1 (none, same ∙ two.1)))
-
-    by : (r : Request) → session_of (after (opening settings) es).core.handles r ≡ Some session → Answer settings es session (step (after (opening settings) es) (record e { request = r })).1.reply.code
-    by (begin_session other view) named = by_handle _ other (named_is other session named) (answered_lost (after (opening settings) es).core (no_handle (after (opening settings) es).core.handles kind.Session other ∷ []) (life_of (after (opening settings) es).core other) (record { before = begin_checks (life_of (after (opening settings) es).core other) view; disorder = false; behind = []; effect = done (with_change (after (opening settings) es).core (session_at (after (opening settings) es).core.sessions other) (λ life. unchanged (begun_session life))) Nothing }) ((λ c. cc), tt) ((λ c. cc), ((λ c. cc), ((λ c. cc), ((λ c. cc), tt)))) refl)
-    by (end_session other) named = by_handle _ other (named_is other session named) (answered_lost (after (opening settings) es).core (no_handle (after (opening settings) es).core.handles kind.Session other ∷ []) (life_of (after (opening settings) es).core other) (record { before = end_checks (life_of (after (opening settings) es).core other); disorder = false; behind = []; effect = done (with_change (after (opening settings) es).core (session_at (after (opening settings) es).core.sessions other) (ended_session (after (opening settings) es).core.device.wish)) Nothing }) ((λ c. cc), tt) ((λ c. cc), ((λ c. cc), ((λ c. cc), tt))) refl)
-    by (request_exit_session other) named = by_handle _ other (named_is other session named) (answered_lost (after (opening settings) es).core (no_handle (after (opening settings) es).core.handles kind.Session other ∷ []) (life_of (after (opening settings) es).core other) (record { before = exit_checks (life_of (after (opening settings) es).core other); disorder = false; behind = []; effect = done (with_change (after (opening settings) es).core (session_at (after (opening settings) es).core.sessions other) (exiting_session (after (opening settings) es).core.device.wish)) Nothing }) ((λ c. cc), tt) ((λ c. cc), ((λ c. cc), tt)) refl)
-    by (create_reference_space other what offset) named = by_handle _ other (named_is other session named) (answered_lost (after (opening settings) es).core (no_handle (after (opening settings) es).core.handles kind.Session other ∷ []) (life_of (after (opening settings) es).core other) (record { before = []; disorder = false; behind = reference_checks what offset (after (opening settings) es).core.device.stage ++ no_room (after (opening settings) es).core.handles kind.Space ∷ []; effect = done (with_reference_space (after (opening settings) es).core other e.given what offset) (Handle e.given) }) ((λ c. cc), tt) ((λ c. cc), ((λ c. cc), ((λ c. cc), ((λ c. cc), tt)))) refl)
-    by (attach_sets other handles) named = by_handle _ other (named_is other session named) (answered_lost (after (opening settings) es).core (no_handle (after (opening settings) es).core.handles kind.Session other ∷ []) (life_of (after (opening settings) es).core other) (record { before = []; disorder = false; behind = attach_checks (after (opening settings) es).core.sets handles ++ map (no_handle (after (opening settings) es).core.handles kind.ActionSet) handles; effect = done (record (after (opening settings) es).core { sets = with_attached (after (opening settings) es).core.sets handles }) Nothing }) ((λ c. cc), tt) ((λ c. cc), ((λ c. cc), ((λ c. cc), none_handles SessionLost (after (opening settings) es).core.handles kind.ActionSet handles (λ c. cc)))) refl)
-    by (locate_space space base time) named = by_spaces _ space base named (answered_lost (after (opening settings) es).core (no_handle (after (opening settings) es).core.handles kind.Space space ∷ no_handle (after (opening settings) es).core.handles kind.Space base ∷ []) (life_of (after (opening settings) es).core (session_above (after (opening settings) es).core.handles space)) (record { before = []; disorder = false; behind = when (int_le time (pos 0)) TimeInvalid ∷ []; effect = done (after (opening settings) es).core (Location (unwrap_or (located (after (opening settings) es).core.spaces no_states space base time) Missing)) }) ((λ c. cc), ((λ c. cc), tt)) ((λ c. cc), ((λ c. cc), tt)) refl)
-    by _ named = cc
-
-abbrev Pending : State → Entry → Request → ℕ → Type 0
-Pending s e r n =
-    ((step s (record e { request = r })).1.reply.code ≡ SessionLossPending)
-    ↔ ((first_of (refusals (rule s.core (reads_of s) (record e { request = r }))) ≡ None) × (is_state (life_of s.core n).state LossPending ≡ true))
-
-pub pending_losses : PendingLosses
-pending_losses s e session named = by e.request named
-  where
-    by : (r : Request) → session_of s.core.handles r ≡ Some session → Pending s e r session
-    by (begin_session other view) named = subst (λ (n : ℕ). Pending s e (begin_session other view) n) (named_is other session named) (answered_pending s.core (no_handle s.core.handles kind.Session other ∷ []) (life_of s.core other) (record { before = begin_checks (life_of s.core other) view; disorder = false; behind = []; effect = done (with_change s.core (session_at s.core.sessions other) (λ life. unchanged (begun_session life))) Nothing }) ((λ c. cc), ((λ c. cc), ((λ c. cc), ((λ c. cc), ((λ c. cc), ((λ c. cc), tt)))))) refl)
-    by (end_session other) named = subst (λ (n : ℕ). Pending s e (end_session other) n) (named_is other session named) (answered_pending s.core (no_handle s.core.handles kind.Session other ∷ []) (life_of s.core other) (record { before = end_checks (life_of s.core other); disorder = false; behind = []; effect = done (with_change s.core (session_at s.core.sessions other) (ended_session s.core.device.wish)) Nothing }) ((λ c. cc), ((λ c. cc), ((λ c. cc), ((λ c. cc), ((λ c. cc), tt))))) refl)
-    by (request_exit_session other) named = subst (λ (n : ℕ). Pending s e (request_exit_session other) n) (named_is other session named) (answered_pending s.core (no_handle s.core.handles kind.Session other ∷ []) (life_of s.core other) (record { before = exit_checks (life_of s.core other); disorder = false; behind = []; effect = done (with_change s.core (session_at s.core.sessions other) (exiting_session s.core.device.wish)) Nothing }) ((λ c. cc), ((λ c. cc), ((λ c. cc), ((λ c. cc), tt)))) refl)
-    by (create_reference_space other what offset) named = subst (λ (n : ℕ). Pending s e (create_reference_space other what offset) n) (named_is other session named) (answered_pending s.core (no_handle s.core.handles kind.Session other ∷ []) (life_of s.core other) (record { before = []; disorder = false; behind = reference_checks what offset s.core.device.stage ++ no_room s.core.handles kind.Space ∷ []; effect = done (with_reference_space s.core other e.given what offset) (Handle e.given) }) ((λ c. cc), ((λ c. cc), ((λ c. cc), ((λ c. cc), ((λ c. cc), ((λ c. cc), tt)))))) refl)
-    by (attach_sets other handles) named = subst (λ (n : ℕ). Pending s e (attach_sets other handles) n) (named_is other session named) (answered_pending s.core (no_handle s.core.handles kind.Session other ∷ []) (life_of s.core other) (record { before = []; disorder = false; behind = attach_checks s.core.sets handles ++ map (no_handle s.core.handles kind.ActionSet) handles; effect = done (record s.core { sets = with_attached s.core.sets handles }) Nothing }) ((λ c. cc), ((λ c. cc), ((λ c. cc), ((λ c. cc), ((λ c. cc), none_handles SessionLossPending s.core.handles kind.ActionSet handles (λ c. cc)))))) refl)
-    by (locate_space space base time) named = subst (λ (n : ℕ). Pending s e (locate_space space base time) n) (above named)
-        (answered_pending s.core (no_handle s.core.handles kind.Space space ∷ no_handle s.core.handles kind.Space base ∷ []) (life_of s.core (session_above s.core.handles space)) (record { before = []; disorder = false; behind = when (int_le time (pos 0)) TimeInvalid ∷ []; effect = done s.core (Location (unwrap_or (located s.core.spaces no_states space base time) Missing)) }) ((λ c. cc), ((λ c. cc), ((λ c. cc), ((λ c. cc), ((λ c. cc), tt))))) refl)
-      where
-        by_lives : (b : Bool) → (if b then parent_of s.core.handles space else None) ≡ Some session → session_above s.core.handles space ≡ session
-        by_lives true found = ap (λ (o : Option ℕ). unwrap_or o 0) found
-        by_lives false found = cc
-
-        above : session_of s.core.handles (locate_space space base time) ≡ Some session → session_above s.core.handles space ≡ session
-        above found = by_lives (is_live s.core.handles kind.Space space && is_live s.core.handles kind.Space base) found
-    by _ named = cc
+            ((λ none. live), (λ there. rw (ea, eb) refl))
+    by_handles _ named = cc

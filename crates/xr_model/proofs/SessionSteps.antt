@@ -1,25 +1,24 @@
 -- What an entry does to the handles and to the listed sessions: the one case split for laws on both.
-use Rattle.std.proofs.Common.{◌≡◌, ◌==◌, ◌&&◌, ◌||◌, ℕ, Bool, true, false, List, [], ◌∷◌, ◌++◌, Option, Some, None, refl}
+use Rattle.std.proofs.Common.{◌≡◌, ◌==◌, ◌&&◌, ◌||◌, ℕ, Bool, true, false, List, [], ◌∷◌, ◌++◌, Option, Some, None, ap, refl}
 use Rattle.std.specs.Prelude.{if◌then◌else◌}
-use Rattle.xr_types.specs.declared.calls.Actor.{Actor}
-use Rattle.xr_types.specs.declared.calls.Actor.TheVariants.{App, Compositor, Device}
 use Rattle.xr_types.specs.Code.{is_success}
 use Rattle.xr_types.specs.declared.device.DeviceEvent.{DeviceEvent}
 use Rattle.xr_types.specs.declared.device.DeviceEvent.TheVariants as event
 use Rattle.xr_types.specs.declared.handles.Kind.TheVariants as kind
-use Rattle.xr_model.specs.machine.Request.{Entry, Request, create_instance, destroy_instance, create_session, destroy_session, begin_session, end_session, request_exit_session, create_reference_space, destroy_space, create_action_set, destroy_action_set, create_action, destroy_action, leave, device}
-use Rattle.xr_model.specs.machine.Handles.{Handles, is_live, has_room, with_handle, without}
-use Rattle.xr_model.specs.machine.Refusals.{Refusal, first_of}
+use Rattle.xr_model.specs.machine.Request.{Entry, Request, create_instance, destroy_instance, create_session, destroy_session, begin_session, end_session, request_exit_session, create_reference_space, destroy_space, create_action_set, destroy_action_set, create_action, destroy_action, attach_sets, device}
+use Rattle.xr_model.specs.machine.Handles.{Handles, is_live, has_room, with_handle, without, without_alone, destroyed_by}
+use Rattle.xr_model.specs.machine.Sets.{sets_named}
+use Rattle.xr_model.specs.machine.Refusals.{Refusal}
 use Rattle.xr_model.specs.machine.State.{CoreState, CellReads}
-use Rattle.xr_model.specs.machine.Rule.{Effect, refusals, unless_refused}
+use Rattle.xr_model.specs.machine.Rule.{Effect, refusal, told_on, unless_refused}
 use Rattle.xr_model.specs.machine.Rules.Instance.{the_system}
-use Rattle.xr_model.specs.machine.Rules.Own.{with_left}
 use Rattle.xr_model.specs.machine.Rules.Device.{behind_event}
 use Rattle.xr_model.specs.machine.Rules.Session.{new_session, with_change}
 use Rattle.xr_model.specs.machine.SessionLife.{Life, Changed, unchanged, started_session, settled_session, begun_session, ended_session, exiting_session, losing_session, lost_session, is_state}
-use Rattle.xr_model.specs.machine.LiveSessions.{Session, session_at, with_life_at, still_live, each_changed}
+use Rattle.xr_model.specs.machine.LiveSessions.{Session, session_at, with_session_at, with_life, with_attached, sessions_left, each_changed}
 use Rattle.xr_model.specs.laws.SessionLaws.{is_device_lost, is_session_creation}
 use Rattle.xr_model.specs.machine.Machine.{core_step, rule}
+use Rattle.xr_model.proofs.Listed.{found_once}
 use Rattle.xr_types.specs.declared.session.SessionState.TheVariants.{Exiting, LossPending}
 
 -- a property that the handles and the sessions have before an entry, and that each thing that it may do keeps
@@ -31,8 +30,10 @@ pub record Keeps (P : Handles → List Session → Type 0) (s : CoreState) (read
   pub set : is_device_lost e.request ≡ false → is_session_creation e.request ≡ false → (instance : ℕ) → P (with_handle s.handles kind.ActionSet instance e.given) s.sessions
   pub action : is_device_lost e.request ≡ false → is_session_creation e.request ≡ false → (set : ℕ) → P (with_handle s.handles kind.Action set e.given) s.sessions
   pub space : is_device_lost e.request ≡ false → is_session_creation e.request ≡ false → (session : ℕ) → P (with_handle s.handles kind.Space session e.given) s.sessions
-  pub without : is_device_lost e.request ≡ false → is_session_creation e.request ≡ false → (handle : ℕ) → P (without s.handles handle) (still_live (without s.handles handle) s.sessions)
-  pub lives : is_device_lost e.request ≡ false → is_session_creation e.request ≡ false → (session : ℕ) (x : Session) → session_at s.sessions session ≡ Some x → (life : Life) → life.lost ≡ x.life.lost → P s.handles (with_life_at x.handle life s.sessions)
+  pub without : is_device_lost e.request ≡ false → is_session_creation e.request ≡ false → (handle : ℕ) → P (without s.handles handle) (sessions_left (without s.handles handle) (destroyed_by s.handles handle) s.sessions)
+  pub alone : is_device_lost e.request ≡ false → is_session_creation e.request ≡ false → (space : ℕ) → P (without_alone s.handles kind.Space space) s.sessions
+  pub lives : is_device_lost e.request ≡ false → is_session_creation e.request ≡ false → (session : ℕ) (f : Session → Session) → ((x : Session) → (f x).handle ≡ x.handle) → ((x : Session) → session_at s.sessions session ≡ Some x → (f x).life.lost ≡ x.life.lost) → ((x : Session) → (f x).attached ≡ x.attached) → P s.handles (with_session_at session f s.sessions)
+  pub attach : is_device_lost e.request ≡ false → is_session_creation e.request ≡ false → (session : ℕ) (sets : List ℕ) → P s.handles (with_session_at session (with_attached (sets_named s.sets sets)) s.sessions)
   pub each : is_device_lost e.request ≡ false → is_session_creation e.request ≡ false → (f : Life → Changed) → ((life : Life) → (f life).life.lost ≡ life.lost) → P s.handles (each_changed f s.sessions)
   pub lost : is_device_lost e.request ≡ true → is_session_creation e.request ≡ false → P s.handles (each_changed (λ life. unchanged (lost_session life)) s.sessions)
 
@@ -52,7 +53,7 @@ losing_keeps life = by (is_state life.state Exiting) (is_state life.state LossPe
     by false false = refl
 
 module _ (P : Handles → List Session → Type 0) (s : CoreState) (reads : CellReads) (e : Entry) where
-  changed : (session : ℕ) (f : Life → Changed) (o : Option Session) → session_at s.sessions session ≡ o → Has P s → ((x : Session) → session_at s.sessions session ≡ Some x → P s.handles (with_life_at x.handle (f x.life).life s.sessions)) → Has P (with_change s o f)
+  changed : (session : ℕ) (f : Life → Changed) (o : Option Session) → session_at s.sessions session ≡ o → Has P s → ((x : Session) → session_at s.sessions session ≡ Some x → P s.handles (with_session_at x.handle (with_life (f x.life).life) s.sessions)) → Has P (with_change s o f)
   changed session f None found same lives = same
   changed session f (Some x) found same lives = lives x found
 
@@ -71,11 +72,6 @@ module _ (P : Handles → List Session → Type 0) (s : CoreState) (reads : Cell
   events (event.Input user row value) k = k.same refl refl
   events (event.Pose origin time pose) k = k.same refl refl
 
-  left_alone : (who : Actor) → Has P s → Has P (with_left s who)
-  left_alone (App k) same = same
-  left_alone Compositor same = same
-  left_alone Device same = same
-
   -- the creation of a session, by what refuses it
   created : (instance system : ℕ) → Keeps P s reads (record e { request = create_session instance system }) → Has P (core_step s reads (record e { request = create_session instance system })).0
   created instance system k = by (is_live s.handles kind.Instance instance) refl (system == the_system) refl (has_room s.handles kind.Session) refl
@@ -93,41 +89,43 @@ kept_by_step P s reads e = by e.request
     by : (r : Request) → Keeps P s reads (record e { request = r }) → Has P (core_step s reads (record e { request = r })).0
     by (create_instance major minor) k =
         let f = rule s reads (record e { request = create_instance major minor }) in
-        kept P s (first_of (refusals f)) f.effect (k.same refl refl) (λ none. k.instance refl refl)
+        kept P s (refusal e.short f) (told_on f.on f.effect) (k.same refl refl) (λ none. k.instance refl refl)
     by (create_session instance system) k = created P s reads e instance system k
     by (destroy_instance instance) k =
         let f = rule s reads (record e { request = destroy_instance instance }) in
-        kept P s (first_of (refusals f)) f.effect (k.same refl refl) (λ none. k.without refl refl instance)
+        kept P s (refusal e.short f) (told_on f.on f.effect) (k.same refl refl) (λ none. k.without refl refl instance)
     by (create_reference_space session what offset) k =
         let f = rule s reads (record e { request = create_reference_space session what offset }) in
-        kept P s (first_of (refusals f)) f.effect (k.same refl refl) (λ none. k.space refl refl session)
+        kept P s (refusal e.short f) (told_on f.on f.effect) (k.same refl refl) (λ none. k.space refl refl session)
     by (destroy_space space) k =
         let f = rule s reads (record e { request = destroy_space space }) in
-        kept P s (first_of (refusals f)) f.effect (k.same refl refl) (λ none. k.without refl refl space)
+        kept P s (refusal e.short f) (told_on f.on f.effect) (k.same refl refl) (λ none. k.alone refl refl space)
     by (create_action_set instance name localized priority) k =
         let f = rule s reads (record e { request = create_action_set instance name localized priority }) in
-        kept P s (first_of (refusals f)) f.effect (k.same refl refl) (λ none. k.set refl refl instance)
+        kept P s (refusal e.short f) (told_on f.on f.effect) (k.same refl refl) (λ none. k.set refl refl instance)
     by (destroy_action_set set) k =
         let f = rule s reads (record e { request = destroy_action_set set }) in
-        kept P s (first_of (refusals f)) f.effect (k.same refl refl) (λ none. k.without refl refl set)
+        kept P s (refusal e.short f) (told_on f.on f.effect) (k.same refl refl) (λ none. k.without refl refl set)
     by (create_action set name type subs localized) k =
         let f = rule s reads (record e { request = create_action set name type subs localized }) in
-        kept P s (first_of (refusals f)) f.effect (k.same refl refl) (λ none. k.action refl refl set)
+        kept P s (refusal e.short f) (told_on f.on f.effect) (k.same refl refl) (λ none. k.action refl refl set)
     by (destroy_action action) k =
         let f = rule s reads (record e { request = destroy_action action }) in
-        kept P s (first_of (refusals f)) f.effect (k.same refl refl) (λ none. k.without refl refl action)
+        kept P s (refusal e.short f) (told_on f.on f.effect) (k.same refl refl) (λ none. k.without refl refl action)
     by (destroy_session session) k =
         let f = rule s reads (record e { request = destroy_session session }) in
-        kept P s (first_of (refusals f)) f.effect (k.same refl refl) (λ none. k.without refl refl session)
+        kept P s (refusal e.short f) (told_on f.on f.effect) (k.same refl refl) (λ none. k.without refl refl session)
     by (begin_session session view) k =
         let f = rule s reads (record e { request = begin_session session view }) in
-        kept P s (first_of (refusals f)) f.effect (k.same refl refl) (λ none. changed P s reads e session (λ life. unchanged (begun_session life)) (session_at s.sessions session) refl (k.same refl refl) (λ x found. k.lives refl refl session x found _ refl))
+        kept P s (refusal e.short f) (told_on f.on f.effect) (k.same refl refl) (λ none. changed P s reads e session (λ life. unchanged (begun_session life)) (session_at s.sessions session) refl (k.same refl refl) (λ x found. k.lives refl refl x.handle (with_life _) (λ y. refl) (λ y there. ap (λ (z : Session). z.life.lost) (found_once s.sessions session x y found there)) (λ y. refl)))
     by (end_session session) k =
         let f = rule s reads (record e { request = end_session session }) in
-        kept P s (first_of (refusals f)) f.effect (k.same refl refl) (λ none. changed P s reads e session (ended_session s.device.wish) (session_at s.sessions session) refl (k.same refl refl) (λ x found. k.lives refl refl session x found _ refl))
+        kept P s (refusal e.short f) (told_on f.on f.effect) (k.same refl refl) (λ none. changed P s reads e session (ended_session s.device.wish) (session_at s.sessions session) refl (k.same refl refl) (λ x found. k.lives refl refl x.handle (with_life _) (λ y. refl) (λ y there. ap (λ (z : Session). z.life.lost) (found_once s.sessions session x y found there)) (λ y. refl)))
     by (request_exit_session session) k =
         let f = rule s reads (record e { request = request_exit_session session }) in
-        kept P s (first_of (refusals f)) f.effect (k.same refl refl) (λ none. changed P s reads e session (exiting_session s.device.wish) (session_at s.sessions session) refl (k.same refl refl) (λ x found. k.lives refl refl session x found _ refl))
-    by leave k = left_alone P s reads e e.actor (k.same refl refl)
+        kept P s (refusal e.short f) (told_on f.on f.effect) (k.same refl refl) (λ none. changed P s reads e session (exiting_session s.device.wish) (session_at s.sessions session) refl (k.same refl refl) (λ x found. k.lives refl refl x.handle (with_life _) (λ y. refl) (λ y there. ap (λ (z : Session). z.life.lost) (found_once s.sessions session x y found there)) (λ y. refl)))
+    by (attach_sets session handles) k =
+        let f = rule s reads (record e { request = attach_sets session handles }) in
+        kept P s (refusal e.short f) (told_on f.on f.effect) (k.same refl refl) (λ none. k.attach refl refl session handles)
     by (device what) k = events P s reads e what k
-    by r k = let f = rule s reads (record e { request = r }) in kept P s (first_of (refusals f)) f.effect (k.same refl refl) (λ none. k.same refl refl)
+    by r k = let f = rule s reads (record e { request = r }) in kept P s (refusal e.short f) (told_on f.on f.effect) (k.same refl refl) (λ none. k.same refl refl)

@@ -1,17 +1,17 @@
 -- A live handle stands in one place, and a new one changes nothing else that lives.
 use Rattle.std.proofs.Common.{◌≡◌, ◌≢◌, ◌≤◌, ◌+◌, ◌==◌, ◌&&◌, ℕ, ℤ, not, Bool, true, false, List, [], ◌∷◌, Option, Some, None, refl, sym, subst, ◌∙◌, arith, true≢false}
-use Rattle.std.specs.Prelude.{if◌then◌else◌}
+use Rattle.std.specs.Prelude.{is_some, if◌then◌else◌}
 use Rattle.xr_types.specs.declared.handles.Kind.{Kind}
 use Rattle.xr_types.specs.declared.handles.Kind.TheVariants.{Instance, Session, ActionSet, Action, Space, Swapchain}
 use Rattle.xr_types.specs.declared.handles.Slot.{Slot}
 use Rattle.xr_types.specs.declared.handles.TheConstants.{INSTANCES, SESSIONS, ACTION_SETS, ACTIONS, SPACES, SWAPCHAINS}
 use Rattle.xr_model.specs.machine.Request.{Entry, Request, create_instance, create_session, create_reference_space, create_action_set, create_action}
-use Rattle.xr_model.specs.machine.Handles.{Handles, free, has, is_live, was_given, first_free, put_in, cleared, goes, destroyed_instances, destroyed_parents, with_handle, without, no_handles}
+use Rattle.xr_model.specs.machine.Handles.{Handles, free, has, is_live, was_given, first_free, put_in, cleared, goes, destroyed_instances, destroyed_parents, with_handle, without, without_alone, no_handles}
 use Rattle.xr_model.specs.laws.HandleLaws.{count_in, places_with, StandOnce, HandlesStandOnce, CreatingAdds}
-use Rattle.xr_model.specs.machine.Refusals.{Refusal, first_of}
-use Rattle.xr_model.specs.machine.Rule.{Effect, refusals, unless_refused}
+use Rattle.xr_model.specs.machine.Refusals.{Refusal}
+use Rattle.xr_model.specs.machine.Rule.{Effect, refusal, told_on, unless_refused}
 use Rattle.xr_model.specs.machine.State.{CoreState, State, opening}
-use Rattle.xr_model.specs.machine.Machine.{step, rule, reads_of, is_creation, IsAllowed, IsGiven}
+use Rattle.xr_model.specs.machine.Machine.{step, rule, reads_of, IsAllowed, IsGiven}
 use Rattle.xr_model.specs.machine.History.{after, opening_clocks, clocks_after, IsLegalFrom}
 use Rattle.xr_model.proofs.Rows.{itself, same_key, hasnt_free, neither_of, not_zero, put_first, put_is_first, has_put, hasnt_put}
 use Rattle.xr_model.proofs.HandleSteps.{kept_by_step, gives_handle}
@@ -136,22 +136,29 @@ without_once h top once k nz =
     let f = count_cleared top (destroyed_parents h top) h.chains k nz in
     omega (arith, all, a, b, c, d, e, f)
 
-once_step : (s : State) (e : Entry) → IsAllowed s e → AreKnown s.core.handles → StandOnce s.core.handles → StandOnce (step s e).0.core.handles
-once_step s e allowed known once = kept_by_step StandOnce s.core (reads_of s) e (record {
+alone_once : (h : Handles) (space : ℕ) → StandOnce h → StandOnce (without_alone h Space space)
+alone_once h space once k nz =
+    let all = once k nz in
+    let e = count_cleared space [] h.spaces k nz in
+    omega (arith, all, e)
+
+pub once_step : (s : State) (e : Entry) → IsAllowed s e → AreKnown s.core.handles → StandOnce s.core.handles → StandOnce (step s e).0.core.handles
+once_step s e allowed known once = kept_by_step StandOnce s.core (reads_of s e.request) e (record {
   same = once;
-  instance = λ gives. let new = given_one (gives_handle s.core (reads_of s) e) s.core.handles e.given gives allowed.handle in instance_once s.core.handles e.given new.1 new.0 known once 0;
-  session = λ gives instance live. let new = given_one (gives_handle s.core (reads_of s) e) s.core.handles e.given gives allowed.handle in session_once s.core.handles e.given new.1 new.0 known once instance;
-  set = λ gives instance live. let new = given_one (gives_handle s.core (reads_of s) e) s.core.handles e.given gives allowed.handle in set_once s.core.handles e.given new.1 new.0 known once instance;
-  action = λ gives set live. let new = given_one (gives_handle s.core (reads_of s) e) s.core.handles e.given gives allowed.handle in action_once s.core.handles e.given new.1 new.0 known once set;
-  space = λ gives session live. let new = given_one (gives_handle s.core (reads_of s) e) s.core.handles e.given gives allowed.handle in space_once s.core.handles e.given new.1 new.0 known once session;
+  instance = λ gives. let new = given_one (gives_handle s.core (reads_of s e.request) e) s.core.handles e.given gives allowed.handle in instance_once s.core.handles e.given new.1 new.0 known once 0;
+  session = λ gives instance live. let new = given_one (gives_handle s.core (reads_of s e.request) e) s.core.handles e.given gives allowed.handle in session_once s.core.handles e.given new.1 new.0 known once instance;
+  set = λ gives instance live. let new = given_one (gives_handle s.core (reads_of s e.request) e) s.core.handles e.given gives allowed.handle in set_once s.core.handles e.given new.1 new.0 known once instance;
+  action = λ gives set live. let new = given_one (gives_handle s.core (reads_of s e.request) e) s.core.handles e.given gives allowed.handle in action_once s.core.handles e.given new.1 new.0 known once set;
+  space = λ gives session live. let new = given_one (gives_handle s.core (reads_of s e.request) e) s.core.handles e.given gives allowed.handle in space_once s.core.handles e.given new.1 new.0 known once session;
   without = λ top. without_once s.core.handles top once;
+  alone = λ space. alone_once s.core.handles space once;
 })
 
 once_after : (s : State) (clocks : List ℤ) (es : List Entry) → IsLegalFrom s clocks es → AreKnown s.core.handles → StandOnce s.core.handles → StandOnce (after s es).core.handles
 once_after s clocks [] legal known once = once
 once_after s clocks (e ∷ es) legal known once = once_after (step s e).0 (clocks_after clocks e (step s e).0) es legal.3 (known_step s e known) (once_step s e legal.0 known once)
 
-none_once : StandOnce no_handles
+pub none_once : StandOnce no_handles
 none_once k nz =
     let a = none_counted no_handles.instances k (hasnt_free INSTANCES k nz) in
     let b = none_counted no_handles.sessions k (hasnt_free SESSIONS k nz) in
@@ -227,20 +234,20 @@ refused_same s (Some r) x kind other same = refl
 pub creating_adds : CreatingAdds
 creating_adds s e creates kind other apart = by e.request creates
   where
-    by : (r : Request) → is_creation r ≡ true → is_live (step s (record e { request = r })).0.core.handles kind other ≡ is_live s.core.handles kind other
+    by : (r : Request) → is_some (rule s.core (reads_of s r) (record e { request = r })).creates ≡ true → is_live (step s (record e { request = r })).0.core.handles kind other ≡ is_live s.core.handles kind other
     by (create_instance major minor) creates =
-        let f = rule s.core (reads_of s) (record e { request = create_instance major minor }) in
-        refused_same s.core (first_of (refusals f)) f.effect kind other (instance_same s.core.handles e.given kind other apart)
+        let f = rule s.core (reads_of s (create_instance major minor)) (record e { request = create_instance major minor }) in
+        refused_same s.core (refusal e.short f) (told_on f.on f.effect) kind other (instance_same s.core.handles e.given kind other apart)
     by (create_session instance system) creates =
-        let f = rule s.core (reads_of s) (record e { request = create_session instance system }) in
-        refused_same s.core (first_of (refusals f)) f.effect kind other (session_same s.core.handles instance e.given kind other apart)
+        let f = rule s.core (reads_of s (create_session instance system)) (record e { request = create_session instance system }) in
+        refused_same s.core (refusal e.short f) (told_on f.on f.effect) kind other (session_same s.core.handles instance e.given kind other apart)
     by (create_reference_space session what offset) creates =
-        let f = rule s.core (reads_of s) (record e { request = create_reference_space session what offset }) in
-        refused_same s.core (first_of (refusals f)) f.effect kind other (space_same s.core.handles session e.given kind other apart)
+        let f = rule s.core (reads_of s (create_reference_space session what offset)) (record e { request = create_reference_space session what offset }) in
+        refused_same s.core (refusal e.short f) (told_on f.on f.effect) kind other (space_same s.core.handles session e.given kind other apart)
     by (create_action_set instance name localized priority) creates =
-        let f = rule s.core (reads_of s) (record e { request = create_action_set instance name localized priority }) in
-        refused_same s.core (first_of (refusals f)) f.effect kind other (set_same s.core.handles instance e.given kind other apart)
+        let f = rule s.core (reads_of s (create_action_set instance name localized priority)) (record e { request = create_action_set instance name localized priority }) in
+        refused_same s.core (refusal e.short f) (told_on f.on f.effect) kind other (set_same s.core.handles instance e.given kind other apart)
     by (create_action set name type subs localized) creates =
-        let f = rule s.core (reads_of s) (record e { request = create_action set name type subs localized }) in
-        refused_same s.core (first_of (refusals f)) f.effect kind other (action_same s.core.handles set e.given kind other apart)
+        let f = rule s.core (reads_of s (create_action set name type subs localized)) (record e { request = create_action set name type subs localized }) in
+        refused_same s.core (refusal e.short f) (told_on f.on f.effect) kind other (action_same s.core.handles set e.given kind other apart)
     by _ creates = absurd (true≢false (sym creates))

@@ -2,14 +2,18 @@
 use Rattle.std.proofs.Common.{◌≡◌, Bool, true, false, refl}
 use Rattle.std.specs.Prelude.{if◌then◌else◌}
 use Rattle.xr_types.specs.Code.{is_success}
+use Rattle.xr_types.specs.declared.code.Code.{Code}
 use Rattle.xr_types.specs.declared.code.Code.TheVariants.{Success, SessionLossPending}
-use Rattle.xr_types.specs.declared.session.SessionState.TheVariants.{LossPending}
-use Rattle.xr_model.specs.machine.SessionLife.{Life, is_state}
-use Rattle.xr_model.specs.machine.SessionRule.{code_on}
+use Rattle.xr_model.specs.machine.SessionRule.{Loss, code_on}
 
-pub success_succeeds : (life : Life) → is_success (code_on life Success) ≡ true
-success_succeeds life = by (is_state life.state LossPending)
+pub success_succeeds : (loss : Loss) → is_success (code_on loss Success) ≡ true
+success_succeeds loss = by loss.pending
   where
     by : (pending : Bool) → is_success (if pending then SessionLossPending else Success) ≡ true
     by true = refl
     by false = refl
+
+-- and so is every success
+pub success_still : (loss : Loss) (code : Code) → is_success code ≡ true → is_success (code_on loss code) ≡ true
+success_still loss Success good = success_succeeds loss
+success_still loss _ good = good

@@ -5,3 +5,12 @@ pub mod SessionLaws
 pub mod DeviceLaws
 pub mod AnswerLaws
 pub mod HandleLaws
+pub mod ListLaws
+pub mod RunLaws
+pub mod MarkLaws
+pub mod AnswerTable
+pub mod AnswerTableLaws
+pub mod SuggestionLaws
+pub mod EventLaws
+pub mod SessionLifeLaws
+pub mod SpaceLaws

@@ -7,6 +7,14 @@ ghost use Rattle.xr_model.specs.laws.DeviceLaws.{LinesReadBack};
 ghost use Rattle.xr_model.specs.laws.HandleLaws.{NoOrphans, DestroyedForGood, HandlesStandOnce, DestroyingTakes, CreatingAdds};
 ghost use Rattle.xr_model.specs.laws.Laws.{RefusalsChangeNothing, AfterIsInTurn, EntriesAreCounted, PlacesCount, FrontsAreLegal, ExchangesStand};
 ghost use Rattle.xr_model.specs.laws.SessionLaws.{SessionsAreListed, LostSessions, PendingLosses};
+ghost use Rattle.xr_model.specs.laws.ListLaws.{ListedWhereLive, DestroyingFilters, AtomsStay, AtomsGo, SealedStays, AttachingSeals, NewSessionsAreBare, AttachesOnce, CreatingLeavesPlaces, DestroyingLeavesPlaces, SamplesAreFew};
+ghost use Rattle.xr_model.specs.laws.RunLaws.{UnfinishedHaveTurns, EachHasItsTurn, OneTurnBetween, TurnsMakeReadyCalls, StuckWhereNobodyIsReady, CallsFollowScripts, CallsAreReady, NamesStandForValues, StuckNamesTheUnfinished, DoneExactlyWhereAllIsDone};
+ghost use Rattle.xr_model.specs.laws.MarkLaws.{AwaitGivesTheLastValue, DeviceAwaitsMarks};
+ghost use Rattle.xr_model.specs.laws.AnswerTableLaws.{RefusalsAreTheTable, AnswersAreTheTable};
+ghost use Rattle.xr_model.specs.laws.SuggestionLaws.{SuggestionsAreTheLastTaken};
+ghost use Rattle.xr_model.specs.laws.EventLaws.{EventsAddUp, StatesAreTold, EventsGo, HistoriesAddUp};
+ghost use Rattle.xr_model.specs.laws.SessionLifeLaws.{ClockNeverFalls, SessionsHaveSettled, LostStaysLost, OnlyItsCallAsksForTheEnd, RunningIsBegunAndNotEnded};
+ghost use Rattle.xr_model.specs.laws.SpaceLaws.{SampleTimesFall, PoseIsTheNewestNotLater, SamplesAreTheirOrigins, OriginsHaveTheirPlaces, LaterPosesAreTaken};
 ghost use Rattle.xr_model.specs.laws.StateLaws.{NoRowFits};
 
 /// A refusal, a timeout and the want of an event change nothing but the count of locked calls.
@@ -57,7 +65,7 @@ pub fn no_orphans()
 {}
 
 /// A handle that was destroyed in a legal history is never live again.
-#[tactic(auto, using(crate::proofs::Destroying::destroyed_for_good))]
+#[tactic(auto, using(crate::proofs::DestroyedForGood::destroyed_for_good))]
 pub fn destroyed_for_good()
     ensures { DestroyedForGood }
 {}
@@ -108,4 +116,229 @@ pub fn pending_losses()
 #[tactic(auto, using(crate::proofs::DeviceLines::lines_read_back))]
 pub fn lines_read_back()
     ensures { LinesReadBack }
+{}
+
+/// After every legal history, spaces, action sets and actions are listed exactly where they are live, each action's set is its
+/// parent, what is suggested is for live actions, and what sessions have attached are live sets.
+#[tactic(auto, using(crate::proofs::AttachedSets::listed_where_live))]
+pub fn listed_where_live()
+    ensures { ListedWhereLive }
+{}
+
+/// An atom keeps its text until the instance goes.
+#[tactic(auto, using(crate::proofs::Kept::atoms_stay))]
+pub fn atoms_stay()
+    ensures { AtomsStay }
+{}
+
+/// A set that is sealed stays so as long as it is listed, and no action joins it.
+#[tactic(auto, using(crate::proofs::Kept::sealed_stays))]
+pub fn sealed_stays()
+    ensures { SealedStays }
+{}
+
+/// A call that destroys a handle takes exactly what is within it out of the lists, and keeps their order.
+pub fn destroying_filters()
+    ensures { DestroyingFilters }
+{}
+
+/// A session attaches action sets at most once.
+#[tactic(auto, using(crate::proofs::Attaching::attaches_once))]
+pub fn attaches_once()
+    ensures { AttachesOnce }
+{}
+
+/// A call that gives a handle leaves the parent and the place of every other.
+pub fn creating_leaves_places()
+    ensures { CreatingLeavesPlaces }
+{}
+
+/// A call that destroys a handle leaves the parent and the place of all that is not within it.
+pub fn destroying_leaves_places()
+    ensures { DestroyingLeavesPlaces }
+{}
+
+/// A set that is attached is sealed.
+#[tactic(auto, using(crate::proofs::Attaching::attaching_seals))]
+pub fn attaching_seals()
+    ensures { AttachingSeals }
+{}
+
+/// A new session has attached nothing.
+#[tactic(auto, using(crate::proofs::Attaching::new_sessions_are_bare))]
+pub fn new_sessions_are_bare()
+    ensures { NewSessionsAreBare }
+{}
+
+/// No atom is left behind the end of the instance.
+#[tactic(auto, using(crate::proofs::Kept::atoms_go))]
+pub fn atoms_go()
+    ensures { AtomsGo }
+{}
+
+/// Of each origin so many samples are kept at most.
+#[tactic(auto, using(crate::proofs::Samples::samples_are_few))]
+pub fn samples_are_few()
+    ensures { SamplesAreFew }
+{}
+
+/// After every history, no row of the table of states fits a listed session under the device's wish.
+#[tactic(auto, using(crate::proofs::Settled::sessions_have_settled))]
+pub fn sessions_have_settled()
+    ensures { SessionsHaveSettled }
+{}
+
+/// A session that is lost stays so as long as it is listed.
+#[tactic(auto, using(crate::proofs::LostAndAsked::lost_stays_lost))]
+pub fn lost_stays_lost()
+    ensures { LostStaysLost }
+{}
+
+/// The device's clock never goes back.
+#[tactic(auto, using(crate::proofs::Clock::clock_never_falls))]
+pub fn clock_never_falls()
+    ensures { ClockNeverFalls }
+{}
+
+/// The end of a listed session was asked for exactly where it was before an entry, or the entry asks for it and succeeds.
+pub fn only_its_call_asks_for_the_end()
+    ensures { OnlyItsCallAsksForTheEnd }
+{}
+
+/// After every legal history, a listed session is running exactly where it was begun and not ended since its creation.
+#[tactic(auto, using(crate::proofs::Running::running_is_begun_and_not_ended))]
+pub fn running_is_begun_and_not_ended()
+    ensures { RunningIsBegunAndNotEnded }
+{}
+
+/// After every history, the times of each origin's samples fall, the newest first.
+#[tactic(auto, using(crate::proofs::SampleOrder::sample_times_fall))]
+pub fn sample_times_fall()
+    ensures { SampleTimesFall }
+{}
+
+/// The pose at a time is that of the newest kept sample which isn't later, and there is none exactly where each is later.
+#[tactic(auto, using(crate::proofs::SampleOrder::pose_is_the_newest_not_later))]
+pub fn pose_is_the_newest_not_later()
+    ensures { PoseIsTheNewestNotLater }
+{}
+
+/// A new pose changes the samples of its own origin alone, and no other entry changes any.
+#[tactic(auto, using(crate::proofs::OriginSamples::samples_are_their_origins))]
+pub fn samples_are_their_origins()
+    ensures { SamplesAreTheirOrigins }
+{}
+
+/// No two origins that have samples share a place.
+#[tactic(auto, using(crate::proofs::OriginSamples::origins_have_their_places))]
+pub fn origins_have_their_places()
+    ensures { OriginsHaveTheirPlaces }
+{}
+
+/// After every history, a new pose of an origin that has samples is taken exactly where it is later than all of them.
+pub fn later_poses_are_taken()
+    ensures { LaterPosesAreTaken }
+{}
+
+/// Just the unfinished actors of a run have further turns.
+#[tactic(auto, using(crate::proofs::Unfinished::unfinished_have_turns))]
+pub fn unfinished_have_turns()
+    ensures { UnfinishedHaveTurns }
+{}
+
+/// Of two unfinished actors, the one that comes first in a round has had as many turns as the other, or one more.
+pub fn each_has_its_turn()
+    ensures { EachHasItsTurn }
+{}
+
+/// Between two turns of one unfinished actor each other unfinished one has exactly one turn.
+#[tactic(auto, using(crate::proofs::TurnsBetween::one_turn_between))]
+pub fn one_turn_between()
+    ensures { OneTurnBetween }
+{}
+
+/// A call is made by the first actor in turn whose next call is ready, and only those before it are passed over.
+pub fn turns_make_ready_calls()
+    ensures { TurnsMakeReadyCalls }
+{}
+
+/// A run can't go on exactly where nobody's next call is ready.
+pub fn stuck_where_nobody_is_ready()
+    ensures { StuckWhereNobodyIsReady }
+{}
+
+/// In a run an application's calls follow its script as far as they go, and the device does its events in their order.
+pub fn calls_follow_scripts()
+    ensures { CallsFollowScripts }
+{}
+
+/// Each call of a run is ready, and a wait for an image begins at the clock after its application's last locked call.
+#[tactic(auto, using(crate::proofs::ReadyCalls::calls_are_ready))]
+pub fn calls_are_ready()
+    ensures { CallsAreReady }
+{}
+
+/// A name of a script stands for what the reply to its op gave, and no other op's reply changes that.
+pub fn names_stand_for_values()
+    ensures { NamesStandForValues }
+{}
+
+/// The next calls that a stuck run tells are those of its unfinished actors, each once, in the order of a round.
+#[tactic(auto, using(crate::proofs::StuckRuns::stuck_names_the_unfinished))]
+pub fn stuck_names_the_unfinished()
+    ensures { StuckNamesTheUnfinished }
+{}
+
+/// A run is done exactly where nobody waits and the device didn't end early, and only such a run ends with 0.
+pub fn done_exactly_where_all_is_done()
+    ensures { DoneExactlyWhereAllIsDone }
+{}
+
+/// An await of a mark waits as long as the mark isn't set, and gives the value that it was set to last.
+pub fn await_gives_the_last_value()
+    ensures { AwaitGivesTheLastValue }
+{}
+
+/// The device waits for a mark as long as it isn't set.
+#[tactic(auto, using(crate::proofs::MarkValues::device_awaits_marks))]
+pub fn device_awaits_marks()
+    ensures { DeviceAwaitsMarks }
+{}
+
+/// What refuses a call, in its order, is what the table of answers says.
+pub fn refusals_are_the_table()
+    ensures { RefusalsAreTheTable }
+{}
+
+/// What is answered to a call is one of the codes that the table has for it.
+#[tactic(auto, using(crate::proofs::AnswerCodes::answers_are_the_table))]
+pub fn answers_are_the_table()
+    ensures { AnswersAreTheTable }
+{}
+
+/// What is suggested for a profile is the last list that was taken for it, without the actions that went.
+#[tactic(auto, using(crate::proofs::Suggested::suggestions_are_the_last_taken))]
+pub fn suggestions_are_the_last_taken()
+    ensures { SuggestionsAreTheLastTaken }
+{}
+
+/// What polls told, what was lost and what waits adds up to what was pushed, in its order.
+pub fn events_add_up()
+    ensures { EventsAddUp }
+{}
+
+/// Each call but a poll and the instance's end tells the states of the listed sessions, and the last one told is where each is.
+pub fn states_are_told()
+    ensures { StatesAreTold }
+{}
+
+/// No event is left behind the end of the instance.
+#[tactic(auto, using(crate::proofs::HistoryEvents::events_go))]
+pub fn events_go()
+    ensures { EventsGo }
+{}
+
+/// As long as the instance isn't ended, what polls told, what was lost and what waits adds up to the states that came.
+pub fn histories_add_up()
+    ensures { HistoriesAddUp }
 {}

@@ -23,7 +23,6 @@ pub const ATOMS: usize = 1024;
 #[derive(Drop)]
 pub struct Paths {
     texts: IndexSet<Vec<u8>>,
-    alloc: Global,
 }
 
 impl Model for Paths {
@@ -44,7 +43,7 @@ impl Paths {
         let Ok(texts) = IndexSet::with_capacity(alloc, ATOMS) else {
             return Err(NoMemory);
         };
-        Ok(Paths { texts, alloc })
+        Ok(Paths { texts })
     }
 
     /// Forgets all texts.
@@ -77,13 +76,13 @@ impl Paths {
     }
 
     /// Adds a text that isn't known, where memory is found.
-    fn add(&mut self, text: &[u8]) -> bool
+    fn add(&mut self, alloc: Global, text: &[u8]) -> bool
         requires new { list_any (λ known. pointwise nat_eq text.now known) self.old ≡ false }
         requires room { length self.old < 1024 }
         ensures added { IsTrue result → self.new ≡ self.old ++ text.now ∷ [] }
         ensures short { result ≡ false → self.new ≡ self.old }
     {
-        let Ok(name) = text.to_vec(self.alloc) else {
+        let Ok(name) = text.to_vec(alloc) else {
             return false;
         };
         let Ok(_) = self.texts.insert(name) else {
@@ -94,9 +93,9 @@ impl Paths {
 
     /// The atom of a text, which is made where the text is new. Refused are, in this order, a text that
     /// is no path (`PathFormatInvalid`), a new one where 1024 are known (`PathCountExceeded`), and a new
-    /// one for which there is no memory (`OutOfMemory`); each leaves all as it was. OpenXR 1.0 section
-    /// 6.2, xrStringToPath.
-    pub fn intern(&mut self, text: &[u8]) -> Answer
+    /// one for which there is no memory (`OutOfMemory`); each leaves all as it was. No other call takes
+    /// memory. OpenXR 1.0 section 6.2, xrStringToPath.
+    pub fn intern(&mut self, alloc: Global, text: &[u8]) -> Answer
         ensures kept { self.new ≡ unless (first_of (intern_refusals self.old text.now (is_out_of_memory result.code))) self.old (with_text self.old text.now) }
         ensures answer { result ≡ answer_by (first_of (intern_refusals self.old text.now (is_out_of_memory result.code))) (atom_of self.old text.now) }
         ensures memory { is_out_of_memory result.code ≡ true → may_want_memory self.old text.now ≡ true }
@@ -111,7 +110,7 @@ impl Paths {
         if count >= ATOMS {
             return Answer::plain(Code::PathCountExceeded);
         }
-        if self.add(text) {
+        if self.add(alloc, text) {
             Answer::numbered(count as u64 + 1)
         } else {
             Answer::plain(Code::OutOfMemory)

@@ -28,7 +28,7 @@ use Rattle.xr_serial.specs.inside.Sides.{app_with, app_left, OpMade, OpWaits, Op
 use Rattle.xr_serial.specs.inside.Turns.{script_part, parts_of, actors_of, turn_behind, AreHeldBack}
 use Rattle.xr_serial.specs.inside.Past.{IsRest}
 use Rattle.xr_serial.specs.inside.RunInvariant.{AppKept, app_work, apps_work, events_told, RunKept, RunInvariant}
-use Rattle.xr_serial.proofs.Ops.{ready_started, built_unstarted, built_locked}
+use Rattle.xr_serial.proofs.Ops.{ready_started, ruled_unstarted, ruled_locked}
 use Rattle.xr_serial.proofs.OnlyLeaveLeaves.{call_keeps, op_stays}
 use Rattle.xr_serial.proofs.Parts.{AreAll, parts_count, app_at, app_set}
 use Rattle.xr_serial.proofs.Steps.{IsAgendaOf, outcome_of, Goes, AreSo, made_turn, passed_turn, same_parts}
@@ -121,12 +121,12 @@ module _ (scenario : Scenario) (place idle : ℕ) (s after : State) (run : RunSt
       rw m.app
       (goes_on what m.answer m.bytes (app_with old m.op t) (script (place + 1) (old.made + 1) (drop old.made ops) old.names clock) (clock_behind clock what after) kept m.call
       (rw stays refl)
-      (record { actor = refl; call = rw m.here (built_unstarted clock what m.call.allowed.built) })
+      (record { actor = refl; call = rw m.here (ruled_unstarted clock s e m.call.allowed) })
       (rw (m.here, stays) refl)
       (op_more ops old (kept.calls (App (place + 1))) m.op m.answer m.bytes more m.here stays (old_kept kept))
       (rw m.call.leads refl)
       (same_left ∙ kept.kept.apps.left ∙ sym (map-set_same (λ (a : AppState). a.has_left) run.apps place (app_with old m.op t) old (ap (λ (a : AppState). a.has_left) (sym (here old)))))
-      (rw (m.call.leads, built_locked what m.call.allowed.built) refl)
+      (rw (m.call.leads, ruled_locked s e m.call.allowed) refl)
       (rw stays (omega (arith, more))))
 
   -- `leave`

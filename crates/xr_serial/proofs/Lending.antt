@@ -17,17 +17,17 @@ use Rattle.xr_types.specs.declared.handles.Kind.{Kind}
 use Rattle.xr_types.specs.declared.handles.Kind.TheVariants as kind
 use Rattle.xr_model.specs.machine.Handles.{Handles, no_handle, no_room}
 use Rattle.xr_model.specs.machine.Sets.{no_users, action_label_checks}
-use Rattle.xr_types.specs.declared.code.Code.TheVariants.{OutOfMemory}
 use Rattle.xr_types.specs.declared.input.Binding.{Binding}
 use Rattle.xr_types.specs.declared.input.Profile.{Profile}
 use Rattle.xr_model.specs.machine.Rules.Bindings.{bindings_checks, profile_at}
 use Rattle.xr_model.specs.machine.Rules.Sets.{sub_checks, with_user, user_at}
-use Rattle.xr_model.specs.machine.Refusals.{Refusal, when, first_of}
+use Rattle.xr_model.specs.machine.Refusals.{Refusal, first_of}
 use Rattle.xr_model.specs.machine.State.{CoreState, State}
-use Rattle.xr_model.specs.machine.Rule.{Effect, refusals, unless_refused}
+use Rattle.xr_model.specs.machine.SessionRule.{Loss}
+use Rattle.xr_model.specs.machine.Rule.{Rule, Effect, refusals, or_short, refusal, told_on, unless_refused, carried_out}
 use Rattle.xr_model.specs.machine.CoreCalls.{written_over}
 use Rattle.xr_model.specs.machine.Machine.{reads_of, step, rule, ready}
-use Rattle.xr_model.specs.machine.CoreCalls.{FitsBuffer, Answers}
+use Rattle.xr_model.specs.machine.CoreCalls.{Answers}
 use Rattle.xr_serial.specs.inside.Lent.{lent_size, written_size}
 use Rattle.xr_serial.specs.inside.Made.{IsAnswered}
 
@@ -44,15 +44,22 @@ first_gives_none size (x ∷ rs) r none e = by x.holds refl e (λ later. first_g
     by true h found later = subst (λ (y : Refusal). written_size y.gives size ≡ 0) (same_Some x r found) (none.0 h)
     by false h found later = later found
 
-abbrev Fits : ℕ → Effect → Type 0
-Fits size e = length e.text ≡ written_size e.gives size
+abbrev WritesAsSaid : ℕ → Effect → Type 0
+WritesAsSaid size e = length e.text ≡ written_size e.gives size
 
-carried_fits : (s : CoreState) (size : ℕ) (rs : List Refusal) (e : Effect) → GiveNone size rs → Fits size e → Fits size (unless_refused s (first_of rs) e)
-carried_fits s size rs e none fits = by (first_of rs) refl
+-- a pending loss changes neither what a call gives nor what it writes
+told_writes : (size : ℕ) (on : Option Loss) (e : Effect) → WritesAsSaid size e → WritesAsSaid size (told_on on e)
+told_writes size None e fits = fits
+told_writes size (Some loss) e fits = fits
+
+carried_writes : (s : CoreState) (size : ℕ) (short : Bool) (r : Rule) → GiveNone size (refusals r) → WritesAsSaid size r.effect → WritesAsSaid size (carried_out s short r)
+carried_writes s size short r none fits = by (r.takes_memory && short) (first_of (refusals r)) refl
   where
-    by : (o : Option Refusal) → first_of rs ≡ o → Fits size (unless_refused s o e)
-    by None h = fits
-    by (Some r) h = sym (first_gives_none size rs r none h)
+    by : (lacking : Bool) (found : Option Refusal) → first_of (refusals r) ≡ found → WritesAsSaid size (unless_refused s (or_short lacking found) (told_on r.on r.effect))
+    by false None h = told_writes size r.on r.effect fits
+    by false (Some x) h = sym (first_gives_none size (refusals r) x none h)
+    by true None h = refl
+    by true (Some x) h = sym (first_gives_none size (refusals r) x none h)
 
 copy_gives_none : (found : Option (List ℕ)) (size : ℕ) → (nat_lt 0 size && nat_lt size (size_at found)) ≡ true → written_size (Size (size_at found)) size ≡ 0
 copy_gives_none found size h = grind (arith, nat_tests, h)
@@ -84,38 +91,41 @@ handles_give_none h kind [] = tt
 handles_give_none h kind (handle ∷ handles) = ((λ x. refl), handles_give_none h kind handles)
 
 -- nor does any binding
-bindings_give_none : (s : CoreState) (which : Option Profile) (list : List Binding) (tail : List Refusal) → GiveNone 0 tail → GiveNone 0 (bindings_checks s which list ++ tail)
-bindings_give_none s None list tail none = none
-bindings_give_none s (Some which) [] tail none = none
-bindings_give_none s (Some which) (b ∷ bs) tail none = ((λ h. refl), ((λ h. refl), ((λ h. refl), ((λ h. refl), bindings_give_none s (Some which) bs tail none))))
+bindings_give_none : (s : CoreState) (which : Option Profile) (list : List Binding) → GiveNone 0 (bindings_checks s which list)
+bindings_give_none s None list = tt
+bindings_give_none s (Some which) [] = tt
+bindings_give_none s (Some which) (b ∷ bs) = ((λ h. refl), ((λ h. refl), ((λ h. refl), ((λ h. refl), bindings_give_none s (Some which) bs))))
 
 -- the bytes that a call writes are as many as its reply says
 pub text_fits : (s : State) (e : Entry) → length (step s e).1.text ≡ written_size (step s e).1.reply.gives (lent_size e.request)
 text_fits s e = by e.request
   where
-    by : (r : Request) → Fits (lent_size r) (unless_refused s.core (first_of (refusals (rule s.core (reads_of s) (record e { request = r })))) (rule s.core (reads_of s) (record e { request = r })).effect)
-    by (create_instance major minor) = carried_fits s.core 0 (refusals (rule s.core (reads_of s) (record e { request = create_instance major minor }))) (rule s.core (reads_of s) (record e { request = create_instance major minor })).effect ((λ h. refl), ((λ h. refl), ((λ h. refl), tt))) refl
-    by (destroy_instance instance) = carried_fits s.core 0 (refusals (rule s.core (reads_of s) (record e { request = destroy_instance instance }))) (rule s.core (reads_of s) (record e { request = destroy_instance instance })).effect ((λ h. refl), ((λ h. refl), tt)) refl
-    by (get_system instance form) = carried_fits s.core 0 (refusals (rule s.core (reads_of s) (record e { request = get_system instance form }))) (rule s.core (reads_of s) (record e { request = get_system instance form })).effect ((λ h. refl), ((λ h. refl), ((λ h. refl), tt))) refl
-    by (string_to_path instance text) = carried_fits s.core 0 (refusals (rule s.core (reads_of s) (record e { request = string_to_path instance text }))) (rule s.core (reads_of s) (record e { request = string_to_path instance text })).effect ((λ h. refl), ((λ h. refl), ((λ h. refl), ((λ h. refl), ((λ h. refl), tt))))) refl
+    rule_for : Request → Rule
+    rule_for r = rule s.core (reads_of s r) (record e { request = r })
+
+    by : (r : Request) → WritesAsSaid (lent_size r) (carried_out s.core e.short (rule_for r))
+    by (create_instance major minor) = carried_writes s.core 0 e.short (rule_for (create_instance major minor)) ((λ h. refl), ((λ h. refl), ((λ h. refl), tt))) refl
+    by (destroy_instance instance) = carried_writes s.core 0 e.short (rule_for (destroy_instance instance)) ((λ h. refl), ((λ h. refl), tt)) refl
+    by (get_system instance form) = carried_writes s.core 0 e.short (rule_for (get_system instance form)) ((λ h. refl), ((λ h. refl), ((λ h. refl), tt))) refl
+    by (string_to_path instance text) = carried_writes s.core 0 e.short (rule_for (string_to_path instance text)) ((λ h. refl), ((λ h. refl), ((λ h. refl), ((λ h. refl), tt)))) refl
     by (path_to_string instance path capacity) =
-        carried_fits s.core capacity (refusals (rule s.core (reads_of s) (record e { request = path_to_string instance path capacity }))) (rule s.core (reads_of s) (record e { request = path_to_string instance path capacity })).effect
+        carried_writes s.core capacity e.short (rule_for (path_to_string instance path capacity))
         ((λ h. refl), ((λ h. refl), ((λ h. refl), (copy_gives_none (text_at s.core.atoms path) capacity, tt)))) (copied_fits (text_at s.core.atoms path) capacity)
-    by (poll_event instance) = carried_fits s.core 0 (refusals (rule s.core (reads_of s) (record e { request = poll_event instance }))) (rule s.core (reads_of s) (record e { request = poll_event instance })).effect ((λ h. refl), ((λ h. refl), ((λ h. refl), tt))) (told_writes_none (polled s.core.events))
-    by (create_session instance system) = carried_fits s.core 0 (refusals (rule s.core (reads_of s) (record e { request = create_session instance system }))) (rule s.core (reads_of s) (record e { request = create_session instance system })).effect ((λ h. refl), ((λ h. refl), ((λ h. refl), ((λ h. refl), tt)))) refl
-    by (destroy_session session) = carried_fits s.core 0 (refusals (rule s.core (reads_of s) (record e { request = destroy_session session }))) (rule s.core (reads_of s) (record e { request = destroy_session session })).effect ((λ h. refl), ((λ h. refl), tt)) refl
-    by (begin_session session view) = carried_fits s.core 0 (refusals (rule s.core (reads_of s) (record e { request = begin_session session view }))) (rule s.core (reads_of s) (record e { request = begin_session session view })).effect ((λ h. refl), ((λ h. refl), ((λ h. refl), ((λ h. refl), ((λ h. refl), ((λ h. refl), tt)))))) refl
-    by (end_session session) = carried_fits s.core 0 (refusals (rule s.core (reads_of s) (record e { request = end_session session }))) (rule s.core (reads_of s) (record e { request = end_session session })).effect ((λ h. refl), ((λ h. refl), ((λ h. refl), ((λ h. refl), ((λ h. refl), tt))))) refl
-    by (request_exit_session session) = carried_fits s.core 0 (refusals (rule s.core (reads_of s) (record e { request = request_exit_session session }))) (rule s.core (reads_of s) (record e { request = request_exit_session session })).effect ((λ h. refl), ((λ h. refl), ((λ h. refl), ((λ h. refl), tt)))) refl
-    by (create_reference_space session what offset) = carried_fits s.core 0 (refusals (rule s.core (reads_of s) (record e { request = create_reference_space session what offset }))) (rule s.core (reads_of s) (record e { request = create_reference_space session what offset })).effect ((λ h. refl), ((λ h. refl), ((λ h. refl), ((λ h. refl), ((λ h. refl), ((λ h. refl), tt)))))) refl
-    by (destroy_space space) = carried_fits s.core 0 (refusals (rule s.core (reads_of s) (record e { request = destroy_space space }))) (rule s.core (reads_of s) (record e { request = destroy_space space })).effect ((λ h. refl), ((λ h. refl), tt)) refl
-    by (locate_space space base time) = carried_fits s.core 0 (refusals (rule s.core (reads_of s) (record e { request = locate_space space base time }))) (rule s.core (reads_of s) (record e { request = locate_space space base time })).effect ((λ h. refl), ((λ h. refl), ((λ h. refl), ((λ h. refl), ((λ h. refl), tt))))) refl
-    by (create_action_set instance name localized priority) = carried_fits s.core 0 (refusals (rule s.core (reads_of s) (record e { request = create_action_set instance name localized priority }))) (rule s.core (reads_of s) (record e { request = create_action_set instance name localized priority })).effect ((λ h. refl), ((λ h. refl), ((λ h. refl), ((λ h. refl), ((λ h. refl), ((λ h. refl), ((λ h. refl), ((λ h. refl), tt)))))))) refl
-    by (destroy_action_set set) = carried_fits s.core 0 (refusals (rule s.core (reads_of s) (record e { request = destroy_action_set set }))) (rule s.core (reads_of s) (record e { request = destroy_action_set set })).effect ((λ h. refl), ((λ h. refl), tt)) refl
-    by (create_action set name type subs localized) = carried_fits s.core 0 (refusals (rule s.core (reads_of s) (record e { request = create_action set name type subs localized }))) (rule s.core (reads_of s) (record e { request = create_action set name type subs localized })).effect ((λ h. refl), ((λ h. refl), ((λ h. refl), ((λ h. refl), ((λ h. refl), ((λ h. refl), subs_give_none s.core.atoms no_users subs (action_label_checks s.core.sets set localized ++ no_room s.core.handles kind.Action ∷ []) ((λ h. refl), ((λ h. refl), ((λ h. refl), tt))))))))) refl
-    by (destroy_action action) = carried_fits s.core 0 (refusals (rule s.core (reads_of s) (record e { request = destroy_action action }))) (rule s.core (reads_of s) (record e { request = destroy_action action })).effect ((λ h. refl), ((λ h. refl), tt)) refl
-    by (suggest_bindings instance profile list) = carried_fits s.core 0 (refusals (rule s.core (reads_of s) (record e { request = suggest_bindings instance profile list }))) (rule s.core (reads_of s) (record e { request = suggest_bindings instance profile list })).effect ((λ h. refl), ((λ h. refl), ((λ h. refl), ((λ h. refl), ((λ h. refl), ((λ h. refl), bindings_give_none s.core (profile_at s.core.atoms profile) list (when e.short OutOfMemory ∷ []) ((λ h. refl), tt))))))) refl
-    by (attach_sets session handles) = carried_fits s.core 0 (refusals (rule s.core (reads_of s) (record e { request = attach_sets session handles }))) (rule s.core (reads_of s) (record e { request = attach_sets session handles })).effect ((λ h. refl), ((λ h. refl), ((λ h. refl), ((λ h. refl), ((λ h. refl), handles_give_none s.core.handles kind.ActionSet handles))))) refl
+    by (poll_event instance) = carried_writes s.core 0 e.short (rule_for (poll_event instance)) ((λ h. refl), ((λ h. refl), ((λ h. refl), tt))) (told_writes_none (polled s.core.events))
+    by (create_session instance system) = carried_writes s.core 0 e.short (rule_for (create_session instance system)) ((λ h. refl), ((λ h. refl), ((λ h. refl), ((λ h. refl), tt)))) refl
+    by (destroy_session session) = carried_writes s.core 0 e.short (rule_for (destroy_session session)) ((λ h. refl), ((λ h. refl), tt)) refl
+    by (begin_session session view) = carried_writes s.core 0 e.short (rule_for (begin_session session view)) ((λ h. refl), ((λ h. refl), ((λ h. refl), ((λ h. refl), ((λ h. refl), ((λ h. refl), tt)))))) refl
+    by (end_session session) = carried_writes s.core 0 e.short (rule_for (end_session session)) ((λ h. refl), ((λ h. refl), ((λ h. refl), ((λ h. refl), ((λ h. refl), tt))))) refl
+    by (request_exit_session session) = carried_writes s.core 0 e.short (rule_for (request_exit_session session)) ((λ h. refl), ((λ h. refl), ((λ h. refl), ((λ h. refl), tt)))) refl
+    by (create_reference_space session what offset) = carried_writes s.core 0 e.short (rule_for (create_reference_space session what offset)) ((λ h. refl), ((λ h. refl), ((λ h. refl), ((λ h. refl), ((λ h. refl), ((λ h. refl), tt)))))) refl
+    by (destroy_space space) = carried_writes s.core 0 e.short (rule_for (destroy_space space)) ((λ h. refl), ((λ h. refl), tt)) refl
+    by (locate_space space base time) = carried_writes s.core 0 e.short (rule_for (locate_space space base time)) ((λ h. refl), ((λ h. refl), ((λ h. refl), ((λ h. refl), ((λ h. refl), tt))))) refl
+    by (create_action_set instance name localized priority) = carried_writes s.core 0 e.short (rule_for (create_action_set instance name localized priority)) ((λ h. refl), ((λ h. refl), ((λ h. refl), ((λ h. refl), ((λ h. refl), ((λ h. refl), ((λ h. refl), ((λ h. refl), tt)))))))) refl
+    by (destroy_action_set set) = carried_writes s.core 0 e.short (rule_for (destroy_action_set set)) ((λ h. refl), ((λ h. refl), tt)) refl
+    by (create_action set name type subs localized) = carried_writes s.core 0 e.short (rule_for (create_action set name type subs localized)) ((λ h. refl), ((λ h. refl), ((λ h. refl), ((λ h. refl), ((λ h. refl), ((λ h. refl), subs_give_none s.core.atoms no_users subs (action_label_checks s.core.sets set localized ++ no_room s.core.handles kind.Action ∷ []) ((λ h. refl), ((λ h. refl), ((λ h. refl), tt))))))))) refl
+    by (destroy_action action) = carried_writes s.core 0 e.short (rule_for (destroy_action action)) ((λ h. refl), ((λ h. refl), tt)) refl
+    by (suggest_bindings instance profile list) = carried_writes s.core 0 e.short (rule_for (suggest_bindings instance profile list)) ((λ h. refl), ((λ h. refl), ((λ h. refl), ((λ h. refl), ((λ h. refl), ((λ h. refl), bindings_give_none s.core (profile_at s.core.atoms profile) list)))))) refl
+    by (attach_sets session handles) = carried_writes s.core 0 e.short (rule_for (attach_sets session handles)) ((λ h. refl), ((λ h. refl), ((λ h. refl), ((λ h. refl), ((λ h. refl), handles_give_none s.core.handles kind.ActionSet handles))))) refl
     by leave = refl
     by next_frame = refl
     by _ = refl
@@ -129,24 +139,22 @@ ready_any s who _ g h a b = refl
 pub front_of-written : (bytes buffer : List ℕ) (n : ℕ) → length bytes ≡ n → take n (written_over bytes buffer) ≡ bytes
 front_of-written bytes buffer n e = subst (λ (m : ℕ). take m (bytes ++ drop (length bytes) buffer) ≡ bytes) e (grind (arith, common_steps))
 
--- what a call may be lent
-pub lent_fits : (r : Request) → FitsBuffer r (lent_size r)
-lent_fits (create_instance major minor) = tt
-lent_fits (string_to_path instance text) = tt
-lent_fits (path_to_string instance path capacity) = refl
-lent_fits leave = tt
-lent_fits next_frame = tt
-lent_fits _ = tt
-
 -- no call that is built shows a frame
-carried_shows : (s : CoreState) (o : Option Refusal) (x : Effect) → x.shown ≡ None → (unless_refused s o x).shown ≡ None
-carried_shows s None x none = none
-carried_shows s (Some r) x none = refl
+refused_shows : (s : CoreState) (found : Option Refusal) (e : Effect) → e.shown ≡ None → (unless_refused s found e).shown ≡ None
+refused_shows s None e none = none
+refused_shows s (Some r) e none = refl
+
+told_shows : (on : Option Loss) (e : Effect) → e.shown ≡ None → (told_on on e).shown ≡ None
+told_shows None e none = none
+told_shows (Some loss) e none = none
 
 shows_none : (s : State) (e : Entry) → (step s e).1.shown ≡ None
-shows_none s e = carried_shows s.core (first_of (refusals (rule s.core (reads_of s) e))) (rule s.core (reads_of s) e).effect (by e.request)
+shows_none s e = refused_shows s.core (refusal e.short (rule_for e.request)) (told_on (rule_for e.request).on (rule_for e.request).effect) (told_shows (rule_for e.request).on (rule_for e.request).effect (by e.request))
   where
-    by : (r : Request) → (rule s.core (reads_of s) (record e { request = r })).effect.shown ≡ None
+    rule_for : Request → Rule
+    rule_for r = rule s.core (reads_of s r) (record e { request = r })
+
+    by : (r : Request) → (rule_for r).effect.shown ≡ None
     by (create_instance major minor) = refl
     by _ = refl
 

@@ -11,10 +11,10 @@ use Rattle.xr_model.specs.scenario.Built.{is_built_op}
 use Rattle.xr_model.specs.scenario.InRange.{IsMark}
 use Rattle.xr_model.specs.scenario.ScriptForm.{IsInRange}
 use Rattle.xr_model.specs.runs.Lists.{name_of, mark_of, start_of}
-use Rattle.xr_model.specs.machine.Machine.{ready, is_built}
-use Rattle.xr_model.specs.machine.CoreCalls.{HasNumbers}
+use Rattle.xr_model.specs.machine.Machine.{ready, rule, reads_of, IsAllowed}
+use Rattle.xr_model.specs.machine.CoreCalls.{MayAsk}
 use Rattle.xr_model.specs.runs.Scripts.{request_for, unstarted}
-use Rattle.xr_model.specs.machine.Request.{Request, wait_image, get_boolean, get_float, get_vector, get_pose_active, image_done, is_locked}
+use Rattle.xr_model.specs.machine.Request.{Request, Entry, wait_image, get_boolean, get_float, get_vector, get_pose_active, image_done, is_locked}
 use Rattle.xr_model.specs.runs.Robin.{with_start}
 use Rattle.xr_model.specs.machine.State.{State}
 use Rattle.xr_model.specs.machine.History.{StartsAt}
@@ -34,11 +34,12 @@ here_at ops i o h here = rw (add-one, drop-cons ops i o h, ← here) refl
 mark_in_range : (n : ℕ) → IsMark n → is_mark n ≡ true
 mark_in_range n m = let low = m.0 in let high = m.1 in grind (arith, nat_tests, low, high)
 
-pub op_numbers : (values : List ℕ) (o : Op) → IsInRange o → HasNumbers (request_for values o)
-op_numbers values (op.CreateInstance major minor) r = tt
-op_numbers values (op.Mark number value) r = mark_in_range number r.0
-op_numbers values (op.Await number) r = mark_in_range number r
-op_numbers values _ r = tt
+pub op_asks : (values : List ℕ) (number : ℕ) (o : Op) → is_built_op o ≡ true → IsInRange o → MayAsk (App number) (request_for values o) (lent_size (request_for values o))
+op_asks values number (op.CreateInstance major minor) built r = record { built = refl; caller = refl; numbers = refl; buffer = tt }
+op_asks values number (op.PathToString instance path capacity) built r = record { built = refl; caller = refl; numbers = refl; buffer = refl }
+op_asks values number (op.Mark number' value) built r = record { built = refl; caller = refl; numbers = mark_in_range number' r.0; buffer = tt }
+op_asks values number (op.Await number') built r = record { built = refl; caller = refl; numbers = mark_in_range number' r; buffer = tt }
+op_asks values number _ built r = record { built = built; caller = refl; numbers = refl; buffer = tt }
 
 -- what a call of an op in range is lent
 pub op_lent : (values : List ℕ) (o : Op) → IsInRange o → lent_size (request_for values o) ≤ 1024
@@ -68,20 +69,32 @@ pub ready_started : (s : State) (number : ℕ) (clock : ℤ) (r : Request) → r
 ready_started s number clock (wait_image chain timeout start) = refl
 ready_started s number clock _ = refl
 
--- no wait for an image is built
-pub built_unstarted : (clock : ℤ) (r : Request) → is_built r ≡ true → with_start clock r ≡ r
-built_unstarted clock (wait_image chain timeout start) built = absurd (true≢false (sym built))
-built_unstarted clock _ built = refl
+abbrev HasRule : State → Entry → Request → Type 0
+HasRule s e r = (rule s.core (reads_of s r) (record e { request = r })).is_there ≡ true
 
-pub built_starts : (clock : ℤ) (r : Request) → is_built r ≡ true → StartsAt clock r
-built_starts clock (wait_image chain timeout start) built = absurd (true≢false (sym built))
-built_starts clock _ built = tt
+-- no wait for an image has a rule
+pub ruled_unstarted : (clock : ℤ) (s : State) (e : Entry) → IsAllowed s e → with_start clock e.request ≡ e.request
+ruled_unstarted clock s e allowed = by e.request allowed.ruled
+  where
+    by : (r : Request) → HasRule s e r → with_start clock r ≡ r
+    by (wait_image chain timeout start) ruled = absurd (true≢false (sym ruled))
+    by _ ruled = refl
 
--- each call that is built is a locked one
-pub built_locked : (r : Request) → is_built r ≡ true → is_locked r ≡ true
-built_locked (get_boolean session action sub) built = absurd (true≢false (sym built))
-built_locked (get_float session action sub) built = absurd (true≢false (sym built))
-built_locked (get_vector session action sub) built = absurd (true≢false (sym built))
-built_locked (get_pose_active session action sub) built = absurd (true≢false (sym built))
-built_locked image_done built = absurd (true≢false (sym built))
-built_locked _ built = refl
+pub ruled_starts : (clock : ℤ) (s : State) (e : Entry) → IsAllowed s e → StartsAt clock e.request
+ruled_starts clock s e allowed = by e.request allowed.ruled
+  where
+    by : (r : Request) → HasRule s e r → StartsAt clock r
+    by (wait_image chain timeout start) ruled = absurd (true≢false (sym ruled))
+    by _ ruled = tt
+
+-- each call that has a rule is a locked one
+pub ruled_locked : (s : State) (e : Entry) → IsAllowed s e → is_locked e.request ≡ true
+ruled_locked s e allowed = by e.request allowed.ruled
+  where
+    by : (r : Request) → HasRule s e r → is_locked r ≡ true
+    by (get_boolean session action sub) ruled = absurd (true≢false (sym ruled))
+    by (get_float session action sub) ruled = absurd (true≢false (sym ruled))
+    by (get_vector session action sub) ruled = absurd (true≢false (sym ruled))
+    by (get_pose_active session action sub) ruled = absurd (true≢false (sym ruled))
+    by image_done ruled = absurd (true≢false (sym ruled))
+    by _ ruled = refl

@@ -3,10 +3,11 @@ use Rattle.std.proofs.Common.{◌≡◌, ◌+◌, ◌<◌, ℕ, suc, Bool, true,
 use Rattle.std.specs.Prelude.{if◌then◌else◌, None}
 use Rattle.xr_types.specs.declared.calls.Actor.{Actor}
 use Rattle.xr_types.specs.declared.calls.Reply.{Reply}
+use Rattle.xr_types.specs.Code.{is_out_of_memory}
 use Rattle.xr_types.specs.declared.device.DeviceEvent.{DeviceEvent}
 use Rattle.xr_types.specs.declared.scenario.Scenario.{Scenario}
 use Rattle.xr_model.specs.machine.Request.{Request, Entry, Outcome, Exchange, is_actor}
-use Rattle.xr_model.specs.machine.CoreCalls.{entry_of}
+use Rattle.xr_model.specs.machine.CoreCalls.{entry_of, given_by}
 use Rattle.xr_model.specs.machine.State.{State}
 use Rattle.xr_model.specs.machine.History.{clock_of, clocks_after, IsLegalFrom, calls_from}
 use Rattle.xr_model.specs.runs.Robin.{Agenda, actor_of, next_call, agenda_after, is_next_ready, IsRobinFrom, agendas_left}
@@ -14,7 +15,7 @@ use Rattle.xr_serial.specs.inside.Made.{IsAnswered, exchange_of, calls_with}
 use Rattle.xr_serial.specs.inside.Turns.{turn_behind, others_of, from_turn, joined, AreHeldBack, IsTurnOrder}
 use Rattle.xr_serial.specs.inside.Past.{IsRest, Past, Standing}
 use Rattle.xr_serial.proofs.Lending.{ready_any}
-use Rattle.xr_serial.proofs.Ops.{built_starts}
+use Rattle.xr_serial.proofs.Ops.{ruled_starts}
 use Rattle.xr_serial.proofs.TurnOrder.{Takes, takes_turn, passed_over, from_turn_is, from_turn_next, count_from, joined-snoc}
 use Rattle.std.proofs.lemmas.List.{set-get_or}
 
@@ -37,7 +38,7 @@ pub record IsAgendaOf (who : Actor) (what : Request) (x : Agenda) : Type 0 where
   pub call : next_call x ≡ what
 
 is_ready : (s after : State) (who : Actor) (what : Request) (answer : Reply) (bytes : List ℕ) (x : Agenda) → IsAgendaOf who what x → IsAnswered s after who what answer bytes → is_next_ready s x ≡ true
-is_ready s after who what answer bytes x of made = rw (of.actor, of.call) (ready_any s who what 0 _ false _ ∙ made.is_ready)
+is_ready s after who what answer bytes x of made = rw (of.actor, of.call) (ready_any s who what 0 (given_by answer.gives) false (is_out_of_memory answer.code) ∙ made.is_ready)
 
 abbrev pub outcome_of : Reply → List ℕ → Outcome
 outcome_of answer bytes = record { reply = answer; text = bytes; shown = None }
@@ -93,7 +94,7 @@ module _ (scenario : Scenario) (turn idle : ℕ) (s after : State) (over : Bool)
       past = p.past ++ e ∷ [];
       clocks = clocks_after p.clocks e after;
       agendas = λ rest. joined (others_of turn (parts rest)) ++ later rest;
-      legal = λ more h. rw (append_assoc p.past (e ∷ []) more) (p.legal (e ∷ more) (goes.made.allowed, built_starts (clock_of p.clocks who) what goes.made.allowed.built, goes.made.is_ready, subst (λ (n : State). IsLegalFrom n (clocks_after p.clocks e n) more) goes.made.leads h));
+      legal = λ more h. rw (append_assoc p.past (e ∷ []) more) (p.legal (e ∷ more) (goes.made.allowed, ruled_starts (clock_of p.clocks who) s e goes.made.allowed, goes.made.is_ready, subst (λ (n : State). IsLegalFrom n (clocks_after p.clocks e n) more) goes.made.leads h));
       robin = λ rest ok more h. rw (append_assoc p.past (e ∷ []) more) (p.robin rest ok (e ∷ more) (robin_more s after who what answer bytes (goes.agenda rest) (joined (others_of turn (parts rest))) (p.agendas rest) more (goes.of rest) goes.made (takes rest ok) h));
       left = λ rest ok more. rw (append_assoc p.past (e ∷ []) more) (p.left rest ok (e ∷ more) ∙ left_more s after who what answer bytes (goes.agenda rest) (joined (others_of turn (parts rest))) (p.agendas rest) more goes.made (takes rest ok));
       made = λ other more. rw (append_assoc p.past (e ∷ []) more) (p.made other (e ∷ more) ∙ calls_more s after calls other who what answer bytes more goes.made);

@@ -1,8 +1,8 @@
 // A call of an actor, and what it came to.
 ghost use Rattle.std.specs.Prelude.{◌≡◌, ◌≤◌, ◌<◌, ◌^◌, ◌++◌, ◌∷◌, [], true, pos, IfOk, OnOk, length};
 ghost use Rattle.xr_model.specs.machine.Request.{request_of};
-ghost use Rattle.xr_model.specs.machine.Machine.{IsPresent, is_built};
-ghost use Rattle.xr_model.specs.machine.CoreCalls.{IsCaller, HasNumbers};
+ghost use Rattle.xr_model.specs.machine.Machine.{IsPresent};
+ghost use Rattle.xr_model.specs.machine.CoreCalls.{MayAsk};
 ghost use Rattle.xr_serial.specs.inside.Made.{AnsweredOrWaits};
 ghost use Rattle.xr_serial.specs.inside.Lent.{lent_size, written_size};
 
@@ -37,9 +37,7 @@ pub(crate) fn make(
     buffer: &mut [u8],
 ) -> Result<Option<Answered>, NoMemory>
     requires calls { core.old.core.locked < 2 ^ 44 }
-    requires built { is_built (request_of call.now) ≡ true }
-    requires caller { IsCaller who (request_of call.now) }
-    requires numbers { HasNumbers (request_of call.now) }
+    requires asks { MayAsk who (request_of call.now) (lent_size (request_of call.now)) }
     requires present { IsPresent core.old.core who }
     requires size { length buffer.old ≡ lent_size (request_of call.now) }
     ensures { IfOk result (λ answered. AnsweredOrWaits core.old core.new who (request_of call.now) answered) }

@@ -2,8 +2,8 @@
 ghost use Rattle.std.specs.Prelude.{◌≡◌, ◌<◌, ◌≤◌, ◌^◌, ℕ, List, true, false, IfOk, length};
 ghost use Rattle.xr_types.specs.declared.limits.TheConstants.{MOST_SCRIPTS};
 ghost use Rattle.xr_types.specs.declared.calls.Actor.TheVariants.{App, Compositor};
-ghost use Rattle.xr_model.specs.machine.Machine.{IsPresent, is_built, ready};
-ghost use Rattle.xr_model.specs.machine.CoreCalls.{IsCaller, HasNumbers};
+ghost use Rattle.xr_model.specs.machine.Machine.{IsPresent, ready};
+ghost use Rattle.xr_model.specs.machine.CoreCalls.{MayAsk};
 ghost use Rattle.xr_model.specs.machine.Request.{request_of, next_frame};
 ghost use Rattle.xr_model.specs.machine.State.{with_apps, opening};
 ghost use Rattle.xr_model.specs.scenario.Built.{is_built_op};
@@ -98,9 +98,7 @@ impl Machine {
         call: &Call<'_>,
     ) -> Result<Option<Answered>, NoMemory>
         requires calls { self.old.core.locked < 2 ^ 44 }
-        requires built { is_built (request_of call.now) ≡ true }
-        requires caller { IsCaller who (request_of call.now) }
-        requires numbers { HasNumbers (request_of call.now) }
+        requires asks { MayAsk who (request_of call.now) (lent_size (request_of call.now)) }
         requires present { IsPresent self.old.core who }
         requires size { lent_size (request_of call.now) ≡ 0 }
         ensures { IfOk result (λ answered. AnsweredOrWaits self.old self.new who (request_of call.now) answered) }

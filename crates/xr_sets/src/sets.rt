@@ -4,10 +4,10 @@ ghost use Rattle.std.specs.List.{list_any};
 ghost use Rattle.std.specs.Option.{option_copied};
 ghost use Rattle.xr_model.specs.machine.PartAnswers.{code_by};
 ghost use Rattle.xr_model.specs.machine.Refusals.{first_of};
-ghost use Rattle.xr_model.specs.machine.Sets.{no_sets, same_text, set_at, action_at, set_priority, set_of_action, type_of_action, is_attached, is_sealed, is_in_sealed_set, action_declares, set_declares, set_checks, action_checks, action_label_checks, attach_checks, with_set, with_action, without_input, with_attached, without_attached};
+ghost use Rattle.xr_model.specs.machine.Sets.{no_sets, same_text, set_at, action_at, set_priority, set_of_action, type_of_action, is_sealed, is_in_sealed_set, action_declares, set_declares, set_checks, action_checks, action_label_checks, with_set, with_action, without_input, sets_named, with_sealed};
 
 use crate::action::Action;
-use crate::set::{Set, attach_sets, detach_sets};
+use crate::set::{Set, named_among, seal_sets};
 use crate::texts::{check_new_label, check_new_name, copied};
 use crate::users::USERS;
 use arrayvec::ArrayVec;
@@ -26,13 +26,12 @@ pub struct NewAction<'a> {
     pub declared: [bool; USERS],
 }
 
-/// The action sets and the actions in the order of their creation, and whether the session has attached sets. All of it
-/// stands in the value itself. Contracts see the machine's sets.
+/// The action sets and the actions in the order of their creation. All of it stands in the value itself. Contracts see the
+/// machine's sets.
 #[derive(Drop)]
 pub struct Sets {
     sets: ArrayVec<Set, ACTION_SETS>,
     actions: ArrayVec<Action, ACTIONS>,
-    has_attached: bool,
 }
 
 impl Model for Sets {
@@ -40,11 +39,11 @@ impl Model for Sets {
 
     ghost Value = { model.Sets };
 
-    ghost view = { λ s. record { sets = s.sets.items; actions = s.actions.items; has_attached = s.has_attached } };
+    ghost view = { λ s. record { sets = s.sets.items; actions = s.actions.items } };
 }
 
 impl Sets {
-    /// No set and no action yet, and none is attached. The sets and the actions stand in the value itself, so that
+    /// No set and no action yet. The sets and the actions stand in the value itself, so that
     /// nothing later takes memory, and neither does this.
     pub fn start() -> Sets
         ensures { result ≡ no_sets }
@@ -52,7 +51,6 @@ impl Sets {
         Sets {
             sets: ArrayVec::new(),
             actions: ArrayVec::new(),
-            has_attached: false,
         }
     }
 
@@ -70,8 +68,8 @@ impl Sets {
         }
     }
 
-    /// A set was created: it stands behind the others with its handle, its names and its priority, any number, and is
-    /// neither attached nor sealed. Before, there are fewer than 16 sets, and `check_set` refuses nothing. OpenXR 1.0
+    /// A set was created: it stands behind the others with its handle, its names and its priority, any number, and isn't
+    /// sealed. Before, there are fewer than 16 sets, and `check_set` refuses nothing. OpenXR 1.0
     /// chapter 11, xrCreateActionSet.
     pub fn add_set(&mut self, handle: u64, name: &[u8], localized: &[u8], priority: u32)
         requires room { length self.old.sets < 16 }
@@ -83,7 +81,6 @@ impl Sets {
             name: copied(name),
             localized: copied(localized),
             priority,
-            attached: false,
             sealed: false,
         });
     }
@@ -135,37 +132,20 @@ impl Sets {
         });
     }
 
-    /// Checks that the session may attach these sets. Refused are, in this order, a session that has attached sets
-    /// (`ActionsetsAlreadyAttached`), and an empty list (`ValidationFailure`); else it is a `Success`. OpenXR 1.0 chapter
-    /// 11, xrAttachSessionActionSets.
-    pub fn may_attach(&self, sets: &[u64]) -> Code
-        ensures { result ≡ code_by (first_of (attach_checks self.now sets.now)) }
+    /// The sets of these handles, each once, in the order of their creation. OpenXR 1.0 chapter 11,
+    /// xrAttachSessionActionSets.
+    pub fn named(&self, handles: &[u64]) -> ArrayVec<u64, ACTION_SETS>
+        ensures { result.items ≡ sets_named self.now handles.now }
     {
-        if self.has_attached {
-            Code::ActionsetsAlreadyAttached
-        } else if sets.is_empty() {
-            Code::ValidationFailure
-        } else {
-            Code::Success
-        }
+        named_among(self.sets.as_slice(), handles)
     }
 
-    /// The session attached these sets, by their handles, which are sealed from now on. One that is named twice counts
-    /// once, and a handle of no set changes none. OpenXR 1.0 chapter 11, xrAttachSessionActionSets.
-    pub fn attach(&mut self, sets: &[u64])
-        ensures { self.new ≡ with_attached self.old sets.now }
+    /// A session attached these sets, by their handles: they are sealed from now on. A handle of no set changes none. OpenXR
+    /// 1.0 chapter 11, xrAttachSessionActionSets.
+    pub fn seal(&mut self, handles: &[u64])
+        ensures { self.new ≡ with_sealed self.old handles.now }
     {
-        attach_sets(self.sets.as_mut_slice(), sets);
-        self.has_attached = true;
-    }
-
-    /// The session is gone: no set is attached, the next session may attach sets of its own, and what was sealed stays
-    /// sealed. OpenXR 1.0 chapter 9, xrDestroySession, and chapter 11, xrAttachSessionActionSets.
-    pub fn detach(&mut self)
-        ensures { self.new ≡ without_attached self.old }
-    {
-        detach_sets(self.sets.as_mut_slice());
-        self.has_attached = false;
+        seal_sets(self.sets.as_mut_slice(), handles);
     }
 
     /// The set or the action of a handle was destroyed; where there is none, all stays as it was. The actions of a set
@@ -223,14 +203,6 @@ impl Sets {
         self.actions
             .iter()
             .any(|action| action.set == set && action.declares(user))
-    }
-
-    /// Whether there is a set of this handle, and the session has it attached. OpenXR 1.0 chapter 11,
-    /// xrAttachSessionActionSets.
-    pub fn attached(&self, set: u64) -> bool
-        ensures { result ≡ is_attached self.now set }
-    {
-        self.set_at(set).is_some_and(|set| set.attached)
     }
 
     /// Whether there is a set of this handle, and any session ever attached it. OpenXR 1.0 chapter 11,

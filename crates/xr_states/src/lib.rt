@@ -3,8 +3,8 @@
 #![tactic(auto)]
 
 mod changes;
-mod session;
+mod life;
 mod table;
 
 pub use changes::Changes;
-pub use session::Session;
+pub use life::Life;

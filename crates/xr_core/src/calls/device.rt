@@ -1,17 +1,17 @@
 // What happens at the device, which is this project's own.
-ghost use Rattle.std.specs.Prelude.{◌≡◌, ◌<◌, ◌^◌, [], true};
+ghost use Rattle.std.specs.Prelude.{◌≡◌, true};
 ghost use Rattle.xr_types.specs.Device.{checks};
 ghost use Rattle.xr_model.specs.machine.Request as request;
 ghost use Rattle.xr_model.specs.machine.Device.{is_built_event};
-ghost use Rattle.xr_model.specs.machine.Machine.{is_awaiting};
-ghost use Rattle.xr_model.specs.machine.Rules.Device.{behind_event};
-ghost use Rattle.xr_core.specs.inside.Calls.{Makes};
+ghost use Rattle.xr_model.specs.machine.Rules.Device.{is_awaiting, behind_event};
+ghost use Rattle.xr_core.specs.inside.Deciding.{Decides};
 
-use crate::Core;
+use crate::halt::{Decision, Halt, done};
+use crate::parts::Parts;
 use crate::sessions::Change;
-use xr_types::{Code, DeviceEvent, Gives, Reply};
+use xr_types::{Code, DeviceEvent};
 
-impl Core {
+impl Parts {
     /// The event happens. A mark for which the device waits is set by then.
     fn happen(&mut self, event: DeviceEvent)
         requires { checks event ≡ true }
@@ -36,7 +36,7 @@ impl Core {
     }
 
     /// Whether the device waits for a mark that isn't set.
-    pub(crate) fn is_waiting(&self, event: DeviceEvent) -> bool
+    fn is_waiting(&self, event: DeviceEvent) -> bool
         ensures { result ≡ is_awaiting self.now event }
     {
         match event {
@@ -45,13 +45,15 @@ impl Core {
         }
     }
 
-    pub(crate) fn device_event(&mut self, event: DeviceEvent) -> Reply
-        requires calls { self.old.locked < 2 ^ 44 }
+    pub(crate) fn device_event(&mut self, event: DeviceEvent) -> Result<Decision, Halt>
         requires checks { checks event ≡ true }
         requires built { is_built_event event ≡ true }
-        ensures { Makes self.old (request.device event) self.new result [] }
+        ensures { Decides self.old (request.device event) self.new result }
     {
+        if self.is_waiting(event) {
+            return Err(Halt::NotReady);
+        }
         self.happen(event);
-        self.answered(Code::Success, Gives::Nothing)
+        done(Code::Success)
     }
 }

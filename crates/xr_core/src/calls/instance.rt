@@ -1,20 +1,27 @@
 // The calls on instances, their systems and their events (OpenXR 1.0 chapters 2, 4 and 5).
-ghost use Rattle.std.specs.Prelude.{◌<◌, ◌^◌, []};
+ghost use Rattle.std.specs.Prelude.{◌≡◌, ◌≢◌, ◌<◌, ◌^◌, length, true, false};
+ghost use Rattle.xr_types.specs.declared.handles.Kind.TheVariants as kind;
+ghost use Rattle.xr_model.specs.machine.Handles.{has_room, was_given, with_handle};
+ghost use Rattle.xr_model.specs.machine.Refusals.{first_of};
 ghost use Rattle.xr_model.specs.machine.Request.{create_instance, destroy_instance, get_system, poll_event, request_of};
-ghost use Rattle.xr_core.specs.inside.Calls.{Makes};
+ghost use Rattle.xr_model.specs.machine.Rule.{refusals};
+ghost use Rattle.xr_model.specs.machine.Rules.Instance.{create_instance_rule};
+ghost use Rattle.xr_core.specs.inside.Deciding.{Decides};
 ghost use Rattle.xr_core.specs.inside.Groups.{IsInstanceCall};
+ghost use Rattle.xr_core.specs.inside.Refusing.{or_refused};
 
-use crate::Core;
-use xr_types::{Call, Code, Form, Gives, Kind, Reply};
+use crate::halt::{Decision, Halt, done, giving, refused};
+use crate::parts::{Parts, give};
+use xr_types::{Call, Code, Form, Gives, Kind};
 
 /// The one system.
 pub(crate) const SYSTEM: u64 = 1;
 
-impl Core {
-    pub(crate) fn instance_call(&mut self, call: &Call<'_>) -> Reply
-        requires calls { self.old.locked < 2 ^ 44 }
+impl Parts {
+    pub(crate) fn instance_call(&mut self, call: &Call<'_>) -> Result<Decision, Halt>
+        requires given { length self.old.handles.given < 2 ^ 44 }
         requires group { IsInstanceCall (request_of call.now) }
-        ensures { Makes self.old (request_of call.now) self.new result [] }
+        ensures { Decides self.old (request_of call.now) self.new result }
     {
         match call {
             Call::CreateInstance { major, minor } => self.create_instance(*major, *minor),
@@ -25,62 +32,65 @@ impl Core {
         }
     }
 
-    fn create_instance(&mut self, major: u32, minor: u32) -> Reply
-        requires { self.old.locked < 2 ^ 44 }
-        ensures { Makes self.old (create_instance major minor) self.new result [] }
+    /// What refuses an instance: any version but 1.0, and one too many.
+    fn may_create_instance(&self, major: u32, minor: u32) -> Result<(), Code>
+        ensures { result ≡ or_refused (first_of (refusals (create_instance_rule self.now 0 major minor))) tt }
     {
         if major != 1 || minor != 0 {
-            return self.refused(Code::ApiVersionUnsupported);
+            return Err(Code::ApiVersionUnsupported);
         }
-        let answer = self.handles.give(Kind::Instance, 0);
-        if answer.code != Code::Success {
-            return self.refused(answer.code);
+        if self.handles.free_place(Kind::Instance).is_none() {
+            return Err(Code::LimitReached);
         }
-        self.calls += 1;
-        Reply {
-            code: Code::Success,
-            gives: Gives::Handle(answer.number),
-            place: self.calls,
-        }
+        Ok(())
     }
 
-    fn destroy_instance(&mut self, instance: u64) -> Reply
-        requires { self.old.locked < 2 ^ 44 }
-        ensures { Makes self.old (destroy_instance instance) self.new result [] }
+    fn create_instance(&mut self, major: u32, minor: u32) -> Result<Decision, Halt>
+        requires { length self.old.handles.given < 2 ^ 44 }
+        ensures { Decides self.old (create_instance major minor) self.new result }
     {
-        if !self.handles.is_live(Kind::Instance, instance) {
-            return self.refused(Code::HandleInvalid);
-        }
+        self.may_create_instance(major, minor)?;
+        let handle = self.new_instance();
+        giving(Code::Success, Gives::Handle(handle))
+    }
+
+    /// Gives the handle of a new instance, where there is room for one.
+    fn new_instance(&mut self) -> u64
+        requires given { length self.old.handles.given < 2 ^ 44 }
+        requires room { has_room self.old.handles kind.Instance ≡ true }
+        ensures kept { self.new ≡ record self.old { handles = with_handle self.old.handles kind.Instance 0 result } }
+        ensures fresh { (result ≢ 0) × (was_given self.old.handles result ≡ false) }
+    {
+        give(&mut self.handles, Kind::Instance, 0)
+    }
+
+    fn destroy_instance(&mut self, instance: u64) -> Result<Decision, Halt>
+        ensures { Decides self.old (destroy_instance instance) self.new result }
+    {
+        self.live(Kind::Instance, instance)?;
         self.destroy(instance);
         self.paths.clear();
-        self.bindings.clear();
         self.events.clear();
-        self.answered(Code::Success, Gives::Nothing)
+        done(Code::Success)
     }
 
-    fn get_system(&mut self, instance: u64, form: Form) -> Reply
-        requires { self.old.locked < 2 ^ 44 }
-        ensures { Makes self.old (get_system instance form) self.new result [] }
+    fn get_system(&mut self, instance: u64, form: Form) -> Result<Decision, Halt>
+        ensures { Decides self.old (get_system instance form) self.new result }
     {
-        if !self.handles.is_live(Kind::Instance, instance) {
-            return self.refused(Code::HandleInvalid);
-        }
+        self.live(Kind::Instance, instance)?;
         match form {
-            Form::Head => self.answered(Code::Success, Gives::Number(SYSTEM)),
-            Form::Hand => self.refused(Code::FormFactorUnsupported),
+            Form::Head => giving(Code::Success, Gives::Number(SYSTEM)),
+            Form::Hand => refused(Code::FormFactorUnsupported),
         }
     }
 
-    fn poll_event(&mut self, instance: u64) -> Reply
-        requires { self.old.locked < 2 ^ 44 }
-        ensures { Makes self.old (poll_event instance) self.new result [] }
+    fn poll_event(&mut self, instance: u64) -> Result<Decision, Halt>
+        ensures { Decides self.old (poll_event instance) self.new result }
     {
-        if !self.handles.is_live(Kind::Instance, instance) {
-            return self.refused(Code::HandleInvalid);
-        }
+        self.live(Kind::Instance, instance)?;
         match self.events.poll() {
-            Some(event) => self.answered(Code::Success, Gives::Event(event)),
-            None => self.refused(Code::EventUnavailable),
+            Some(event) => giving(Code::Success, Gives::Event(event)),
+            None => refused(Code::EventUnavailable),
         }
     }
 }

@@ -1,36 +1,31 @@
 // The calls that are this project's own.
-ghost use Rattle.std.specs.Prelude.{◌≡◌, ◌<◌, ◌^◌, [], true, false, Some};
+ghost use Rattle.std.specs.Prelude.{◌≡◌, [], true};
 ghost use Rattle.std.specs.List.{list_all};
 ghost use Rattle.xr_types.specs.Device.{is_mark};
-ghost use Rattle.xr_model.specs.machine.State.{CellReads};
 ghost use Rattle.xr_model.specs.machine.Marks.{mark_at, with_mark};
 ghost use Rattle.xr_model.specs.machine.Request as request;
 ghost use Rattle.xr_model.specs.machine.Request.{leave, next_frame, request_of};
-ghost use Rattle.xr_model.specs.machine.Machine.{IsPresent, is_held_back};
-ghost use Rattle.xr_model.specs.machine.CoreCalls.{CoreAnswers, HasNumbers, IsCaller, entry_of};
-ghost use Rattle.xr_core.specs.inside.Calls.{Makes};
+ghost use Rattle.xr_model.specs.machine.Rule.{is_by};
+ghost use Rattle.xr_model.specs.machine.Machine.{IsPresent};
+ghost use Rattle.xr_model.specs.machine.CoreCalls.{asked};
+ghost use Rattle.xr_core.specs.inside.Deciding.{Decides, DecidesOver};
 ghost use Rattle.xr_core.specs.inside.Groups.{IsOwnCall};
 
-use crate::Core;
-use xr_types::{Actor, Call, Code, Gives, Reply};
+use crate::halt::{Decision, Halt, done, giving};
+use crate::parts::Parts;
+use xr_types::{Actor, Call, Code, Gives};
 
-impl Core {
-    /// Makes a call that isn't held back.
-    pub(crate) fn own_call(&mut self, who: Actor, call: &Call<'_>) -> Reply
-        requires calls { self.old.locked < 2 ^ 44 }
+impl Parts {
+    pub(crate) fn own_call(&mut self, who: Actor, call: &Call<'_>) -> Result<Decision, Halt>
         requires group { IsOwnCall (request_of call.now) }
         requires present { IsPresent self.old who }
-        requires caller { IsCaller who (request_of call.now) }
-        requires numbers { HasNumbers (request_of call.now) }
-        requires ready { (reads : CellReads) → is_held_back self.old reads (request_of call.now) ≡ false }
-        ensures { (reads : CellReads) → CoreAnswers reads self.old (entry_of who (request_of call.now) result) self.new result [] [] }
+        requires caller { is_by (asked who (request_of call.now)).caller who ≡ true }
+        requires numbers { (asked who (request_of call.now)).in_range ≡ true }
+        ensures { DecidesOver who self.old (request_of call.now) self.new result [] [] }
     {
         match call {
             Call::Mark { mark, value } => self.mark(*mark, *value),
-            Call::AwaitMark { mark } => match self.mark_value(*mark) {
-                Some(value) => self.await_mark(*mark, value),
-                None => unreachable!(),
-            },
+            Call::AwaitMark { mark } => self.await_mark(*mark),
             Call::Leave => match who {
                 Actor::App(app) => self.leave(app),
                 Actor::Compositor | Actor::Device => unreachable!(),
@@ -41,14 +36,13 @@ impl Core {
     }
 
     #[tactic(auto, using(crate::proofs::Start::left_set))]
-    fn leave(&mut self, app: u8) -> Reply
-        requires calls { self.old.locked < 2 ^ 44 }
-        requires present { IsPresent self.old (Actor.App app) }
-        ensures { (reads : CellReads) → CoreAnswers reads self.old (entry_of (Actor.App app) leave result) self.new result [] [] }
+    fn leave(&mut self, app: u8) -> Result<Decision, Halt>
+        requires { IsPresent self.old (Actor.App app) }
+        ensures { DecidesOver (Actor.App app) self.old leave self.new result [] [] }
     {
         let place = app as usize - 1;
         self.left[place] = true;
-        self.answered(Code::Success, Gives::Nothing)
+        done(Code::Success)
     }
 
     /// Whether every application has left.
@@ -80,29 +74,31 @@ impl Core {
         }
     }
 
-    fn mark(&mut self, mark: u8, value: u64) -> Reply
-        requires calls { self.old.locked < 2 ^ 44 }
-        requires number { is_mark mark ≡ true }
-        ensures { Makes self.old (request.mark mark value) self.new result [] }
+    fn mark(&mut self, mark: u8, value: u64) -> Result<Decision, Halt>
+        requires { is_mark mark ≡ true }
+        ensures { Decides self.old (request.mark mark value) self.new result }
     {
         self.set_mark(mark, value);
-        self.answered(Code::Success, Gives::Nothing)
+        done(Code::Success)
     }
 
-    /// The value of a mark that was awaited.
-    fn await_mark(&mut self, mark: u8, value: u64) -> Reply
-        requires calls { self.old.locked < 2 ^ 44 }
-        requires set { mark_at self.old.marks mark ≡ Some value }
-        ensures { Makes self.old (request.await_mark mark) self.new result [] }
+    /// Gives the value of a mark, or waits until it is set.
+    fn await_mark(&mut self, mark: u8) -> Result<Decision, Halt>
+        ensures { Decides self.old (request.await_mark mark) self.new result }
     {
-        self.answered(Code::Success, Gives::Number(value))
+        match self.mark_value(mark) {
+            Some(value) => giving(Code::Success, Gives::Number(value)),
+            None => Err(Halt::NotReady),
+        }
     }
 
-    /// The end. There are no frames.
-    fn next_frame(&mut self) -> Reply
-        requires { self.old.locked < 2 ^ 44 }
-        ensures { Makes self.old next_frame self.new result [] }
+    /// Tells the end, or waits until every application has left. There are no frames.
+    fn next_frame(&mut self) -> Result<Decision, Halt>
+        ensures { Decides self.old next_frame self.new result }
     {
-        self.answered(Code::Success, Gives::Ended)
+        if !self.all_left() {
+            return Err(Halt::NotReady);
+        }
+        giving(Code::Success, Gives::Ended)
     }
 }

@@ -1,25 +1,28 @@
 // The calls on action sets and actions (OpenXR 1.0 chapter 11).
-ghost use Rattle.std.specs.Prelude.{◌≡◌, ◌≢◌, ◌<◌, ◌+◌, ◌^◌, [], length, None, true, false};
+ghost use Rattle.std.specs.Prelude.{◌≡◌, ◌≢◌, ◌<◌, ◌^◌, ℕ, length, map, Some, None, true, false};
 ghost use Rattle.std.specs.List.{list_all};
-ghost use Rattle.xr_types.specs.declared.code.Code.TheVariants as code;
-ghost use Rattle.xr_types.specs.declared.calls.Gives.TheVariants as gives;
 ghost use Rattle.xr_types.specs.declared.handles.Kind.TheVariants as kind;
-ghost use Rattle.xr_types.specs.declared.handles.TheConstants.{ACTION_SETS, ACTIONS};
-ghost use Rattle.xr_model.specs.machine.Handles.{is_live, has_room, was_given};
+ghost use Rattle.xr_model.specs.machine.Handles.{is_live, has_room, no_handle, was_given};
+ghost use Rattle.xr_model.specs.machine.LiveSessions.{session_at, attached_in};
 ghost use Rattle.xr_model.specs.machine.Refusals.{first_of};
-ghost use Rattle.xr_model.specs.machine.Sets.{set_checks, action_checks, action_label_checks, with_attached};
+ghost use Rattle.xr_model.specs.machine.Sets.{no_users, set_checks, action_checks, action_label_checks, attach_checks};
 ghost use Rattle.xr_model.specs.machine.Request.{create_action_set, destroy_action_set, create_action, destroy_action, attach_sets, request_of};
-ghost use Rattle.xr_model.specs.machine.CoreCalls.{given_by};
-ghost use Rattle.xr_model.specs.machine.Rules.Sets.{with_action_set, with_new_action};
-ghost use Rattle.xr_core.specs.inside.Calls.{Makes};
+ghost use Rattle.xr_model.specs.machine.Rule.{refusals};
+ghost use Rattle.xr_model.specs.machine.SessionRule.{loss_of, code_on};
+ghost use Rattle.xr_model.specs.machine.Rules.Session.{life_of};
+ghost use Rattle.xr_model.specs.machine.Rules.Sets.{with_action_set, with_new_action, with_attached_sets, declared_by, create_action_set_rule, create_action_rule, attach_sets_rule};
+ghost use Rattle.xr_core.specs.inside.Changes.{place_at};
+ghost use Rattle.xr_core.specs.inside.Deciding.{Decides};
 ghost use Rattle.xr_core.specs.inside.Groups.{IsSetCall};
+ghost use Rattle.xr_core.specs.inside.Refusing.{or_refused};
 
-use crate::Core;
-use crate::sessions::{is_lost, success_on};
+use crate::halt::{Decision, Halt, done, giving};
+use crate::parts::{Parts, give};
+use crate::sessions::{attach_at, place_of, session_at};
 use crate::subactions::declared_by;
 use xr_handles::Handles;
 use xr_sets::{NewAction, USERS};
-use xr_types::{ActionType, Call, Code, Gives, Kind, Reply};
+use xr_types::{ActionType, Call, Code, Gives, Kind};
 
 /// Whether all of these are live action sets.
 fn are_sets(handles: &Handles, sets: &[u64]) -> bool
@@ -29,11 +32,11 @@ fn are_sets(handles: &Handles, sets: &[u64]) -> bool
         .all(|set| handles.is_live(Kind::ActionSet, *set))
 }
 
-impl Core {
-    pub(crate) fn set_call(&mut self, call: &Call<'_>) -> Reply
-        requires calls { self.old.locked < 2 ^ 44 }
+impl Parts {
+    pub(crate) fn set_call(&mut self, call: &Call<'_>) -> Result<Decision, Halt>
+        requires given { length self.old.handles.given < 2 ^ 44 }
         requires group { IsSetCall (request_of call.now) }
-        ensures { Makes self.old (request_of call.now) self.new result [] }
+        ensures { Decides self.old (request_of call.now) self.new result }
     {
         match call {
             Call::CreateActionSet {
@@ -56,58 +59,107 @@ impl Core {
         }
     }
 
+    /// What refuses a set by its names.
+    fn check_set(&self, name: &[u8], localized: &[u8]) -> Result<(), Code>
+        ensures { result ≡ or_refused (first_of (set_checks self.now.sets name.now localized.now)) tt }
+    {
+        match self.sets.check_set(name, localized) {
+            Code::Success => Ok(()),
+            code => Err(code),
+        }
+    }
+
+    /// What refuses an action set, whatever its priority.
+    fn may_create_action_set(
+        &self,
+        instance: u64,
+        name: &[u8],
+        localized: &[u8],
+    ) -> Result<(), Code>
+        ensures { (priority : ℕ) → result ≡ or_refused (first_of (refusals (create_action_set_rule self.now 0 instance name.now localized.now priority))) tt }
+    {
+        self.live(Kind::Instance, instance)?;
+        self.check_set(name, localized)?;
+        if self.handles.free_place(Kind::ActionSet).is_none() {
+            return Err(Code::LimitReached);
+        }
+        Ok(())
+    }
+
     fn create_action_set(
         &mut self,
         instance: u64,
         name: &[u8],
         localized: &[u8],
         priority: u32,
-    ) -> Reply
-        requires { self.old.locked < 2 ^ 44 }
-        ensures { Makes self.old (create_action_set instance name.now localized.now priority) self.new result [] }
+    ) -> Result<Decision, Halt>
+        requires { length self.old.handles.given < 2 ^ 44 }
+        ensures { Decides self.old (create_action_set instance name.now localized.now priority) self.new result }
     {
-        if !self.handles.is_live(Kind::Instance, instance) {
-            return self.refused(Code::HandleInvalid);
-        }
-        let code = self.sets.check_set(name, localized);
-        if code != Code::Success {
-            return self.refused(code);
-        }
-        if self.handles.free_place(Kind::ActionSet).is_none() {
-            return self.refused(Code::LimitReached);
-        }
-        self.give_set(instance, name, localized, priority)
+        self.may_create_action_set(instance, name, localized)?;
+        let handle = self.new_set(instance, name, localized, priority);
+        giving(Code::Success, Gives::Handle(handle))
     }
 
     /// Gives the handle of a new action set, where nothing refuses it.
-    fn give_set(&mut self, instance: u64, name: &[u8], localized: &[u8], priority: u32) -> Reply
-        requires calls { self.old.locked < 2 ^ 44 }
+    fn new_set(&mut self, instance: u64, name: &[u8], localized: &[u8], priority: u32) -> u64
+        requires given { length self.old.handles.given < 2 ^ 44 }
         requires checked { first_of (set_checks self.old.sets name.now localized.now) ≡ None }
         requires room { has_room self.old.handles kind.ActionSet ≡ true }
-        requires row { length self.old.handles.sets ≡ ACTION_SETS }
-        ensures kept { self.new ≡ record (with_action_set self.old instance (given_by result.gives) name.now localized.now priority) { locked = self.old.locked + 1 } }
-        ensures reply { result ≡ record { code = code.Success; gives = gives.Handle (given_by result.gives); place = self.old.locked + 1 } }
-        ensures fresh { (given_by result.gives ≢ 0) × (was_given self.old.handles (given_by result.gives) ≡ false) }
+        ensures kept { self.new ≡ with_action_set self.old instance result name.now localized.now priority }
+        ensures fresh { (result ≢ 0) × (was_given self.old.handles result ≡ false) }
     {
-        let answer = self.handles.give(Kind::ActionSet, instance);
-        self.sets.add_set(answer.number, name, localized, priority);
-        self.calls += 1;
-        Reply {
-            code: Code::Success,
-            gives: Gives::Handle(answer.number),
-            place: self.calls,
+        let handle = give(&mut self.handles, Kind::ActionSet, instance);
+        self.sets.add_set(handle, name, localized, priority);
+        handle
+    }
+
+    fn destroy_action_set(&mut self, set: u64) -> Result<Decision, Halt>
+        ensures { Decides self.old (destroy_action_set set) self.new result }
+    {
+        self.live(Kind::ActionSet, set)?;
+        self.destroy(set);
+        done(Code::Success)
+    }
+
+    /// What refuses an action by its set and its name.
+    fn check_action(&self, set: u64, name: &[u8]) -> Result<(), Code>
+        ensures { result ≡ or_refused (first_of (action_checks self.now.sets set name.now)) tt }
+    {
+        match self.sets.check_action(set, name) {
+            Code::Success => Ok(()),
+            code => Err(code),
         }
     }
 
-    fn destroy_action_set(&mut self, set: u64) -> Reply
-        requires { self.old.locked < 2 ^ 44 }
-        ensures { Makes self.old (destroy_action_set set) self.new result [] }
+    /// What refuses an action by its localized name.
+    fn check_label(&self, set: u64, localized: &[u8]) -> Result<(), Code>
+        ensures { result ≡ or_refused (first_of (action_label_checks self.now.sets set localized.now)) tt }
     {
-        if !self.handles.is_live(Kind::ActionSet, set) {
-            return self.refused(Code::HandleInvalid);
+        match self.sets.check_label(set, localized) {
+            Code::Success => Ok(()),
+            code => Err(code),
         }
-        self.destroy(set);
-        self.answered(Code::Success, Gives::Nothing)
+    }
+
+    /// What refuses an action of any type, or the user paths that it declares.
+    fn may_create_action(
+        &self,
+        set: u64,
+        name: &[u8],
+        subs: &[u64],
+        localized: &[u8],
+    ) -> Result<[bool; USERS], Code>
+        ensures { (type : ActionType) → result ≡ or_refused (first_of (refusals (create_action_rule self.now 0 set name.now type subs.now localized.now))) (declared_by self.now.atoms no_users subs.now) }
+    {
+        self.live(Kind::ActionSet, set)?;
+        self.check_action(set, name)?;
+        let declared = declared_by(&self.paths, subs)?;
+        self.check_label(set, localized)?;
+        if self.handles.free_place(Kind::Action).is_none() {
+            return Err(Code::LimitReached);
+        }
+        Ok(declared)
     }
 
     fn create_action(
@@ -117,109 +169,107 @@ impl Core {
         kind: ActionType,
         subs: &[u64],
         localized: &[u8],
-    ) -> Reply
-        requires { self.old.locked < 2 ^ 44 }
-        ensures { Makes self.old (create_action set name.now kind subs.now localized.now) self.new result [] }
+    ) -> Result<Decision, Halt>
+        requires { length self.old.handles.given < 2 ^ 44 }
+        ensures { Decides self.old (create_action set name.now kind subs.now localized.now) self.new result }
     {
-        if !self.handles.is_live(Kind::ActionSet, set) {
-            return self.refused(Code::HandleInvalid);
-        }
-        let code = self.sets.check_action(set, name);
-        if code != Code::Success {
-            return self.refused(code);
-        }
-        let declared = match declared_by(&self.paths, subs) {
-            Ok(declared) => declared,
-            Err(code) => return self.refused(code),
-        };
-        let code = self.sets.check_label(set, localized);
-        if code != Code::Success {
-            return self.refused(code);
-        }
-        if self.handles.free_place(Kind::Action).is_none() {
-            return self.refused(Code::LimitReached);
-        }
-        self.give_action(NewAction {
+        let declared = self.may_create_action(set, name, subs, localized)?;
+        let handle = self.new_action(NewAction {
             handle: 0,
             set,
             name,
             localized,
             kind,
             declared,
-        })
+        });
+        giving(Code::Success, Gives::Handle(handle))
     }
 
     /// Gives the handle of a new action, where nothing refuses it. It takes the place of the handle that the action came
     /// with.
-    fn give_action(&mut self, action: NewAction) -> Reply
-        requires calls { self.old.locked < 2 ^ 44 }
+    fn new_action(&mut self, action: NewAction) -> u64
+        requires given { length self.old.handles.given < 2 ^ 44 }
         requires name { first_of (action_checks self.old.sets action.set action.name.now) ≡ None }
         requires label { first_of (action_label_checks self.old.sets action.set action.localized.now) ≡ None }
         requires room { has_room self.old.handles kind.Action ≡ true }
-        requires row { length self.old.handles.actions ≡ ACTIONS }
-        ensures kept { self.new ≡ record (with_new_action self.old (given_by result.gives) (record {
-          handle = given_by result.gives;
+        ensures kept { self.new ≡ with_new_action self.old result (record {
+          handle = result;
           set = action.entry.set;
           name = action.entry.name.now;
           localized = action.entry.localized.now;
           type = action.entry.kind;
           declared = action.entry.declared;
-        })) { locked = self.old.locked + 1 } }
-        ensures reply { result ≡ record { code = code.Success; gives = gives.Handle (given_by result.gives); place = self.old.locked + 1 } }
-        ensures fresh { (given_by result.gives ≢ 0) × (was_given self.old.handles (given_by result.gives) ≡ false) }
+        }) }
+        ensures fresh { (result ≢ 0) × (was_given self.old.handles result ≡ false) }
     {
-        let answer = self.handles.give(Kind::Action, action.set);
-        self.sets.add_action(NewAction {
-            handle: answer.number,
-            ..action
-        });
-        self.calls += 1;
-        Reply {
-            code: Code::Success,
-            gives: Gives::Handle(answer.number),
-            place: self.calls,
-        }
+        let handle = give(&mut self.handles, Kind::Action, action.set);
+        self.sets.add_action(NewAction { handle, ..action });
+        handle
     }
 
-    fn destroy_action(&mut self, action: u64) -> Reply
-        requires { self.old.locked < 2 ^ 44 }
-        ensures { Makes self.old (destroy_action action) self.new result [] }
+    fn destroy_action(&mut self, action: u64) -> Result<Decision, Halt>
+        ensures { Decides self.old (destroy_action action) self.new result }
     {
-        if !self.handles.is_live(Kind::Action, action) {
-            return self.refused(Code::HandleInvalid);
-        }
+        self.live(Kind::Action, action)?;
         self.destroy(action);
-        self.answered(Code::Success, Gives::Nothing)
+        done(Code::Success)
     }
 
-    fn attach_sets(&mut self, session: u64, sets: &[u64]) -> Reply
-        requires { self.old.locked < 2 ^ 44 }
-        ensures { Makes self.old (attach_sets session sets.now) self.new result [] }
+    /// What refuses attaching sets by what the session has attached, and by their number.
+    fn check_attached(&self, session: u64, sets: &[u64]) -> Result<(), Code>
+        ensures { result ≡ or_refused (first_of (attach_checks (attached_in (session_at self.now.sessions session)) sets.now)) tt }
     {
-        if !self.handles.is_live(Kind::Session, session) {
-            return self.refused(Code::HandleInvalid);
+        let listed = session_at(self.sessions.as_slice(), session);
+        if listed.is_some_and(|session| session.has_attached()) {
+            Err(Code::ActionsetsAlreadyAttached)
+        } else if sets.is_empty() {
+            Err(Code::ValidationFailure)
+        } else {
+            Ok(())
         }
-        if is_lost(self.sessions.as_slice(), session) {
-            return self.refused(Code::SessionLost);
-        }
-        let code = self.sets.may_attach(sets);
-        if code != Code::Success {
-            return self.refused(code);
-        }
-        if !are_sets(&self.handles, sets) {
-            return self.refused(Code::HandleInvalid);
-        }
-        let success = success_on(self.sessions.as_slice(), session);
-        self.attach(sets, success)
     }
 
-    /// Attaches sets to the session, where nothing refuses it.
-    fn attach(&mut self, sets: &[u64], success: Code) -> Reply
-        requires { self.old.locked < 2 ^ 44 }
-        ensures kept { self.new ≡ record self.old { sets = with_attached self.old.sets sets.now; locked = self.old.locked + 1 } }
-        ensures reply { result ≡ record { code = success; gives = gives.Nothing; place = self.old.locked + 1 } }
+    /// What refuses the handles of action sets: the first that is no live one.
+    fn live_sets(&self, sets: &[u64]) -> Result<(), Code>
+        ensures { result ≡ or_refused (first_of (map (no_handle self.now.handles kind.ActionSet) sets.now)) tt }
     {
-        self.sets.attach(sets);
-        self.answered(success, Gives::Nothing)
+        if are_sets(&self.handles, sets) {
+            Ok(())
+        } else {
+            Err(Code::HandleInvalid)
+        }
+    }
+
+    /// What refuses attaching these sets, or what its success is answered as.
+    fn may_attach_sets(&self, session: u64, sets: &[u64]) -> Result<Code, Code>
+        ensures { result ≡ or_refused (first_of (refusals (attach_sets_rule self.now session sets.now))) (code_on (loss_of (life_of self.now session)) Code.Success) }
+    {
+        self.live(Kind::Session, session)?;
+        let success = self.on_session(session)?;
+        self.check_attached(session, sets)?;
+        self.live_sets(sets)?;
+        Ok(success)
+    }
+
+    /// The session in a place has attached these sets, which are sealed from now on.
+    fn attach(&mut self, session: u64, place: usize, sets: &[u64])
+        requires found { place_at self.old.sessions session ≡ Some place }
+        requires within { place < length self.old.sessions }
+        ensures { self.new ≡ with_attached_sets self.old session sets.now }
+    {
+        let named = self.sets.named(sets);
+        attach_at(&mut self.sessions, session, place, named);
+        self.sets.seal(sets);
+    }
+
+    fn attach_sets(&mut self, session: u64, sets: &[u64]) -> Result<Decision, Halt>
+        ensures { Decides self.old (attach_sets session sets.now) self.new result }
+    {
+        let success = self.may_attach_sets(session, sets)?;
+        let Some(place) = place_of(self.sessions.as_slice(), session) else {
+            unreachable!()
+        };
+        self.attach(session, place, sets);
+        done(success)
     }
 }

@@ -1,18 +1,23 @@
 // The calls on spaces (OpenXR 1.0 chapter 7).
-ghost use Rattle.std.specs.Prelude.{◌≡◌, ◌≢◌, ◌<◌, ◌+◌, ◌^◌, [], length, true, false};
-ghost use Rattle.xr_types.specs.declared.handles.TheConstants.{SPACES};
+ghost use Rattle.std.specs.Prelude.{◌≡◌, ◌≢◌, ◌<◌, ◌^◌, [], ◌∷◌, length, true, false};
 ghost use Rattle.xr_model.specs.machine.Handles.{has_room, was_given};
+ghost use Rattle.xr_model.specs.machine.Refusals.{first_of};
 ghost use Rattle.xr_model.specs.machine.Request.{create_reference_space, destroy_space, locate_space, request_of};
-ghost use Rattle.xr_model.specs.machine.CoreCalls.{given_by};
-ghost use Rattle.xr_model.specs.machine.Rules.Spaces.{with_reference_space, session_above};
-ghost use Rattle.xr_core.specs.inside.Calls.{Makes};
+ghost use Rattle.xr_model.specs.machine.Rule.{refusals};
+ghost use Rattle.xr_model.specs.machine.SessionLife.{is_lost};
+ghost use Rattle.xr_model.specs.machine.SessionRule.{loss_of, code_on};
+ghost use Rattle.xr_model.specs.machine.Spaces.{reference_checks};
+ghost use Rattle.xr_model.specs.machine.Rules.Session.{life_of};
+ghost use Rattle.xr_model.specs.machine.Rules.Spaces.{with_reference_space, with_space_gone, session_above, create_reference_space_rule, locate_space_rule};
+ghost use Rattle.xr_core.specs.inside.Deciding.{Decides};
 ghost use Rattle.xr_core.specs.inside.Groups.{IsSpaceCall};
+ghost use Rattle.xr_core.specs.inside.Refusing.{or_refused};
 
-use crate::Core;
-use crate::sessions::{is_lost, success_on};
+use crate::halt::{Decision, Halt, done, giving};
+use crate::parts::{Parts, give};
 use xr_handles::Handles;
 use xr_spaces::check_reference;
-use xr_types::{Call, Code, Gives, Kind, Location, RefKind, Reply, Root};
+use xr_types::{Call, Code, Gives, Kind, Location, RefKind, Root};
 
 /// The session of a space, 0 where there is none.
 fn session_above(handles: &Handles, space: u64) -> u64
@@ -21,11 +26,11 @@ fn session_above(handles: &Handles, space: u64) -> u64
     handles.parent_of(space).unwrap_or(0)
 }
 
-impl Core {
-    pub(crate) fn space_call(&mut self, call: &Call<'_>) -> Reply
-        requires calls { self.old.locked < 2 ^ 44 }
+impl Parts {
+    pub(crate) fn space_call(&mut self, call: &Call<'_>) -> Result<Decision, Halt>
+        requires given { length self.old.handles.given < 2 ^ 44 }
         requires group { IsSpaceCall (request_of call.now) }
-        ensures { Makes self.old (request_of call.now) self.new result [] }
+        ensures { Decides self.old (request_of call.now) self.new result }
     {
         match call {
             Call::CreateReferenceSpace {
@@ -34,78 +39,106 @@ impl Core {
                 offset,
             } => self.create_reference_space(*session, *kind, *offset),
             Call::DestroySpace { space } => self.destroy_space(*space),
-            Call::LocateSpace { space, base, time } => self.locate_space(*space, *base, *time),
+            Call::LocateSpace { space, base, time } => self.locate_space(*space, *base, time),
             _ => unreachable!(),
         }
     }
 
-    fn create_reference_space(&mut self, session: u64, kind: RefKind, offset: u64) -> Reply
-        requires { self.old.locked < 2 ^ 44 }
-        ensures { Makes self.old (create_reference_space session kind offset) self.new result [] }
+    /// What refuses a reference space by its kind and its offset.
+    fn check_space(&self, kind: RefKind, offset: u64) -> Result<(), Code>
+        ensures { result ≡ or_refused (first_of (reference_checks kind offset self.now.device.stage)) tt }
     {
-        if !self.handles.is_live(Kind::Session, session) {
-            return self.refused(Code::HandleInvalid);
+        match check_reference(kind, offset, self.device.has_stage()) {
+            Code::Success => Ok(()),
+            code => Err(code),
         }
-        if is_lost(self.sessions.as_slice(), session) {
-            return self.refused(Code::SessionLost);
-        }
-        let code = check_reference(kind, offset, self.device.has_stage());
-        if code != Code::Success {
-            return self.refused(code);
-        }
+    }
+
+    /// What refuses a reference space, or what its success is answered as.
+    fn may_create_reference_space(
+        &self,
+        session: u64,
+        kind: RefKind,
+        offset: u64,
+    ) -> Result<Code, Code>
+        ensures { result ≡ or_refused (first_of (refusals (create_reference_space_rule self.now 0 session kind offset))) (code_on (loss_of (life_of self.now session)) Code.Success) }
+    {
+        self.live(Kind::Session, session)?;
+        let success = self.on_session(session)?;
+        self.check_space(kind, offset)?;
         if self.handles.free_place(Kind::Space).is_none() {
-            return self.refused(Code::LimitReached);
+            return Err(Code::LimitReached);
         }
-        let success = success_on(self.sessions.as_slice(), session);
-        self.give_space(session, kind, offset, success)
+        Ok(success)
+    }
+
+    fn create_reference_space(
+        &mut self,
+        session: u64,
+        kind: RefKind,
+        offset: u64,
+    ) -> Result<Decision, Halt>
+        requires { length self.old.handles.given < 2 ^ 44 }
+        ensures { Decides self.old (create_reference_space session kind offset) self.new result }
+    {
+        let success = self.may_create_reference_space(session, kind, offset)?;
+        let handle = self.new_space(session, kind, offset);
+        giving(success, Gives::Handle(handle))
     }
 
     /// Gives the handle of a new reference space, where there is room for one.
-    fn give_space(&mut self, session: u64, kind: RefKind, offset: u64, success: Code) -> Reply
-        requires calls { self.old.locked < 2 ^ 44 }
+    fn new_space(&mut self, session: u64, kind: RefKind, offset: u64) -> u64
+        requires given { length self.old.handles.given < 2 ^ 44 }
         requires room { has_room self.old.handles Kind.Space ≡ true }
-        requires row { length self.old.handles.spaces ≡ SPACES }
-        ensures kept { self.new ≡ record (with_reference_space self.old session (given_by result.gives) kind offset) { locked = self.old.locked + 1 } }
-        ensures reply { result ≡ record { code = success; gives = Gives.Handle (given_by result.gives); place = self.old.locked + 1 } }
-        ensures fresh { (given_by result.gives ≢ 0) × (was_given self.old.handles (given_by result.gives) ≡ false) }
+        ensures kept { self.new ≡ with_reference_space self.old session result kind offset }
+        ensures fresh { (result ≢ 0) × (was_given self.old.handles result ≡ false) }
     {
-        let answer = self.handles.give(Kind::Space, session);
-        self.spaces.add(answer.number, Root::Fixed(kind), offset);
-        self.calls += 1;
-        Reply {
-            code: success,
-            gives: Gives::Handle(answer.number),
-            place: self.calls,
-        }
+        let handle = give(&mut self.handles, Kind::Space, session);
+        self.spaces.add(handle, Root::Fixed(kind), offset);
+        handle
     }
 
-    fn destroy_space(&mut self, space: u64) -> Reply
-        requires { self.old.locked < 2 ^ 44 }
-        ensures { Makes self.old (destroy_space space) self.new result [] }
+    /// A space goes, and nothing with it.
+    fn remove_space(&mut self, space: u64)
+        ensures { self.new ≡ with_space_gone self.old space }
     {
-        if !self.handles.is_live(Kind::Space, space) {
-            return self.refused(Code::HandleInvalid);
-        }
-        self.destroy(space);
-        self.answered(Code::Success, Gives::Nothing)
+        self.handles.remove(Kind::Space, space);
+        self.spaces.remove(space);
     }
 
-    fn locate_space(&mut self, space: u64, base: u64, time: i64) -> Reply
-        requires { self.old.locked < 2 ^ 44 }
-        ensures { Makes self.old (locate_space space base time) self.new result [] }
+    fn destroy_space(&mut self, space: u64) -> Result<Decision, Halt>
+        ensures { Decides self.old (destroy_space space) self.new result }
     {
-        if !self.handles.is_live(Kind::Space, space) || !self.handles.is_live(Kind::Space, base) {
-            return self.refused(Code::HandleInvalid);
+        self.live(Kind::Space, space)?;
+        self.remove_space(space);
+        done(Code::Success)
+    }
+
+    /// What a plain success on the session of a space is answered as, where the session isn't lost.
+    fn on_session_above(&self, space: u64) -> Result<Code, Code>
+        ensures { result ≡ or_refused (first_of (is_lost (life_of self.now (session_above self.now.handles space)) ∷ [])) (code_on (loss_of (life_of self.now (session_above self.now.handles space))) Code.Success) }
+    {
+        self.on_session(session_above(&self.handles, space))
+    }
+
+    /// What refuses locating a space in a base, or what its success is answered as.
+    fn may_locate_space(&self, space: u64, base: u64, time: &i64) -> Result<Code, Code>
+        ensures { result ≡ or_refused (first_of (refusals (locate_space_rule self.now space base time.now))) (code_on (loss_of (life_of self.now (session_above self.now.handles space))) Code.Success) }
+    {
+        self.live(Kind::Space, space)?;
+        self.live(Kind::Space, base)?;
+        let success = self.on_session_above(space)?;
+        if *time <= 0 {
+            return Err(Code::TimeInvalid);
         }
-        let session = session_above(&self.handles, space);
-        if is_lost(self.sessions.as_slice(), session) {
-            return self.refused(Code::SessionLost);
-        }
-        if time <= 0 {
-            return self.refused(Code::TimeInvalid);
-        }
-        let success = success_on(self.sessions.as_slice(), session);
-        let found = self.spaces.locate(space, base, time, &self.states);
-        self.answered(success, Gives::Location(found.unwrap_or(Location::Missing)))
+        Ok(success)
+    }
+
+    fn locate_space(&mut self, space: u64, base: u64, time: &i64) -> Result<Decision, Halt>
+        ensures { Decides self.old (locate_space space base time.now) self.new result }
+    {
+        let success = self.may_locate_space(space, base, time)?;
+        let found = self.spaces.locate(space, base, *time, &self.states);
+        giving(success, Gives::Location(found.unwrap_or(Location::Missing)))
     }
 }

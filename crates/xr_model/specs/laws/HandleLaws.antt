@@ -1,16 +1,16 @@
 -- What holds of the handles in every history. No live handle is without its parent, each stands in one place, and one
 -- that was destroyed is never live again. Destroying takes the handle and what is below it; neither that nor a new
 -- handle changes anything else that lives.
-use Rattle.std.specs.Prelude.{◌≡◌, ◌≤◌, ◌+◌, ◌==◌, ◌&&◌, ◌||◌, zero, suc, ℕ, Bool, true, false, not, List, [], ◌∷◌, ◌++◌, Some, None, if◌then◌else◌}
+use Rattle.std.specs.Prelude.{is_some, ◌≡◌, ◌≤◌, ◌+◌, ◌==◌, ◌&&◌, ◌||◌, zero, suc, ℕ, Bool, true, false, not, List, [], ◌∷◌, ◌++◌, Some, None, if◌then◌else◌}
 use Rattle.std.specs.List.{list_all}
 use Rattle.xr_types.specs.Code.{is_success}
 use Rattle.xr_types.specs.declared.handles.Kind.{Kind}
 use Rattle.xr_types.specs.declared.handles.Slot.{Slot}
-use Rattle.xr_model.specs.machine.Request.{Request, destroy_instance, destroy_session, destroy_space, destroy_action_set, destroy_action, Entry}
+use Rattle.xr_model.specs.machine.Request.{Request, create_instance, destroy_instance, get_system, string_to_path, path_to_string, poll_event, create_session, destroy_session, begin_session, end_session, request_exit_session, create_reference_space, create_action_space, destroy_space, locate_space, create_action_set, destroy_action_set, create_action, destroy_action, suggest_bindings, attach_sets, sync_actions, get_boolean, get_float, get_vector, get_pose_active, create_swapchain, destroy_swapchain, acquire_image, wait_image, paint, release_image, wait_frame, begin_frame, end_frame, mark, await_mark, leave, device, next_frame, image_done, Entry}
 use Rattle.xr_model.specs.machine.Handles.{Handles, has, is_live}
 use Rattle.xr_model.specs.machine.HandlePlaces.{kind_of, parent_of}
 use Rattle.xr_model.specs.machine.State.{Settings, State, opening}
-use Rattle.xr_model.specs.machine.Machine.{step, is_creation}
+use Rattle.xr_model.specs.machine.Machine.{step, rule, reads_of}
 use Rattle.xr_model.specs.machine.History.{after, IsLegal}
 
 -- each live handle of a row has its parent in the row above
@@ -31,12 +31,47 @@ NoOrphans = (settings : Settings) (es : List Entry) → AreUnder (after (opening
 
 -- the call asks for this handle's end
 abbrev pub destroys : Request → ℕ → Bool
+destroys (create_instance major minor) handle = false
 destroys (destroy_instance instance) handle = instance == handle
+destroys (get_system instance form) handle = false
+destroys (string_to_path instance text) handle = false
+destroys (path_to_string instance path capacity) handle = false
+destroys (poll_event instance) handle = false
+destroys (create_session instance system) handle = false
 destroys (destroy_session session) handle = session == handle
+destroys (begin_session session view) handle = false
+destroys (end_session session) handle = false
+destroys (request_exit_session session) handle = false
+destroys (create_reference_space session kind offset) handle = false
+destroys (create_action_space session action sub offset) handle = false
 destroys (destroy_space space) handle = space == handle
+destroys (locate_space space base time) handle = false
+destroys (create_action_set instance name localized priority) handle = false
 destroys (destroy_action_set set) handle = set == handle
+destroys (create_action set name kind subs localized) handle = false
 destroys (destroy_action action) handle = action == handle
-destroys _ handle = false
+destroys (suggest_bindings instance profile bindings) handle = false
+destroys (attach_sets session sets) handle = false
+destroys (sync_actions session active) handle = false
+destroys (get_boolean session action sub) handle = false
+destroys (get_float session action sub) handle = false
+destroys (get_vector session action sub) handle = false
+destroys (get_pose_active session action sub) handle = false
+destroys (create_swapchain session format width height fixed) handle = false
+destroys (destroy_swapchain chain) handle = false
+destroys (acquire_image chain) handle = false
+destroys (wait_image chain timeout start) handle = false
+destroys (paint chain stamp) handle = false
+destroys (release_image chain) handle = false
+destroys (wait_frame session) handle = false
+destroys (begin_frame session) handle = false
+destroys (end_frame session time blend layers) handle = false
+destroys (mark number value) handle = false
+destroys (await_mark number) handle = false
+destroys leave handle = false
+destroys (device what) handle = false
+destroys next_frame handle = false
+destroys image_done handle = false
 
 -- a handle that was destroyed is never live again
 abbrev pub DestroyedForGood : Type 0
@@ -79,5 +114,5 @@ DestroyingTakes =
 -- A call that gives a handle changes nothing else that lives.
 abbrev pub CreatingAdds : Type 0
 CreatingAdds =
-    (s : State) (e : Entry) → is_creation e.request ≡ true
+    (s : State) (e : Entry) → is_some (rule s.core (reads_of s e.request) e).creates ≡ true
     → (kind : Kind) (other : ℕ) → (other == e.given) ≡ false → is_live (step s e).0.core.handles kind other ≡ is_live s.core.handles kind other

@@ -1,18 +1,17 @@
 -- What holds of the listed sessions, of lost ones and of pending losses.
 use Rattle.std.specs.Prelude.{◌≡◌, ◌↔◌, ◌==◌, ◌&&◌, ◌||◌, ℕ, Bool, true, false, not, List, [], ◌∷◌, Option, Some, None, is_some, if◌then◌else◌}
-use Rattle.xr_types.specs.declared.code.Code.TheVariants.{SessionLost, SessionLossPending}
+use Rattle.xr_types.specs.declared.code.Code.TheVariants.{Success, SessionLost, SessionLossPending}
 use Rattle.xr_types.specs.declared.device.DeviceEvent.TheVariants as event
 use Rattle.xr_types.specs.declared.handles.Kind.TheVariants as kind
 use Rattle.xr_types.specs.declared.session.SessionState.TheVariants.{LossPending}
-use Rattle.xr_model.specs.machine.Request.{Request, create_session, begin_session, end_session, request_exit_session, create_reference_space, locate_space, attach_sets, device, Entry}
+use Rattle.xr_model.specs.machine.Request.{Request, create_instance, destroy_instance, get_system, string_to_path, path_to_string, poll_event, create_session, destroy_session, begin_session, end_session, request_exit_session, create_reference_space, create_action_space, destroy_space, locate_space, create_action_set, destroy_action_set, create_action, destroy_action, suggest_bindings, attach_sets, sync_actions, get_boolean, get_float, get_vector, get_pose_active, create_swapchain, destroy_swapchain, acquire_image, wait_image, paint, release_image, wait_frame, begin_frame, end_frame, mark, await_mark, leave, device, next_frame, image_done, Entry}
 use Rattle.xr_model.specs.machine.Handles.{Handles, is_live}
 use Rattle.xr_model.specs.machine.HandlePlaces.{parent_of}
-use Rattle.xr_model.specs.machine.Refusals.{first_of}
 use Rattle.xr_model.specs.machine.SessionLife.{is_state}
 use Rattle.xr_model.specs.machine.LiveSessions.{Session, session_at}
 use Rattle.xr_model.specs.machine.Rules.Session.{life_of}
 use Rattle.xr_model.specs.machine.State.{Settings, State, opening}
-use Rattle.xr_model.specs.machine.Rule.{refusals}
+use Rattle.xr_model.specs.machine.Rule.{refusal}
 use Rattle.xr_model.specs.machine.Machine.{reads_of, rule, step}
 use Rattle.xr_model.specs.machine.History.{after, IsLegal}
 
@@ -29,13 +28,47 @@ SessionsAreListed = (settings : Settings) (es : List Entry) → IsLegal settings
 
 -- the session that a call is made on; one on spaces is made where both live
 abbrev pub session_of : Handles → Request → Option ℕ
+session_of h (create_instance major minor) = None
+session_of h (destroy_instance instance) = None
+session_of h (get_system instance form) = None
+session_of h (string_to_path instance text) = None
+session_of h (path_to_string instance path capacity) = None
+session_of h (poll_event instance) = None
+session_of h (create_session instance system) = None
+session_of h (destroy_session session) = None
 session_of h (begin_session session view) = Some session
 session_of h (end_session session) = Some session
 session_of h (request_exit_session session) = Some session
-session_of h (create_reference_space session what offset) = Some session
-session_of h (attach_sets session sets) = Some session
+session_of h (create_reference_space session kind offset) = Some session
+session_of h (create_action_space session action sub offset) = None
+session_of h (destroy_space space) = None
 session_of h (locate_space space base time) = if is_live h kind.Space space && is_live h kind.Space base then parent_of h space else None
-session_of h _ = None
+session_of h (create_action_set instance name localized priority) = None
+session_of h (destroy_action_set set) = None
+session_of h (create_action set name kind subs localized) = None
+session_of h (destroy_action action) = None
+session_of h (suggest_bindings instance profile bindings) = None
+session_of h (attach_sets session sets) = Some session
+session_of h (sync_actions session active) = None
+session_of h (get_boolean session action sub) = None
+session_of h (get_float session action sub) = None
+session_of h (get_vector session action sub) = None
+session_of h (get_pose_active session action sub) = None
+session_of h (create_swapchain session format width height fixed) = None
+session_of h (destroy_swapchain chain) = None
+session_of h (acquire_image chain) = None
+session_of h (wait_image chain timeout start) = None
+session_of h (paint chain stamp) = None
+session_of h (release_image chain) = None
+session_of h (wait_frame session) = None
+session_of h (begin_frame session) = None
+session_of h (end_frame session time blend layers) = None
+session_of h (mark number value) = None
+session_of h (await_mark number) = None
+session_of h leave = None
+session_of h (device what) = None
+session_of h next_frame = None
+session_of h image_done = None
 
 -- the device is lost; a fault of it and a garbled line are that too
 abbrev pub is_device_lost : Request → Bool
@@ -67,9 +100,10 @@ LostSessions =
 
 -- ---- pending losses
 
--- A call on a session is answered by a pending loss exactly where nothing refuses it and the session is in that state.
+-- A call on a session is answered by a pending loss exactly where nothing refuses it, its own code is a plain success, and the
+-- session is in that state.
 abbrev pub PendingLosses : Type 0
 PendingLosses =
     (s : State) (e : Entry) (session : ℕ) → session_of s.core.handles e.request ≡ Some session
     → ((step s e).1.reply.code ≡ SessionLossPending)
-    ↔ ((first_of (refusals (rule s.core (reads_of s) e)) ≡ None) × (is_state (life_of s.core session).state LossPending ≡ true))
+    ↔ ((refusal e.short (rule s.core (reads_of s e.request) e) ≡ None) × ((rule s.core (reads_of s e.request) e).effect.code ≡ Success) × (is_state (life_of s.core session).state LossPending ≡ true))

@@ -1,7 +1,6 @@
 -- What the core is asked, and what it answers: calls that the machine may be asked to make, over buffers that it is lent.
-use Rattle.std.specs.Prelude.{◌≡◌, ℕ, Bool, true, false, List, ◌++◌, length, drop}
+use Rattle.std.specs.Prelude.{◌≡◌, ℕ, Bool, true, false, List, [], ◌++◌, length, drop, Option, Some, None}
 use Rattle.xr_types.specs.declared.calls.Actor.{Actor}
-use Rattle.xr_types.specs.declared.calls.Actor.TheVariants.{App, Compositor, Device}
 use Rattle.xr_types.specs.declared.calls.Gives.{Gives}
 use Rattle.xr_types.specs.declared.calls.Gives.TheVariants.{Handle}
 use Rattle.xr_types.specs.declared.calls.Reply.{Reply}
@@ -9,10 +8,11 @@ use Rattle.xr_types.specs.Code.{is_out_of_memory}
 use Rattle.xr_types.specs.declared.calls.Call.{Call}
 use Rattle.xr_types.specs.declared.calls.Step.{Step}
 use Rattle.xr_types.specs.declared.calls.Step.TheVariants.{Done, NotReady}
-use Rattle.xr_types.specs.Device.{is_mark, checks}
-use Rattle.xr_model.specs.machine.Request.{Request, path_to_string, mark, await_mark, device, next_frame, image_done, Entry, request_of}
-use Rattle.xr_model.specs.machine.State.{CoreState, State, CellReads}
-use Rattle.xr_model.specs.machine.Machine.{step, ready, core_step, core_ready, IsPresent, IsAllowed, CoreAllows, is_built}
+use Rattle.xr_model.specs.machine.Device.{is_built_event}
+use Rattle.xr_model.specs.machine.Rule.{Rule, is_by}
+use Rattle.xr_model.specs.machine.Request.{Request, create_instance, destroy_instance, get_system, string_to_path, path_to_string, poll_event, create_session, destroy_session, begin_session, end_session, request_exit_session, create_reference_space, destroy_space, locate_space, create_action_set, destroy_action_set, create_action, destroy_action, suggest_bindings, attach_sets, mark, await_mark, leave, device, next_frame, Entry, Outcome, request_of}
+use Rattle.xr_model.specs.machine.State.{CoreState, State, CellReads, with_apps, opening_core}
+use Rattle.xr_model.specs.machine.Machine.{rule_of, step, ready, core_step, core_ready, IsPresent, IsAllowed, CoreAllows}
 
 -- ---- entries and buffers
 
@@ -31,89 +31,95 @@ entry_of who what answer = record { actor = who; request = what; given = given_b
 
 -- ---- what it is asked
 
-abbrev pub IsApp : Actor → Type 0
-IsApp (App k) = Unit {0}
-IsApp Compositor = ⊥
-IsApp Device = ⊥
+-- the calls that the core answers
+abbrev pub is_built : Request → Bool
+is_built (create_instance major minor) = true
+is_built (destroy_instance instance) = true
+is_built (get_system instance form) = true
+is_built (string_to_path instance text) = true
+is_built (path_to_string instance path capacity) = true
+is_built (poll_event instance) = true
+is_built (create_session instance system) = true
+is_built (destroy_session session) = true
+is_built (begin_session session view) = true
+is_built (end_session session) = true
+is_built (request_exit_session session) = true
+is_built (create_reference_space session kind offset) = true
+is_built (destroy_space space) = true
+is_built (locate_space space base time) = true
+is_built (create_action_set instance name localized priority) = true
+is_built (destroy_action_set set) = true
+is_built (create_action set name kind subs localized) = true
+is_built (destroy_action action) = true
+is_built (suggest_bindings instance profile list) = true
+is_built (attach_sets session handles) = true
+is_built (mark number value) = true
+is_built (await_mark number) = true
+is_built leave = true
+is_built (device what) = is_built_event what
+is_built next_frame = true
+is_built _ = false
 
-abbrev pub IsCompositor : Actor → Type 0
-IsCompositor (App k) = ⊥
-IsCompositor Compositor = Unit {0}
-IsCompositor Device = ⊥
+-- The rule of a call that is asked for. Who makes a call, what it is lent and which numbers it may have is the same in every
+-- state, so it is read off in the state before any call.
+abbrev pub no_reads : CellReads
+no_reads = record { unused = true; stamps = []; held = [] }
 
-abbrev pub IsDevice : Actor → Type 0
-IsDevice (App k) = ⊥
-IsDevice Compositor = ⊥
-IsDevice Device = Unit {0}
+abbrev pub asked : Actor → Request → Rule
+asked who what = rule_of (opening_core (with_apps 0)) no_reads who 0 what
 
--- who makes which call: applications, but for the device's events and the compositor's calls
-abbrev pub IsCaller : Actor → Request → Type 0
-IsCaller who (device what) = IsDevice who
-IsCaller who next_frame = IsCompositor who
-IsCaller who image_done = IsCompositor who
-IsCaller who _ = IsApp who
+-- a buffer has the size that is asked for; where none is asked for it may have any
+abbrev pub Fits : Option ℕ → ℕ → Type 0
+Fits None size = Unit {0}
+Fits (Some wanted) size = size ≡ wanted
 
--- which numbers a call may have: marks are 1 to 64, and a device's event checks
-abbrev pub HasNumbers : Request → Type 0
-HasNumbers (mark number value) = is_mark number ≡ true
-HasNumbers (await_mark number) = is_mark number ≡ true
-HasNumbers (device what) = checks what ≡ true
-HasNumbers _ = Unit {0}
-
--- how many bytes a call wants to be lent
-abbrev pub FitsBuffer : Request → ℕ → Type 0
-FitsBuffer (path_to_string instance path capacity) size = size ≡ capacity
-FitsBuffer _ size = Unit {0}
-
--- What an actor may ask of the core: it is there, the call is built and its own, its numbers are in range, and the
--- buffer has the size asked for.
-pub record MayMake (s : CoreState) (who : Actor) (what : Request) (size : ℕ) : Type 0 where
-  pub present : IsPresent s who
+-- What an actor may ask of a core, whatever the core keeps: the call is built and the actor's own, its numbers are in range,
+-- and the buffer has the size asked for.
+pub record MayAsk (who : Actor) (what : Request) (size : ℕ) : Type 0 where
   pub built : is_built what ≡ true
-  pub caller : IsCaller who what
-  pub numbers : HasNumbers what
-  pub buffer : FitsBuffer what size
+  pub caller : is_by (asked who what).caller who ≡ true
+  pub numbers : (asked who what).in_range ≡ true
+  pub buffer : Fits (asked who what).lent size
 
--- ---- what is kept and answered, where the cells tell so much
+-- And in a state: the actor is there.
+pub record MayMake (s : CoreState) (who : Actor) (what : Request) (size : ℕ) : Type 0 where
+  pub asks : MayAsk who what size
+  pub present : IsPresent s who
 
--- A reply and the bytes over a buffer are the outcome of an allowed and ready entry, and new is what is kept
--- after it.
-pub record CoreAnswers (reads : CellReads) (old : CoreState) (e : Entry) (new : CoreState) (answer : Reply) (before after : List ℕ) : Type 0 where
-  pub allowed : CoreAllows old reads e
-  pub is_ready : core_ready old reads e ≡ true
-  pub leads : new ≡ (core_step old reads e).0
-  pub replies : answer ≡ (core_step old reads e).1.reply
-  pub writes : after ≡ written_over (core_step old reads e).1.text before
+-- ---- what is answered, and to which state it leads
+
+-- A reply and the bytes over a buffer are the outcome of an entry that is allowed and ready, and new is what it leads to.
+pub record AnswersBy {S : Type 0} (allows : Type 0) (readiness : Bool) (led : S × Outcome) (new : S) (answer : Reply) (before after : List ℕ) : Type 0 where
+  pub allowed : allows
+  pub is_ready : readiness ≡ true
+  pub leads : new ≡ led.0
+  pub replies : answer ≡ led.1.reply
+  pub writes : after ≡ written_over led.1.text before
 
 -- a call that isn't made leaves all as it was
-pub record CoreWaits (reads : CellReads) (old : CoreState) (e : Entry) (new : CoreState) (before after : List ℕ) : Type 0 where
-  pub not_ready : core_ready old reads e ≡ false
+pub record WaitsBy {S : Type 0} (readiness : Bool) (old new : S) (before after : List ℕ) : Type 0 where
+  pub not_ready : readiness ≡ false
   pub same : new ≡ old
   pub unwritten : after ≡ before
 
--- what is answered to a call
+-- of what a core keeps, where the cells tell so much
+abbrev pub CoreAnswers : CellReads → CoreState → Entry → CoreState → Reply → List ℕ → List ℕ → Type 0
+CoreAnswers reads old e new answer before after = AnswersBy (CoreAllows old reads e) (core_ready old reads e) (core_step old reads e) new answer before after
+
+abbrev pub CoreWaits : CellReads → CoreState → Entry → CoreState → List ℕ → List ℕ → Type 0
+CoreWaits reads old e new before after = WaitsBy (core_ready old reads e) old new before after
+
 abbrev pub CoreApplies : CellReads → CoreState → CoreState → Actor → Call → List ℕ → List ℕ → Step → Type 0
 CoreApplies reads old new who call before after (Done answer) = CoreAnswers reads old (entry_of who (request_of call) answer) new answer before after
 CoreApplies reads old new who call before after NotReady = (given : ℕ) (short : Bool) → CoreWaits reads old (record { actor = who; request = request_of call; given = given; short = short }) new before after
 
--- ---- the same of whole states
+-- the same of whole states, whose cells tell it
+abbrev pub Answers : State → Entry → State → Reply → List ℕ → List ℕ → Type 0
+Answers old e new answer before after = AnswersBy (IsAllowed old e) (ready old e) (step old e) new answer before after
 
--- A reply and the bytes over a buffer are the outcome of an allowed and ready entry, and new is the
--- state that it leads to.
-pub record Answers (old : State) (e : Entry) (new : State) (answer : Reply) (before after : List ℕ) : Type 0 where
-  pub allowed : IsAllowed old e
-  pub is_ready : ready old e ≡ true
-  pub leads : new ≡ (step old e).0
-  pub replies : answer ≡ (step old e).1.reply
-  pub writes : after ≡ written_over (step old e).1.text before
+abbrev pub Waits : State → Entry → State → List ℕ → List ℕ → Type 0
+Waits old e new before after = WaitsBy (ready old e) old new before after
 
--- a call that isn't made leaves all as it was
-pub record Waits (old : State) (e : Entry) (new : State) (before after : List ℕ) : Type 0 where
-  pub not_ready : ready old e ≡ false
-  pub same : new ≡ old
-  pub unwritten : after ≡ before
-
--- what the core answers to a call, from old to new
 abbrev pub Applies : State → State → Actor → Call → List ℕ → List ℕ → Step → Type 0
 Applies old new who call before after (Done answer) = Answers old (entry_of who (request_of call) answer) new answer before after
 Applies old new who call before after NotReady = (given : ℕ) (short : Bool) → Waits old (record { actor = who; request = request_of call; given = given; short = short }) new before after

@@ -2,7 +2,7 @@
 use Rattle.std.specs.Prelude.{ℕ}
 use Rattle.xr_model.specs.machine.Bindings.{without_suggestions}
 use Rattle.xr_model.specs.machine.Handles.{without, destroyed_by}
-use Rattle.xr_model.specs.machine.LiveSessions.{still_live}
+use Rattle.xr_model.specs.machine.LiveSessions.{sessions_left}
 use Rattle.xr_model.specs.machine.Sets.{without_inputs}
 use Rattle.xr_model.specs.machine.Spaces.{without_spaces}
 use Rattle.xr_model.specs.machine.State.{CoreState}
@@ -10,7 +10,7 @@ use Rattle.xr_model.specs.machine.State.{CoreState}
 abbrev pub without_handle : CoreState → ℕ → CoreState
 without_handle s handle = record s {
   handles = without s.handles handle;
-  sessions = still_live (without s.handles handle) s.sessions;
+  sessions = sessions_left (without s.handles handle) (destroyed_by s.handles handle) s.sessions;
   sets = without_inputs s.sets (destroyed_by s.handles handle);
   suggestions = without_suggestions s.suggestions (destroyed_by s.handles handle);
   spaces = without_spaces s.spaces (destroyed_by s.handles handle);

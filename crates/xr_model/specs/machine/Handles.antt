@@ -136,3 +136,7 @@ without h handle =
       spaces = cleared handle parents h.spaces;
       chains = cleared handle parents h.chains;
     }
+
+-- what is live without one handle of a kind below which nothing stands
+abbrev pub without_alone : Handles → Kind → ℕ → Handles
+without_alone h kind handle = with_row h kind (cleared handle [] (row_of h kind))

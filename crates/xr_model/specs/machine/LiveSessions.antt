@@ -1,19 +1,21 @@
 -- The live sessions (OpenXR 1.0 chapter 9, "Session"), in the order of their creation, and what their changes tell.
-use Rattle.std.specs.Prelude.{ℕ, ◌==◌, false, List, [], ◌∷◌, map, Option, Some, None, if◌then◌else◌}
+use Rattle.std.specs.Prelude.{ℕ, ◌==◌, not, false, List, [], ◌∷◌, map, Option, Some, None, option_map, if◌then◌else◌}
 use Rattle.std.specs.List.{find, filter}
 use Rattle.xr_types.specs.declared.handles.Kind.TheVariants as kind
 use Rattle.xr_types.specs.declared.session.Event.TheVariants as event
 use Rattle.xr_types.specs.declared.session.SessionState.{SessionState}
 use Rattle.xr_types.specs.declared.session.SessionState.TheVariants.{Idle}
-use Rattle.xr_model.specs.machine.Handles.{Handles, is_live}
+use Rattle.xr_model.specs.machine.Handles.{Handles, is_live, is_among}
 use Rattle.xr_model.specs.machine.Events.{Queue, pushed}
 use Rattle.xr_model.specs.machine.SessionLife.{Life, Changed}
 
--- Its handle; its ordinal, which is the count of sessions that were created in the run, itself included; and its life.
+-- Its handle; its ordinal, which is the count of sessions that were created in the run, itself included; its life; and the
+-- action sets that it has attached, each once, where it has attached any.
 pub record Session : Type 0 where
   pub handle : ℕ
   pub ordinal : ℕ
   pub life : Life
+  pub attached : Option (List ℕ)
 
 -- the session with this handle
 abbrev pub session_at : List Session → ℕ → Option Session
@@ -30,14 +32,34 @@ life_in (Some x) = x.life
 abbrev pub with_life : Life → Session → Session
 with_life life x = record x { life = life }
 
+abbrev pub with_attached : List ℕ → Session → Session
+with_attached sets x = record x { attached = Some sets }
+
+-- a destroyed set is attached no more
+abbrev pub without_sets : List ℕ → Session → Session
+without_sets gone x = record x { attached = option_map (filter (λ set. not (is_among gone set))) x.attached }
+
+-- the action sets that it has attached, where it has attached any
+abbrev pub attached_in : Option Session → Option (List ℕ)
+attached_in None = None
+attached_in (Some x) = x.attached
+
+-- the sessions once that with this handle has changed so
+abbrev pub with_session_at : ℕ → (Session → Session) → List Session → List Session
+with_session_at handle f [] = []
+with_session_at handle f (x ∷ xs) = if x.handle == handle then f x ∷ xs else x ∷ with_session_at handle f xs
+
 -- the sessions once that with this handle lives so
 abbrev pub with_life_at : ℕ → Life → List Session → List Session
-with_life_at handle life [] = []
-with_life_at handle life (x ∷ xs) = if x.handle == handle then with_life life x ∷ xs else x ∷ with_life_at handle life xs
+with_life_at handle life xs = with_session_at handle (with_life life) xs
 
 -- the sessions whose handles are live
 abbrev pub still_live : Handles → List Session → List Session
 still_live h xs = filter (λ x. is_live h kind.Session x.handle) xs
+
+-- the sessions that are left once these handles went, of which only these are live
+abbrev pub sessions_left : Handles → List ℕ → List Session → List Session
+sessions_left h gone xs = map (without_sets gone) (still_live h xs)
 
 -- ---- what is told of a session
 

@@ -70,7 +70,14 @@ text_at atoms k = if k == 0 then None else slice_get atoms (k - 1)
 
 -- ---- asking for the atom of a text
 
--- how a text is refused: it is no path, it is one too many, or memory is short for it
+-- how a text is refused: it is no path, or it is one too many
+abbrev pub intern_checks : List (List ℕ) → List ℕ → List Refusal
+intern_checks atoms text =
+    when (not (is_path_text text)) PathFormatInvalid
+    ∷ when (is_new atoms text && nat_le 1024 (length atoms)) PathCountExceeded
+    ∷ []
+
+-- the same of the part that keeps atoms, where memory may be short for the text
 abbrev pub intern_refusals : List (List ℕ) → List ℕ → Bool → List Refusal
 intern_refusals atoms text short =
     when (not (is_path_text text)) PathFormatInvalid

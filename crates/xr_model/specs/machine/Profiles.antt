@@ -43,15 +43,64 @@ aim = 42
 abbrev pub entry_name : ℕ → List ℕ
 entry_name row = if row == grip then codes "grip/pose" else (if row == aim then codes "aim/pose" else input_name row)
 
+-- the rows of three buttons
+abbrev pub select_click : ℕ
+select_click = 1
+
+abbrev pub menu_click : ℕ
+menu_click = 2
+
+abbrev pub system_click : ℕ
+system_click = 3
+
+-- `grip/pose`, `aim/pose`
+abbrev pub pose_rows : List ℕ
+pose_rows = grip ∷ aim ∷ []
+
+-- `select/click`, `menu/click`; and the poses
+abbrev pub simple_rows : List ℕ
+simple_rows = select_click ∷ menu_click ∷ pose_rows
+
+-- `x/click`, `x/touch`, `y/click`, `y/touch`, `menu/click`
+abbrev pub touch_left : List ℕ
+touch_left = 9 ∷ 10 ∷ 11 ∷ 12 ∷ menu_click ∷ []
+
+-- `a/click`, `a/touch`, `b/click`, `b/touch`, `system/click`
+abbrev pub touch_right : List ℕ
+touch_right = 5 ∷ 6 ∷ 7 ∷ 8 ∷ system_click ∷ []
+
+-- `squeeze/value`, `trigger/value`, `trigger/touch`, `thumbstick/x`, `thumbstick/y`, `thumbstick/click`, `thumbstick/touch`,
+-- `thumbrest/touch`; and the poses
+abbrev pub touch_both : List ℕ
+touch_both = 14 ∷ 16 ∷ 17 ∷ 18 ∷ 19 ∷ 20 ∷ 21 ∷ 22 ∷ pose_rows
+
+-- `system/click`, `squeeze/click`, `menu/click`, `trigger/click`, `trigger/value`, `trackpad/x`, `trackpad/y`, `trackpad/click`,
+-- `trackpad/touch`; and the poses
+abbrev pub vive_rows : List ℕ
+vive_rows = system_click ∷ 13 ∷ menu_click ∷ 15 ∷ 16 ∷ 23 ∷ 24 ∷ 25 ∷ 26 ∷ pose_rows
+
+-- the clicks of `menu`, `view`, `a`, `b`, `x`, `y`, `dpad_up`, `dpad_down`, `dpad_left`, `dpad_right`, `shoulder_left`,
+-- `shoulder_right`, `thumbstick_left`, `thumbstick_right`
+abbrev pub xbox_clicks : List ℕ
+xbox_clicks = menu_click ∷ 4 ∷ 5 ∷ 7 ∷ 9 ∷ 11 ∷ 27 ∷ 28 ∷ 29 ∷ 30 ∷ 31 ∷ 32 ∷ 35 ∷ 38 ∷ []
+
+-- `trigger_left/value`, `trigger_right/value`, `thumbstick_left/x`, `thumbstick_left/y`, `thumbstick_right/x`, `thumbstick_right/y`
+abbrev pub xbox_values : List ℕ
+xbox_values = 39 ∷ 40 ∷ 33 ∷ 34 ∷ 36 ∷ 37 ∷ []
+
+-- all of a gamepad
+abbrev pub xbox_rows : List ℕ
+xbox_rows = xbox_clicks ++ xbox_values
+
 -- The rows that a profile has at a user path, in the order of the standard's lists.
 abbrev pub rows_at : Profile → User → List ℕ
-rows_at profile.Simple user.Left = 1 ∷ 2 ∷ grip ∷ aim ∷ []
-rows_at profile.Simple user.Right = 1 ∷ 2 ∷ grip ∷ aim ∷ []
-rows_at profile.Touch user.Left = 9 ∷ 10 ∷ 11 ∷ 12 ∷ 2 ∷ 14 ∷ 16 ∷ 17 ∷ 18 ∷ 19 ∷ 20 ∷ 21 ∷ 22 ∷ grip ∷ aim ∷ []
-rows_at profile.Touch user.Right = 5 ∷ 6 ∷ 7 ∷ 8 ∷ 3 ∷ 14 ∷ 16 ∷ 17 ∷ 18 ∷ 19 ∷ 20 ∷ 21 ∷ 22 ∷ grip ∷ aim ∷ []
-rows_at profile.Vive user.Left = 3 ∷ 13 ∷ 2 ∷ 15 ∷ 16 ∷ 23 ∷ 24 ∷ 25 ∷ 26 ∷ grip ∷ aim ∷ []
-rows_at profile.Vive user.Right = 3 ∷ 13 ∷ 2 ∷ 15 ∷ 16 ∷ 23 ∷ 24 ∷ 25 ∷ 26 ∷ grip ∷ aim ∷ []
-rows_at profile.Xbox user.Gamepad = 2 ∷ 4 ∷ 5 ∷ 7 ∷ 9 ∷ 11 ∷ 27 ∷ 28 ∷ 29 ∷ 30 ∷ 31 ∷ 32 ∷ 35 ∷ 38 ∷ 39 ∷ 40 ∷ 33 ∷ 34 ∷ 36 ∷ 37 ∷ []
+rows_at profile.Simple user.Left = simple_rows
+rows_at profile.Simple user.Right = simple_rows
+rows_at profile.Touch user.Left = touch_left ++ touch_both
+rows_at profile.Touch user.Right = touch_right ++ touch_both
+rows_at profile.Vive user.Left = vive_rows
+rows_at profile.Vive user.Right = vive_rows
+rows_at profile.Xbox user.Gamepad = xbox_rows
 rows_at _ _ = []
 
 -- the outputs that it has there
@@ -80,6 +129,11 @@ abbrev pub before_slash : List ℕ → List ℕ
 before_slash [] = []
 before_slash (b ∷ bs) = if b == 47 then [] else b ∷ before_slash bs
 
+-- its component: what stands behind that
+abbrev pub behind_slash : List ℕ → List ℕ
+behind_slash [] = []
+behind_slash (b ∷ bs) = if b == 47 then bs else behind_slash bs
+
 -- ---- what an entry picks
 
 -- the row among these of an identifier with its component
@@ -97,11 +151,12 @@ abbrev pub is_pose : ℕ → Bool
 is_pose row = row == grip || row == aim
 
 -- clicks and touches are digital; values and axes are analogue
-abbrev pub digital_rows : List ℕ
-digital_rows = 1 ∷ 2 ∷ 3 ∷ 4 ∷ 5 ∷ 6 ∷ 7 ∷ 8 ∷ 9 ∷ 10 ∷ 11 ∷ 12 ∷ 13 ∷ 15 ∷ 17 ∷ 20 ∷ 21 ∷ 22 ∷ 25 ∷ 26 ∷ 27 ∷ 28 ∷ 29 ∷ 30 ∷ 31 ∷ 32 ∷ 35 ∷ 38 ∷ []
+abbrev pub digital_components : List (List ℕ)
+digital_components = codes "click" ∷ codes "touch" ∷ []
 
+-- an input is digital where its component is one of these
 abbrev pub is_digital : ℕ → Bool
-is_digital row = list_any (λ r. r == row) digital_rows
+is_digital row = list_any (λ name. bytes_eq (behind_slash (input_name row)) name) digital_components
 
 abbrev pub part_of : ℕ → Part
 part_of row = if is_digital row then part.Digital row else part.Analogue row

@@ -1,6 +1,6 @@
 -- Action sets and their actions (OpenXR 1.0 chapter 11, "Action Sets" and "Actions", xrCreateActionSet, xrCreateAction and
 -- xrAttachSessionActionSets). How many there may be is this project's own.
-use Rattle.std.specs.Prelude.{ℕ, ◌==◌, ◌&&◌, not, Bool, true, false, List, [], ◌∷◌, ◌++◌, length, map, replicate, slice_get, Option, option_map, unwrap_or, if◌then◌else◌}
+use Rattle.std.specs.Prelude.{ℕ, ◌==◌, ◌&&◌, not, Bool, true, false, List, [], ◌∷◌, ◌++◌, length, map, replicate, slice_get, Option, option_map, is_some, unwrap_or, if◌then◌else◌}
 use Rattle.std.specs.Cmp.Lexicographic.{pointwise}
 use Rattle.std.specs.List.{find, filter, list_all, list_any}
 use Rattle.xr_types.specs.declared.code.Code.TheVariants.{ValidationFailure, PathFormatInvalid, NameDuplicated, NameInvalid, ActionsetsAlreadyAttached, LocalizedNameDuplicated, LocalizedNameInvalid}
@@ -30,14 +30,13 @@ is_declared declared who = unwrap_or (slice_get declared (user_place who)) false
 
 -- ---- sets and actions
 
--- An action set by its handle: its name, its name for people, its priority, whether the session has it attached, and whether
--- it is sealed: whether any session ever attached it.
+-- An action set by its handle: its name, its name for people, its priority, and whether it is sealed: whether any session
+-- ever attached it.
 pub record Set : Type 0 where
   pub handle : ℕ
   pub name : List ℕ
   pub localized : List ℕ
   pub priority : ℕ
-  pub attached : Bool
   pub sealed : Bool
 
 -- An action by its handle: its set, its name, its name for people, its type, and for each user path whether it declares it.
@@ -49,14 +48,13 @@ pub record Action : Type 0 where
   pub type : ActionType
   pub declared : List Bool
 
--- the sets and the actions in the order of their creation, and whether the session has attached sets
+-- the sets and the actions in the order of their creation
 pub record Sets : Type 0 where
   pub sets : List Set
   pub actions : List Action
-  pub has_attached : Bool
 
 abbrev pub no_sets : Sets
-no_sets = record { sets = []; actions = []; has_attached = false }
+no_sets = record { sets = []; actions = [] }
 
 abbrev pub set_at : Sets → ℕ → Option Set
 set_at s handle = find (λ x. x.handle == handle) s.sets
@@ -74,9 +72,6 @@ set_of_action s action = option_map (λ x. x.set) (action_at s action)
 
 abbrev pub type_of_action : Sets → ℕ → Option ActionType
 type_of_action s action = option_map (λ x. x.type) (action_at s action)
-
-abbrev pub is_attached : Sets → ℕ → Bool
-is_attached s set = unwrap_or (option_map (λ x. x.attached) (set_at s set)) false
 
 abbrev pub is_sealed : Sets → ℕ → Bool
 is_sealed s set = unwrap_or (option_map (λ x. x.sealed) (set_at s set)) false
@@ -117,15 +112,15 @@ action_checks s set name = when (is_sealed s set) ActionsetsAlreadyAttached ∷ 
 abbrev pub action_label_checks : Sets → ℕ → List ℕ → List Refusal
 action_label_checks s set localized = label_checks localized (list_any (λ x. x.set == set && same_text x.localized localized) s.actions)
 
--- what refuses attaching these sets
-abbrev pub attach_checks : Sets → List ℕ → List Refusal
-attach_checks s handles = when s.has_attached ActionsetsAlreadyAttached ∷ when (length handles == 0) ValidationFailure ∷ []
+-- what refuses attaching these sets, told what the session has attached
+abbrev pub attach_checks : Option (List ℕ) → List ℕ → List Refusal
+attach_checks attached handles = when (is_some attached) ActionsetsAlreadyAttached ∷ when (length handles == 0) ValidationFailure ∷ []
 
 -- ---- what changes them
 
 abbrev pub with_set : Sets → ℕ → List ℕ → List ℕ → ℕ → Sets
 with_set s handle name localized priority = record s {
-  sets = s.sets ++ record { handle = handle; name = name; localized = localized; priority = priority; attached = false; sealed = false } ∷ [];
+  sets = s.sets ++ record { handle = handle; name = name; localized = localized; priority = priority; sealed = false } ∷ [];
 }
 
 abbrev pub with_action : Sets → Action → Sets
@@ -145,17 +140,14 @@ without_inputs s handles = record s {
   actions = filter (λ x. not (is_among handles x.handle)) s.actions;
 }
 
--- a set, attached where it is among these
-abbrev pub attached_by : List ℕ → Set → Set
-attached_by handles x = if is_among handles x.handle then record x { attached = true; sealed = true } else x
+-- a set, sealed where it is among these
+abbrev pub sealed_by : List ℕ → Set → Set
+sealed_by handles x = if is_among handles x.handle then record x { sealed = true } else x
 
--- the session attached these sets; one that is named twice counts once
-abbrev pub with_attached : Sets → List ℕ → Sets
-with_attached s handles = record s { sets = map (attached_by handles) s.sets; has_attached = true }
+-- the sets of these handles, each once, in the order of their creation
+abbrev pub sets_named : Sets → List ℕ → List ℕ
+sets_named s handles = map (λ x. x.handle) (filter (λ x. is_among handles x.handle) s.sets)
 
-abbrev pub detached : Set → Set
-detached x = record x { attached = false }
-
--- the session is gone; what it sealed stays sealed
-abbrev pub without_attached : Sets → Sets
-without_attached s = record s { sets = map detached s.sets; has_attached = false }
+-- a session attached these sets
+abbrev pub with_sealed : Sets → List ℕ → Sets
+with_sealed s handles = record s { sets = map (sealed_by handles) s.sets }

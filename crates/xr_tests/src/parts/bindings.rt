@@ -133,10 +133,14 @@ const SUGGESTED: [Row; 11] = [
 
 #[test]
 fn a_list_takes_the_place_of_the_one_before(rt: HostRuntime) -> Result<(), Fail> {
-    let mut bindings = Bindings::start(rt.alloc());
+    let mut bindings = Bindings::start();
     assert!(rt; are_suggested(&bindings, [NONE; 4]), "nothing at first");
     for (place, (profile, list, code, lists)) in SUGGESTED.iter().enumerate() {
-        assert_eq!(rt; bindings.suggest(*profile, list), *code, "row {place}");
+        assert_eq!(rt;
+            bindings.suggest(rt.alloc(), *profile, list),
+            *code,
+            "row {place}"
+        );
         assert!(rt; are_suggested(&bindings, *lists), "row {place}");
     }
     Ok(())
@@ -159,17 +163,24 @@ const LEFT: [(u64, Lists); 3] = [
 
 #[test]
 fn an_action_takes_its_suggestions(rt: HostRuntime) -> Result<(), Fail> {
-    let mut bindings = Bindings::start(rt.alloc());
-    bindings.suggest(Profile::Simple, MIXED);
-    bindings.suggest(Profile::Touch, FEW);
-    bindings.suggest(Profile::Xbox, &[FIRE_BY_SQUEEZE, FIRE_BY_SQUEEZE]);
+    let mut bindings = Bindings::start();
+    bindings.suggest(rt.alloc(), Profile::Simple, MIXED);
+    bindings.suggest(rt.alloc(), Profile::Touch, FEW);
+    bindings.suggest(
+        rt.alloc(),
+        Profile::Xbox,
+        &[FIRE_BY_SQUEEZE, FIRE_BY_SQUEEZE],
+    );
     for (action, lists) in LEFT {
         bindings.forget(action);
         assert!(rt; are_suggested(&bindings, lists), "without {action}");
     }
     bindings.clear();
     assert!(rt; are_suggested(&bindings, [NONE; 4]), "cleared");
-    assert_eq!(rt; bindings.suggest(Profile::Vive, FEW), Code::Success);
+    assert_eq!(rt;
+        bindings.suggest(rt.alloc(), Profile::Vive, FEW),
+        Code::Success
+    );
     assert!(rt; are_suggested(&bindings, [NONE, NONE, FEW, NONE]), "anew");
     Ok(())
 }

@@ -1,4 +1,4 @@
-// What no run shows yet of action sets and actions: priorities, what is attached, what an action is, and what goes with a
+// What no run shows yet of action sets and actions: priorities, which sets are named, what an action is, and what goes with a
 // handle alone.
 ghost use Rattle.std.specs.Prelude.{◌≤◌, length};
 
@@ -86,36 +86,40 @@ fn two_sets() -> Created {
     created
 }
 
+/// Handles that are named, and the sets among them, each once.
+const NAMED: [(&[u64], &[u64]); 5] = [
+    (&[], &[]),
+    (&[2, 2], &[2]),
+    (&[3, 1], &[1]),
+    (&[2, 9, 1, 2], &[1, 2]),
+    (&[7], &[]),
+];
+
+#[test]
+fn sets_are_named_once(rt: HostRuntime) -> Result<(), Fail> {
+    let created = two_sets();
+    for (handles, sets) in NAMED {
+        assert_eq!(rt; created.sets.named(handles).as_slice(), sets);
+    }
+    Ok(())
+}
+
 #[test]
 fn attached_sets_are_sealed(rt: HostRuntime) -> Result<(), Fail> {
     let mut created = two_sets();
-    assert_eq!(rt; created.sets.may_attach(&[]), Code::ValidationFailure);
-    assert_eq!(rt; created.sets.may_attach(&[2, 2]), Code::Success);
-    created.sets.attach(&[2, 2]);
-    for (set, attached) in [(1, false), (2, true), (3, false)] {
-        assert_eq!(rt; created.sets.attached(set), attached);
-        assert_eq!(rt; created.sets.sealed(set), attached);
+    created.sets.seal(&[2, 2, 3]);
+    for (set, sealed) in [(1, false), (2, true), (3, false)] {
+        assert_eq!(rt; created.sets.sealed(set), sealed);
     }
-    assert_eq!(rt;
-        created.sets.may_attach(&[]),
-        Code::ActionsetsAlreadyAttached
-    );
     assert_eq!(rt;
         created.create_float(9, 2, b"", b""),
         Code::ActionsetsAlreadyAttached
     );
     assert_eq!(rt; created.create_float(9, 1, b"fire", b"Fire"), Code::Success);
-    created.sets.detach();
-    assert_eq!(rt; created.sets.attached(2), false);
+    assert_eq!(rt; created.sets.is_in_sealed_set(9), false);
+    created.sets.seal(&[1]);
+    assert_eq!(rt; created.sets.is_in_sealed_set(9), true);
     assert_eq!(rt; created.sets.sealed(2), true);
-    assert_eq!(rt; created.sets.may_attach(&[1]), Code::Success);
-    assert_eq!(rt;
-        created.create_float(9, 2, b"fire", b"Fire"),
-        Code::ActionsetsAlreadyAttached
-    );
-    created.sets.attach(&[1]);
-    assert_eq!(rt; created.sets.attached(1), true);
-    assert_eq!(rt; created.sets.attached(2), false);
     Ok(())
 }
 
@@ -150,16 +154,12 @@ fn a_handle_takes_nothing_else(rt: HostRuntime) -> Result<(), Fail> {
     let mut created = two_sets();
     assert_eq!(rt; created.create_float(8, 1, b"fire", b"Fire"), Code::Success);
     assert_eq!(rt; created.create_float(9, 1, b"jump", b"Jump"), Code::Success);
-    created.sets.attach(&[1]);
+    created.sets.seal(&[1]);
     created.remove(1);
     assert_eq!(rt; created.sets.priority(1), None);
     assert_eq!(rt; created.sets.sealed(1), false);
     assert_eq!(rt; created.sets.priority(2), Some(2));
     assert_eq!(rt; created.sets.set_of(8), Some(1));
-    assert_eq!(rt;
-        created.sets.may_attach(&[2]),
-        Code::ActionsetsAlreadyAttached
-    );
     created.remove(8);
     created.remove(7);
     assert_eq!(rt; created.sets.set_of(8), None);

@@ -2,7 +2,7 @@
 ghost use Rattle.std.specs.Prelude.{◌≡◌, []};
 
 use std::test::Fail;
-use xr_states::{Changes, Session};
+use xr_states::{Changes, Life};
 use xr_types::SessionState::{
     Exiting, Focused, Idle, LossPending, Ready, Stopping, Synchronized, Visible,
 };
@@ -21,7 +21,7 @@ enum Act {
 }
 
 /// Makes an act happen. The code is `Success` where the session answers none.
-fn carry_out(session: &mut Session, act: Act, out: &mut Changes) -> Code
+fn carry_out(session: &mut Life, act: Act, out: &mut Changes) -> Code
     requires { out.old ≡ [] }
 {
     match act {
@@ -113,13 +113,13 @@ const FOLLOW_NO_WISH: [(SessionState, &[Act]); 4] = [
 ];
 
 /// A session at rest.
-fn resting() -> Session {
+fn resting() -> Life {
     let mut out = Changes::new();
-    Session::start(Wish::Rest, &mut out)
+    Life::start(Wish::Rest, &mut out)
 }
 
 /// Whether an act answers with this code and goes through these states.
-fn goes(session: &mut Session, act: Act, code: Code, told: &[SessionState]) -> bool {
+fn goes(session: &mut Life, act: Act, code: Code, told: &[SessionState]) -> bool {
     let mut out = Changes::new();
     carry_out(session, act, &mut out) == code && out.as_slice() == told
 }

@@ -1,6 +1,6 @@
 -- Suggested bindings (OpenXR 1.0 chapter 11, xrSuggestInteractionProfileBindings).
-use Rattle.std.specs.Prelude.{ℕ, Bool, false, List, [], ◌∷◌, ◌++◌, flat_map, filter_map, Option, Some, None, is_none, option_map, option_and_then}
-use Rattle.xr_types.specs.declared.code.Code.TheVariants.{PathInvalid, PathUnsupported, ActionsetsAlreadyAttached, OutOfMemory}
+use Rattle.std.specs.Prelude.{ℕ, true, List, [], ◌∷◌, ◌++◌, flat_map, filter_map, Option, Some, None, is_none, option_map, option_and_then}
+use Rattle.xr_types.specs.declared.code.Code.TheVariants.{PathInvalid, PathUnsupported, ActionsetsAlreadyAttached}
 use Rattle.xr_types.specs.declared.calls.Gives.TheVariants.{Nothing}
 use Rattle.xr_types.specs.declared.handles.Kind.TheVariants.{Instance, Action}
 use Rattle.xr_types.specs.declared.input.Binding.{Binding}
@@ -14,7 +14,7 @@ use Rattle.xr_model.specs.machine.Profiles.{profile_of, component}
 use Rattle.xr_model.specs.machine.Refusals.{Refusal, when}
 use Rattle.xr_model.specs.machine.Sets.{type_of_action, is_in_sealed_set}
 use Rattle.xr_model.specs.machine.State.{CoreState}
-use Rattle.xr_model.specs.machine.Rule.{Rule, done}
+use Rattle.xr_model.specs.machine.Rule.{Rule, ordinary, done}
 
 -- the profile of an atom, where it is one's
 abbrev pub profile_at : List (List ℕ) → ℕ → Option Profile
@@ -54,11 +54,11 @@ abbrev pub suggested : CoreState → Option Profile → List Binding → List (L
 suggested s None list = s.suggestions
 suggested s (Some which) list = with_suggestions s.suggestions which (filter_map (bound_of s which) list)
 
--- xrSuggestInteractionProfileBindings: memory for the new suggestions is asked for last
-abbrev pub suggest_bindings_rule : CoreState → Bool → ℕ → ℕ → List Binding → Rule
-suggest_bindings_rule s short instance profile list = record {
-  before = no_handle s.handles Instance instance ∷ [];
-  disorder = false;
-  behind = profile_checks s.atoms profile ++ (number_checks list ++ (bindings_checks s (profile_at s.atoms profile) list ++ when short OutOfMemory ∷ []));
+-- xrSuggestInteractionProfileBindings
+abbrev pub suggest_bindings_rule : CoreState → ℕ → ℕ → List Binding → Rule
+suggest_bindings_rule s instance profile list = record (ordinary s) {
+  handles = no_handle s.handles Instance instance ∷ [];
+  behind = profile_checks s.atoms profile ++ (number_checks list ++ bindings_checks s (profile_at s.atoms profile) list);
+  takes_memory = true;
   effect = done (record s { suggestions = suggested s (profile_at s.atoms profile) list }) Nothing;
 }

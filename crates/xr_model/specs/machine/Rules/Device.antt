@@ -1,14 +1,16 @@
 -- What happens at the device. Its events are this project's own and no statement about the standard.
-use Rattle.std.specs.Prelude.{ℤ, int_le, false, [], if◌then◌else◌}
+use Rattle.std.specs.Prelude.{ℤ, int_le, not, Bool, false, if◌then◌else◌}
 use Rattle.xr_types.specs.declared.device.DeviceEvent.{DeviceEvent}
 use Rattle.xr_types.specs.declared.device.DeviceEvent.TheVariants as event
 use Rattle.xr_types.specs.declared.calls.Gives.TheVariants.{Nothing}
 use Rattle.xr_model.specs.machine.SessionLife.{Life, Changed, unchanged, settled_session, losing_session, lost_session}
 use Rattle.xr_model.specs.machine.LiveSessions.{each_changed, told_changes}
-use Rattle.xr_model.specs.machine.Marks.{with_mark}
+use Rattle.xr_types.specs.Device.{checks}
+use Rattle.xr_model.specs.machine.Device.{is_built_event}
+use Rattle.xr_model.specs.machine.Marks.{is_set, with_mark}
 use Rattle.xr_model.specs.machine.Spaces.{sampled}
 use Rattle.xr_model.specs.machine.State.{CoreState}
-use Rattle.xr_model.specs.machine.Rule.{Rule, done}
+use Rattle.xr_model.specs.machine.Rule.{Rule, device, ordinary, done}
 
 abbrev pub later_of : ℤ → ℤ → ℤ
 later_of a b = if int_le a b then b else a
@@ -35,5 +37,16 @@ behind_event s event.Fault = with_lost s
 behind_event s (event.Garbled line) = with_lost s
 behind_event s _ = s
 
+-- the device waits for a mark
+abbrev pub is_awaiting : CoreState → DeviceEvent → Bool
+is_awaiting s (event.Await number) = not (is_set s.marks number)
+is_awaiting s _ = false
+
 abbrev pub device_rule : CoreState → DeviceEvent → Rule
-device_rule s what = record { before = []; disorder = false; behind = []; effect = done (behind_event s what) Nothing }
+device_rule s what = record (ordinary s) {
+  is_there = is_built_event what;
+  caller = device;
+  in_range = checks what;
+  waits = is_awaiting s what;
+  effect = done (behind_event s what) Nothing;
+}

@@ -1,34 +1,39 @@
 -- The calls that are this project's own and no statement about the standard.
-use Rattle.std.specs.Prelude.{ℕ, ◌-◌, slice_set, true, false, []}
+use Rattle.std.specs.Prelude.{ℕ, List, Bool, ◌-◌, slice_set, not, true, false}
+use Rattle.std.specs.List.{list_all}
 use Rattle.xr_types.specs.declared.calls.Actor.{Actor}
 use Rattle.xr_types.specs.declared.calls.Actor.TheVariants.{App, Compositor, Device}
 use Rattle.xr_types.specs.declared.calls.Gives.TheVariants.{Nothing, Number, Ended}
-use Rattle.xr_model.specs.machine.Marks.{with_mark, value_of_mark}
+use Rattle.xr_types.specs.Device.{is_mark}
+use Rattle.xr_model.specs.machine.Marks.{is_set, with_mark, value_of_mark}
 use Rattle.xr_model.specs.machine.State.{CoreState}
-use Rattle.xr_model.specs.machine.Rule.{Rule, done}
+use Rattle.xr_model.specs.machine.Rule.{Rule, compositor, ordinary, done}
 
 -- an application is gone; nobody else leaves
+abbrev pub left_with : List Bool → Actor → List Bool
+left_with left (App k) = slice_set left (k - 1) true
+left_with left Compositor = left
+left_with left Device = left
+
 abbrev pub with_left : CoreState → Actor → CoreState
-with_left s (App k) = record s { left = slice_set s.left (k - 1) true }
-with_left s Compositor = s
-with_left s Device = s
+with_left s who = record s { left = left_with s.left who }
 
 -- an application says that it makes no further call
 abbrev pub leave_rule : CoreState → Actor → Rule
-leave_rule s who = record { before = []; disorder = false; behind = []; effect = done (with_left s who) Nothing }
+leave_rule s who = record (ordinary s) { effect = done (with_left s who) Nothing }
 
 -- an application sets a mark with a value
 abbrev pub mark_rule : CoreState → ℕ → ℕ → Rule
-mark_rule s number value = record { before = []; disorder = false; behind = []; effect = done (record s { marks = with_mark s.marks number value }) Nothing }
+mark_rule s number value = record (ordinary s) { in_range = is_mark number; effect = done (record s { marks = with_mark s.marks number value }) Nothing }
 
--- an application has waited for a mark
+-- an application waits for a mark
 abbrev pub await_mark_rule : CoreState → ℕ → Rule
-await_mark_rule s number = record { before = []; disorder = false; behind = []; effect = done s (Number (value_of_mark s.marks number)) }
+await_mark_rule s number = record (ordinary s) { in_range = is_mark number; waits = not (is_set s.marks number); effect = done s (Number (value_of_mark s.marks number)) }
 
--- the compositor asks for a frame; there are none, so it is told the end
+-- the compositor asks for a frame; there are none, so it is told the end, once every application has left
 abbrev pub next_frame_rule : CoreState → Rule
-next_frame_rule s = record { before = []; disorder = false; behind = []; effect = done s Ended }
+next_frame_rule s = record (ordinary s) { caller = compositor; waits = not (list_all (λ has_left. has_left) s.left); effect = done s Ended }
 
--- A call that isn't built yet does nothing. No entry with it is allowed.
-abbrev pub unbuilt_rule : CoreState → Rule
-unbuilt_rule s = record { before = []; disorder = false; behind = []; effect = done s Nothing }
+-- a call that has no rule yet: no entry with it is allowed
+abbrev pub no_rule : CoreState → Rule
+no_rule s = record (ordinary s) { is_there = false }

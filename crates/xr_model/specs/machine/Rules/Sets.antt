@@ -7,14 +7,15 @@ use Rattle.xr_types.specs.declared.input.ActionType.{ActionType}
 use Rattle.xr_types.specs.declared.input.User.{User}
 use Rattle.xr_model.specs.machine.Handles.{no_handle, no_room, with_handle, destroyed_by}
 use Rattle.xr_model.specs.machine.Paths.{text_at}
+use Rattle.xr_model.specs.machine.LiveSessions.{with_session_at, with_attached, attached_in, session_at}
 use Rattle.xr_model.specs.machine.Profiles.{user_of}
 use Rattle.xr_model.specs.machine.Refusals.{Refusal, when}
 use Rattle.xr_model.specs.machine.Sets as sets
-use Rattle.xr_model.specs.machine.Sets.{set_checks, action_checks, action_label_checks, attach_checks, no_users, user_place, is_declared, with_set, with_action, with_attached}
+use Rattle.xr_model.specs.machine.Sets.{set_checks, action_checks, action_label_checks, attach_checks, no_users, user_place, is_declared, with_set, with_action, sets_named, with_sealed}
 use Rattle.xr_model.specs.machine.State.{CoreState}
 use Rattle.xr_model.specs.machine.Destroyed.{without_handle}
-use Rattle.xr_model.specs.machine.Rule.{Rule, done, destroying}
-use Rattle.xr_model.specs.machine.SessionRule.{on_session}
+use Rattle.xr_model.specs.machine.SessionRule.{loss_of}
+use Rattle.xr_model.specs.machine.Rule.{Rule, ordinary, done, destroying}
 use Rattle.xr_model.specs.machine.Rules.Session.{life_of}
 
 -- ---- action sets
@@ -27,19 +28,17 @@ with_action_set s instance given name localized priority = record s {
 
 -- xrCreateActionSet
 abbrev pub create_action_set_rule : CoreState → ℕ → ℕ → List ℕ → List ℕ → ℕ → Rule
-create_action_set_rule s given instance name localized priority = record {
-  before = no_handle s.handles Instance instance ∷ [];
-  disorder = false;
+create_action_set_rule s given instance name localized priority = record (ordinary s) {
+  handles = no_handle s.handles Instance instance ∷ [];
   behind = set_checks s.sets name localized ++ no_room s.handles ActionSet ∷ [];
+  creates = Some ActionSet;
   effect = done (with_action_set s instance given name localized priority) (Handle given);
 }
 
 -- xrDestroyActionSet: its actions go with it
 abbrev pub destroy_action_set_rule : CoreState → ℕ → Rule
-destroy_action_set_rule s set = record {
-  before = no_handle s.handles ActionSet set ∷ [];
-  disorder = false;
-  behind = [];
+destroy_action_set_rule s set = record (ordinary s) {
+  handles = no_handle s.handles ActionSet set ∷ [];
   effect = destroying (without_handle s set) (destroyed_by s.handles set);
 }
 
@@ -80,29 +79,31 @@ with_new_action s given x = record s { handles = with_handle s.handles Action x.
 
 -- xrCreateAction
 abbrev pub create_action_rule : CoreState → ℕ → ℕ → List ℕ → ActionType → List ℕ → List ℕ → Rule
-create_action_rule s given set name type subs localized = record {
-  before = no_handle s.handles ActionSet set ∷ [];
-  disorder = false;
+create_action_rule s given set name type subs localized = record (ordinary s) {
+  handles = no_handle s.handles ActionSet set ∷ [];
   behind = action_checks s.sets set name ++ (sub_checks s.atoms no_users subs ++ (action_label_checks s.sets set localized ++ no_room s.handles Action ∷ []));
+  creates = Some Action;
   effect = done (with_new_action s given (new_action s given set name type subs localized)) (Handle given);
 }
 
 -- xrDestroyAction
 abbrev pub destroy_action_rule : CoreState → ℕ → Rule
-destroy_action_rule s action = record {
-  before = no_handle s.handles Action action ∷ [];
-  disorder = false;
-  behind = [];
+destroy_action_rule s action = record (ordinary s) {
+  handles = no_handle s.handles Action action ∷ [];
   effect = destroying (without_handle s action) (destroyed_by s.handles action);
 }
 
 -- ---- attaching
 
+-- the sets are the session's from now on, and sealed
+abbrev pub with_attached_sets : CoreState → ℕ → List ℕ → CoreState
+with_attached_sets s session handles = record s { sessions = with_session_at session (with_attached (sets_named s.sets handles)) s.sessions; sets = with_sealed s.sets handles }
+
 -- xrAttachSessionActionSets: once for a session; a set that is named twice counts once
 abbrev pub attach_sets_rule : CoreState → ℕ → List ℕ → Rule
-attach_sets_rule s session handles = on_session (no_handle s.handles Session session ∷ []) (life_of s session) (record {
-  before = [];
-  disorder = false;
-  behind = attach_checks s.sets handles ++ map (no_handle s.handles ActionSet) handles;
-  effect = done (record s { sets = with_attached s.sets handles }) Nothing;
-})
+attach_sets_rule s session handles = record (ordinary s) {
+  on = Some (loss_of (life_of s session));
+  handles = no_handle s.handles Session session ∷ [];
+  behind = attach_checks (attached_in (session_at s.sessions session)) handles ++ map (no_handle s.handles ActionSet) handles;
+  effect = done (with_attached_sets s session handles) Nothing;
+}

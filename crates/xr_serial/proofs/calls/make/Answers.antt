@@ -1,8 +1,15 @@
-use Rattle.std.proofs.Common.{rules, ◌∙◌, ap, false, ◌≡◌, length}
+use Rattle.std.proofs.Common.{rules, ◌∙◌, ap, subst, sym, false, ◌≡◌, length}
 use Rattle.xr_model.specs.machine.Request.{request_of}
+use Rattle.xr_model.specs.machine.CoreCalls.{MayAsk}
 use Rattle.xr_serial.specs.inside.Lent.{lent_size, written_size}
 use Rattle.xr_serial.proofs.Lending.{made_of}
 use Rattle.xr_serial.proofs.calls.make.Goals as goal
+
+pub apply-requires-clause-may : goal.apply-requires-clause-may
+apply-requires-clause-may c = record {
+  asks = subst (MayAsk c.args.who (request_of c.args.call.now)) (sym c.requires.size) c.requires.asks;
+  present = c.requires.present;
+}
 
 pub returns-in_default : goal.returns-in_default
 returns-in_default c = let waits = c.in_default.ensures 0 false in (waits.same, waits.not_ready)

@@ -1,6 +1,10 @@
-use Rattle.std.proofs.Common.{◌≤◌, length, arith}
+use Rattle.std.proofs.Common.{◌≤◌, length, subst, sym, arith}
 use Rattle.std.proofs.lemmas.Grind.{common_steps}
-use Rattle.xr_serial.proofs.Ops.{op_lent}
+use Rattle.xr_types.specs.declared.calls.Actor.TheVariants.{App}
+use Rattle.xr_model.specs.machine.Request.{Request}
+use Rattle.xr_model.specs.machine.CoreCalls.{MayAsk}
+use Rattle.xr_serial.specs.inside.Lent.{lent_size}
+use Rattle.xr_serial.proofs.Ops.{op_lent, op_asks}
 use Rattle.xr_serial.proofs.machine.ask.Goals as goal
 
 pub slice_bounds-lent-end : goal.slice_bounds-lent-end
@@ -17,3 +21,6 @@ slice_bounds-lent-end-2 c =
     let room = c.requires.size in
     let within : c.lent_size.result ≤ length c.args.buffer.now = omega (arith, small, size, room) in
     grind (arith, common_steps, within)
+
+pub make-requires-clause-asks : goal.make-requires-clause-asks
+make-requires-clause-asks c = subst (λ (r : Request). MayAsk (App c.args.number) r (lent_size r)) (sym c.call_of-call.ensures) (op_asks c.args.names.now c.args.number c.args.op.now c.requires.built c.requires.ranged)

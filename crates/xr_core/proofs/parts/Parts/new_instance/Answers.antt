@@ -1,0 +1,13 @@
+use Rattle.std.proofs.Common.{refl}
+use Rattle.xr_types.specs.declared.handles.Kind.TheVariants as kind
+use Rattle.xr_model.specs.machine.Handles.{with_handle}
+use Rattle.xr_core.proofs.Kept.{kept_same}
+use Rattle.xr_core.proofs.parts.Parts.new_instance.Goals as goal
+
+pub invariant_of-self : goal.invariant_of-self
+invariant_of-self c = (
+  rw c.give.ensures.kept c.self.invariant.0,
+  c.self.invariant.1,
+  kept_same c.self.inside.spaces c.self.inside.sets c.self.inside.handles c.give.new.handles (with_handle c.self.inside.handles kind.Instance 0 c.give.result) c.give.ensures.kept refl refl refl c.self.invariant.2,
+  c.self.invariant.3,
+)

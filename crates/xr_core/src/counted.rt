@@ -1,0 +1,117 @@
+// A core: its parts decide each call, and here alone it is counted.
+ghost use Rattle.std.specs.Prelude.{◌≡◌, ◌≤◌, ◌<◌, ◌^◌, ◌+◌, ◌↔◌, IfOk, IsTrue, length, not};
+ghost use Rattle.std.specs.List.{list_all};
+ghost use Rattle.xr_types.specs.declared.limits.TheConstants.{MOST_SCRIPTS};
+ghost use Rattle.xr_model.specs.machine.Request.{request_of};
+ghost use Rattle.xr_model.specs.machine.Marks.{is_set};
+ghost use Rattle.xr_model.specs.machine.State.{CellReads, with_apps, opening_core};
+ghost use Rattle.xr_model.specs.machine.Machine.{IsPresent};
+ghost use Rattle.xr_model.specs.machine.CoreCalls.{MayMake, CoreApplies};
+
+use crate::halt::Halt;
+use crate::parts::Parts;
+use std::alloc::Global;
+use std::marker::Model;
+use xr_types::{Actor, Call, Code, Gives, NoMemory, Reply, Step};
+
+/// What the machine of one thread keeps beside its cells, seen by contracts as the core's half of the state: the parts, and
+/// how many locked calls were answered. Memory for path texts and suggestions is taken from its allocator.
+#[derive(Drop)]
+pub struct Core {
+    pub(crate) parts: Parts,
+    pub(crate) calls: u64,
+    pub(crate) alloc: Global,
+}
+
+impl Model for Core {
+    ghost use Rattle.std.specs.Prelude.{◌≤◌, length};
+    ghost use Rattle.xr_model.specs.machine.State.{CoreState};
+
+    ghost Value = { CoreState };
+
+    ghost view = { λ c. record c.parts { locked = c.calls } };
+
+    ghost invariant = { λ c. (length c.parts.handles.given ≤ c.calls) × (c.parts.created ≤ c.calls) };
+}
+
+/// Counts a call that is made, and answers it.
+fn counted(calls: &mut u64, code: Code, gives: Gives) -> Step
+    requires { calls.old < 2 ^ 44 }
+    ensures count { calls.new ≡ calls.old + 1 }
+    ensures reply { result ≡ Step.Done (record { code = code; gives = gives; place = calls.old + 1 }) }
+{
+    *calls += 1;
+    Step::Done(Reply {
+        code,
+        gives,
+        place: *calls,
+    })
+}
+
+impl Core {
+    /// A core of 1 to 8 applications before any call. Takes all memory but that of new path texts and of suggestions.
+    pub fn start(alloc: Global, apps: u8) -> Result<Core, NoMemory>
+        requires some { 1 ≤ apps }
+        requires few { apps ≤ MOST_SCRIPTS }
+        ensures { IfOk result (λ core. core ≡ opening_core (with_apps apps)) }
+    {
+        let parts = Parts::start(alloc, apps)?;
+        Ok(Core {
+            parts,
+            calls: 0,
+            alloc,
+        })
+    }
+
+    /// How many locked calls were answered.
+    pub fn calls(&self) -> u64
+        ensures { result ≡ self.now.locked }
+    {
+        self.calls
+    }
+
+    /// Whether there is such an application, from 1, and it hasn't left: whether it may make calls.
+    pub fn is_present(&self, app: u8) -> bool
+        ensures { IsTrue result ↔ IsPresent self.now (Actor.App app) }
+    {
+        self.parts.is_present(app)
+    }
+
+    /// The device's clock, in ns of device time.
+    pub fn clock(&self) -> i64
+        ensures { result ≡ self.now.device.clock }
+    {
+        self.parts.clock()
+    }
+
+    /// Whether `AwaitMark` of this mark, from 1 to 64, has to wait: it isn't set yet.
+    pub fn await_waits(&self, mark: u8) -> bool
+        ensures { result ≡ not (is_set self.now.marks mark) }
+    {
+        self.parts.mark_value(mark).is_none()
+    }
+
+    /// Whether the compositor's `NextFrame` has to wait: some application hasn't left.
+    pub fn next_frame_waits(&self) -> bool
+        ensures { result ≡ not (list_all (λ has_left. has_left) self.now.left) }
+    {
+        !self.parts.all_left()
+    }
+
+    /// Makes a call that is built, or says that it has to wait and leaves all as it was. `text` is the buffer that
+    /// `path_to_string` is lent, of the call's `capacity`; for other calls it may have any size and stays.
+    /// Whatever the cells tell, the reply is the machine's to an allowed entry: it gives a handle exactly where a creation
+    /// succeeds, and `OutOfMemory` comes only to a new path text that would else be interned, and to suggestions that would
+    /// else be taken. No other call takes memory.
+    pub fn apply(&mut self, who: Actor, call: &Call<'_>, text: &mut [u8]) -> Step
+        requires calls { self.old.locked < 2 ^ 44 }
+        requires may { MayMake self.old who (request_of call.now) (length text.old) }
+        ensures { (reads : CellReads) → CoreApplies reads self.old self.new who call.now text.old text.new result }
+    {
+        match self.parts.decide(self.alloc, who, call, text) {
+            Ok(decision) => counted(&mut self.calls, decision.code, decision.gives),
+            Err(Halt::Refused(code)) => counted(&mut self.calls, code, Gives::Nothing),
+            Err(Halt::NotReady) => Step::NotReady,
+        }
+    }
+}

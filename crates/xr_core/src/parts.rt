@@ -1,0 +1,242 @@
+// What a core keeps, and what all calls do to it. It counts no call, and touches no part's inside.
+ghost use Rattle.std.specs.Prelude.{◌≡◌, ◌≢◌, ◌≤◌, ◌<◌, ◌^◌, ◌↔◌, [], ◌∷◌, IfOk, IsTrue, true, false, length, map};
+ghost use Rattle.xr_model.specs.machine.Bindings.{without_suggestions};
+ghost use Rattle.xr_model.specs.machine.Destroyed.{without_handle};
+ghost use Rattle.xr_model.specs.machine.Handles.{row_of, has_room, no_handle, was_given, with_handle};
+ghost use Rattle.xr_model.specs.machine.HandlePlaces.{limit_of};
+ghost use Rattle.xr_model.specs.machine.LiveSessions.{still_live};
+ghost use Rattle.xr_model.specs.machine.Refusals.{first_of};
+ghost use Rattle.xr_model.specs.machine.Sets.{without_inputs};
+ghost use Rattle.xr_model.specs.machine.SessionLife.{is_lost};
+ghost use Rattle.xr_model.specs.machine.SessionRule.{loss_of, code_on};
+ghost use Rattle.xr_model.specs.machine.Spaces.{without_spaces};
+ghost use Rattle.xr_model.specs.machine.Rules.Device.{with_changes};
+ghost use Rattle.xr_model.specs.machine.Rules.Session.{life_of};
+ghost use Rattle.xr_model.specs.machine.State.{with_apps, opening_core};
+ghost use Rattle.xr_model.specs.machine.Machine.{IsPresent};
+ghost use Rattle.xr_core.specs.inside.Changes.{change_by};
+ghost use Rattle.xr_core.specs.inside.Refusing.{or_refused};
+
+use crate::device_values::DeviceValues;
+use crate::sessions::{Change, Session, change_each, forget_attached, session_at};
+use arrayvec::ArrayVec;
+use std::alloc::Global;
+use std::marker::Model;
+use xr_bindings::Bindings;
+use xr_events::Events;
+use xr_handles::Handles;
+use xr_paths::Paths;
+use xr_sets::Sets;
+use xr_spaces::Spaces;
+use xr_types::{
+    ACTIONS, Actor, Code, Column, Kind, MOST_HANDLES, MOST_MARK, MOST_SCRIPTS, NoMemory, SESSIONS,
+    States,
+};
+
+/// How many marks there are.
+pub(crate) const MARKS: usize = MOST_MARK as usize;
+
+/// A column of a sync that found nothing.
+const INACTIVE: Column = Column {
+    x: 0,
+    y: 0,
+    changed: false,
+    time: 0,
+    active: false,
+    origin: None,
+};
+
+/// What is known before any sync: each column is inactive.
+const NO_STATES: States = States {
+    columns: [[INACTIVE; 6]; ACTIONS],
+};
+
+/// All parts of a core, and what decides its calls: the inside of a core. Contracts see what the core keeps, with no call
+/// counted.
+#[derive(Drop)]
+pub(crate) struct Parts {
+    pub(crate) handles: Handles,
+    pub(crate) paths: Paths,
+    pub(crate) events: Events,
+    /// The live sessions, in the order of their creation.
+    pub(crate) sessions: ArrayVec<Session, SESSIONS>,
+    /// How many sessions were created.
+    pub(crate) created: u64,
+    /// The live action sets and actions, in the order of their creation.
+    pub(crate) sets: Sets,
+    /// What is suggested for each profile.
+    pub(crate) bindings: Bindings,
+    /// The live spaces, in the order of their creation, and the samples of their origins.
+    pub(crate) spaces: Spaces,
+    /// What the last sync found. None was made yet.
+    pub(crate) states: States,
+    /// What the device has told of itself.
+    pub(crate) device: DeviceValues,
+    /// The value of each mark that is set, from mark 1 on.
+    pub(crate) marks: [Option<u64>; MARKS],
+    pub(crate) apps: u8,
+    pub(crate) left: [bool; MOST_SCRIPTS],
+}
+
+impl Model for Parts {
+    ghost use Rattle.std.specs.Prelude.{◌≡◌, ◌≤◌, take, length};
+    ghost use Rattle.xr_types.specs.declared.limits.TheConstants.{MOST_SCRIPTS};
+    ghost use Rattle.xr_model.specs.laws.SessionLaws.{AreListed};
+    ghost use Rattle.xr_model.specs.machine.Spaces.{no_states};
+    ghost use Rattle.xr_core.specs.inside.Housed.{KeepsLive};
+    ghost use Rattle.xr_model.specs.machine.State.{CoreState};
+
+    ghost Value = { CoreState };
+
+    ghost view = { λ c. record {
+      handles = c.handles;
+      atoms = c.paths;
+      events = c.events;
+      sessions = c.sessions.items;
+      created = c.created;
+      sets = c.sets;
+      suggestions = c.bindings;
+      spaces = c.spaces;
+      device = c.device;
+      marks = c.marks;
+      apps = c.apps;
+      left = take c.apps c.left;
+      locked = 0;
+    } };
+
+    ghost invariant = { λ c. AreListed c.handles c.sessions.items × (c.apps ≤ MOST_SCRIPTS) × KeepsLive c.spaces c.sets c.handles × (c.states ≡ no_states) };
+}
+
+/// Only the sessions whose handles are live are kept.
+fn keep_live(handles: &Handles, sessions: &mut ArrayVec<Session, SESSIONS>)
+    ensures { sessions.new.items ≡ still_live handles.now sessions.old.items }
+{
+    sessions.retain(|session| handles.is_live(Kind::Session, session.handle()));
+}
+
+/// The spaces of these handles go.
+fn forget_spaces(spaces: &mut Spaces, handles: &[u64])
+    ensures { spaces.new ≡ without_spaces spaces.old handles.now }
+{
+    for handle in handles {
+        spaces.remove(*handle);
+    }
+}
+
+/// The action sets and the actions of these handles go.
+fn forget_sets(sets: &mut Sets, handles: &[u64])
+    ensures { sets.new ≡ without_inputs sets.old handles.now }
+{
+    for handle in handles {
+        sets.remove(*handle);
+    }
+}
+
+/// The suggestions of the actions among these handles go.
+fn forget_suggestions(bindings: &mut Bindings, handles: &[u64])
+    ensures { bindings.new ≡ without_suggestions bindings.old handles.now }
+{
+    for handle in handles {
+        bindings.forget(*handle);
+    }
+}
+
+/// Gives a new handle under a parent, 0 for an instance, where a place is free.
+pub(crate) fn give(handles: &mut Handles, kind: Kind, parent: u64) -> u64
+    requires few { length handles.old.given < 2 ^ 44 }
+    requires room { has_room handles.old kind ≡ true }
+    ensures kept { handles.new ≡ with_handle handles.old kind parent result }
+    ensures fresh { (result ≢ 0) × (was_given handles.old result ≡ false) }
+    ensures row { length (row_of handles.old kind) ≡ limit_of kind }
+{
+    handles.give(kind, parent).number
+}
+
+impl Parts {
+    /// The parts of a core of 1 to 8 applications before any call. Takes all memory but that of new path texts and of
+    /// suggestions.
+    #[tactic(auto, using(crate::proofs::Start::none_left))]
+    pub(crate) fn start(alloc: Global, apps: u8) -> Result<Parts, NoMemory>
+        requires some { 1 ≤ apps }
+        requires few { apps ≤ MOST_SCRIPTS }
+        ensures { IfOk result (λ parts. parts ≡ opening_core (with_apps apps)) }
+    {
+        let paths = Paths::start(alloc)?;
+        let events = Events::start(alloc)?;
+        let spaces = Spaces::start(alloc)?;
+        Ok(Parts {
+            handles: Handles::start(),
+            paths,
+            events,
+            sessions: ArrayVec::new(),
+            created: 0,
+            sets: Sets::start(),
+            bindings: Bindings::start(),
+            spaces,
+            states: NO_STATES,
+            device: DeviceValues::start(),
+            marks: [None; MARKS],
+            apps,
+            left: [false; MOST_SCRIPTS],
+        })
+    }
+
+    /// Whether there is such an application, from 1, and it hasn't left: whether it may make calls.
+    pub(crate) fn is_present(&self, app: u8) -> bool
+        ensures { IsTrue result ↔ IsPresent self.now (Actor.App app) }
+    {
+        if app == 0 || app > self.apps {
+            return false;
+        }
+        let apps = self.apps as usize;
+        matches!(self.left[..apps].get(app as usize - 1), Some(false))
+    }
+
+    /// The device's clock, in ns of device time.
+    pub(crate) fn clock(&self) -> i64
+        ensures { result ≡ self.now.device.clock }
+    {
+        self.device.clock()
+    }
+
+    /// A call's own handle has to be live and of its kind.
+    pub(crate) fn live(&self, kind: Kind, handle: u64) -> Result<(), Code>
+        ensures { result ≡ or_refused (first_of (no_handle self.now.handles kind handle ∷ [])) tt }
+    {
+        if self.handles.is_live(kind, handle) {
+            Ok(())
+        } else {
+            Err(Code::HandleInvalid)
+        }
+    }
+
+    /// What a plain success on a session is answered as, where the session isn't lost. One that isn't listed isn't.
+    pub(crate) fn on_session(&self, session: u64) -> Result<Code, Code>
+        ensures { result ≡ or_refused (first_of (is_lost (life_of self.now session) ∷ [])) (code_on (loss_of (life_of self.now session)) Code.Success) }
+    {
+        match session_at(self.sessions.as_slice(), session) {
+            Some(session) => session.success(),
+            None => Ok(Code::Success),
+        }
+    }
+
+    /// Takes a handle and all below it out of all parts.
+    pub(crate) fn destroy(&mut self, handle: u64)
+        ensures { self.new ≡ without_handle self.old handle }
+    {
+        let mut destroyed: ArrayVec<u64, MOST_HANDLES> = ArrayVec::new();
+        self.handles.destroy(handle, &mut destroyed);
+        keep_live(&self.handles, &mut self.sessions);
+        forget_attached(&mut self.sessions, destroyed.as_slice());
+        forget_spaces(&mut self.spaces, destroyed.as_slice());
+        forget_sets(&mut self.sets, destroyed.as_slice());
+        forget_suggestions(&mut self.bindings, destroyed.as_slice());
+    }
+
+    /// Changes all live sessions, in the order of their creation.
+    pub(crate) fn change_all(&mut self, change: Change)
+        ensures { self.new ≡ with_changes self.old (change_by change) }
+    {
+        change_each(self.sessions.as_mut_slice(), change, &mut self.events);
+    }
+}

@@ -1,0 +1,88 @@
+-- A handle that was destroyed is never live again.
+use Rattle.std.proofs.Common.{arith, ◌≤◌, ◌+◌, ◌≡◌, ℕ, ℤ, ◌==◌, not, true, false, List, [], ◌∷◌, ◌++◌, refl, sym, ap, ◌∙◌, subst, true≢false}
+use Rattle.xr_types.specs.Code.{is_success}
+use Rattle.xr_types.specs.declared.handles.Kind.TheVariants.{Instance, Session, ActionSet, Action, Space}
+use Rattle.xr_types.specs.declared.handles.Slot.{Slot}
+use Rattle.xr_model.specs.machine.Request.{Entry, Request, destroy_instance, destroy_session, destroy_space, destroy_action_set, destroy_action}
+use Rattle.xr_model.specs.machine.Handles.{Handles, has, is_live, without, without_alone}
+use Rattle.xr_model.specs.machine.HandlePlaces.{kind_of}
+use Rattle.xr_model.specs.machine.State.{State, opening}
+use Rattle.xr_model.specs.machine.Machine.{step, rule, reads_of}
+use Rattle.xr_model.specs.machine.History.{after, opening_clocks, clocks_after, IsLegalFrom}
+use Rattle.xr_model.specs.laws.HandleLaws.{destroys, DestroyedForGood}
+use Rattle.xr_model.proofs.Histories.{after_is_in_turn}
+use Rattle.xr_model.proofs.Rows.{same_key, both_of, not_true}
+use Rattle.xr_model.specs.laws.HandleLaws.{count_in, places_with, StandOnce}
+use Rattle.xr_model.proofs.Histories.{fronts_are_legal}
+use Rattle.xr_model.proofs.Rows.{uncounted, counted, cleared_same, going_none}
+use Rattle.xr_model.proofs.StandOnce.{handles_stand_once}
+use Rattle.xr_model.proofs.Destroying.{IsOver, AreKnown, and_false, absent_kind, known_after, known_opening, over_after, over_without, destroyed}
+
+-- ---- nothing stands below a space
+
+module _ (h : Handles) (space : ℕ) (once : StandOnce h) (live : is_live h Space space ≡ true) where
+  nz : (space == 0) ≡ false
+  nz = not_true (space == 0) (both_of (not (space == 0)) (has h.spaces space) live).0
+
+  elsewhere : (row : List Slot) → count_in h.spaces space + count_in row space ≤ places_with h space → has row space ≡ false
+  elsewhere row part =
+      let all = once space nz in
+      let here = counted h.spaces space (both_of (not (space == 0)) (has h.spaces space) live).1 in
+      uncounted row space (omega (arith, part, all, here))
+
+  pub alone_is_whole : without_alone h Space space ≡ without h space
+  alone_is_whole =
+      let a = elsewhere h.instances (omega arith) in
+      let b = elsewhere h.sessions (omega arith) in
+      let c = elsewhere h.sets (omega arith) in
+      let d = elsewhere h.actions (omega arith) in
+      let f = elsewhere h.chains (omega arith) in
+      rw (going_none space h.instances a, cleared_same space h.instances a, going_none space h.sessions b, cleared_same space h.sessions b, going_none space h.sets c, cleared_same space h.sets c, cleared_same space h.actions d, cleared_same space h.chains f) refl
+
+over_destroyed : (s : State) (e : Entry) (handle : ℕ) → AreKnown s.core.handles → StandOnce s.core.handles → destroys e.request handle ≡ true → is_success (step s e).1.reply.code ≡ true → IsOver handle (step s e).0.core.handles
+over_destroyed s e handle known once = by e.request
+  where
+    by : (r : Request) → destroys r handle ≡ true → is_success (step s (record e { request = r })).1.reply.code ≡ true → IsOver handle (step s (record e { request = r })).0.core.handles
+    by (destroy_instance instance) names good =
+        destroyed (IsOver handle) s.core (is_live s.core.handles Instance instance) (rule s.core (reads_of s (destroy_instance instance)) (record e { request = destroy_instance instance })).effect good
+        (λ live. subst (λ (n : ℕ). IsOver n (without s.core.handles instance)) (same_key instance handle names)
+        (over_without s.core.handles Instance instance known live (λ a. rw a.instances (and_false (not (instance == 0))))))
+    by (destroy_session session) names good =
+        destroyed (IsOver handle) s.core (is_live s.core.handles Session session) (rule s.core (reads_of s (destroy_session session)) (record e { request = destroy_session session })).effect good
+        (λ live. subst (λ (n : ℕ). IsOver n (without s.core.handles session)) (same_key session handle names)
+        (over_without s.core.handles Session session known live (λ a. rw a.sessions (and_false (not (session == 0))))))
+    by (destroy_space space) names good =
+        destroyed (IsOver handle) s.core (is_live s.core.handles Space space) (rule s.core (reads_of s (destroy_space space)) (record e { request = destroy_space space })).effect good
+        (λ live. subst (λ (h : Handles). IsOver handle h) (sym (alone_is_whole s.core.handles space once live)) (subst (λ (n : ℕ). IsOver n (without s.core.handles space)) (same_key space handle names)
+        (over_without s.core.handles Space space known live (λ a. rw a.spaces (and_false (not (space == 0)))))))
+    by (destroy_action_set set) names good =
+        destroyed (IsOver handle) s.core (is_live s.core.handles ActionSet set) (rule s.core (reads_of s (destroy_action_set set)) (record e { request = destroy_action_set set })).effect good
+        (λ live. subst (λ (n : ℕ). IsOver n (without s.core.handles set)) (same_key set handle names)
+        (over_without s.core.handles ActionSet set known live (λ a. rw a.sets (and_false (not (set == 0))))))
+    by (destroy_action action) names good =
+        destroyed (IsOver handle) s.core (is_live s.core.handles Action action) (rule s.core (reads_of s (destroy_action action)) (record e { request = destroy_action action })).effect good
+        (λ live. subst (λ (n : ℕ). IsOver n (without s.core.handles action)) (same_key action handle names)
+        (over_without s.core.handles Action action known live (λ a. rw a.actions (and_false (not (action == 0))))))
+    by _ names good = absurd (true≢false (sym names))
+
+-- ---- the law
+
+-- the clocks after a history
+abbrev pub clocks_behind : State → List ℤ → List Entry → List ℤ
+clocks_behind s clocks [] = clocks
+clocks_behind s clocks (e ∷ es) = clocks_behind (step s e).0 (clocks_after clocks e (step s e).0) es
+
+-- the end of a legal history is legal from where its front leads
+pub legal_behind : (s : State) (clocks : List ℤ) (es fs : List Entry) → IsLegalFrom s clocks (es ++ fs) → IsLegalFrom (after s es) (clocks_behind s clocks es) fs
+legal_behind s clocks [] fs legal = legal
+legal_behind s clocks (e ∷ es) fs legal = legal_behind (step s e).0 (clocks_after clocks e (step s e).0) es fs legal.3
+
+pub destroyed_for_good : DestroyedForGood
+destroyed_for_good settings es fs e handle legal names good =
+    let known = known_after (opening settings) es (known_opening settings) in
+    let front = fronts_are_legal (opening settings) (opening_clocks settings) es (e ∷ fs) legal in
+    let clocks = clocks_behind (opening settings) (opening_clocks settings) es in
+    let there = after (opening settings) es in
+    let rest = legal_behind (opening settings) (opening_clocks settings) es (e ∷ fs) legal in
+    let over = over_after (step there e).0 (clocks_after clocks e (step there e).0) fs handle rest.3 (over_destroyed (after (opening settings) es) e handle known (handles_stand_once settings es front) names good) in
+    ap (λ (t : State). kind_of t.core.handles handle) (after_is_in_turn (opening settings) es (e ∷ fs)) ∙ absent_kind (after (step (after (opening settings) es) e).0 fs).core.handles handle over.absent

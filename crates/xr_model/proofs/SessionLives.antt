@@ -1,0 +1,327 @@
+-- What an entry does to the life of one session, told by its handle: the one case split for laws on a session's life.
+use Rattle.std.proofs.Common.{◌≡◌, ◌==◌, ◌&&◌, ℕ, Bool, true, false, not, List, [], ◌∷◌, ◌++◌, map, Option, Some, None, option_map, refl, sym, ap, subst, ◌∙◌, true≢false}
+use Rattle.std.specs.Prelude.{if◌then◌else◌}
+use Rattle.std.specs.List.{filter}
+use Rattle.xr_types.specs.Code.{is_success}
+use Rattle.xr_types.specs.declared.device.DeviceEvent.{DeviceEvent}
+use Rattle.xr_types.specs.declared.device.DeviceEvent.TheVariants as event
+use Rattle.xr_types.specs.declared.device.Wish.{Wish}
+use Rattle.xr_types.specs.declared.handles.Kind.TheVariants as kind
+use Rattle.xr_model.specs.machine.Request.{Entry, Request, destroy_instance, create_session, destroy_session, begin_session, end_session, request_exit_session, destroy_action_set, destroy_action, attach_sets, device}
+use Rattle.xr_model.specs.machine.Handles.{is_live, destroyed_by, without}
+use Rattle.xr_model.specs.machine.Refusals.{Refusal}
+use Rattle.xr_model.specs.machine.State.{CoreState, CellReads}
+use Rattle.xr_model.specs.machine.Rule.{Effect, refusal, refusals, told_on, unless_refused}
+use Rattle.xr_model.specs.machine.SessionRule.{loss_of}
+use Rattle.xr_model.specs.machine.Rules.Device.{behind_event}
+use Rattle.xr_model.specs.machine.Rules.Session.{new_session, changed_in, life_of}
+use Rattle.xr_model.specs.machine.SessionLife.{Life, Changed, unchanged, started_session, settled_session, begun_session, ended_session, exiting_session, losing_session, lost_session}
+use Rattle.xr_model.specs.machine.LiveSessions.{Session, session_at, with_session_at, with_life, with_attached, without_sets, still_live, sessions_left, each_changed}
+use Rattle.xr_model.specs.machine.Sets.{sets_named}
+use Rattle.xr_model.specs.laws.SessionLaws.{creates_session}
+use Rattle.xr_model.specs.machine.Machine.{core_step, rule}
+use Rattle.xr_model.proofs.Rows.{same_key}
+use Rattle.xr_model.proofs.Listed.{handle_of}
+use Rattle.xr_model.proofs.Successes.{success_succeeds}
+use Rattle.xr_model.proofs.SessionAnswers.{none_in, first_none}
+
+-- ---- what is found by a handle, once the list has changed
+
+apart : (a b c : ℕ) → (a == b) ≡ true → (a == c) ≡ false → (b == c) ≡ false
+apart a b c same other = subst (λ (n : ℕ). (n == c) ≡ false) (same_key a b same) other
+
+-- that with one handle has changed
+found_at : (handle k : ℕ) (f : Session → Session) → ((x : Session) → (f x).handle ≡ x.handle) → (xs : List Session)
+    → session_at (with_session_at handle f xs) k ≡ option_map (λ x. if handle == k then f x else x) (session_at xs k)
+found_at handle k f named [] = refl
+found_at handle k f named (z ∷ xs) = by (z.handle == handle) refl (z.handle == k) refl (found_at handle k f named xs)
+  where
+    moved : (if z.handle == k then Some (f z) else session_at xs k) ≡ session_at (f z ∷ xs) k
+    moved = subst (λ (n : ℕ). (if n == k then Some (f z) else session_at xs k) ≡ session_at (f z ∷ xs) k) (named z) refl
+
+    all_same : (o : Option Session) → o ≡ option_map (λ x. if false then f x else x) o
+    all_same None = refl
+    all_same (Some x) = refl
+
+    by : (b : Bool) → (z.handle == handle) ≡ b → (c : Bool) → (z.handle == k) ≡ c
+        → session_at (with_session_at handle f xs) k ≡ option_map (λ x. if handle == k then f x else x) (session_at xs k)
+        → session_at (if b then f z ∷ xs else z ∷ with_session_at handle f xs) k
+        ≡ option_map (λ x. if handle == k then f x else x) (if c then Some z else session_at xs k)
+    by true eb true ec more =
+        let both : (handle == k) ≡ true = subst (λ (n : ℕ). (n == k) ≡ true) (same_key z.handle handle eb) ec in
+        sym moved ∙ rw (ec, both) refl
+    by true eb false ec more = let not_it = apart z.handle handle k eb ec in sym moved ∙ rw (ec, not_it) (all_same (session_at xs k))
+    by false eb true ec more = let not_it : (handle == k) ≡ false = other (handle == k) refl in rw (ec, not_it) refl
+      where
+        other : (d : Bool) → (handle == k) ≡ d → d ≡ false
+        other true ed = absurd (true≢false (sym (subst (λ (n : ℕ). (z.handle == n) ≡ true) (sym (same_key handle k ed)) ec) ∙ eb))
+        other false ed = refl
+    by false eb false ec more = rw ec more
+
+-- each has changed
+found_each : (f : Life → Changed) (k : ℕ) (xs : List Session)
+    → session_at (each_changed f xs) k ≡ option_map (λ x. with_life (f x.life).life x) (session_at xs k)
+found_each f k [] = refl
+found_each f k (z ∷ xs) = by (z.handle == k) (found_each f k xs)
+  where
+    by : (b : Bool) → session_at (each_changed f xs) k ≡ option_map (λ x. with_life (f x.life).life x) (session_at xs k)
+        → (if b then Some (with_life (f z.life).life z) else session_at (each_changed f xs) k)
+        ≡ option_map (λ x. with_life (f x.life).life x) (if b then Some z else session_at xs k)
+    by true more = refl
+    by false more = more
+
+-- sets have gone from what each has attached
+found_without : (gone : List ℕ) (k : ℕ) (xs : List Session)
+    → session_at (map (without_sets gone) xs) k ≡ option_map (without_sets gone) (session_at xs k)
+found_without gone k [] = refl
+found_without gone k (z ∷ xs) = by (z.handle == k) (found_without gone k xs)
+  where
+    by : (b : Bool) → session_at (map (without_sets gone) xs) k ≡ option_map (without_sets gone) (session_at xs k)
+        → (if b then Some (without_sets gone z) else session_at (map (without_sets gone) xs) k)
+        ≡ option_map (without_sets gone) (if b then Some z else session_at xs k)
+    by true more = refl
+    by false more = more
+
+-- some are left
+abbrev where_left : Bool → Option Session → Option Session
+where_left left o = if left then o else None
+
+found_left : (p : ℕ → Bool) (k : ℕ) (xs : List Session) → session_at (filter (λ x. p x.handle) xs) k ≡ where_left (p k) (session_at xs k)
+found_left p k [] = by (p k)
+  where
+    by : (b : Bool) → None ≡ where_left b None
+    by true = refl
+    by false = refl
+found_left p k (z ∷ xs) = by (p z.handle) refl (z.handle == k) refl (found_left p k xs)
+  where
+    by : (b : Bool) → p z.handle ≡ b → (c : Bool) → (z.handle == k) ≡ c
+        → session_at (filter (λ x. p x.handle) xs) k ≡ where_left (p k) (session_at xs k)
+        → session_at (if b then z ∷ filter (λ x. p x.handle) xs else filter (λ x. p x.handle) xs) k
+        ≡ where_left (p k) (if c then Some z else session_at xs k)
+    by true eb true ec more = let here : p k ≡ true = subst (λ (n : ℕ). p n ≡ true) (same_key z.handle k ec) eb in rw (ec, here) refl
+    by true eb false ec more = rw ec more
+    by false eb true ec more = let gone : p k ≡ false = subst (λ (n : ℕ). p n ≡ false) (same_key z.handle k ec) eb in more ∙ rw gone refl
+    by false eb false ec more = more
+
+-- one has joined
+abbrev or_new : Session → ℕ → Option Session → Option Session
+or_new z k None = if z.handle == k then Some z else None
+or_new z k (Some x) = Some x
+
+found_more : (z : Session) (k : ℕ) (xs : List Session) → session_at (xs ++ z ∷ []) k ≡ or_new z k (session_at xs k)
+found_more z k [] = refl
+found_more z k (y ∷ ys) = by (y.handle == k) (found_more z k ys)
+  where
+    by : (b : Bool) → session_at (ys ++ z ∷ []) k ≡ or_new z k (session_at ys k)
+        → (if b then Some y else session_at (ys ++ z ∷ []) k) ≡ or_new z k (if b then Some y else session_at ys k)
+    by true more = refl
+    by false more = more
+
+-- ---- what an entry does to a life
+
+-- the life of the session with a handle after a request, told whether it succeeds
+abbrev pub life_after : Wish → Request → ℕ → Bool → Life → Life
+life_after w (begin_session session view) handle good life = if good && (session == handle) then begun_session life else life
+life_after w (end_session session) handle good life = if good && (session == handle) then (ended_session w life).life else life
+life_after w (request_exit_session session) handle good life = if good && (session == handle) then (exiting_session w life).life else life
+life_after w (device (event.Wish wish)) handle good life = (settled_session wish life).life
+life_after w (device event.Loss) handle good life = (losing_session life).life
+life_after w (device event.Lost) handle good life = lost_session life
+life_after w (device event.Fault) handle good life = lost_session life
+life_after w (device (event.Garbled line)) handle good life = lost_session life
+life_after w _ handle good life = life
+
+-- What is found after is what was found before, with a life that follows so from the life before; or it is new.
+abbrev pub Follows : (Life → Life) → Bool → Life → Option Session → Option Session → Type 0
+Follows f created new before None = Unit {0}
+Follows f created new None (Some y) = (created ≡ true) × (y.life ≡ new)
+Follows f created new (Some x) (Some y) = y.life ≡ f x.life
+
+follows_same : (f : Life → Life) (created : Bool) (new : Life) → ((life : Life) → f life ≡ life) → (o : Option Session) → Follows f created new o o
+follows_same f created new same None = tt
+follows_same f created new same (Some x) = sym (same x.life)
+
+follows_each : (f : Life → Changed) (created : Bool) (new : Life) (o : Option Session)
+    → Follows (λ life. (f life).life) created new o (option_map (λ x. with_life (f x.life).life x) o)
+follows_each f created new None = tt
+follows_each f created new (Some x) = refl
+
+follows_left : (f : Life → Life) (created : Bool) (new : Life) → ((life : Life) → f life ≡ life) → (gone : List ℕ) (left : Bool) (o : Option Session)
+    → Follows f created new o (option_map (without_sets gone) (where_left left o))
+follows_left f created new same gone true None = tt
+follows_left f created new same gone true (Some x) = sym (same x.life)
+follows_left f created new same gone false None = tt
+follows_left f created new same gone false (Some x) = tt
+
+follows_attached : (created : Bool) (new : Life) (sets : List ℕ) (b : Bool) (o : Option Session)
+    → Follows (λ life. life) created new o (option_map (λ x. if b then with_attached sets x else x) o)
+follows_attached created new sets b None = tt
+follows_attached created new sets true (Some x) = refl
+follows_attached created new sets false (Some x) = refl
+
+some_is : (x y : Session) → Some x ≡ Some y → x ≡ y
+some_is x y e = cc
+
+follows_more : (f : Life → Life) (new : Session) (handle : ℕ) → ((life : Life) → f life ≡ life) → (o : Option Session)
+    → Follows f (new.handle == handle) new.life o (or_new new handle o)
+follows_more f new handle same None = by (new.handle == handle)
+  where
+    by : (b : Bool) → Follows f b new.life None (if b then Some new else None)
+    by true = (refl, refl)
+    by false = tt
+follows_more f new handle same (Some x) = sym (same x.life)
+
+-- the session has changed by a test of whether it is the one
+abbrev where_it : Bool → (Life → Changed) → Life → Life
+where_it it f life = if it then (f life).life else life
+
+follows_changed : (f : Life → Changed) (created : Bool) (new : Life) (xs : List Session) (session handle : ℕ)
+    → Follows (where_it (session == handle) f) created new (session_at xs handle) (session_at (changed_in (session_at xs session) f xs) handle)
+follows_changed f created new xs session handle = by (session_at xs session) refl
+  where
+    none : (b : Bool) → (session == handle) ≡ b → session_at xs session ≡ None
+        → Follows (where_it b f) created new (session_at xs handle) (session_at xs handle)
+    none true eb eo = let away : session_at xs handle ≡ None = subst (λ (n : ℕ). session_at xs n ≡ None) (same_key session handle eb) eo in rw away tt
+    none false eb eo = follows_same (λ life. life) created new (λ life. refl) (session_at xs handle)
+
+    one : (z : Session) → session_at xs session ≡ Some z → (b : Bool) → (session == handle) ≡ b → (o : Option Session) → session_at xs handle ≡ o
+        → Follows (where_it b f) created new o (option_map (λ x. if b then with_life (f z.life).life x else x) o)
+    one z ez b eb None eo = tt
+    one z ez false eb (Some x) eo = refl
+    one z ez true eb (Some x) eo =
+        let found : session_at xs handle ≡ Some z = subst (λ (n : ℕ). session_at xs n ≡ Some z) (same_key session handle eb) ez in
+        ap (λ (y : Session). (f y.life).life) (some_is z x (sym found ∙ eo))
+
+    by : (o : Option Session) → session_at xs session ≡ o
+        → Follows (where_it (session == handle) f) created new (session_at xs handle) (session_at (changed_in o f xs) handle)
+    by None eo = none (session == handle) refl eo
+    by (Some z) eo =
+        let named = handle_of xs session z eo in
+        rw (found_at z.handle handle (with_life (f z.life).life) (λ x. refl) xs, named)
+        (one z eo (session == handle) refl (session_at xs handle) refl)
+
+-- ---- the one case split
+
+-- a call none of whose refusals is a success
+carried : (P : List Session → Bool → Type 0) (s : CoreState) (o : Option Refusal) (x : Effect)
+    → none_in is_success o ≡ true → is_success x.code ≡ true
+    → P s.sessions false → P x.state.sessions true
+    → P (unless_refused s o x).state.sessions (is_success (unless_refused s o x).code)
+carried P s None x none good same done = rw good done
+carried P s (Some r) x none good same done = rw (refused (is_success r.code) none) same
+  where
+    refused : (b : Bool) → not b ≡ true → b ≡ false
+    refused true none = absurd (true≢false (sym none))
+    refused false none = refl
+
+-- a call that does the same to a life, refused or not
+kept : (P : List Session → Type 0) (s : CoreState) (o : Option Refusal) (x : Effect)
+    → P s.sessions → P x.state.sessions → P (unless_refused s o x).state.sessions
+kept P s None x same done = done
+kept P s (Some r) x same done = same
+
+module _ (s : CoreState) (reads : CellReads) (e : Entry) (handle : ℕ) where
+  -- the life of a new session
+  abbrev fresh : Life
+  fresh = (started_session s.device.wish).life
+
+  -- what is found after the request, told what is listed then and whether it succeeds
+  abbrev Lives : Request → List Session → Bool → Type 0
+  Lives r xs good =
+      Follows (life_after s.device.wish r handle good) (creates_session (record e { request = r }) handle) fresh
+      (session_at s.sessions handle) (session_at xs handle)
+
+  abbrev good : Request → Bool
+  good r = is_success (core_step s reads (record e { request = r })).1.reply.code
+
+  gone : (r : Request) → ((life : Life) → life_after s.device.wish r handle (good r) life ≡ life) → (top : ℕ)
+      → Lives r (sessions_left (without s.handles top) (destroyed_by s.handles top) s.sessions) (good r)
+  gone r same top =
+      let left = without s.handles top in
+      let sets = destroyed_by s.handles top in
+      rw (found_without sets handle (still_live left s.sessions), found_left (λ n. is_live left kind.Session n) handle s.sessions)
+      (follows_left (life_after s.device.wish r handle (good r)) (creates_session (record e { request = r }) handle) fresh same
+      sets (is_live left kind.Session handle) (session_at s.sessions handle))
+
+  each : (f : Life → Changed)
+      → Follows (λ life. (f life).life) false fresh (session_at s.sessions handle) (session_at (each_changed f s.sessions) handle)
+  each f = rw (found_each f handle s.sessions) (follows_each f false fresh (session_at s.sessions handle))
+
+  all_same : Follows (λ life. life) false fresh (session_at s.sessions handle) (session_at s.sessions handle)
+  all_same = follows_same (λ life. life) false fresh (λ life. refl) (session_at s.sessions handle)
+
+  events : (what : DeviceEvent) → Lives (device what) (behind_event s what).sessions true
+  events (event.Wish wish) = each (settled_session wish)
+  events event.Loss = each losing_session
+  events event.Lost = each (λ life. unchanged (lost_session life))
+  events event.Fault = each (λ life. unchanged (lost_session life))
+  events (event.Garbled line) = each (λ life. unchanged (lost_session life))
+  events _ = all_same
+
+  pub lived : Follows (life_after s.device.wish e.request handle (is_success (core_step s reads e).1.reply.code)) (creates_session e handle)
+      (started_session s.device.wish).life (session_at s.sessions handle) (session_at (core_step s reads e).0.sessions handle)
+  lived = by e.request
+    where
+      by : (r : Request) → Lives r (core_step s reads (record e { request = r })).0.sessions (good r)
+      by (create_session instance system) =
+          let f = rule s reads (record e { request = create_session instance system }) in
+          let new = new_session s e.given fresh in
+          kept (λ xs. Lives (create_session instance system) xs true) s (refusal e.short f) (told_on f.on f.effect)
+          (follows_same (λ life. life) (e.given == handle) new.life (λ life. refl) (session_at s.sessions handle))
+          (rw (found_more new handle s.sessions) (follows_more (λ life. life) new handle (λ life. refl) (session_at s.sessions handle)))
+      by (begin_session session view) =
+          let f = rule s reads (record e { request = begin_session session view }) in
+          carried (Lives (begin_session session view)) s (refusal e.short f) (told_on f.on f.effect) (first_none is_success (refusals f) refl)
+          (success_succeeds (loss_of (life_of s session))) all_same
+          (follows_changed (λ life. unchanged (begun_session life)) false fresh s.sessions session handle)
+      by (end_session session) =
+          let f = rule s reads (record e { request = end_session session }) in
+          carried (Lives (end_session session)) s (refusal e.short f) (told_on f.on f.effect) (first_none is_success (refusals f) refl)
+          (success_succeeds (loss_of (life_of s session))) all_same
+          (follows_changed (ended_session s.device.wish) false fresh s.sessions session handle)
+      by (request_exit_session session) =
+          let f = rule s reads (record e { request = request_exit_session session }) in
+          carried (Lives (request_exit_session session)) s (refusal e.short f) (told_on f.on f.effect) (first_none is_success (refusals f) refl)
+          (success_succeeds (loss_of (life_of s session))) all_same
+          (follows_changed (exiting_session s.device.wish) false fresh s.sessions session handle)
+      by (attach_sets session sets) =
+          let f = rule s reads (record e { request = attach_sets session sets }) in
+          kept (λ xs. Lives (attach_sets session sets) xs true) s (refusal e.short f) (told_on f.on f.effect) all_same
+          (rw (found_at session handle (with_attached (sets_named s.sets sets)) (λ x. refl) s.sessions)
+          (follows_attached false fresh (sets_named s.sets sets) (session == handle) (session_at s.sessions handle)))
+      by (destroy_instance instance) =
+          let f = rule s reads (record e { request = destroy_instance instance }) in
+          kept (λ xs. Lives (destroy_instance instance) xs true) s (refusal e.short f) (told_on f.on f.effect) all_same
+          (gone (destroy_instance instance) (λ life. refl) instance)
+      by (destroy_session session) =
+          let f = rule s reads (record e { request = destroy_session session }) in
+          kept (λ xs. Lives (destroy_session session) xs true) s (refusal e.short f) (told_on f.on f.effect) all_same
+          (gone (destroy_session session) (λ life. refl) session)
+      by (destroy_action_set set) =
+          let f = rule s reads (record e { request = destroy_action_set set }) in
+          kept (λ xs. Lives (destroy_action_set set) xs true) s (refusal e.short f) (told_on f.on f.effect) all_same
+          (gone (destroy_action_set set) (λ life. refl) set)
+      by (destroy_action action) =
+          let f = rule s reads (record e { request = destroy_action action }) in
+          kept (λ xs. Lives (destroy_action action) xs true) s (refusal e.short f) (told_on f.on f.effect) all_same
+          (gone (destroy_action action) (λ life. refl) action)
+      by (device what) = events what
+      by r =
+          let f = rule s reads (record e { request = r }) in
+          kept (λ xs. Lives r xs true) s (refusal e.short f) (told_on f.on f.effect) all_same all_same
+
+-- of a session that is found before and after
+pub lived_on : (s : CoreState) (reads : CellReads) (e : Entry) (handle : ℕ) (x y : Session)
+    → session_at s.sessions handle ≡ Some x → session_at (core_step s reads e).0.sessions handle ≡ Some y
+    → y.life ≡ life_after s.device.wish e.request handle (is_success (core_step s reads e).1.reply.code) x.life
+lived_on s reads e handle x y before later =
+    by (session_at s.sessions handle) (session_at (core_step s reads e).0.sessions handle) before later (lived s reads e handle)
+  where
+    f : Life → Life
+    f = life_after s.device.wish e.request handle (is_success (core_step s reads e).1.reply.code)
+
+    by : (o n : Option Session) → o ≡ Some x → n ≡ Some y
+        → Follows f (creates_session e handle) (started_session s.device.wish).life o n → y.life ≡ f x.life
+    by None n before later follows = cc
+    by (Some a) None before later follows = cc
+    by (Some a) (Some b) before later follows = rw (some_is x a (sym before), some_is y b (sym later)) follows

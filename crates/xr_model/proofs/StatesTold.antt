@@ -1,0 +1,220 @@
+-- Each call but a poll and the instance's end puts the states into the queue through which sessions went.
+use Rattle.std.proofs.Common.{◌≡◌, ◌≢◌, ◌+◌, ◌==◌, ◌||◌, ℕ, ℤ, Bool, true, false, List, [], ◌∷◌, ◌++◌, Option, Some, None, refl, sym, ap, subst, ◌∙◌, true≢false}
+use Rattle.std.specs.Prelude.{is_some, if◌then◌else◌}
+use Rattle.xr_types.specs.declared.device.DeviceEvent.{DeviceEvent}
+use Rattle.xr_types.specs.declared.device.DeviceEvent.TheVariants as event
+use Rattle.xr_types.specs.declared.handles.Kind.TheVariants as kind
+use Rattle.xr_types.specs.declared.session.SessionState.TheVariants.{Exiting, LossPending, Idle}
+use Rattle.xr_model.specs.machine.Request.{Entry, Request, destroy_instance, poll_event, create_session, destroy_session, begin_session, end_session, request_exit_session, destroy_action_set, destroy_action, attach_sets, device}
+use Rattle.xr_types.specs.declared.session.Event.{Event}
+use Rattle.xr_types.specs.declared.session.SessionState.{SessionState}
+use Rattle.xr_model.specs.machine.Events.{Queue}
+use Rattle.xr_model.specs.machine.Handles.{is_live, without, destroyed_by, was_given}
+use Rattle.xr_model.specs.machine.Sets.{sets_named}
+use Rattle.xr_model.specs.machine.Refusals.{Refusal}
+use Rattle.xr_model.specs.machine.SessionLife.{Life, Changed, unchanged, started_session, begun_session, settled_session, ended_session, exiting_session, losing_session, lost_session, last_of, is_state}
+use Rattle.xr_model.specs.machine.LiveSessions.{Session, session_at, with_session_at, with_attached, without_sets, still_live, sessions_left, told_states, each_changed, told_changes}
+use Rattle.xr_model.specs.machine.State.{CoreState, Settings, State, opening}
+use Rattle.xr_model.specs.machine.Rule.{Effect, refusal, told_on, unless_refused}
+use Rattle.xr_model.specs.machine.Rules.Device.{behind_event}
+use Rattle.xr_model.specs.machine.Rules.Session.{new_session, changed_in, told_of}
+use Rattle.xr_model.specs.machine.Machine.{rule, reads_of, step, IsAllowed}
+use Rattle.xr_model.specs.machine.History.{after, opening_clocks, clocks_after, IsLegalFrom, IsLegal}
+use Rattle.xr_model.specs.laws.SessionLaws.{AreListed}
+use Rattle.xr_model.specs.laws.EventLaws.{state_at, last_told, AreTold, polls, ends, StatesAreTold}
+use Rattle.xr_model.proofs.Rows.{itself, same_key}
+use Rattle.xr_model.proofs.Destroying.{AreKnown, known_step, known_after, known_opening}
+use Rattle.xr_model.proofs.DestroyedForGood.{legal_behind}
+use Rattle.xr_model.proofs.HandleSteps.{succeeds}
+use Rattle.xr_model.proofs.Histories.{fronts_are_legal}
+use Rattle.xr_model.proofs.Listed.{handle_of, listed_none}
+use Rattle.xr_model.proofs.LostSessions.{new_session_given, listed_after, sessions_are_listed}
+use Rattle.xr_model.proofs.SessionSteps.{kept_by_step}
+use Rattle.xr_model.proofs.ToldStates.{states_of, one_told, last_here, last_else, last_new, own_states, AreApart, listed_state, state_before, state_new, ordinal_new, apart_more, apart_lives, state_else, state_here, ordinal_here, state_found, state_attached, left_state, apart_left, state_map, apart_map, changes_of, each_told, listed_each, apart_each, own_each, last_each}
+
+-- ---- listed sessions have handles of their own
+
+is_false : (b : Bool) → (b ≡ true → ⊥) → b ≡ false
+is_false true never = absurd (never refl)
+is_false false never = refl
+
+unlisted : (s : State) (given : ℕ) → AreKnown s.core.handles → AreListed s.core.handles s.core.sessions → (given ≢ 0) × (was_given s.core.handles given ≡ false) → is_some (state_at s.core.sessions given) ≡ false
+unlisted s given known listed fresh =
+    let nz : (given == 0) ≡ false = is_false (given == 0) (λ is. fresh.0 (same_key given 0 is)) in
+    listed_state s.core.sessions given ∙ listed given ∙ rw (nz, (known given nz fresh.1).sessions) refl
+
+pub apart_step : (s : State) (e : Entry) → IsAllowed s e → AreKnown s.core.handles → AreListed s.core.handles s.core.sessions → AreApart s.core.sessions → AreApart (step s e).0.core.sessions
+apart_step s e allowed known listed apart = kept_by_step (λ h xs. AreApart xs) s.core (reads_of s e.request) e (record {
+  same = λ d c. apart;
+  instance = λ d c. apart;
+  session = λ d c good room instance. apart_more s.core.sessions (new_session s.core e.given (started_session s.core.device.wish).life) apart (unlisted s e.given known listed (new_session_given s e allowed c good));
+  set = λ d c instance. apart;
+  action = λ d c set. apart;
+  space = λ d c session. apart;
+  without = λ d c handle. apart_map (without_sets (destroyed_by s.core.handles handle)) (λ x. refl) (λ x. refl) (still_live (without s.core.handles handle) s.core.sessions) (apart_left (λ n. is_live (without s.core.handles handle) kind.Session n) s.core.sessions apart);
+  alone = λ d c space. apart;
+  lives = λ d c session f named same keeps. apart_lives session f named s.core.sessions apart;
+  attach = λ d c session sets. apart_lives session (with_attached (sets_named s.core.sets sets)) (λ x. refl) s.core.sessions apart;
+  each = λ d c f keeps. apart_each f s.core.sessions apart;
+  lost = λ d c. apart_each (λ life. unchanged (lost_session life)) s.core.sessions apart;
+})
+
+apart_after : (s : State) (clocks : List ℤ) (es : List Entry) → IsLegalFrom s clocks es → AreKnown s.core.handles → AreListed s.core.handles s.core.sessions → AreApart s.core.sessions → AreApart (after s es).core.sessions
+apart_after s clocks [] legal known listed apart = apart
+apart_after s clocks (e ∷ es) legal known listed apart =
+    apart_after (step s e).0 (clocks_after clocks e (step s e).0) es legal.3 (known_step s e known) (listed_after s clocks (e ∷ []) (legal.0, legal.1, legal.2, tt) listed) (apart_step s e legal.0 known listed apart)
+
+pub all_apart : (settings : Settings) (es : List Entry) → IsLegal settings es → AreApart (after (opening settings) es).core.sessions
+all_apart settings es legal = apart_after (opening settings) (opening_clocks settings) es legal (known_opening settings) listed_none tt
+
+-- ---- one entry
+
+losing_truly : (life : Life) → (losing_session life).life.state ≡ last_of life.state (losing_session life).through
+losing_truly life = by (is_state life.state Exiting || is_state life.state LossPending)
+  where
+    by : (b : Bool) → (if b then unchanged life else record { life = record life { state = LossPending }; through = LossPending ∷ [] }).life.state ≡ last_of life.state (if b then unchanged life else record { life = record life { state = LossPending }; through = LossPending ∷ [] }).through
+    by true = refl
+    by false = refl
+
+-- some events tell it
+abbrev Tells : Queue → Queue → List Session → List Session → Type 0
+Tells q new xs ys = (events : List Event) × AreTold events q new xs ys
+
+-- no event comes
+nothing : (q : Queue) (xs ys : List Session) → ((k : ℕ) → is_some (state_at ys k) ≡ true → state_at xs k ≡ state_at ys k) → Tells q q xs ys
+nothing q xs ys same = ([], record { queue = refl; own = refl; last = same })
+
+unless : (P : Queue → List Session → Type 0) (s : CoreState) (o : Option Refusal) (x : Effect) → P s.events s.sessions → (o ≡ None → P x.state.events x.state.sessions) → P (unless_refused s o x).state.events (unless_refused s o x).state.sessions
+unless P s None x same done = done refl
+unless P s (Some r) x same done = same
+
+module _ (q : Queue) (xs : List Session) where
+  -- one session changes
+  changed : (f : Life → Changed) → ((life : Life) → (f life).life.state ≡ last_of life.state (f life).through) → (session : ℕ) (o : Option Session) → session_at xs session ≡ o → Tells q (told_of o f q) xs (changed_in o f xs)
+  changed f truly session None found = nothing q xs xs (λ k there. refl)
+  changed f truly session (Some x) found = (
+    states_of x.ordinal x.handle (f x.life).through ++ [],
+    record {
+      queue = one_told q x.ordinal x.handle (f x.life).through;
+      own = own_states (changed_in (Some x) f xs) x.ordinal x.handle (f x.life).through [] (ordinal_here x.handle (f x.life).life xs x itself_found) refl;
+      last = λ k there. by k (x.handle == k) refl;
+    },
+  )
+    where
+      itself_found : session_at xs x.handle ≡ Some x
+      itself_found = subst (λ (n : ℕ). session_at xs n ≡ Some x) (sym (handle_of xs session x found)) found
+
+      by : (k : ℕ) (b : Bool) → (x.handle == k) ≡ b → last_told k (state_at xs k) (states_of x.ordinal x.handle (f x.life).through ++ []) ≡ state_at (changed_in (Some x) f xs) k
+      by k true eb = subst (λ (n : ℕ). last_told n (state_at xs n) (states_of x.ordinal x.handle (f x.life).through ++ []) ≡ state_at (changed_in (Some x) f xs) n) (same_key x.handle k eb)
+          (ap (λ (o : Option _). last_told x.handle o (states_of x.ordinal x.handle (f x.life).through ++ [])) (state_found xs x.handle x itself_found)
+          ∙ last_here x.handle x.ordinal x.handle (f x.life).through [] x.life.state (itself x.handle)
+          ∙ ap Some (sym (truly x.life)) ∙ sym (state_here x.handle (f x.life).life xs x itself_found))
+      by k false eb = last_else k x.ordinal x.handle (f x.life).through [] (state_at xs k) eb ∙ sym (state_else x.handle (f x.life).life xs k eb)
+
+  -- each session changes
+  each : AreApart xs → (f : Life → Changed) → ((life : Life) → (f life).life.state ≡ last_of life.state (f life).through) → Tells q (told_changes q f xs) xs (each_changed f xs)
+  each apart f truly = (
+    changes_of f xs,
+    record {
+      queue = each_told f q xs;
+      own = own_each f xs apart;
+      last = λ k there. last_each f truly xs apart k (sym (listed_each f xs k) ∙ there);
+    },
+  )
+
+-- a session comes
+created : (s : CoreState) (given : ℕ) → is_some (state_at s.sessions given) ≡ false
+    → Tells s.events (told_states s.events (s.created + 1) given (started_session s.device.wish).through) s.sessions (s.sessions ++ new_session s given (started_session s.device.wish).life ∷ [])
+created s given none = (
+  states_of (s.created + 1) given (started_session s.device.wish).through ++ [],
+  record {
+    queue = one_told s.events (s.created + 1) given (started_session s.device.wish).through;
+    own = own_states (s.sessions ++ new ∷ []) (s.created + 1) given (started_session s.device.wish).through [] (ordinal_new s.sessions new none) refl;
+    last = λ k there. by k (given == k) refl;
+  },
+)
+  where
+    new : Session
+    new = new_session s given (started_session s.device.wish).life
+
+    by : (k : ℕ) (b : Bool) → (given == k) ≡ b → last_told k (state_at s.sessions k) (states_of (s.created + 1) given (started_session s.device.wish).through ++ []) ≡ state_at (s.sessions ++ new ∷ []) k
+    by k true eb = subst (λ (n : ℕ). last_told n (state_at s.sessions n) (states_of (s.created + 1) given (started_session s.device.wish).through ++ []) ≡ state_at (s.sessions ++ new ∷ []) n) (same_key given k eb)
+        (last_new given (s.created + 1) given Idle (settled_session s.device.wish (record { state = Idle; running = false; exit = false; lost = false })).through (state_at s.sessions given) (itself given) ∙ sym (state_new s.sessions new none))
+    by k false eb = last_else k (s.created + 1) given (started_session s.device.wish).through [] (state_at s.sessions k) eb ∙ sym (state_before s.sessions new k eb)
+
+module _ (s : State) (apart : AreApart s.core.sessions) where
+  abbrev Told : Queue → List Session → Type 0
+  Told q ys = Tells s.core.events q s.core.sessions ys
+
+  as_before : Told s.core.events s.core.sessions
+  as_before = nothing s.core.events s.core.sessions s.core.sessions (λ k there. refl)
+
+  -- sessions go, of which nothing is told
+  gone : (handle : ℕ) → Told s.core.events (sessions_left (without s.core.handles handle) (destroyed_by s.core.handles handle) s.core.sessions)
+  gone handle =
+      nothing s.core.events s.core.sessions (sessions_left (without s.core.handles handle) (destroyed_by s.core.handles handle) s.core.sessions)
+      (λ k there.
+      let same = state_map (without_sets (destroyed_by s.core.handles handle)) (λ x. refl) (λ x. refl) (still_live (without s.core.handles handle) s.core.sessions) k in
+      left_state (λ n. is_live (without s.core.handles handle) kind.Session n) s.core.sessions k (ap (λ (o : Option SessionState). is_some o) (sym same) ∙ there) ∙ sym same)
+
+  events : (what : DeviceEvent) → Told (behind_event s.core what).events (behind_event s.core what).sessions
+  events (event.Wish wish) = each s.core.events s.core.sessions apart (settled_session wish) (λ life. refl)
+  events event.Loss = each s.core.events s.core.sessions apart losing_session losing_truly
+  events event.Lost = each s.core.events s.core.sessions apart (λ life. unchanged (lost_session life)) (λ life. refl)
+  events event.Fault = each s.core.events s.core.sessions apart (λ life. unchanged (lost_session life)) (λ life. refl)
+  events (event.Garbled line) = each s.core.events s.core.sessions apart (λ life. unchanged (lost_session life)) (λ life. refl)
+  events _ = as_before
+
+pub told_step : (s : State) (e : Entry) → IsAllowed s e → AreKnown s.core.handles → AreListed s.core.handles s.core.sessions → AreApart s.core.sessions → polls s e ≡ false → ends s e ≡ false
+    → Tells s.core.events (step s e).0.core.events s.core.sessions (step s e).0.core.sessions
+told_step s e allowed known listed apart = by e.request allowed
+  where
+    by : (r : Request) → IsAllowed s (record e { request = r }) → polls s (record e { request = r }) ≡ false → ends s (record e { request = r }) ≡ false → Tells s.core.events (step s (record e { request = r })).0.core.events s.core.sessions (step s (record e { request = r })).0.core.sessions
+    by (poll_event instance) allowed no_poll no_end =
+        let f = rule s.core (reads_of s (poll_event instance)) (record e { request = poll_event instance }) in
+        unless (λ q ys. Tells s.core.events q s.core.sessions ys) s.core (refusal e.short f) (told_on f.on f.effect) (as_before s apart)
+        (λ none. absurd (true≢false (sym (succeeds s.core (refusal e.short f) (told_on f.on f.effect) refl none) ∙ no_poll)))
+    by (destroy_instance instance) allowed no_poll no_end =
+        let f = rule s.core (reads_of s (destroy_instance instance)) (record e { request = destroy_instance instance }) in
+        unless (λ q ys. Tells s.core.events q s.core.sessions ys) s.core (refusal e.short f) (told_on f.on f.effect) (as_before s apart)
+        (λ none. absurd (true≢false (sym (succeeds s.core (refusal e.short f) (told_on f.on f.effect) refl none) ∙ no_end)))
+    by (create_session instance system) allowed no_poll no_end =
+        let e' : Entry = record e { request = create_session instance system } in
+        let f = rule s.core (reads_of s (create_session instance system)) e' in
+        unless (λ q ys. Tells s.core.events q s.core.sessions ys) s.core (refusal e.short f) (told_on f.on f.effect) (as_before s apart)
+        (λ none. created s.core e.given (unlisted s e.given known listed (new_session_given s e' allowed refl (succeeds s.core (refusal e.short f) (told_on f.on f.effect) refl none))))
+    by (begin_session session view) allowed no_poll no_end =
+        let f = rule s.core (reads_of s (begin_session session view)) (record e { request = begin_session session view }) in
+        unless (λ q ys. Tells s.core.events q s.core.sessions ys) s.core (refusal e.short f) (told_on f.on f.effect) (as_before s apart)
+        (λ none. changed s.core.events s.core.sessions (λ life. unchanged (begun_session life)) (λ life. refl) session (session_at s.core.sessions session) refl)
+    by (end_session session) allowed no_poll no_end =
+        let f = rule s.core (reads_of s (end_session session)) (record e { request = end_session session }) in
+        unless (λ q ys. Tells s.core.events q s.core.sessions ys) s.core (refusal e.short f) (told_on f.on f.effect) (as_before s apart)
+        (λ none. changed s.core.events s.core.sessions (ended_session s.core.device.wish) (λ life. refl) session (session_at s.core.sessions session) refl)
+    by (request_exit_session session) allowed no_poll no_end =
+        let f = rule s.core (reads_of s (request_exit_session session)) (record e { request = request_exit_session session }) in
+        unless (λ q ys. Tells s.core.events q s.core.sessions ys) s.core (refusal e.short f) (told_on f.on f.effect) (as_before s apart)
+        (λ none. changed s.core.events s.core.sessions (exiting_session s.core.device.wish) (λ life. refl) session (session_at s.core.sessions session) refl)
+    by (attach_sets session handles) allowed no_poll no_end =
+        let f = rule s.core (reads_of s (attach_sets session handles)) (record e { request = attach_sets session handles }) in
+        unless (λ q ys. Tells s.core.events q s.core.sessions ys) s.core (refusal e.short f) (told_on f.on f.effect) (as_before s apart)
+        (λ none. nothing s.core.events s.core.sessions (with_session_at session (with_attached (sets_named s.core.sets handles)) s.core.sessions) (λ k there. sym (state_attached session (sets_named s.core.sets handles) s.core.sessions k)))
+    by (destroy_session handle) allowed no_poll no_end =
+        let f = rule s.core (reads_of s (destroy_session handle)) (record e { request = destroy_session handle }) in
+        unless (λ q ys. Tells s.core.events q s.core.sessions ys) s.core (refusal e.short f) (told_on f.on f.effect) (as_before s apart) (λ none. gone s apart handle)
+    by (destroy_action_set handle) allowed no_poll no_end =
+        let f = rule s.core (reads_of s (destroy_action_set handle)) (record e { request = destroy_action_set handle }) in
+        unless (λ q ys. Tells s.core.events q s.core.sessions ys) s.core (refusal e.short f) (told_on f.on f.effect) (as_before s apart) (λ none. gone s apart handle)
+    by (destroy_action handle) allowed no_poll no_end =
+        let f = rule s.core (reads_of s (destroy_action handle)) (record e { request = destroy_action handle }) in
+        unless (λ q ys. Tells s.core.events q s.core.sessions ys) s.core (refusal e.short f) (told_on f.on f.effect) (as_before s apart) (λ none. gone s apart handle)
+    by (device what) allowed no_poll no_end = events s apart what
+    by r allowed no_poll no_end =
+        let f = rule s.core (reads_of s r) (record e { request = r }) in
+        unless (λ q ys. Tells s.core.events q s.core.sessions ys) s.core (refusal e.short f) (told_on f.on f.effect) (as_before s apart) (λ none. as_before s apart)
+
+pub states_are_told : StatesAreTold
+states_are_told settings es e legal no_poll no_end =
+    let front = fronts_are_legal (opening settings) (opening_clocks settings) es (e ∷ []) legal in
+    let rest = legal_behind (opening settings) (opening_clocks settings) es (e ∷ []) legal in
+    told_step (after (opening settings) es) e rest.0 (known_after (opening settings) es (known_opening settings)) (sessions_are_listed settings es front) (all_apart settings es front) no_poll no_end

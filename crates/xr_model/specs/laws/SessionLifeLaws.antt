@@ -1,0 +1,79 @@
+-- What holds of a session from its creation to its end, and of the device's clock.
+use Rattle.std.specs.Prelude.{◌≡◌, ◌==◌, ◌&&◌, ◌||◌, ℕ, Bool, true, false, int_le, List, [], ◌∷◌, Some, None, if◌then◌else◌}
+use Rattle.xr_types.specs.Code.{is_success}
+use Rattle.xr_model.specs.machine.Request.{Request, begin_session, end_session, request_exit_session, Entry}
+use Rattle.xr_model.specs.machine.SessionLife.{next_state}
+use Rattle.xr_model.specs.machine.LiveSessions.{Session, session_at}
+use Rattle.xr_model.specs.machine.State.{Settings, State, opening}
+use Rattle.xr_model.specs.machine.Machine.{step}
+use Rattle.xr_model.specs.machine.History.{after, IsLegal}
+use Rattle.xr_model.specs.laws.SessionLaws.{creates_session}
+
+-- ---- the clock
+
+-- the device's clock never goes back
+abbrev pub ClockNeverFalls : Type 0
+ClockNeverFalls = (s : State) (e : Entry) → int_le s.core.device.clock (step s e).0.core.device.clock ≡ true
+
+-- ---- states
+
+-- After every history no row of the table of states fits a listed session under the device's wish.
+abbrev pub SessionsHaveSettled : Type 0
+SessionsHaveSettled =
+    (settings : Settings) (es : List Entry) (session : ℕ) (x : Session) → session_at (after (opening settings) es).core.sessions session ≡ Some x
+    → next_state (after (opening settings) es).core.device.wish x.life.exit x.life.state ≡ None
+
+-- ---- the loss
+
+-- a session that is lost stays so as long as it is listed
+abbrev pub LostStaysLost : Type 0
+LostStaysLost =
+    (s : State) (e : Entry) (session : ℕ) (x y : Session)
+    → session_at s.core.sessions session ≡ Some x → session_at (step s e).0.core.sessions session ≡ Some y
+    → x.life.lost ≡ true → y.life.lost ≡ true
+
+-- ---- the asking for the end
+
+-- the call asks for this session's end
+abbrev pub asks_for_end : Request → ℕ → Bool
+asks_for_end (request_exit_session session) handle = session == handle
+asks_for_end _ handle = false
+
+-- The end of a session was asked for exactly where it was before, or this call asks for it and succeeds.
+abbrev pub OnlyItsCallAsksForTheEnd : Type 0
+OnlyItsCallAsksForTheEnd =
+    (s : State) (e : Entry) (session : ℕ) (x y : Session)
+    → session_at s.core.sessions session ≡ Some x → session_at (step s e).0.core.sessions session ≡ Some y
+    → y.life.exit ≡ x.life.exit || (asks_for_end e.request session && is_success (step s e).1.reply.code)
+
+-- ---- running
+
+-- the call begins this session
+abbrev pub begins : Request → ℕ → Bool
+begins (begin_session session view) handle = session == handle
+begins _ handle = false
+
+-- the call ends this session
+abbrev pub ends : Request → ℕ → Bool
+ends (end_session session) handle = session == handle
+ends _ handle = false
+
+-- what is known of a session's running after an entry, told what was known before it
+abbrev pub begun_after : State → Entry → ℕ → Bool → Bool
+begun_after s e session before =
+    if creates_session e session then false
+    else (if begins e.request session && is_success (step s e).1.reply.code then true
+    else (if ends e.request session && is_success (step s e).1.reply.code then false
+    else before))
+
+-- whether the session was begun and not ended since its creation, where that is known of the time before these entries
+abbrev pub was_begun : State → ℕ → Bool → List Entry → Bool
+was_begun s session before [] = before
+was_begun s session before (e ∷ es) = was_begun (step s e).0 session (begun_after s e session before) es
+
+-- A listed session is running exactly where a call has begun it and none has ended it since.
+abbrev pub RunningIsBegunAndNotEnded : Type 0
+RunningIsBegunAndNotEnded =
+    (settings : Settings) (es : List Entry) (session : ℕ) (x : Session) → IsLegal settings es
+    → session_at (after (opening settings) es).core.sessions session ≡ Some x
+    → x.life.running ≡ was_begun (opening settings) session false es

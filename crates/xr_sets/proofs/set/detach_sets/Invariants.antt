@@ -1,6 +1,0 @@
-use Rattle.std.proofs.Common.{◌≡◌, ◌++◌, map, take, drop}
-use Rattle.xr_model.specs.machine.Sets.{detached}
-use Rattle.xr_sets.proofs.set.detach_sets.Given as goal
-
-abbrev pub invariant-loop-set : goal.invariant-loop-set
-invariant-loop-set l = l.sets ≡ map detached (take l.set-index l.initial.sets) ++ drop l.set-index l.initial.sets
