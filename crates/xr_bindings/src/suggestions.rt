@@ -1,26 +1,31 @@
 // What is suggested for one profile, and what an action that goes takes from all of them.
-ghost use Rattle.std.specs.Prelude.{◌≡◌, ◌==◌, [], not, map, IfOk};
+ghost use Rattle.std.specs.Prelude.{◌≡◌, ◌≤◌, ◌==◌, [], not, map, take, length, IfOk};
 ghost use Rattle.std.specs.List.{filter};
 ghost use Rattle.xr_model.specs.machine.Bindings.{without_suggestions_of};
 
 use std::alloc::{AllocError, Global};
+use std::boxed::BoxedSlice;
 use std::marker::Model;
 use xr_types::Bound;
 
 /// The suggestions for a profile, if there were any, seen by contracts as their list, in the order of the call. What is
-/// suggested takes the memory for all of it once; nothing grows it.
+/// suggested takes the memory for all of it once: its list can't grow, so what goes later takes none.
 #[derive(Drop)]
 pub(crate) struct Suggestions {
-    list: Option<Vec<Bound>>,
+    list: Option<BoxedSlice<Bound>>,
+    /// How many are left, at the front of the list.
+    left: usize,
 }
 
 impl Model for Suggestions {
-    ghost use Rattle.std.specs.Prelude.{List, [], option_map, unwrap_or};
+    ghost use Rattle.std.specs.Prelude.{List, [], ◌≤◌, option_map, unwrap_or, take, length};
     ghost use Rattle.xr_types.specs.declared.input.Bound.{Bound};
 
     ghost Value = { List Bound };
 
-    ghost view = { λ s. unwrap_or (option_map (λ list. list.items) s.list) [] };
+    ghost view = { λ s. take s.left (unwrap_or (option_map (λ list. list.items.items) s.list) []) };
+
+    ghost invariant = { λ s. s.left ≤ length (unwrap_or (option_map (λ list. list.items.items) s.list) []) };
 }
 
 impl Suggestions {
@@ -28,15 +33,22 @@ impl Suggestions {
     pub(crate) fn none() -> Suggestions
         ensures { result ≡ [] }
     {
-        Suggestions { list: None }
+        Suggestions {
+            list: None,
+            left: 0,
+        }
     }
 
     /// These are suggested. Takes the memory for a copy of them, where there is as much.
     pub(crate) fn from_slice(alloc: Global, list: &[Bound]) -> Result<Suggestions, AllocError>
         ensures { IfOk result (λ suggestions. suggestions ≡ list.now) }
     {
-        let list = Vec::from_slice(alloc, list)?;
-        Ok(Suggestions { list: Some(list) })
+        let left = list.len();
+        let list = BoxedSlice::from_slice(alloc, list)?;
+        Ok(Suggestions {
+            list: Some(list),
+            left,
+        })
     }
 
     /// What is suggested.
@@ -44,7 +56,7 @@ impl Suggestions {
         ensures { result.now ≡ self.now }
     {
         match &self.list {
-            Some(list) => list.as_slice(),
+            Some(list) => &list.as_slice()[..self.left],
             None => &[],
         }
     }
@@ -54,16 +66,26 @@ impl Suggestions {
         ensures { self.new ≡ filter (λ b. not (b.action == action)) self.old }
     {
         if let Some(list) = &mut self.list {
-            forget_in(list, action);
+            self.left = keep_others(list.as_mut_slice(), self.left, action);
         }
     }
 }
 
-/// Takes those of an action from a list.
-fn forget_in(list: &mut Vec<Bound>, action: u64)
-    ensures { list.new.items ≡ filter (λ b. not (b.action == action)) list.old.items }
+/// Of the first `left`, moves those for other actions to the front, in their order, and tells how many they are.
+fn keep_others(list: &mut [Bound], left: usize, action: u64) -> usize
+    requires { left ≤ length list.old }
+    ensures kept { take result list.new ≡ filter (λ b. not (b.action == action)) (take left list.old) }
+    ensures within { result ≤ left }
 {
-    list.retain(|bound| bound.action != action);
+    let mut kept = 0;
+    for next in 0..left {
+        let bound = list[next];
+        if bound.action != action {
+            list[kept] = bound;
+            kept += 1;
+        }
+    }
+    kept
 }
 
 /// Takes those of an action from all lists.

@@ -20,7 +20,7 @@ use Rattle.xr_model.specs.machine.CoreCalls.{given_by}
 use Rattle.xr_model.proofs.SessionAnswers.{first_stays, first_skips}
 use Rattle.xr_core.specs.inside.Deciding.{Comes, Decides, DecidesOver}
 use Rattle.xr_core.specs.inside.Refusing.{or_refused}
-use Rattle.xr_core.specs.declared.halt.Decision.{Decision}
+use Rattle.xr_types.specs.declared.calls.Reply.{Reply}
 use Rattle.xr_core.specs.declared.halt.Halt.{Halt}
 use Rattle.xr_core.specs.declared.halt.Halt.TheVariants.{Refused, NotReady}
 use Rattle.xr_core.proofs.Plain.{IsPlain, are_plain, gives_size, first_plain, plain_rule}
@@ -82,7 +82,7 @@ ok_none (Some r) x y told = cc
 pub effect_decides : (s : CoreState) (what : Request) (r : ℕ → Rule) (new : CoreState) (answer : Code) (value : Gives) (did : Did)
     → ((who : Actor) (reads : CellReads) → rule_of s reads who (given_by value) what ≡ r (given_by value)) → first_of (refusals (r (given_by value))) ≡ None → (r (given_by value)).waits ≡ false
     → told_on (r (given_by value)).on (r (given_by value)).effect ≡ record { state = new; code = answer; gives = value; text = []; shown = None; did = did }
-    → IsGiven (is_some (r (given_by value)).creates && is_success answer) s.handles (given_by value) → is_out_of_memory answer ≡ false → Decides s what new (Ok (record { code = answer; gives = value }))
+    → IsGiven (is_some (r (given_by value)).creates && is_success answer) s.handles (given_by value) → is_out_of_memory answer ≡ false → Decides s what new (Ok (record { code = answer; gives = value; place = 0 }))
 effect_decides s what r new answer value did same none waits effect given memory = λ who reads. record {
   ready = rw (same who reads, waits) refl;
   handle = rw (same who reads) given;
@@ -164,7 +164,7 @@ none_second xs ys none = sym (first_skips xs ys (none_first xs ys none)) ∙ non
 -- ---- over a buffer
 
 -- what is decided over no buffer is decided over any, which stays
-pub beside : (who : Actor) (s : CoreState) (what : Request) (new : CoreState) (result : Result Decision Halt) (before : List ℕ) → DecidesOver who s what new result [] [] → DecidesOver who s what new result before before
+pub beside : (who : Actor) (s : CoreState) (what : Request) (new : CoreState) (result : Result Reply Halt) (before : List ℕ) → DecidesOver who s what new result [] [] → DecidesOver who s what new result before before
 beside who s what new (Ok d) before made = λ reads. over (made reads)
   where
     over : {r : ℕ → Rule} → Comes s r new d.code d.gives [] [] → Comes s r new d.code d.gives before before

@@ -104,10 +104,10 @@ module _ (s : CoreState) (instance : ℕ) (text : List ℕ) (a : Answer) (atoms 
           }
 
   -- a text that it takes has its atom
-  pub interned : a.code ≡ Success → Decides s (string_to_path instance text) (record s { atoms = atoms }) (Ok (record { code = Success; gives = Number a.number }))
+  pub interned : a.code ≡ Success → Decides s (string_to_path instance text) (record s { atoms = atoms }) (Ok (record { code = Success; gives = Number a.number; place = 0 }))
   interned good = λ who. by (first_of (intern_refusals s.atoms text (is_out_of_memory a.code))) refl who
     where
-      by : (o : Option Refusal) → first_of (intern_refusals s.atoms text (is_out_of_memory a.code)) ≡ o → (who : Actor) → DecidesOver who s (string_to_path instance text) (record s { atoms = atoms }) (Ok (record { code = Success; gives = Number a.number })) [] []
+      by : (o : Option Refusal) → first_of (intern_refusals s.atoms text (is_out_of_memory a.code)) ≡ o → (who : Actor) → DecidesOver who s (string_to_path instance text) (record s { atoms = atoms }) (Ok (record { code = Success; gives = Number a.number; place = 0 })) [] []
       by None e who = λ reads.
           let new : atoms ≡ with_text s.atoms text = rw e at kept in
           let number : a.number ≡ atom_of s.atoms text = ap (λ (x : Answer). x.number) (rw e at answer) in
@@ -159,7 +159,7 @@ module _ (s : CoreState) (instance path : ℕ) (a : Answer) (before after : List
       by (Some t) e = absurd (neither t _ refl (rw e at answer))
 
   -- one that is known gives its size, whether or not the text fits
-  pub copy_given : (a.code ≡ Success) ⊎ (a.code ≡ SizeInsufficient) → (who : Actor) → DecidesOver who s (path_to_string instance path (length before)) s (Ok (record { code = a.code; gives = Size a.number })) before after
+  pub copy_given : (a.code ≡ Success) ⊎ (a.code ≡ SizeInsufficient) → (who : Actor) → DecidesOver who s (path_to_string instance path (length before)) s (Ok (record { code = a.code; gives = Size a.number; place = 0 })) before after
   copy_given known who = by (text_at s.atoms path) refl
     where
       not_invalid : (a.code ≡ Success) ⊎ (a.code ≡ SizeInsufficient) → a.code ≡ PathInvalid → ⊥
@@ -171,7 +171,7 @@ module _ (s : CoreState) (instance path : ℕ) (a : Answer) (before after : List
       unwritten n m small = grind (arith, nat_tests)
 
       one : (t : List ℕ) → text_at s.atoms path ≡ Some t → (b : Bool) → (nat_lt 0 (length before) && nat_lt (length before) (size_of t)) ≡ b
-          → DecidesOver who s (path_to_string instance path (length before)) s (Ok (record { code = a.code; gives = Size a.number })) before after
+          → DecidesOver who s (path_to_string instance path (length before)) s (Ok (record { code = a.code; gives = Size a.number; place = 0 })) before after
       one t e true eb = λ reads.
           let is : a ≡ record { code = SizeInsufficient; number = size_of t } = rw (e, eb) at answer in
           let over : nat_le (size_of t) (length before) ≡ false = unwritten (length before) (size_of t) eb in
@@ -198,6 +198,6 @@ module _ (s : CoreState) (instance path : ℕ) (a : Answer) (before after : List
             writes = rw (live, e, eb) bytes;
           })
 
-      by : (found : Option (List ℕ)) → text_at s.atoms path ≡ found → DecidesOver who s (path_to_string instance path (length before)) s (Ok (record { code = a.code; gives = Size a.number })) before after
+      by : (found : Option (List ℕ)) → text_at s.atoms path ≡ found → DecidesOver who s (path_to_string instance path (length before)) s (Ok (record { code = a.code; gives = Size a.number; place = 0 })) before after
       by None e = absurd (not_invalid known (ap (λ (x : Answer). x.code) (rw e at answer)))
       by (Some t) e = one t e (nat_lt 0 (length before) && nat_lt (length before) (size_of t)) refl

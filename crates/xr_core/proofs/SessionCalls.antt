@@ -68,7 +68,7 @@ module _ (s : CoreState) (session : ℕ) (call : LifeCall) where
             (refused_decides s (life_request session call) y (λ who reads. ap (λ (r : Rule). first_of (refusals r)) (has_rule s session call who reads) ∙ first_live s session call live ∙ e) (first_plain (refusals_of call (life_of s session)) y (plain_life call (life_of s session)) e))
 
     -- nothing refuses it
-    pub life_done : code ≡ Success → Decides s (life_request session call) kept (Ok (record { code = code_on (loss_of (life_of s session)) Success; gives = Nothing }))
+    pub life_done : code ≡ Success → Decides s (life_request session call) kept (Ok (record { code = code_on (loss_of (life_of s session)) Success; gives = Nothing; place = 0 }))
     unfolding changed_life answer_to
     life_done good =
         let none = passed_is_ok (refusals_of call (life_of s session)) code (plain_life call (life_of s session)) told good in

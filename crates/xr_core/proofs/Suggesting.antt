@@ -173,10 +173,10 @@ module _ (s : CoreState) (instance profile : ℕ) (list : List Binding) (live : 
               })
               by false eb leads told = absurd (failed told)
 
-          pub suggests : code ≡ Success → Decides s (suggest_bindings instance profile list) kept (Ok (record { code = Success; gives = Nothing }))
+          pub suggests : code ≡ Success → Decides s (suggest_bindings instance profile list) kept (Ok (record { code = Success; gives = Nothing; place = 0 }))
           suggests good = by (is_out_of_memory code) (ap is_out_of_memory good) (rw skips at leads)
             where
-              by : (short : Bool) → short ≡ false → kept ≡ record s { suggestions = unless (first_of (when short OutOfMemory ∷ [])) s.suggestions (with_suggestions s.suggestions which bound) } → Decides s (suggest_bindings instance profile list) kept (Ok (record { code = Success; gives = Nothing }))
+              by : (short : Bool) → short ≡ false → kept ≡ record s { suggestions = unless (first_of (when short OutOfMemory ∷ [])) s.suggestions (with_suggestions s.suggestions which bound) } → Decides s (suggest_bindings instance profile list) kept (Ok (record { code = Success; gives = Nothing; place = 0 }))
               by true short leads = absurd (true≢false short)
               by false short leads =
                   let taken : kept ≡ record s { suggestions = suggested s (profile_at s.atoms profile) list } = leads ∙ ap (λ (b : List Bound). record s { suggestions = with_suggestions s.suggestions which b }) all ∙ ap (λ (o : Option Profile). record s { suggestions = suggested s o list }) (sym found) in

@@ -8,11 +8,11 @@ ghost use Rattle.xr_model.specs.machine.State.{CellReads, with_apps, opening_cor
 ghost use Rattle.xr_model.specs.machine.Machine.{IsPresent};
 ghost use Rattle.xr_model.specs.machine.CoreCalls.{MayMake, CoreApplies};
 
-use crate::halt::Halt;
+use crate::halt::{Halt, refusal};
 use crate::parts::Parts;
 use std::alloc::Global;
 use std::marker::Model;
-use xr_types::{Actor, Call, Code, Gives, NoMemory, Reply, Step};
+use xr_types::{Actor, Call, NoMemory, Reply, Step};
 
 /// What the machine of one thread keeps beside its cells, seen by contracts as the core's half of the state: the parts, and
 /// how many locked calls were answered. Memory for path texts and suggestions is taken from its allocator.
@@ -35,17 +35,14 @@ impl Model for Core {
 }
 
 /// Counts a call that is made, and answers it.
-fn counted(calls: &mut u64, code: Code, gives: Gives) -> Step
+fn counted(calls: &mut u64, mut reply: Reply) -> Step
     requires { calls.old < 2 ^ 44 }
     ensures count { calls.new ≡ calls.old + 1 }
-    ensures reply { result ≡ Step.Done (record { code = code; gives = gives; place = calls.old + 1 }) }
+    ensures reply { result ≡ Step.Done (record reply { place = calls.old + 1 }) }
 {
     *calls += 1;
-    Step::Done(Reply {
-        code,
-        gives,
-        place: *calls,
-    })
+    reply.place = *calls;
+    Step::Done(reply)
 }
 
 impl Core {
@@ -108,10 +105,11 @@ impl Core {
         requires may { MayMake self.old who (request_of call.now) (length text.old) }
         ensures { (reads : CellReads) → CoreApplies reads self.old self.new who call.now text.old text.new result }
     {
-        match self.parts.decide(self.alloc, who, call, text) {
-            Ok(decision) => counted(&mut self.calls, decision.code, decision.gives),
-            Err(Halt::Refused(code)) => counted(&mut self.calls, code, Gives::Nothing),
-            Err(Halt::NotReady) => Step::NotReady,
-        }
+        let reply = match self.parts.decide(self.alloc, who, call, text) {
+            Ok(reply) => reply,
+            Err(Halt::Refused(code)) => refusal(code),
+            Err(Halt::NotReady) => return Step::NotReady,
+        };
+        counted(&mut self.calls, reply)
     }
 }

@@ -6,10 +6,10 @@ ghost use Rattle.xr_model.specs.machine.Rule.{is_by};
 ghost use Rattle.xr_model.specs.machine.Machine.{IsPresent};
 ghost use Rattle.xr_core.specs.inside.Deciding.{DecidesOver};
 
-use crate::halt::{Decision, Halt};
+use crate::halt::Halt;
 use crate::parts::Parts;
 use std::alloc::Global;
-use xr_types::{Actor, Call};
+use xr_types::{Actor, Call, Reply};
 
 impl Parts {
     /// Decides a call that is built: what it comes to, that it is refused, or that it has to wait. `text` is the buffer that
@@ -20,7 +20,7 @@ impl Parts {
         who: Actor,
         call: &Call<'_>,
         text: &mut [u8],
-    ) -> Result<Decision, Halt>
+    ) -> Result<Reply, Halt>
         requires given { length self.old.handles.given < 2 ^ 44 }
         requires created { self.old.created < 2 ^ 44 }
         requires present { IsPresent self.old who }

@@ -1,14 +1,7 @@
-// How the parts decide a call: what it comes to, or why it isn't made.
+// How the parts decide a call: the reply to it, which has place 0 until it is counted, or why it isn't made.
 ghost use Rattle.std.specs.Prelude.{◌≡◌, Ok, Err};
 
-use xr_types::{Code, Gives};
-
-/// What a call comes to that is made: its code, and what it gives.
-#[derive(Clone, Copy)]
-pub(crate) struct Decision {
-    pub(crate) code: Code,
-    pub(crate) gives: Gives,
-}
+use xr_types::{Code, Gives, Reply};
 
 /// A call ends early: it is refused, or it has to wait and isn't made. Either leaves all as it was.
 #[derive(Clone, Copy)]
@@ -29,25 +22,41 @@ impl From<Code> for Halt {
 }
 
 /// A success that gives nothing.
-pub(crate) fn done(code: Code) -> Result<Decision, Halt>
-    ensures { result ≡ Ok (record { code = code; gives = Gives.Nothing }) }
+pub(crate) fn done(code: Code) -> Result<Reply, Halt>
+    ensures { result ≡ Ok (record { code = code; gives = Gives.Nothing; place = 0 }) }
 {
-    Ok(Decision {
+    Ok(Reply {
         code,
         gives: Gives::Nothing,
+        place: 0,
     })
 }
 
 /// A success that gives a value.
-pub(crate) fn giving(code: Code, gives: Gives) -> Result<Decision, Halt>
-    ensures { result ≡ Ok (record { code = code; gives = gives }) }
+pub(crate) fn giving(code: Code, gives: Gives) -> Result<Reply, Halt>
+    ensures { result ≡ Ok (record { code = code; gives = gives; place = 0 }) }
 {
-    Ok(Decision { code, gives })
+    Ok(Reply {
+        code,
+        gives,
+        place: 0,
+    })
 }
 
 /// A refusal.
-pub(crate) fn refused(code: Code) -> Result<Decision, Halt>
+pub(crate) fn refused(code: Code) -> Result<Reply, Halt>
     ensures { result ≡ Err (Halt.Refused code) }
 {
     Err(Halt::Refused(code))
+}
+
+/// The reply to a call that is refused.
+pub(crate) fn refusal(code: Code) -> Reply
+    ensures { result ≡ record { code = code; gives = Gives.Nothing; place = 0 } }
+{
+    Reply {
+        code,
+        gives: Gives::Nothing,
+        place: 0,
+    }
 }

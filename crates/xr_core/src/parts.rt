@@ -2,7 +2,7 @@
 ghost use Rattle.std.specs.Prelude.{◌≡◌, ◌≢◌, ◌≤◌, ◌<◌, ◌^◌, ◌↔◌, [], ◌∷◌, IfOk, IsTrue, true, false, length, map};
 ghost use Rattle.xr_model.specs.machine.Bindings.{without_suggestions};
 ghost use Rattle.xr_model.specs.machine.Destroyed.{without_handle};
-ghost use Rattle.xr_model.specs.machine.Handles.{row_of, has_room, no_handle, was_given, with_handle};
+ghost use Rattle.xr_model.specs.machine.Handles.{row_of, has_room, no_handle, no_room, was_given, with_handle};
 ghost use Rattle.xr_model.specs.machine.HandlePlaces.{limit_of};
 ghost use Rattle.xr_model.specs.machine.LiveSessions.{still_live};
 ghost use Rattle.xr_model.specs.machine.Refusals.{first_of};
@@ -207,6 +207,17 @@ impl Parts {
             Ok(())
         } else {
             Err(Code::HandleInvalid)
+        }
+    }
+
+    /// A creation needs a free place of its kind.
+    pub(crate) fn room(&self, kind: Kind) -> Result<(), Code>
+        ensures { result ≡ or_refused (first_of (no_room self.now.handles kind ∷ [])) tt }
+    {
+        if self.handles.free_place(kind).is_some() {
+            Ok(())
+        } else {
+            Err(Code::LimitReached)
         }
     }
 

@@ -29,7 +29,7 @@ impl Model for PlainCore {
 }
 
 impl PlainCore {
-    /// A machine of 1 to 8 applications before any call. Takes all memory but that of new path texts.
+    /// A machine of 1 to 8 applications before any call. Takes all memory but that of new path texts and of suggestions.
     pub fn start(alloc: Global, apps: u8) -> Result<PlainCore, NoMemory>
         requires some { 1 ≤ apps }
         requires few { apps ≤ MOST_SCRIPTS }
@@ -79,8 +79,9 @@ impl PlainCore {
 
     /// Makes a call that is built, or says that it has to wait and leaves all as it was. `text` is the buffer that
     /// `path_to_string` is lent, of the call's `capacity`; for other calls it may have any size and stays.
-    /// The reply is the machine's to an allowed entry: it gives a handle exactly where a creation
-    /// succeeds, and `OutOfMemory` comes only to a new path text that would else be interned.
+    /// The reply is the machine's to an allowed entry: it gives a handle exactly where a creation succeeds, and
+    /// `OutOfMemory` comes only to a new path text that would else be interned, and to suggestions that would else be taken.
+    /// No other call takes memory.
     pub fn apply(&mut self, who: Actor, call: &Call<'_>, text: &mut [u8]) -> Step
         requires calls { self.old.core.locked < 2 ^ 44 }
         requires may { MayMake self.old.core who (request_of call.now) (length text.old) }

@@ -17,7 +17,7 @@ use Rattle.xr_model.specs.machine.History.{after, opening_clocks, clocks_after, 
 use Rattle.xr_model.specs.laws.SessionLaws.{is_session_creation, AreListed}
 use Rattle.xr_model.specs.laws.ListLaws.{attaches, AttachesOnce, seals, AttachingSeals, NewSessionsAreBare}
 use Rattle.xr_model.proofs.Histories.{after_is_in_turn}
-use Rattle.xr_model.proofs.Rows.{same_key, both_of, not_true}
+use Rattle.xr_model.proofs.Rows.{same_key, is_false, both_of, not_true}
 use Rattle.xr_model.proofs.Keyed.{key_of, which_more, which_left, which_map}
 use Rattle.xr_model.proofs.Destroying.{AreKnown, known_after, known_opening}
 use Rattle.xr_model.proofs.DestroyedForGood.{clocks_behind, legal_behind}
@@ -174,10 +174,6 @@ module _ (s : State) (e : Entry) (session : ℕ) (handles : List ℕ) where
       let unattached = first_doesnt (is_some (attached_in (session_at s.core.sessions session))) (when (length handles == 0) ValidationFailure ∷ map (no_handle s.core.handles kind.ActionSet) handles) rest in
       true≢false (sym (there (session_at s.core.sessions session) (listed session ∙ live) has_some.attached) ∙ unattached))
     where
-      is_false : (b : Bool) → (b ≡ true → ⊥) → b ≡ false
-      is_false true never = absurd (never refl)
-      is_false false never = refl
-
       there : (o : Option Session) → is_some o ≡ true → ((x : Session) → o ≡ Some x → is_some x.attached ≡ true) → is_some (attached_in o) ≡ true
       there None is each = absurd (true≢false (sym is))
       there (Some x) is each = each x refl
@@ -247,10 +243,6 @@ new_sessions_are_bare settings es e legal allowed creates good = bare (after (op
             let nz : (e.given == 0) ≡ false = is_false (e.given == 0) (λ is. fresh.0 (same_key e.given 0 is)) in
             let none : is_some (session_at s.core.sessions e.given) ≡ false = listed e.given ∙ rw (nz, (known e.given nz fresh.1).sessions) refl in
             none_of _ (λ x found. ap (λ (y : Session). y.attached) (found_last s.core.sessions _ e.given none x found))
-          where
-            is_false : (b : Bool) → (b ≡ true → ⊥) → b ≡ false
-            is_false true never = absurd (never refl)
-            is_false false never = refl
 
 -- ---- the law
 

@@ -17,7 +17,6 @@ pub mod Kept
 pub mod Filters
 pub mod Attaching
 pub mod Places
-pub mod OrderCodes
 pub mod Samples
 pub mod Settling
 pub mod Listed
@@ -51,3 +50,4 @@ pub mod Running
 pub mod SampleOrder
 pub mod OriginSamples
 pub mod LaterPoses
+pub mod PredictedTimes

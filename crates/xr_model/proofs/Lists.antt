@@ -12,9 +12,9 @@ use Rattle.xr_model.specs.machine.Sets.{Sets, Set, action_at, set_at, sealed_by}
 use Rattle.xr_model.specs.machine.Spaces as spaces
 use Rattle.xr_model.specs.machine.Spaces.{Spaces, space_at}
 use Rattle.xr_model.specs.machine.State.{CoreState, State}
-use Rattle.xr_model.specs.machine.Machine.{step, reads_of, IsAllowed, IsGiven}
+use Rattle.xr_model.specs.machine.Machine.{step, reads_of, IsAllowed}
 use Rattle.xr_model.specs.laws.HandleLaws.{count_in, places_with, StandOnce}
-use Rattle.xr_model.proofs.Rows.{itself, same_key, both_of, not_true, not_zero, neither_of, counted, uncounted, hasnt_cleared}
+use Rattle.xr_model.proofs.Rows.{itself, same_key, is_false, both_of, not_true, not_zero, neither_of, counted, uncounted, hasnt_cleared}
 use Rattle.xr_model.proofs.Keyed.{IsRow, row_more, row_left, found_map}
 use Rattle.xr_model.proofs.HandleSteps.{gives_handle}
 use Rattle.xr_model.proofs.DestroyingTakes.{any_append, none_going, one_going, one_cleared, parent_in}
@@ -41,7 +41,7 @@ use Rattle.xr_model.proofs.Keyed.{which_more, which_left}
 use Rattle.xr_model.proofs.HandleSteps.{first_fails}
 use Rattle.xr_model.proofs.ListSteps.{Has, kept_by_step, none_behind, none_front}
 use Rattle.xr_model.proofs.Destroying.{AreKnown, known_step, known_opening}
-use Rattle.xr_model.proofs.StandOnce.{once_step, none_once}
+use Rattle.xr_model.proofs.StandOnce.{given_one, once_step, none_once}
 
 -- ---- what goes with a handle is what isn't live behind it
 
@@ -197,14 +197,6 @@ pub record Kept (h : Handles) (sp : Spaces) (st : Sets) (su : List (List Bound))
   pub actions : IsRow (λ (x : inputs.Action). x.handle) st.actions h.actions
   pub above : (k : ℕ) (x : inputs.Action) → action_at st k ≡ Some x → parent_in h.actions k ≡ x.set
   pub suggested : AreFor h su
-
-given_one : (b : Bool) (h : Handles) (given : ℕ) → b ≡ true → IsGiven b h given → (given ≢ 0) × (was_given h given ≡ false)
-given_one true h given e is = is
-given_one false h given e is = absurd (true≢false (sym e))
-
-is_false : (b : Bool) → (b ≡ true → ⊥) → b ≡ false
-is_false true never = absurd (never refl)
-is_false false never = refl
 
 sealed_named : (handles : List ℕ) (x : Set) → (sealed_by handles x).handle ≡ x.handle
 sealed_named handles x = by (is_among handles x.handle)

@@ -14,17 +14,13 @@ use Rattle.xr_model.specs.machine.Rules.Session.{new_session, life_of}
 use Rattle.xr_model.specs.machine.Machine.{rule, step, reads_of, IsAllowed, IsGiven}
 use Rattle.xr_model.specs.machine.History.{after, opening_clocks, clocks_after, IsLegalFrom}
 use Rattle.xr_model.specs.laws.SessionLaws.{AreListed, SessionsAreListed, is_device_lost, is_session_creation, creates_session, was_lost}
-use Rattle.xr_model.proofs.Rows.{itself, same_key}
+use Rattle.xr_model.proofs.Rows.{itself, same_key, is_false}
 use Rattle.xr_model.proofs.Listed.{listed_none, listed_lives, listed_each, listed_more, listed_left}
 use Rattle.xr_model.proofs.Keyed.{which_map}
 use Rattle.xr_model.proofs.SessionSteps.{kept_by_step}
 use Rattle.xr_model.proofs.Destroying.{AreKnown, known_step, known_opening}
 
 -- ---- a session's handle is new
-
-is_false : (b : Bool) → (b ≡ true → ⊥) → b ≡ false
-is_false true never = absurd (never refl)
-is_false false never = refl
 
 nonzero : (n : ℕ) → n ≢ 0 → (n == 0) ≡ false
 nonzero n not_zero = is_false (n == 0) (λ e. not_zero (same_key n 0 e))

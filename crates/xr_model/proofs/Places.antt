@@ -16,7 +16,7 @@ use Rattle.xr_model.specs.machine.Machine.{step, rule, reads_of}
 use Rattle.xr_model.specs.machine.History.{after}
 use Rattle.xr_model.specs.laws.HandleLaws.{count_in, places_with, StandOnce, destroys}
 use Rattle.xr_model.specs.laws.ListLaws.{SamePlace, CreatingLeavesPlaces, DestroyingLeavesPlaces}
-use Rattle.xr_model.proofs.Rows.{same_key, itself, not_zero, both_of, put_first, put_is_first, hasnt_cleared, uncounted}
+use Rattle.xr_model.proofs.Rows.{same_key, is_false, itself, not_zero, both_of, put_first, put_is_first, hasnt_cleared, uncounted}
 use Rattle.xr_model.proofs.StandOnce.{creating_adds, handles_stand_once}
 use Rattle.xr_model.proofs.DestroyingTakes.{destroying_takes}
 use Rattle.xr_model.proofs.Destroying.{destroyed}
@@ -80,10 +80,6 @@ put_place new (s ∷ ss) p i nz other = by (s.handle == 0) refl (put_place new s
         → position_from (λ x. x.handle == p) i (if b then new ∷ ss else s ∷ put_first new ss) ≡ position_from (λ x. x.handle == p) i (s ∷ ss)
     by true eb more = let free : (s.handle == p) ≡ false = subst (λ (n : ℕ). (n == p) ≡ false) (sym (same_key s.handle 0 eb)) (not_zero p nz) in rw (other, free) refl
     by false eb more = ap (λ (o : Option ℕ). if s.handle == p then Some i else o) more
-
-is_false : (b : Bool) → (b ≡ true → ⊥) → b ≡ false
-is_false true never = absurd (never refl)
-is_false false never = refl
 
 row_put : (new : Slot) (row : List Slot) (p : ℕ) → (p == 0) ≡ false → (p == new.handle) ≡ false → RowSame p (put_in row new (first_free row)) row
 row_put new row p nz apart =

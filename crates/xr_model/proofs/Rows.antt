@@ -22,6 +22,10 @@ pub neither_of : (a b : Bool) → a || b ≡ false → (a ≡ false) × (b ≡ f
 neither_of true b e = absurd (true≢false e)
 neither_of false b e = (refl, e)
 
+pub is_false : (b : Bool) → (b ≡ true → ⊥) → b ≡ false
+is_false true never = absurd (never refl)
+is_false false never = refl
+
 pub not_true : (b : Bool) → not b ≡ true → b ≡ false
 not_true true e = absurd (true≢false (sym e))
 not_true false e = refl

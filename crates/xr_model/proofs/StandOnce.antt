@@ -13,7 +13,7 @@ use Rattle.xr_model.specs.machine.Rule.{Effect, refusal, told_on, unless_refused
 use Rattle.xr_model.specs.machine.State.{CoreState, State, opening}
 use Rattle.xr_model.specs.machine.Machine.{step, rule, reads_of, IsAllowed, IsGiven}
 use Rattle.xr_model.specs.machine.History.{after, opening_clocks, clocks_after, IsLegalFrom}
-use Rattle.xr_model.proofs.Rows.{itself, same_key, hasnt_free, neither_of, not_zero, put_first, put_is_first, has_put, hasnt_put}
+use Rattle.xr_model.proofs.Rows.{itself, same_key, is_false, hasnt_free, neither_of, not_zero, put_first, put_is_first, has_put, hasnt_put}
 use Rattle.xr_model.proofs.HandleSteps.{kept_by_step, gives_handle}
 use Rattle.xr_model.proofs.Destroying.{IsAbsent, AreKnown, known_step, known_opening}
 
@@ -70,13 +70,9 @@ count_cleared h above (s ∷ ss) k nz = by (goes h above s) (s.handle == k) (cou
 
 -- ---- what an entry does to the places
 
-given_one : (b : Bool) (h : Handles) (given : ℕ) → b ≡ true → IsGiven b h given → (given ≢ 0) × (was_given h given ≡ false)
+pub given_one : (b : Bool) (h : Handles) (given : ℕ) → b ≡ true → IsGiven b h given → (given ≢ 0) × (was_given h given ≡ false)
 given_one true h given e is = is
 given_one false h given e is = absurd (true≢false (sym e))
-
-is_false : (b : Bool) → (b ≡ true → ⊥) → b ≡ false
-is_false true never = absurd (never refl)
-is_false false never = refl
 
 module _ (h : Handles) (given : ℕ) (fresh : was_given h given ≡ false) (nonzero : given ≢ 0) (known : AreKnown h) (once : StandOnce h) where
   absent : IsAbsent h given

@@ -22,7 +22,7 @@ use Rattle.xr_model.specs.machine.Machine.{rule, reads_of, step, IsAllowed}
 use Rattle.xr_model.specs.machine.History.{after, opening_clocks, clocks_after, IsLegalFrom, IsLegal}
 use Rattle.xr_model.specs.laws.SessionLaws.{AreListed}
 use Rattle.xr_model.specs.laws.EventLaws.{state_at, last_told, AreTold, polls, ends, StatesAreTold}
-use Rattle.xr_model.proofs.Rows.{itself, same_key}
+use Rattle.xr_model.proofs.Rows.{itself, same_key, is_false}
 use Rattle.xr_model.proofs.Destroying.{AreKnown, known_step, known_after, known_opening}
 use Rattle.xr_model.proofs.DestroyedForGood.{legal_behind}
 use Rattle.xr_model.proofs.HandleSteps.{succeeds}
@@ -33,10 +33,6 @@ use Rattle.xr_model.proofs.SessionSteps.{kept_by_step}
 use Rattle.xr_model.proofs.ToldStates.{states_of, one_told, last_here, last_else, last_new, own_states, AreApart, listed_state, state_before, state_new, ordinal_new, apart_more, apart_lives, state_else, state_here, ordinal_here, state_found, state_attached, left_state, apart_left, state_map, apart_map, changes_of, each_told, listed_each, apart_each, own_each, last_each}
 
 -- ---- listed sessions have handles of their own
-
-is_false : (b : Bool) → (b ≡ true → ⊥) → b ≡ false
-is_false true never = absurd (never refl)
-is_false false never = refl
 
 unlisted : (s : State) (given : ℕ) → AreKnown s.core.handles → AreListed s.core.handles s.core.sessions → (given ≢ 0) × (was_given s.core.handles given ≡ false) → is_some (state_at s.core.sessions given) ≡ false
 unlisted s given known listed fresh =

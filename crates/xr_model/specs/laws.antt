@@ -14,3 +14,4 @@ pub mod SuggestionLaws
 pub mod EventLaws
 pub mod SessionLifeLaws
 pub mod SpaceLaws
+pub mod FrameLaws

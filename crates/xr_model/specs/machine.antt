@@ -14,6 +14,7 @@ pub mod Sets
 pub mod Profiles
 pub mod Bindings
 pub mod Spaces
+pub mod Frames
 pub mod State
 pub mod Destroyed
 pub mod Rule

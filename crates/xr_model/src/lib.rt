@@ -15,6 +15,7 @@ ghost use Rattle.xr_model.specs.laws.SuggestionLaws.{SuggestionsAreTheLastTaken}
 ghost use Rattle.xr_model.specs.laws.EventLaws.{EventsAddUp, StatesAreTold, EventsGo, HistoriesAddUp};
 ghost use Rattle.xr_model.specs.laws.SessionLifeLaws.{ClockNeverFalls, SessionsHaveSettled, LostStaysLost, OnlyItsCallAsksForTheEnd, RunningIsBegunAndNotEnded};
 ghost use Rattle.xr_model.specs.laws.SpaceLaws.{SampleTimesFall, PoseIsTheNewestNotLater, SamplesAreTheirOrigins, OriginsHaveTheirPlaces, LaterPosesAreTaken};
+ghost use Rattle.xr_model.specs.laws.FrameLaws.{TimesArePredicted};
 ghost use Rattle.xr_model.specs.laws.StateLaws.{NoRowFits};
 
 /// A refusal, a timeout and the want of an event change nothing but the count of locked calls.
@@ -341,4 +342,10 @@ pub fn events_go()
 /// As long as the instance isn't ended, what polls told, what was lost and what waits adds up to the states that came.
 pub fn histories_add_up()
     ensures { HistoriesAddUp }
+{}
+
+/// A predicted time is the least time of the grid that is later than the last one and the clock, or the largest time.
+#[tactic(auto, using(crate::proofs::PredictedTimes::times_are_predicted))]
+pub fn times_are_predicted()
+    ensures { TimesArePredicted }
 {}

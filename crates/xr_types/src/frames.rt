@@ -123,3 +123,14 @@ pub struct Frame {
     pub layers: ArrayVec<FrameLayer, MOST_LAYERS>,
     pub images: ArrayVec<Image, MOST_LAYERS>,
 }
+
+impl Default for Frame {
+    fn default() -> Frame {
+        Frame {
+            number: 0,
+            time: 0,
+            layers: ArrayVec::new(),
+            images: ArrayVec::new(),
+        }
+    }
+}

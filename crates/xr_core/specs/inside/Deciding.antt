@@ -11,7 +11,7 @@ use Rattle.xr_model.specs.machine.Refusals.{first_of}
 use Rattle.xr_model.specs.machine.Request.{Request}
 use Rattle.xr_model.specs.machine.Rule.{Rule, refusals, carried_out}
 use Rattle.xr_model.specs.machine.State.{CoreState, CellReads}
-use Rattle.xr_core.specs.declared.halt.Decision.{Decision}
+use Rattle.xr_types.specs.declared.calls.Reply.{Reply}
 use Rattle.xr_core.specs.declared.halt.Halt.{Halt}
 use Rattle.xr_core.specs.declared.halt.Halt.TheVariants.{Refused, NotReady}
 
@@ -34,11 +34,11 @@ pub record HasToWait (old : CoreState) (r : ℕ → Rule) (new : CoreState) (bef
   pub unwritten : after ≡ before
 
 -- how a call is decided that this actor makes over a buffer, whatever the cells tell
-abbrev pub DecidesOver : Actor → CoreState → Request → CoreState → Result Decision Halt → List ℕ → List ℕ → Type 0
+abbrev pub DecidesOver : Actor → CoreState → Request → CoreState → Result Reply Halt → List ℕ → List ℕ → Type 0
 DecidesOver who old what new (Ok d) before after = (reads : CellReads) → Comes old (λ given. rule_of old reads who given what) new d.code d.gives before after
 DecidesOver who old what new (Err (Refused code)) before after = (reads : CellReads) → Comes old (λ given. rule_of old reads who given what) new code Nothing before after
 DecidesOver who old what new (Err NotReady) before after = (reads : CellReads) → HasToWait old (λ given. rule_of old reads who given what) new before after
 
 -- the same whoever makes it, of a call that writes nothing
-abbrev pub Decides : CoreState → Request → CoreState → Result Decision Halt → Type 0
+abbrev pub Decides : CoreState → Request → CoreState → Result Reply Halt → Type 0
 Decides old what new result = (who : Actor) → DecidesOver who old what new result [] []

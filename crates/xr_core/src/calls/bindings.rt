@@ -7,19 +7,21 @@ ghost use Rattle.xr_model.specs.machine.Refusals.{first_of, unless};
 ghost use Rattle.xr_model.specs.machine.Request.{suggest_bindings};
 ghost use Rattle.xr_core.specs.inside.Deciding.{Decides};
 
-use crate::halt::{Decision, Halt, done, refused};
+use crate::halt::{Halt, done, refused};
 use crate::parts::Parts;
 use std::alloc::Global;
-use xr_types::{Binding, Bound, Code, Kind, MOST_SUGGESTED, Profile};
+use xr_types::{Binding, Bound, Code, Kind, MOST_SUGGESTED, Profile, Reply};
 
 impl Parts {
+    /// Stays a function of its own: what its bindings come to takes kilobytes on the stack, which no other call should pay for.
+    #[inline(never)]
     pub(crate) fn suggest_bindings(
         &mut self,
         alloc: Global,
         instance: u64,
         profile: u64,
         list: &[Binding],
-    ) -> Result<Decision, Halt>
+    ) -> Result<Reply, Halt>
         ensures { Decides self.old (suggest_bindings instance profile list.now) self.new result }
     {
         self.live(Kind::Instance, instance)?;

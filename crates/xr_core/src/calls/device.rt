@@ -6,10 +6,10 @@ ghost use Rattle.xr_model.specs.machine.Device.{is_built_event};
 ghost use Rattle.xr_model.specs.machine.Rules.Device.{is_awaiting, behind_event};
 ghost use Rattle.xr_core.specs.inside.Deciding.{Decides};
 
-use crate::halt::{Decision, Halt, done};
+use crate::halt::{Halt, done};
 use crate::parts::Parts;
 use crate::sessions::Change;
-use xr_types::{Code, DeviceEvent};
+use xr_types::{Code, DeviceEvent, Reply};
 
 impl Parts {
     /// The event happens. A mark for which the device waits is set by then.
@@ -45,7 +45,7 @@ impl Parts {
         }
     }
 
-    pub(crate) fn device_event(&mut self, event: DeviceEvent) -> Result<Decision, Halt>
+    pub(crate) fn device_event(&mut self, event: DeviceEvent) -> Result<Reply, Halt>
         requires checks { checks event ≡ true }
         requires built { is_built_event event ≡ true }
         ensures { Decides self.old (request.device event) self.new result }

@@ -10,15 +10,15 @@ ghost use Rattle.xr_core.specs.inside.Deciding.{Decides};
 ghost use Rattle.xr_core.specs.inside.Groups.{IsInstanceCall};
 ghost use Rattle.xr_core.specs.inside.Refusing.{or_refused};
 
-use crate::halt::{Decision, Halt, done, giving, refused};
+use crate::halt::{Halt, done, giving, refused};
 use crate::parts::{Parts, give};
-use xr_types::{Call, Code, Form, Gives, Kind};
+use xr_types::{Call, Code, Form, Gives, Kind, Reply};
 
 /// The one system.
 pub(crate) const SYSTEM: u64 = 1;
 
 impl Parts {
-    pub(crate) fn instance_call(&mut self, call: &Call<'_>) -> Result<Decision, Halt>
+    pub(crate) fn instance_call(&mut self, call: &Call<'_>) -> Result<Reply, Halt>
         requires given { length self.old.handles.given < 2 ^ 44 }
         requires group { IsInstanceCall (request_of call.now) }
         ensures { Decides self.old (request_of call.now) self.new result }
@@ -39,13 +39,10 @@ impl Parts {
         if major != 1 || minor != 0 {
             return Err(Code::ApiVersionUnsupported);
         }
-        if self.handles.free_place(Kind::Instance).is_none() {
-            return Err(Code::LimitReached);
-        }
-        Ok(())
+        self.room(Kind::Instance)
     }
 
-    fn create_instance(&mut self, major: u32, minor: u32) -> Result<Decision, Halt>
+    fn create_instance(&mut self, major: u32, minor: u32) -> Result<Reply, Halt>
         requires { length self.old.handles.given < 2 ^ 44 }
         ensures { Decides self.old (create_instance major minor) self.new result }
     {
@@ -64,7 +61,7 @@ impl Parts {
         give(&mut self.handles, Kind::Instance, 0)
     }
 
-    fn destroy_instance(&mut self, instance: u64) -> Result<Decision, Halt>
+    fn destroy_instance(&mut self, instance: u64) -> Result<Reply, Halt>
         ensures { Decides self.old (destroy_instance instance) self.new result }
     {
         self.live(Kind::Instance, instance)?;
@@ -74,7 +71,7 @@ impl Parts {
         done(Code::Success)
     }
 
-    fn get_system(&mut self, instance: u64, form: Form) -> Result<Decision, Halt>
+    fn get_system(&mut self, instance: u64, form: Form) -> Result<Reply, Halt>
         ensures { Decides self.old (get_system instance form) self.new result }
     {
         self.live(Kind::Instance, instance)?;
@@ -84,7 +81,7 @@ impl Parts {
         }
     }
 
-    fn poll_event(&mut self, instance: u64) -> Result<Decision, Halt>
+    fn poll_event(&mut self, instance: u64) -> Result<Reply, Halt>
         ensures { Decides self.old (poll_event instance) self.new result }
     {
         self.live(Kind::Instance, instance)?;

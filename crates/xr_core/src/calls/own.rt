@@ -11,12 +11,12 @@ ghost use Rattle.xr_model.specs.machine.CoreCalls.{asked};
 ghost use Rattle.xr_core.specs.inside.Deciding.{Decides, DecidesOver};
 ghost use Rattle.xr_core.specs.inside.Groups.{IsOwnCall};
 
-use crate::halt::{Decision, Halt, done, giving};
+use crate::halt::{Halt, done, giving};
 use crate::parts::Parts;
-use xr_types::{Actor, Call, Code, Gives};
+use xr_types::{Actor, Call, Code, Gives, Reply};
 
 impl Parts {
-    pub(crate) fn own_call(&mut self, who: Actor, call: &Call<'_>) -> Result<Decision, Halt>
+    pub(crate) fn own_call(&mut self, who: Actor, call: &Call<'_>) -> Result<Reply, Halt>
         requires group { IsOwnCall (request_of call.now) }
         requires present { IsPresent self.old who }
         requires caller { is_by (asked who (request_of call.now)).caller who ≡ true }
@@ -36,7 +36,7 @@ impl Parts {
     }
 
     #[tactic(auto, using(crate::proofs::Start::left_set))]
-    fn leave(&mut self, app: u8) -> Result<Decision, Halt>
+    fn leave(&mut self, app: u8) -> Result<Reply, Halt>
         requires { IsPresent self.old (Actor.App app) }
         ensures { DecidesOver (Actor.App app) self.old leave self.new result [] [] }
     {
@@ -74,7 +74,7 @@ impl Parts {
         }
     }
 
-    fn mark(&mut self, mark: u8, value: u64) -> Result<Decision, Halt>
+    fn mark(&mut self, mark: u8, value: u64) -> Result<Reply, Halt>
         requires { is_mark mark ≡ true }
         ensures { Decides self.old (request.mark mark value) self.new result }
     {
@@ -83,7 +83,7 @@ impl Parts {
     }
 
     /// Gives the value of a mark, or waits until it is set.
-    fn await_mark(&mut self, mark: u8) -> Result<Decision, Halt>
+    fn await_mark(&mut self, mark: u8) -> Result<Reply, Halt>
         ensures { Decides self.old (request.await_mark mark) self.new result }
     {
         match self.mark_value(mark) {
@@ -93,7 +93,7 @@ impl Parts {
     }
 
     /// Tells the end, or waits until every application has left. There are no frames.
-    fn next_frame(&mut self) -> Result<Decision, Halt>
+    fn next_frame(&mut self) -> Result<Reply, Halt>
         ensures { Decides self.old next_frame self.new result }
     {
         if !self.all_left() {

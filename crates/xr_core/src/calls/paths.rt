@@ -5,10 +5,10 @@ ghost use Rattle.xr_model.specs.machine.CoreCalls.{Fits, asked};
 ghost use Rattle.xr_core.specs.inside.Deciding.{Decides, DecidesOver};
 ghost use Rattle.xr_core.specs.inside.Groups.{IsPathCall};
 
-use crate::halt::{Decision, Halt, giving, refused};
+use crate::halt::{Halt, giving, refused};
 use crate::parts::Parts;
 use std::alloc::Global;
-use xr_types::{Actor, Call, Code, Gives, Kind};
+use xr_types::{Actor, Call, Code, Gives, Kind, Reply};
 
 impl Parts {
     /// `out` is the buffer that `path_to_string` is lent; the other call leaves it.
@@ -18,7 +18,7 @@ impl Parts {
         who: Actor,
         call: &Call<'_>,
         out: &mut [u8],
-    ) -> Result<Decision, Halt>
+    ) -> Result<Reply, Halt>
         requires group { IsPathCall (request_of call.now) }
         requires buffer { Fits (asked who (request_of call.now)).lent (length out.old) }
         ensures { DecidesOver who self.old (request_of call.now) self.new result out.old out.new }
@@ -34,12 +34,7 @@ impl Parts {
         }
     }
 
-    fn string_to_path(
-        &mut self,
-        alloc: Global,
-        instance: u64,
-        text: &[u8],
-    ) -> Result<Decision, Halt>
+    fn string_to_path(&mut self, alloc: Global, instance: u64, text: &[u8]) -> Result<Reply, Halt>
         ensures { Decides self.old (string_to_path instance text.now) self.new result }
     {
         self.live(Kind::Instance, instance)?;
@@ -50,7 +45,7 @@ impl Parts {
         giving(Code::Success, Gives::Number(answer.number))
     }
 
-    fn path_to_string(&mut self, instance: u64, path: u64, out: &mut [u8]) -> Result<Decision, Halt>
+    fn path_to_string(&mut self, instance: u64, path: u64, out: &mut [u8]) -> Result<Reply, Halt>
         ensures { (who : Actor) → DecidesOver who self.old (path_to_string instance path (length out.old)) self.new result out.old out.new }
     {
         self.live(Kind::Instance, instance)?;

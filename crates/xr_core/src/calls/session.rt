@@ -13,13 +13,13 @@ ghost use Rattle.xr_core.specs.inside.Groups.{IsSessionCall};
 ghost use Rattle.xr_core.specs.inside.Refusing.{or_refused};
 
 use crate::calls::instance::SYSTEM;
-use crate::halt::{Decision, Halt, done, giving, refused};
+use crate::halt::{Halt, done, giving, refused};
 use crate::parts::{Parts, give};
 use crate::sessions::{LifeCall, Session, change_life, place_of, success_of};
-use xr_types::{Call, Code, Gives, Kind};
+use xr_types::{Call, Code, Gives, Kind, Reply};
 
 impl Parts {
-    pub(crate) fn session_call(&mut self, call: &Call<'_>) -> Result<Decision, Halt>
+    pub(crate) fn session_call(&mut self, call: &Call<'_>) -> Result<Reply, Halt>
         requires given { length self.old.handles.given < 2 ^ 44 }
         requires created { self.old.created < 2 ^ 44 }
         requires group { IsSessionCall (request_of call.now) }
@@ -49,13 +49,10 @@ impl Parts {
         if system != SYSTEM {
             return Err(Code::SystemInvalid);
         }
-        if self.handles.free_place(Kind::Session).is_none() {
-            return Err(Code::LimitReached);
-        }
-        Ok(())
+        self.room(Kind::Session)
     }
 
-    fn create_session(&mut self, instance: u64, system: u64) -> Result<Decision, Halt>
+    fn create_session(&mut self, instance: u64, system: u64) -> Result<Reply, Halt>
         requires given { length self.old.handles.given < 2 ^ 44 }
         requires created { self.old.created < 2 ^ 44 }
         ensures { Decides self.old (create_session instance system) self.new result }
@@ -80,7 +77,7 @@ impl Parts {
         handle
     }
 
-    fn destroy_session(&mut self, session: u64) -> Result<Decision, Halt>
+    fn destroy_session(&mut self, session: u64) -> Result<Reply, Halt>
         ensures { Decides self.old (destroy_session session) self.new result }
     {
         self.live(Kind::Session, session)?;
@@ -106,7 +103,7 @@ impl Parts {
     }
 
     /// Begins a session, ends it, or asks for its end.
-    fn change_life(&mut self, session: u64, call: LifeCall) -> Result<Decision, Halt>
+    fn change_life(&mut self, session: u64, call: LifeCall) -> Result<Reply, Halt>
         ensures { Decides self.old (life_request session call) self.new result }
     {
         let Some(place) = place_of(self.sessions.as_slice(), session) else {

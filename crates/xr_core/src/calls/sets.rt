@@ -16,13 +16,13 @@ ghost use Rattle.xr_core.specs.inside.Deciding.{Decides};
 ghost use Rattle.xr_core.specs.inside.Groups.{IsSetCall};
 ghost use Rattle.xr_core.specs.inside.Refusing.{or_refused};
 
-use crate::halt::{Decision, Halt, done, giving};
+use crate::halt::{Halt, done, giving};
 use crate::parts::{Parts, give};
 use crate::sessions::{attach_at, place_of, session_at};
 use crate::subactions::declared_by;
 use xr_handles::Handles;
 use xr_sets::{NewAction, USERS};
-use xr_types::{ActionType, Call, Code, Gives, Kind};
+use xr_types::{ActionType, Call, Code, Gives, Kind, Reply};
 
 /// Whether all of these are live action sets.
 fn are_sets(handles: &Handles, sets: &[u64]) -> bool
@@ -33,7 +33,7 @@ fn are_sets(handles: &Handles, sets: &[u64]) -> bool
 }
 
 impl Parts {
-    pub(crate) fn set_call(&mut self, call: &Call<'_>) -> Result<Decision, Halt>
+    pub(crate) fn set_call(&mut self, call: &Call<'_>) -> Result<Reply, Halt>
         requires given { length self.old.handles.given < 2 ^ 44 }
         requires group { IsSetCall (request_of call.now) }
         ensures { Decides self.old (request_of call.now) self.new result }
@@ -80,10 +80,7 @@ impl Parts {
     {
         self.live(Kind::Instance, instance)?;
         self.check_set(name, localized)?;
-        if self.handles.free_place(Kind::ActionSet).is_none() {
-            return Err(Code::LimitReached);
-        }
-        Ok(())
+        self.room(Kind::ActionSet)
     }
 
     fn create_action_set(
@@ -92,7 +89,7 @@ impl Parts {
         name: &[u8],
         localized: &[u8],
         priority: u32,
-    ) -> Result<Decision, Halt>
+    ) -> Result<Reply, Halt>
         requires { length self.old.handles.given < 2 ^ 44 }
         ensures { Decides self.old (create_action_set instance name.now localized.now priority) self.new result }
     {
@@ -114,7 +111,7 @@ impl Parts {
         handle
     }
 
-    fn destroy_action_set(&mut self, set: u64) -> Result<Decision, Halt>
+    fn destroy_action_set(&mut self, set: u64) -> Result<Reply, Halt>
         ensures { Decides self.old (destroy_action_set set) self.new result }
     {
         self.live(Kind::ActionSet, set)?;
@@ -156,9 +153,7 @@ impl Parts {
         self.check_action(set, name)?;
         let declared = declared_by(&self.paths, subs)?;
         self.check_label(set, localized)?;
-        if self.handles.free_place(Kind::Action).is_none() {
-            return Err(Code::LimitReached);
-        }
+        self.room(Kind::Action)?;
         Ok(declared)
     }
 
@@ -169,7 +164,7 @@ impl Parts {
         kind: ActionType,
         subs: &[u64],
         localized: &[u8],
-    ) -> Result<Decision, Halt>
+    ) -> Result<Reply, Halt>
         requires { length self.old.handles.given < 2 ^ 44 }
         ensures { Decides self.old (create_action set name.now kind subs.now localized.now) self.new result }
     {
@@ -207,7 +202,7 @@ impl Parts {
         handle
     }
 
-    fn destroy_action(&mut self, action: u64) -> Result<Decision, Halt>
+    fn destroy_action(&mut self, action: u64) -> Result<Reply, Halt>
         ensures { Decides self.old (destroy_action action) self.new result }
     {
         self.live(Kind::Action, action)?;
@@ -262,7 +257,7 @@ impl Parts {
         self.sets.seal(sets);
     }
 
-    fn attach_sets(&mut self, session: u64, sets: &[u64]) -> Result<Decision, Halt>
+    fn attach_sets(&mut self, session: u64, sets: &[u64]) -> Result<Reply, Halt>
         ensures { Decides self.old (attach_sets session sets.now) self.new result }
     {
         let success = self.may_attach_sets(session, sets)?;

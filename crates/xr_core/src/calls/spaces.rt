@@ -13,11 +13,11 @@ ghost use Rattle.xr_core.specs.inside.Deciding.{Decides};
 ghost use Rattle.xr_core.specs.inside.Groups.{IsSpaceCall};
 ghost use Rattle.xr_core.specs.inside.Refusing.{or_refused};
 
-use crate::halt::{Decision, Halt, done, giving};
+use crate::halt::{Halt, done, giving};
 use crate::parts::{Parts, give};
 use xr_handles::Handles;
 use xr_spaces::check_reference;
-use xr_types::{Call, Code, Gives, Kind, Location, RefKind, Root};
+use xr_types::{Call, Code, Gives, Kind, Location, RefKind, Reply, Root};
 
 /// The session of a space, 0 where there is none.
 fn session_above(handles: &Handles, space: u64) -> u64
@@ -27,7 +27,7 @@ fn session_above(handles: &Handles, space: u64) -> u64
 }
 
 impl Parts {
-    pub(crate) fn space_call(&mut self, call: &Call<'_>) -> Result<Decision, Halt>
+    pub(crate) fn space_call(&mut self, call: &Call<'_>) -> Result<Reply, Halt>
         requires given { length self.old.handles.given < 2 ^ 44 }
         requires group { IsSpaceCall (request_of call.now) }
         ensures { Decides self.old (request_of call.now) self.new result }
@@ -66,9 +66,7 @@ impl Parts {
         self.live(Kind::Session, session)?;
         let success = self.on_session(session)?;
         self.check_space(kind, offset)?;
-        if self.handles.free_place(Kind::Space).is_none() {
-            return Err(Code::LimitReached);
-        }
+        self.room(Kind::Space)?;
         Ok(success)
     }
 
@@ -77,7 +75,7 @@ impl Parts {
         session: u64,
         kind: RefKind,
         offset: u64,
-    ) -> Result<Decision, Halt>
+    ) -> Result<Reply, Halt>
         requires { length self.old.handles.given < 2 ^ 44 }
         ensures { Decides self.old (create_reference_space session kind offset) self.new result }
     {
@@ -106,7 +104,7 @@ impl Parts {
         self.spaces.remove(space);
     }
 
-    fn destroy_space(&mut self, space: u64) -> Result<Decision, Halt>
+    fn destroy_space(&mut self, space: u64) -> Result<Reply, Halt>
         ensures { Decides self.old (destroy_space space) self.new result }
     {
         self.live(Kind::Space, space)?;
@@ -134,7 +132,7 @@ impl Parts {
         Ok(success)
     }
 
-    fn locate_space(&mut self, space: u64, base: u64, time: &i64) -> Result<Decision, Halt>
+    fn locate_space(&mut self, space: u64, base: u64, time: &i64) -> Result<Reply, Halt>
         ensures { Decides self.old (locate_space space base time.now) self.new result }
     {
         let success = self.may_locate_space(space, base, time)?;
