@@ -2,6 +2,7 @@
 from __future__ import annotations
 
 import re
+import sys
 from collections.abc import Iterator
 from dataclasses import dataclass, field
 from typing import NamedTuple
@@ -42,22 +43,21 @@ SURE = re.compile(
 )
 
 
-class MarkEvent(NamedTuple):
-    """An event on a mark: whether it waits for it, the mark, and the number of its line."""
+class Told(NamedTuple):
+    """An event: the first word of its line, the words behind it, and the number of its line."""
 
-    waits: bool
-    mark: int
+    name: str
+    words: str
     line: int
 
 
 @dataclass
 class DeviceFound:
-    """What was found: how many lines and events the text has up to its first garbled line, the events on marks among
-    them, and the number of that line, if there is one."""
+    """What was found: how many lines the text has up to its first garbled line, the events that they tell, and the number
+    of that line, if there is one."""
 
     lines: int = 0
-    events: int = 0
-    marks: list[MarkEvent] = field(default_factory=list)
+    events: list[Told] = field(default_factory=list)
     garbled: int | None = None
     findings: list[Finding] = field(default_factory=list)
 
@@ -173,6 +173,6 @@ def read_device(text: bytes) -> DeviceFound:
 
 def keep_line(found: DeviceFound, line: bytes, number: int, is_event: bool) -> None:
     found.lines += 1
-    found.events += is_event
-    if is_event and line.startswith((b"mark ", b"await ")):
-        found.marks.append(MarkEvent(line[0] == 97, int(line.rpartition(b" ")[2]), number))
+    if is_event:
+        name, _, words = line.decode().partition(" ")
+        found.events.append(Told(sys.intern(name), words, number))

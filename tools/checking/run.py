@@ -1,13 +1,15 @@
-"""How a run of texts ends. Marks alone decide who waits, so the texts tell it.
+"""How a run of texts ends. It is followed as far as it decides who waits, so the texts tell it.
 
-An `await` waits until its mark is set, and a mark stays set. Each other op that is run so far is answered at once. The
-device's next line is read only once its last event is told.
+An `await` waits until its mark is set, and a mark stays set. A `wait_frame` waits while the frame before it isn't begun, and
+while the compositor has more than two frames still to take. Each other op that is run so far is answered at once.
 """
 from __future__ import annotations
 
+from collections.abc import Callable
 from dataclasses import dataclass
 
 from .device import DeviceFound
+from .machine import Fields, Machine
 from .places import line_and_column
 from .scenario import ScenarioFound, Step
 
@@ -17,6 +19,9 @@ CANNOT_OPEN = "xrsim: cannot open"
 CANNOT_READ = "xrsim: cannot read the scenario"
 DEVICE_FAILED = "xrsim: device failed"
 STUCK = "xrsim: stuck"
+
+# the fields that may be a name whose value decides who waits
+USES = ("instance", "session", "system", "time", "value")
 
 
 @dataclass
@@ -28,70 +33,138 @@ class Answer:
     more: tuple[str, ...] = ()
 
 
-class Actors:
-    """The scripts and the device on their way, until nobody can go on."""
+class Script:
+    """A script on its way: its ops, how many of them were made, and what its names stand for."""
 
-    def __init__(self, scripts: list[list[Step]], device: DeviceFound) -> None:
-        self.scripts = scripts
-        self.device = device
-        self.made = [0] * len(scripts)
-        self.told = 0
-        self.marks: set[int] = set()
-
-    def go_on(self) -> None:
-        """Makes all calls that can be made. Their order changes nothing of who waits in the end."""
-        before = -1
-        while before != len(self.marks):
-            before = len(self.marks)
-            for number, script in enumerate(self.scripts):
-                self.go_on_in(number, script)
-            self.tell()
-
-    def go_on_in(self, number: int, script: list[Step]) -> None:
-        while self.made[number] < len(script):
-            step = script[self.made[number]]
-            if step.op == "await" and step.mark not in self.marks:
-                return
-            if step.op == "mark":
-                self.marks.add(step.mark)
-            self.made[number] += 1
-
-    def tell(self) -> None:
-        while self.told < len(self.device.marks):
-            event = self.device.marks[self.told]
-            if event.waits and event.mark not in self.marks:
-                return
-            if not event.waits:
-                self.marks.add(event.mark)
-            self.told += 1
+    def __init__(self, steps: list[Step]) -> None:
+        self.steps = steps
+        self.made = 0
+        self.values: dict[str, int] = {}
 
     @property
-    def is_told(self) -> bool:
-        """Whether the device has told all its events."""
-        return self.told == len(self.device.marks)
+    def is_done(self) -> bool:
+        return self.made == len(self.steps)
+
+    @property
+    def next(self) -> Step:
+        return self.steps[self.made]
+
+    def fields(self) -> Fields:
+        """The fields of the next op, with values in the place of names."""
+        fields = self.next.fields
+        named = {key: self.values.get(fields[key], 0) for key in USES if isinstance(fields.get(key), str)}
+        return {**fields, **named} if named else fields
+
+    def turn(self, machine: Machine) -> bool:
+        """Makes the next call, unless it has to wait or there is none."""
+        if self.is_done:
+            return False
+        step, fields = self.next, self.fields()
+        if machine.is_held_back(step.op, fields):
+            return False
+        given = machine.make(step.op, fields)
+        if "as" in fields:
+            self.values[fields["as"]] = given
+        self.made += 1
+        return True
+
+    def left(self, does: Callable[[Step], bool]) -> int:
+        """The place of the first op that does something and wasn't made, or 0."""
+        return next((place for place, it in enumerate(self.steps[self.made :], self.made + 1) if does(it)), 0)
+
+
+class Teller:
+    """The device on its way: its events, and then its fault or its garbled line, if it has one."""
+
+    def __init__(self, device: DeviceFound, is_failing: bool) -> None:
+        self.events = device.events
+        self.is_cut = is_failing or device.garbled is not None
+        self.told = 0
+
+    @property
+    def is_done(self) -> bool:
+        return self.told == len(self.events) + self.is_cut
+
+    def turn(self, machine: Machine) -> bool:
+        """Tells the next event, unless it has to wait or there is none."""
+        if self.is_done:
+            return False
+        if self.told == len(self.events):
+            machine.tell("lost", "")
+        elif not self.tell(machine):
+            return False
+        self.told += 1
+        return True
+
+    def is_quiet(self, machine: Machine) -> bool:
+        """Whether the next event is there and releases nobody who waits. A mark may, where it isn't set yet, and a loss may."""
+        if self.told >= len(self.events):
+            return False
+        event = self.events[self.told]
+        return event.name != "lost" and (event.name not in ("mark", "await") or int(event.words) in machine.marks)
+
+    def tell(self, machine: Machine) -> bool:
+        event = self.events[self.told]
+        if event.name == "await":
+            return int(event.words) in machine.marks
+        machine.tell(event.name, event.words)
+        return True
+
+
+def would_be(done: str, does: str, found: list[str]) -> str:
+    """Who would do what somebody waits for, if somebody could go on to it."""
+    return f"it would be {done} by {' and by '.join(found)}, which nobody gets to" if found else f"nobody {does} it"
+
+
+class Run:
+    """All actors on their way, until nobody can go on."""
+
+    def __init__(self, scripts: list[list[Step]], device: DeviceFound, is_failing: bool) -> None:
+        self.scripts = [Script(steps) for steps in scripts]
+        self.device = Teller(device, is_failing)
+        machine = Machine()
+        is_moving = True
+        while is_moving:
+            is_moving = self.round(machine)
+
+    def round(self, machine: Machine) -> bool:
+        """A turn for each; whether anybody made a call. Where all scripts wait the device goes on until it may release one."""
+        has_moved = any([it.turn(machine) for it in self.scripts])
+        has_told = self.device.turn(machine)
+        while not has_moved and not machine.pending and self.device.is_quiet(machine):
+            self.device.turn(machine)
+        return machine.take_frame() or has_moved or has_told
+
+    def left(self, does: Callable[[Step], bool]) -> list[str]:
+        """The first op of each script that does something and isn't made."""
+        places = [(number, script.left(does)) for number, script in enumerate(self.scripts, 1)]
+        return [f"script {number} op {place}" for number, place in places if place]
 
     def setters(self, mark: int) -> str:
-        """Who would set a mark, if somebody could go on to it."""
-        found = []
-        for number, script in enumerate(self.scripts):
-            left = enumerate(script[self.made[number] :], self.made[number] + 1)
-            found += [f"script {number + 1} op {place}" for place, it in left if it.op == "mark" and it.mark == mark][:1]
-        left = self.device.marks[self.told :]
-        found += [f"the device's line {it.line}" for it in left if not it.waits and it.mark == mark][:1]
-        return f"it would be set by {' and by '.join(found)}, which nobody gets to" if found else "nobody sets it"
+        """Who would set a mark."""
+        found = self.left(lambda it: it.op == "mark" and it.fields["mark"] == mark)
+        left = self.device.events[self.device.told :]
+        found += [f"the device's line {it.line}" for it in left if it.name == "mark" and int(it.words) == mark][:1]
+        return would_be("set", "sets", found)
+
+    def why(self, step: Step) -> str:
+        """What an op waits for, and who would give it. In the end a frame waits only for the one before it."""
+        if step.op == "await":
+            return f"for mark {step.fields['mark']}: {self.setters(step.fields['mark'])}"
+        found = self.left(lambda it: it.op == "begin_frame" and it.fields["session"] != 0)
+        return f"until the frame before its own is begun: {would_be('begun', 'begins', found)}"
 
     def waiting(self, text: str) -> list[str]:
         """A line for each script that waits for ever, and one for the device."""
         lines = []
-        for number, script in enumerate(self.scripts):
-            if self.made[number] < len(script):
-                step = script[self.made[number]]
-                line, column = line_and_column(text, step.at)
-                place = f"script {number + 1} op {self.made[number] + 1} (line {line}, column {column})"
-                lines.append(f"{place} waits for mark {step.mark}: {self.setters(step.mark)}")
-        if not self.is_told:
-            event = self.device.marks[self.told]
-            lines.append(f"the device's line {event.line} waits for mark {event.mark}: {self.setters(event.mark)}")
+        for number, script in enumerate(self.scripts, 1):
+            if not script.is_done:
+                line, column = line_and_column(text, script.next.at)
+                place = f"script {number} op {script.made + 1} (line {line}, column {column})"
+                lines.append(f"{place} waits {self.why(script.next)}")
+        if not self.device.is_done:
+            event = self.device.events[self.device.told]
+            lines.append(f"the device's line {event.line} waits for mark {event.words}: {self.setters(int(event.words))}")
         return lines
 
 
@@ -99,12 +172,11 @@ def answer_of(scenario: ScenarioFound, device: DeviceFound, is_failing: bool = F
     """What the program answers to a scenario and a device's text, or to a device whose file can't be read."""
     if scenario.refusal is not None:
         return Answer(4, f"xrsim: scenario refused: {scenario.refusal}")
-    actors = Actors(scenario.scripts, device)
-    actors.go_on()
-    waiting = tuple(actors.waiting(scenario.text))
+    run = Run(scenario.scripts, device, is_failing)
+    waiting = tuple(run.waiting(scenario.text))
     if is_failing:
         return Answer(5, DEVICE_FAILED, waiting)
-    if device.garbled is not None and actors.is_told:
+    if device.garbled is not None and run.device.is_done:
         return Answer(6, f"xrsim: device line {device.garbled} garbled", waiting)
     if not waiting:
         return Answer(0)

@@ -16,16 +16,24 @@ MOST_FINDINGS = 5
 RUN_OPS = frozenset(
     "create_instance destroy_instance get_system string_to_path path_to_string poll_event create_session destroy_session "
     "begin_session end_session request_exit_session create_reference_space destroy_space locate_space create_action_set "
-    "destroy_action_set create_action destroy_action suggest_bindings attach_sets mark await".split()
+    "destroy_action_set create_action destroy_action suggest_bindings attach_sets wait_frame begin_frame end_frame mark "
+    "await".split()
 )
 
 
 class Step(NamedTuple):
-    """An op, as far as it decides who waits: its name, its mark where it has one, and its place in the text."""
+    """An op, as far as a run of it is followed: its name, its place in the text, and its fields; a list is its length."""
 
     op: str
-    mark: int
     at: int
+    fields: dict[str, Any]
+
+    @property
+    def unrun(self) -> str:
+        """What of it isn't run so far, if anything isn't."""
+        if self.op not in RUN_OPS:
+            return self.op
+        return "end_frame with layers" if self.op == "end_frame" and self.fields["layers"] else ""
 
 
 class WrongKey(NamedTuple):
@@ -154,17 +162,22 @@ def read_scripts(found: ScenarioFound, schema: Schema, scripts: list[Node]) -> N
 
 def find_unrun(found: ScenarioFound) -> None:
     """The first op that is read and not run so far."""
-    unrun = [(s, o, it) for s, ops in enumerate(found.scripts, 1) for o, it in enumerate(ops, 1) if it.op not in RUN_OPS]
+    unrun = [(s, o, it) for s, ops in enumerate(found.scripts, 1) for o, it in enumerate(ops, 1) if it.unrun]
     if not unrun:
         return
     script, place, step = unrun[0]
-    words = f"script {script} op {place} is {step.op}, which the program reads and doesn't run yet"
+    words = f"script {script} op {place} is {step.unrun}, which the program reads and doesn't run yet"
     more = ["The whole scenario is refused for it, as unbuilt, and no call is made."]
-    others = sorted({it.op for _, _, it in unrun} - {step.op})
+    others = sorted({it.unrun for _, _, it in unrun} - {step.unrun})
     if len(unrun) > 1:
         also = f", also of {listed(others)}" if others else ""
         more.append(f"Behind it {'stands' if len(unrun) == 2 else 'stand'} {count(len(unrun) - 1, 'more such op')}{also}.")
     found.refuse("unbuilt", step.at, words, more)
+
+
+def plain(value: object) -> object:
+    """A field's value, and the length of a list."""
+    return len(value) if isinstance(value, list) else value
 
 
 def sort_given(op: str, mark: object) -> str | None:
@@ -198,9 +211,8 @@ class ScriptReader:
         wrong = self.wrong_field(op, row, node) or self.extra_key(op, row, members)
         if wrong:
             self.refuse(place, node, *wrong)
-        mark = members["mark"][1].value if "mark" in members else 0
-        self.keep_name(place, op, members, mark)
-        self.steps.append(Step(op, mark if type(mark) is int else 0, node.start))
+        self.keep_name(place, op, members, members["mark"][1].value if "mark" in members else 0)
+        self.steps.append(Step(op, node.start, {key: plain(it.value) for key, (_, it) in members.items() if key != "op"}))
 
     def keep_unknown(self, place: int, node: Node) -> None:
         """Keeps the name that no known op gives, so that the ops that use it aren't wrong for it."""

@@ -19,7 +19,7 @@ KINDS = {
     "met": "success",
     "refused": "refused, with its code",
     "pending": "success, while the session's loss is pending",
-    "other": "neither success nor error, as where no event waits",
+    "other": "neither plain success nor error, as where no event waits",
     "mark": "sets a mark",
     "end": "leaves, or is told the end",
 }

@@ -5,8 +5,7 @@ from collections.abc import Iterable
 from dataclasses import dataclass, field
 
 from drawing.report import COMPOSITOR, DEVICE, Call, Report
-
-NEVER = "EXITING", "LOSS_PENDING"
+from states import LAST, MOST_FRAMES, next_state
 
 
 @dataclass(slots=True)
@@ -33,16 +32,7 @@ class Session:
     ended: int | None = None
 
     def _next_state(self, wish: str) -> str | None:
-        leaves = self.is_asked_to_exit
-        if self.state == "IDLE":
-            return "EXITING" if leaves else "READY" if wish != "rest" else None
-        if self.state == "SYNCHRONIZED":
-            return "STOPPING" if leaves or wish == "rest" else "VISIBLE" if wish in ("visible", "focused") else None
-        if self.state == "VISIBLE":
-            return "SYNCHRONIZED" if leaves or wish in ("rest", "ready") else "FOCUSED" if wish == "focused" else None
-        if self.state == "FOCUSED":
-            return "VISIBLE" if leaves or wish != "focused" else None
-        return None
+        return next_state(self.state, wish, self.is_asked_to_exit)
 
     def settle(self, place: int, wish: str, first: str | None = None) -> None:
         """Goes to a first state, if one is given, and then on by the rows of the machine until none fits."""
@@ -112,7 +102,7 @@ class _Sessions:
         for session in self.live:
             if call.name in ("lost", "fault", "garbled"):
                 session.is_lost = True
-            goes = call.name == "loss" and session.state not in NEVER
+            goes = call.name == "loss" and session.state not in LAST
             session.settle(call.place, self.wish, "LOSS_PENDING" if goes else None)
 
     def call(self, call: Call) -> None:
@@ -181,15 +171,38 @@ def arrows_of(ordered: Iterable[Call]) -> list[Arrow]:
     return arrows
 
 
+def held_back_until(ordered: Iterable[Call]) -> list[int]:
+    """For each place the last one up to it behind which a `wait_frame` would have to wait, or -1."""
+    has_waited = has_begun = False
+    pending = 0
+    found = [-1]
+    for call in ordered:
+        if call.name == "frame":
+            pending -= 1
+        elif call.name == "begin_frame" and (call.is_met or call.code == "XR_FRAME_DISCARDED"):
+            has_waited, has_begun = False, True
+        elif call.is_met and call.name in ("create_session", "begin_session", "end_session"):
+            has_waited = has_begun = False
+        elif call.is_met and call.name == "wait_frame":
+            has_waited = True
+        elif call.is_met and call.name == "end_frame":
+            has_begun = False
+            pending += 1
+        found.append(call.place if has_waited or pending + has_begun > MOST_FRAMES else found[-1])
+    return found
+
+
 def waits_of(report: Report) -> list[Wait]:
-    """The bars of all actors: awaits, the compositor's waits for a frame, and who is stuck."""
+    """The bars of all actors: awaits, waits for frames, and who is stuck."""
     waits = []
     last = {actor: 0 for actor in report.actors}
+    held_back = held_back_until(report.ordered())
     for actor, calls in report.actors.items():
         for call in calls:
-            if call.name == "await" or actor == COMPOSITOR:
+            is_late = call.name == "wait_frame" and call.is_met and held_back[call.place - 1] >= last[actor]
+            if call.name == "await" or actor == COMPOSITOR or is_late:
                 mark = mark_of(call)
-                what = "the next frame" if actor == COMPOSITOR else f"mark {mark}" if mark else "a mark"
+                what = "the next frame" if actor == COMPOSITOR else awaited(call.name, mark)
                 waits.append(Wait(actor, last[actor], call.place, f"{actor} waits for {what}"))
             if call.is_counted:
                 last[actor] = call.place
@@ -199,11 +212,14 @@ def waits_of(report: Report) -> list[Wait]:
     return waits
 
 
+AWAITED = {"next_frame": "a frame, or for all scripts to leave", "wait_frame": "the frames before its own"}
+
+
 def awaited(name: str, mark: int | None) -> str:
-    """What a stuck actor waits for."""
+    """What an actor waits for in a call."""
     if name == "await":
         return f"mark {mark}" if mark else "a mark"
-    return {"next_frame": "a frame, or for all scripts to leave"}.get(name, f"{name} to be ready")
+    return AWAITED.get(name, f"{name} to be ready")
 
 
 def clock_of(report: Report) -> list[tuple[int, int]]:

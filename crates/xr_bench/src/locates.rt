@@ -6,7 +6,7 @@ ghost use Rattle.xr_model.specs.machine.CoreCalls.{MayAsk};
 
 use crate::round::{ask, handle, has_places};
 use xr_core::Core;
-use xr_types::{Actor, Call, DeviceEvent, Gives, Location, Origin, RefKind};
+use xr_types::{Actor, Call, DeviceEvent, Gives, Location, Origin, RefKind, Shown};
 
 /// Whether the device may tell this: a pose whose numbers are in range.
 fn is_pose(call: &Call<'_>) -> bool
@@ -29,7 +29,7 @@ fn tell(core: &mut Core, origin: Origin, time: i64) {
         pose: 1,
     });
     if is_pose(&call) && has_places(core) {
-        let _ = core.apply(Actor::Device, &call, &mut []);
+        let _ = core.apply(Actor::Device, &call, &mut [], &mut Shown::default());
     }
 }
 

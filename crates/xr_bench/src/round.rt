@@ -5,7 +5,7 @@ ghost use Rattle.xr_model.specs.machine.Request.{request_of};
 ghost use Rattle.xr_model.specs.machine.CoreCalls.{MayAsk};
 
 use xr_core::Core;
-use xr_types::{Actor, Call, Form, Gives, Reply, Step};
+use xr_types::{Actor, Call, Form, Gives, Reply, Shown, Step};
 
 /// How many calls a round makes.
 pub(crate) const CALLS: u64 = 11;
@@ -18,22 +18,26 @@ pub(crate) const TEXT: &str =
 fn is_own(call: &Call<'_>) -> bool
     ensures { IsTrue result → MayAsk (App 1) (request_of call.now) 0 }
 {
-    matches!(
-        call,
+    match call {
         Call::CreateInstance { .. }
-            | Call::DestroyInstance { .. }
-            | Call::GetSystem { .. }
-            | Call::StringToPath { .. }
-            | Call::PathToString { capacity: 0, .. }
-            | Call::PollEvent { .. }
-            | Call::CreateSession { .. }
-            | Call::DestroySession { .. }
-            | Call::CreateReferenceSpace { .. }
-            | Call::LocateSpace { .. }
-            | Call::CreateActionSet { .. }
-            | Call::CreateAction { .. }
-            | Call::SuggestBindings { .. }
-    )
+        | Call::DestroyInstance { .. }
+        | Call::GetSystem { .. }
+        | Call::StringToPath { .. }
+        | Call::PathToString { capacity: 0, .. }
+        | Call::PollEvent { .. }
+        | Call::CreateSession { .. }
+        | Call::DestroySession { .. }
+        | Call::BeginSession { .. }
+        | Call::CreateReferenceSpace { .. }
+        | Call::LocateSpace { .. }
+        | Call::CreateActionSet { .. }
+        | Call::CreateAction { .. }
+        | Call::SuggestBindings { .. }
+        | Call::WaitFrame { .. }
+        | Call::BeginFrame { .. } => true,
+        Call::EndFrame { layers, .. } => layers.is_empty(),
+        _ => false,
+    }
 }
 
 /// Whether the core may be asked once more.
@@ -48,7 +52,7 @@ pub(crate) fn answer(core: &mut Core, call: &Call<'_>) -> Option<Reply> {
     if !is_own(call) || !core.is_present(1) || !has_places(core) {
         return None;
     }
-    match core.apply(Actor::App(1), call, &mut []) {
+    match core.apply(Actor::App(1), call, &mut [], &mut Shown::default()) {
         Step::Done(reply) => Some(reply),
         Step::NotReady => None,
     }

@@ -1,5 +1,5 @@
 -- What the parts decide, counted, is what the core answers.
-use Rattle.std.proofs.Common.{◌≡◌, ◌+◌, ℕ, Bool, true, List, [], refl, sym, ap, subst, ◌∙◌}
+use Rattle.std.proofs.Common.{◌≡◌, ◌+◌, ℕ, Bool, true, [], refl, sym, ap, subst, ◌∙◌}
 use Rattle.xr_types.specs.declared.calls.Actor.{Actor}
 use Rattle.xr_types.specs.declared.calls.Gives.{Gives}
 use Rattle.xr_types.specs.declared.calls.Reply.{Reply}
@@ -10,11 +10,11 @@ use Rattle.xr_model.specs.machine.Refusals.{first_of}
 use Rattle.xr_model.specs.machine.State.{CoreState, CellReads}
 use Rattle.xr_model.specs.machine.Rule.{Effect, carried_out}
 use Rattle.xr_model.specs.machine.Machine.{rule_of, IsPresent}
-use Rattle.xr_model.specs.machine.CoreCalls.{CoreAnswers, CoreWaits, is_built, given_by, entry_of}
+use Rattle.xr_model.specs.machine.CoreCalls.{Lent, CoreAnswers, CoreWaits, is_built, given_by, entry_of}
 use Rattle.xr_core.specs.inside.Deciding.{Comes, HasToWait}
 use Rattle.xr_core.proofs.Uncounted.{counting, SameRule, same_rule, Grows, grows, built_is_there, built_is_locked}
 
-module _ (s new : CoreState) (n : ℕ) (who : Actor) (what : Request) (before after : List ℕ) (built : is_built what ≡ true) where
+module _ (s new : CoreState) (n : ℕ) (who : Actor) (what : Request) (before after : Lent) (built : is_built what ≡ true) where
   -- a call that is made
   module _ (code : Code) (gives : Gives) (present : IsPresent s who) (comes : (reads : CellReads) → Comes s (λ given. rule_of s reads who given what) new code gives before after) where
     answer : Reply

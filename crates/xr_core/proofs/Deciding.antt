@@ -1,6 +1,6 @@
 -- How a call is decided by its rule: refused by the first of its refusals, or by none of them.
-use Rattle.std.proofs.Common.{◌≡◌, ◌&&◌, ◌||◌, ◌++◌, ℕ, Bool, true, false, not, List, [], ◌∷◌, length, drop, Option, Some, None, refl, sym, ap, ◌∙◌, true≢false}
-use Rattle.std.specs.Prelude.{Result, Ok, Err, is_some, if◌then◌else◌}
+use Rattle.std.proofs.Common.{◌≡◌, ◌&&◌, ◌||◌, ◌++◌, ℕ, Bool, true, false, not, List, [], ◌∷◌, Option, Some, None, refl, sym, ap, ◌∙◌, true≢false}
+use Rattle.std.specs.Prelude.{Ok, Err, is_some, if◌then◌else◌}
 use Rattle.xr_types.specs.declared.calls.Actor.{Actor}
 use Rattle.xr_types.specs.declared.calls.Gives.{Gives}
 use Rattle.xr_types.specs.declared.calls.Gives.TheVariants.{Nothing}
@@ -16,12 +16,10 @@ use Rattle.xr_model.specs.machine.PartAnswers.{code_by}
 use Rattle.xr_model.specs.machine.State.{CoreState, CellReads}
 use Rattle.xr_model.specs.machine.Rule.{Rule, Did, refusals, or_short, told_on}
 use Rattle.xr_model.specs.machine.Machine.{rule_of, IsGiven}
-use Rattle.xr_model.specs.machine.CoreCalls.{given_by}
+use Rattle.xr_model.specs.machine.CoreCalls.{Lent, given_by}
 use Rattle.xr_model.proofs.SessionAnswers.{first_stays, first_skips}
-use Rattle.xr_core.specs.inside.Deciding.{Comes, Decides, DecidesOver}
+use Rattle.xr_core.specs.inside.Deciding.{Comes, Decides, DecidesBy}
 use Rattle.xr_core.specs.inside.Refusing.{or_refused}
-use Rattle.xr_types.specs.declared.calls.Reply.{Reply}
-use Rattle.xr_core.specs.declared.halt.Halt.{Halt}
 use Rattle.xr_core.specs.declared.halt.Halt.TheVariants.{Refused, NotReady}
 use Rattle.xr_core.proofs.Plain.{IsPlain, are_plain, gives_size, first_plain, plain_rule}
 
@@ -37,16 +35,11 @@ and_false : (b : Bool) → b && false ≡ false
 and_false true = refl
 and_false false = refl
 
--- bytes that leave no buffer as it was are none
-left_over : (before bytes : List ℕ) → [] ≡ bytes ++ drop (length bytes) [] → before ≡ bytes ++ drop (length bytes) before
-left_over before [] same = refl
-left_over before (b ∷ bs) same = cc
-
 -- ---- refused
 
 -- a plain refusal changes nothing
-pub refused_comes : (s : CoreState) (r : ℕ → Rule) (x : Refusal) (before : List ℕ) → first_of (refusals (r 0)) ≡ Some x → IsPlain x → Comes s r s x.code Nothing before before
-refused_comes s r x before first plain = record {
+pub refused_comes : (s : CoreState) (r : ℕ → Rule) (x : Refusal) (lent : Lent) → first_of (refusals (r 0)) ≡ Some x → IsPlain x → Comes s r s x.code Nothing lent lent
+refused_comes s r x lent first plain = record {
   ready = rw first (or_true (not (r 0).waits));
   handle = rw (plain.fails, and_false (is_some (r 0).creates)) refl;
   memory = λ short. absurd (true≢false (sym short ∙ plain.memory));
@@ -58,18 +51,18 @@ refused_comes s r x before first plain = record {
 
 -- a call that is refused so, whoever makes it and whatever the cells tell
 pub refused_decides : (s : CoreState) (what : Request) (x : Refusal) → ((who : Actor) (reads : CellReads) → first_of (refusals (rule_of s reads who 0 what)) ≡ Some x) → IsPlain x → Decides s what s (Err (Refused x.code))
-refused_decides s what x first plain = λ who reads. refused_comes s (λ given. rule_of s reads who given what) x [] (first who reads) plain
+refused_decides s what x first plain = λ who lent reads. refused_comes s (λ given. rule_of s reads who given what) x lent (first who reads) plain
 
 -- the error of a check is the rule's refusal
 pub err_decides : {T : Type 0} (s : CoreState) (what : Request) (r : Rule) (x : T) → gives_size what ≡ false → ((who : Actor) (reads : CellReads) → first_of (refusals (rule_of s reads who 0 what)) ≡ first_of (refusals r))
     → (code : Code) → or_refused (first_of (refusals r)) x ≡ Err code → Decides s what s (Err (Refused code))
 err_decides {T = T} s what r x sized same code told = λ who. by who (first_of (refusals r)) refl told
   where
-    by : (who : Actor) (o : Option Refusal) → first_of (refusals r) ≡ o → or_refused o x ≡ Err code → DecidesOver who s what s (Err (Refused code)) [] []
+    by : (who : Actor) (o : Option Refusal) → first_of (refusals r) ≡ o → or_refused o x ≡ Err code → DecidesBy who s what s (Err (Refused code))
     by who None eo told = cc
-    by who (Some y) eo told = λ reads.
+    by who (Some y) eo told = λ lent reads.
         let is : code ≡ y.code = cc in
-        rw is (refused_comes s (λ given. rule_of s reads who given what) y [] (same who reads ∙ eo) (first_plain (refusals (rule_of s reads who 0 what)) y (plain_rule s reads who 0 what sized) (same who reads ∙ eo)))
+        rw is (refused_comes s (λ given. rule_of s reads who given what) y lent (same who reads ∙ eo) (first_plain (refusals (rule_of s reads who 0 what)) y (plain_rule s reads who 0 what sized) (same who reads ∙ eo)))
 
 -- ---- refused by nothing
 
@@ -78,12 +71,20 @@ pub ok_none : {T : Type 0} (o : Option Refusal) (x y : T) → or_refused o x ≡
 ok_none None x y told = (refl, cc)
 ok_none (Some r) x y told = cc
 
+-- a call that nothing refuses has to wait
+pub waits_decides : (s : CoreState) (what : Request) (r : Rule) → ((who : Actor) (reads : CellReads) (given : ℕ) → rule_of s reads who given what ≡ r) → first_of (refusals r) ≡ None → r.waits ≡ true → Decides s what s (Err NotReady)
+waits_decides s what r same none waits = λ who lent reads. record {
+  not_ready = λ given. rw (same who reads given, none, waits) refl;
+  same = refl;
+  unwritten = refl;
+}
+
 -- a call has its effect
 pub effect_decides : (s : CoreState) (what : Request) (r : ℕ → Rule) (new : CoreState) (answer : Code) (value : Gives) (did : Did)
     → ((who : Actor) (reads : CellReads) → rule_of s reads who (given_by value) what ≡ r (given_by value)) → first_of (refusals (r (given_by value))) ≡ None → (r (given_by value)).waits ≡ false
     → told_on (r (given_by value)).on (r (given_by value)).effect ≡ record { state = new; code = answer; gives = value; text = []; shown = None; did = did }
     → IsGiven (is_some (r (given_by value)).creates && is_success answer) s.handles (given_by value) → is_out_of_memory answer ≡ false → Decides s what new (Ok (record { code = answer; gives = value; place = 0 }))
-effect_decides s what r new answer value did same none waits effect given memory = λ who reads. record {
+effect_decides s what r new answer value did same none waits effect given memory = λ who lent reads. record {
   ready = rw (same who reads, waits) refl;
   handle = rw (same who reads) given;
   memory = λ short. absurd (true≢false (sym short ∙ memory));
@@ -160,17 +161,3 @@ none_first (x ∷ xs) ys none = by x.holds none (none_first xs ys)
 
 pub none_second : (xs ys : List Refusal) → first_of (xs ++ ys) ≡ None → first_of ys ≡ None
 none_second xs ys none = sym (first_skips xs ys (none_first xs ys none)) ∙ none
-
--- ---- over a buffer
-
--- what is decided over no buffer is decided over any, which stays
-pub beside : (who : Actor) (s : CoreState) (what : Request) (new : CoreState) (result : Result Reply Halt) (before : List ℕ) → DecidesOver who s what new result [] [] → DecidesOver who s what new result before before
-beside who s what new (Ok d) before made = λ reads. over (made reads)
-  where
-    over : {r : ℕ → Rule} → Comes s r new d.code d.gives [] [] → Comes s r new d.code d.gives before before
-    over m = record { ready = m.ready; handle = m.handle; memory = m.memory; keeps = m.keeps; code = m.code; gives = m.gives; writes = left_over before _ m.writes }
-beside who s what new (Err (Refused code)) before made = λ reads. over (made reads)
-  where
-    over : {r : ℕ → Rule} → Comes s r new code Nothing [] [] → Comes s r new code Nothing before before
-    over m = record { ready = m.ready; handle = m.handle; memory = m.memory; keeps = m.keeps; code = m.code; gives = m.gives; writes = left_over before _ m.writes }
-beside who s what new (Err NotReady) before made = λ reads. let m = made reads in record { not_ready = m.not_ready; same = m.same; unwritten = refl }

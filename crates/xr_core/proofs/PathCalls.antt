@@ -14,10 +14,10 @@ use Rattle.xr_model.specs.machine.Handles.{is_live}
 use Rattle.xr_model.specs.machine.Paths.{is_path_text, intern_checks, intern_refusals, with_text, atom_of, may_want_memory, is_new, text_at, copy_refusals, copied, size_at, size_of}
 use Rattle.xr_model.specs.machine.Refusals.{Refusal, when, first_of, unless}
 use Rattle.xr_model.specs.machine.PartAnswers.{answer_by}
-use Rattle.xr_model.specs.machine.CoreCalls.{written_over}
+use Rattle.xr_model.specs.machine.CoreCalls.{Lent, written_over}
 use Rattle.xr_model.specs.machine.Rule.{or_short}
 use Rattle.xr_model.specs.machine.State.{CoreState}
-use Rattle.xr_core.specs.inside.Deciding.{Decides, DecidesOver}
+use Rattle.xr_core.specs.inside.Deciding.{Decides, DecidesBy, DecidesWriting}
 use Rattle.xr_core.specs.declared.halt.Halt.TheVariants.{Refused}
 
 and_both : (a b : Bool) → (a && b) ≡ true → (a ≡ true) × (b ≡ true)
@@ -84,11 +84,11 @@ module _ (s : CoreState) (instance : ℕ) (text : List ℕ) (a : Answer) (atoms 
 
   -- a text that the part refuses is refused by the call
   pub intern_refused : (a.code ≡ Success → ⊥) → Decides s (string_to_path instance text) (record s { atoms = atoms }) (Err (Refused a.code))
-  intern_refused failed = λ who. by (first_of (intern_refusals s.atoms text (is_out_of_memory a.code))) refl who
+  intern_refused failed = λ who lent. by (first_of (intern_refusals s.atoms text (is_out_of_memory a.code))) refl who lent
     where
-      by : (o : Option Refusal) → first_of (intern_refusals s.atoms text (is_out_of_memory a.code)) ≡ o → (who : Actor) → DecidesOver who s (string_to_path instance text) (record s { atoms = atoms }) (Err (Refused a.code)) [] []
-      by None e who = absurd (failed (ap (λ (x : Answer). x.code) (rw e at answer)))
-      by (Some r) e who = λ reads.
+      by : (o : Option Refusal) → first_of (intern_refusals s.atoms text (is_out_of_memory a.code)) ≡ o → (who : Actor) → DecidesBy who s (string_to_path instance text) (record s { atoms = atoms }) (Err (Refused a.code))
+      by None e who lent = absurd (failed (ap (λ (x : Answer). x.code) (rw e at answer)))
+      by (Some r) e who lent = λ reads.
           let same : atoms ≡ s.atoms = rw e at kept in
           let code : a.code ≡ r.code = ap (λ (x : Answer). x.code) (rw e at answer) in
           let short = shorted ∙ e in
@@ -105,10 +105,10 @@ module _ (s : CoreState) (instance : ℕ) (text : List ℕ) (a : Answer) (atoms 
 
   -- a text that it takes has its atom
   pub interned : a.code ≡ Success → Decides s (string_to_path instance text) (record s { atoms = atoms }) (Ok (record { code = Success; gives = Number a.number; place = 0 }))
-  interned good = λ who. by (first_of (intern_refusals s.atoms text (is_out_of_memory a.code))) refl who
+  interned good = λ who lent. by (first_of (intern_refusals s.atoms text (is_out_of_memory a.code))) refl who lent
     where
-      by : (o : Option Refusal) → first_of (intern_refusals s.atoms text (is_out_of_memory a.code)) ≡ o → (who : Actor) → DecidesOver who s (string_to_path instance text) (record s { atoms = atoms }) (Ok (record { code = Success; gives = Number a.number; place = 0 })) [] []
-      by None e who = λ reads.
+      by : (o : Option Refusal) → first_of (intern_refusals s.atoms text (is_out_of_memory a.code)) ≡ o → (who : Actor) → DecidesBy who s (string_to_path instance text) (record s { atoms = atoms }) (Ok (record { code = Success; gives = Number a.number; place = 0 }))
+      by None e who lent = λ reads.
           let new : atoms ≡ with_text s.atoms text = rw e at kept in
           let number : a.number ≡ atom_of s.atoms text = ap (λ (x : Answer). x.number) (rw e at answer) in
           let none : first_of (intern_checks s.atoms text) ≡ None = unshort (is_new s.atoms text && is_out_of_memory a.code) (first_of (intern_checks s.atoms text)) (shorted ∙ e) in
@@ -126,7 +126,7 @@ module _ (s : CoreState) (instance : ℕ) (text : List ℕ) (a : Answer) (atoms 
           unshort false o e = e
           unshort true None e = cc
           unshort true (Some r) e = cc
-      by (Some r) e who =
+      by (Some r) e who lent =
           let code : a.code ≡ r.code = ap (λ (x : Answer). x.code) (rw e at answer) in
           absurd (true≢false (sym (ap is_success (sym code ∙ good)) ∙ short_fails (is_new s.atoms text && is_out_of_memory a.code) (not (is_path_text text)) (is_new s.atoms text && nat_le 1024 (length s.atoms)) r (shorted ∙ e)))
 
@@ -136,15 +136,15 @@ module _ (s : CoreState) (instance path : ℕ) (a : Answer) (before after : List
     (answer : a ≡ answer_by (first_of (copy_refusals (text_at s.atoms path) (length before))) (size_at (text_at s.atoms path)))
     (written : after ≡ written_over (copied (text_at s.atoms path) (length before)) before) where
   -- an atom that isn't known is refused by the call, and the buffer stays
-  pub copy_refused : (a.code ≡ Success → ⊥) → (a.code ≡ SizeInsufficient → ⊥) → (who : Actor) → DecidesOver who s (path_to_string instance path (length before)) s (Err (Refused a.code)) before after
+  pub copy_refused : (a.code ≡ Success → ⊥) → (a.code ≡ SizeInsufficient → ⊥) → (who : Actor) → DecidesWriting who s (path_to_string instance path (length before)) s (Err (Refused a.code)) before after
   copy_refused failed small who = by (text_at s.atoms path) refl
     where
       neither : (t : List ℕ) (b : Bool) → (nat_lt 0 (length before) && nat_lt (length before) (size_of t)) ≡ b → a ≡ answer_by (first_of (copy_refusals (Some t) (length before))) (size_of t) → ⊥
       neither t true e k = small (ap (λ (x : Answer). x.code) (rw e at k))
       neither t false e k = failed (ap (λ (x : Answer). x.code) (rw e at k))
 
-      by : (found : Option (List ℕ)) → text_at s.atoms path ≡ found → DecidesOver who s (path_to_string instance path (length before)) s (Err (Refused a.code)) before after
-      by None e = λ reads.
+      by : (found : Option (List ℕ)) → text_at s.atoms path ≡ found → DecidesWriting who s (path_to_string instance path (length before)) s (Err (Refused a.code)) before after
+      by None e = λ frame reads.
           let code : a.code ≡ PathInvalid = ap (λ (x : Answer). x.code) (rw e at answer) in
           let stays : after ≡ before = rw e at written in
           rw (code, stays) (record {
@@ -159,7 +159,7 @@ module _ (s : CoreState) (instance path : ℕ) (a : Answer) (before after : List
       by (Some t) e = absurd (neither t _ refl (rw e at answer))
 
   -- one that is known gives its size, whether or not the text fits
-  pub copy_given : (a.code ≡ Success) ⊎ (a.code ≡ SizeInsufficient) → (who : Actor) → DecidesOver who s (path_to_string instance path (length before)) s (Ok (record { code = a.code; gives = Size a.number; place = 0 })) before after
+  pub copy_given : (a.code ≡ Success) ⊎ (a.code ≡ SizeInsufficient) → (who : Actor) → DecidesWriting who s (path_to_string instance path (length before)) s (Ok (record { code = a.code; gives = Size a.number; place = 0 })) before after
   copy_given known who = by (text_at s.atoms path) refl
     where
       not_invalid : (a.code ≡ Success) ⊎ (a.code ≡ SizeInsufficient) → a.code ≡ PathInvalid → ⊥
@@ -171,8 +171,8 @@ module _ (s : CoreState) (instance path : ℕ) (a : Answer) (before after : List
       unwritten n m small = grind (arith, nat_tests)
 
       one : (t : List ℕ) → text_at s.atoms path ≡ Some t → (b : Bool) → (nat_lt 0 (length before) && nat_lt (length before) (size_of t)) ≡ b
-          → DecidesOver who s (path_to_string instance path (length before)) s (Ok (record { code = a.code; gives = Size a.number; place = 0 })) before after
-      one t e true eb = λ reads.
+          → DecidesWriting who s (path_to_string instance path (length before)) s (Ok (record { code = a.code; gives = Size a.number; place = 0 })) before after
+      one t e true eb = λ frame reads.
           let is : a ≡ record { code = SizeInsufficient; number = size_of t } = rw (e, eb) at answer in
           let over : nat_le (size_of t) (length before) ≡ false = unwritten (length before) (size_of t) eb in
           let stays : after ≡ before = rw (e, over) at written in
@@ -185,7 +185,7 @@ module _ (s : CoreState) (instance path : ℕ) (a : Answer) (before after : List
             gives = rw (live, e, eb) refl;
             writes = rw (live, e, eb) refl;
           })
-      one t e false eb = λ reads.
+      one t e false eb = λ frame reads.
           let is : a ≡ record { code = Success; number = size_of t } = rw (e, eb) at answer in
           let bytes : after ≡ written_over (copied (Some t) (length before)) before = rw e at written in
           rw is (record {
@@ -195,9 +195,9 @@ module _ (s : CoreState) (instance path : ℕ) (a : Answer) (before after : List
             keeps = rw (live, e, eb) refl;
             code = rw (live, e, eb) refl;
             gives = rw (live, e, eb) refl;
-            writes = rw (live, e, eb) bytes;
+            writes = rw (live, e, eb) (ap (λ (b : List ℕ). let lent : Lent = record { text = b; frame = frame } in lent) bytes);
           })
 
-      by : (found : Option (List ℕ)) → text_at s.atoms path ≡ found → DecidesOver who s (path_to_string instance path (length before)) s (Ok (record { code = a.code; gives = Size a.number; place = 0 })) before after
+      by : (found : Option (List ℕ)) → text_at s.atoms path ≡ found → DecidesWriting who s (path_to_string instance path (length before)) s (Ok (record { code = a.code; gives = Size a.number; place = 0 })) before after
       by None e = absurd (not_invalid known (ap (λ (x : Answer). x.code) (rw e at answer)))
       by (Some t) e = one t e (nat_lt 0 (length before) && nat_lt (length before) (size_of t)) refl

@@ -13,11 +13,11 @@ use Rattle.xr_model.specs.machine.LiveSessions.{session_at}
 use Rattle.xr_model.specs.machine.SessionRule.{loss_of, code_on}
 use Rattle.xr_model.specs.machine.Rules.Session.{life_of, with_change, changing_rule}
 use Rattle.xr_model.specs.machine.State.{CoreState, CellReads}
-use Rattle.xr_model.specs.machine.Rule.{Rule, refusals, nothing_done}
+use Rattle.xr_model.specs.machine.Rule.{Rule, done, refusals, nothing_done}
 use Rattle.xr_model.specs.machine.Machine.{rule_of}
 use Rattle.xr_model.specs.machine.PartAnswers.{code_by}
 use Rattle.xr_core.specs.inside.Deciding.{Decides}
-use Rattle.xr_core.specs.inside.Changes.{life_request, checks_of, change_of, refusals_of, changed_life, answer_to}
+use Rattle.xr_core.specs.inside.Changes.{life_request, checks_of, change_of, refusals_of, changed_life, with_period, answer_to}
 use Rattle.xr_core.specs.declared.halt.Halt.TheVariants.{Refused}
 use Rattle.xr_core.specs.declared.sessions.LifeCall.{LifeCall}
 use Rattle.xr_core.specs.declared.sessions.LifeCall.TheVariants.{Begin, End, RequestExit}
@@ -25,7 +25,9 @@ use Rattle.xr_core.proofs.Plain.{are_plain, first_plain}
 use Rattle.xr_core.proofs.Deciding.{refused_decides, effect_decides, passed_is_ok, success_found}
 
 abbrev life_rule : CoreState → ℕ → LifeCall → Rule
-life_rule s session call = changing_rule s session (checks_of call (life_of s session)) (change_of s.device.wish call)
+life_rule s session call = record (changing_rule s session (checks_of call (life_of s session)) (change_of s.device.wish call)) {
+  effect = done (with_period (with_change s (session_at s.sessions session) (change_of s.device.wish call)) call) Nothing;
+}
 
 has_rule : (s : CoreState) (session : ℕ) (call : LifeCall) (who : Actor) (reads : CellReads) → rule_of s reads who 0 (life_request session call) ≡ life_rule s session call
 has_rule s session (Begin view) who reads = refl
@@ -68,11 +70,11 @@ module _ (s : CoreState) (session : ℕ) (call : LifeCall) where
             (refused_decides s (life_request session call) y (λ who reads. ap (λ (r : Rule). first_of (refusals r)) (has_rule s session call who reads) ∙ first_live s session call live ∙ e) (first_plain (refusals_of call (life_of s session)) y (plain_life call (life_of s session)) e))
 
     -- nothing refuses it
-    pub life_done : code ≡ Success → Decides s (life_request session call) kept (Ok (record { code = code_on (loss_of (life_of s session)) Success; gives = Nothing; place = 0 }))
+    pub life_done : code ≡ Success → Decides s (life_request session call) (with_period kept call) (Ok (record { code = code_on (loss_of (life_of s session)) Success; gives = Nothing; place = 0 }))
     unfolding changed_life answer_to
     life_done good =
         let none = passed_is_ok (refusals_of call (life_of s session)) code (plain_life call (life_of s session)) told good in
         let here : kept ≡ with_change s (session_at s.sessions session) (change_of s.device.wish call) = stays ∙ ap (λ (o : Option Refusal). unless o s (with_change s (session_at s.sessions session) (change_of s.device.wish call))) none in
         rw here
-        (effect_decides s (life_request session call) (λ given. life_rule s session call) (with_change s (session_at s.sessions session) (change_of s.device.wish call)) (code_on (loss_of (life_of s session)) Success) Nothing nothing_done
+        (effect_decides s (life_request session call) (λ given. life_rule s session call) (with_period (with_change s (session_at s.sessions session) (change_of s.device.wish call)) call) (code_on (loss_of (life_of s session)) Success) Nothing nothing_done
         (has_rule s session call) (first_live s session call live ∙ none) refl refl refl (success_found (loss_of (life_of s session))))

@@ -1,10 +1,12 @@
 -- A session that a call has changed or refused to change, once that is told.
-use Rattle.std.proofs.Common.{◌≡◌, ◌<◌, ◌+◌, ℕ, zero, suc, List, [], ◌∷◌, ◌++◌, length, take, drop, Option, Some, None, refl, sym, ap, ◌∙◌, add-one, arith}
-use Rattle.std.specs.Prelude.{slice_set, slice_index_or}
+use Rattle.std.proofs.Common.{◌≡◌, false, true≢false, ◌<◌, ◌+◌, ℕ, zero, suc, List, [], ◌∷◌, ◌++◌, length, take, drop, Option, Some, None, refl, sym, ap, ◌∙◌, add-one, arith}
+use Rattle.std.specs.Prelude.{slice_set, slice_index_or, is_some}
+use Rattle.xr_types.specs.declared.device.Wish.{Wish}
 use Rattle.xr_model.specs.machine.Refusals.{Refusal, first_of, unless}
-use Rattle.xr_model.specs.machine.SessionLife.{Life, Changed}
+use Rattle.xr_model.specs.machine.SessionLife.{Life, Changed, synced_session}
+use Rattle.xr_model.specs.machine.Events.{Queue}
 use Rattle.xr_model.specs.machine.LiveSessions.{Session, session_at, with_life, with_life_at, each_changed, told_states}
-use Rattle.xr_model.specs.machine.Rules.Session.{life_of}
+use Rattle.xr_model.specs.machine.Rules.Session.{life_of, with_change}
 use Rattle.xr_model.specs.machine.State.{CoreState}
 use Rattle.xr_core.specs.inside.Changes.{place_at, ordinal_in, refusals_of, change_of, life_after, told_after, changed_life}
 use Rattle.xr_core.specs.declared.sessions.LifeCall.{LifeCall}
@@ -41,6 +43,23 @@ changes_one s session place d call found =
         } ≡ unless o s (record s { sessions = with_life_at (slice_index_or s.sessions place d).handle c.life s.sessions; events = told_states s.events (slice_index_or s.sessions place d).ordinal (slice_index_or s.sessions place d).handle c.through })
     by None c there = rw there.named refl
     by (Some r) c there = ap (λ (xs : List Session). record s { sessions = xs }) (lives_on s.sessions session place d there)
+
+-- what a frame made of them
+pub synced_so : (s : CoreState) (session place : ℕ) (d : Session) (wish : Wish) (sessions : List Session) (events : Queue) → place_at s.sessions session ≡ Some place → wish ≡ s.device.wish
+    → sessions ≡ with_life_at session (synced_session wish (life_of s session)).life s.sessions
+    → events ≡ told_states s.events (ordinal_in (session_at s.sessions session)) session (synced_session wish (life_of s session)).through
+    → record s { sessions = sessions; events = events } ≡ with_change s (session_at s.sessions session) (synced_session s.device.wish)
+synced_so s session place d wish sessions events found same lives told =
+    let there = stands s.sessions session place d found in
+    rw (lives, told, same, there.found) (rw there.named refl)
+
+-- a session that isn't listed changes nothing
+pub changes_none : (s : CoreState) (session : ℕ) (f : Life → Changed) → is_some (session_at s.sessions session) ≡ false → s ≡ with_change s (session_at s.sessions session) f
+changes_none s session f none = by (session_at s.sessions session) none
+  where
+    by : (o : Option Session) → is_some o ≡ false → s ≡ with_change s o f
+    by None none = refl
+    by (Some x) none = absurd (true≢false none)
 
 -- ---- all sessions change
 

@@ -3,7 +3,7 @@ use Rattle.std.proofs.Common.{◌≡◌, ◌≤◌, ◌+◌, ℕ, Bool, true, Li
 use Rattle.xr_types.specs.declared.calls.Actor.{Actor}
 use Rattle.xr_types.specs.declared.device.DeviceEvent.{DeviceEvent}
 use Rattle.xr_types.specs.declared.device.DeviceEvent.TheVariants as event
-use Rattle.xr_model.specs.machine.Request.{Request, create_instance, create_session, create_reference_space, create_action_set, create_action, get_boolean, get_float, get_vector, get_pose_active, device, image_done, is_locked}
+use Rattle.xr_model.specs.machine.Request.{Request, create_instance, create_session, create_reference_space, create_action_set, create_action, wait_frame, begin_frame, end_frame, get_boolean, get_float, get_vector, get_pose_active, device, image_done, is_locked}
 use Rattle.xr_model.specs.machine.Refusals.{Refusal}
 use Rattle.xr_model.specs.machine.State.{CoreState, CellReads}
 use Rattle.xr_model.specs.machine.Rule.{Rule, Effect, refusals, refusal, told_on, unless_refused, carried_out}
@@ -46,11 +46,12 @@ module _ (s : CoreState) (n : ℕ) (short : Bool) (reads : CellReads) (who : Act
 
 -- ---- what a call leaves, and how much it adds
 
--- The number of applications stays, one handle is given at most, and one session is created at most.
+-- The number of applications stays, and at most one handle is given, one session created and one frame ended.
 pub record Grows (s new : CoreState) : Type 0 where
   pub apps : new.apps ≡ s.apps
   pub given : length new.handles.given ≤ length s.handles.given + 1
   pub created : new.created ≤ s.created + 1
+  pub ended : new.ended ≤ s.ended + 1
 
 one_more : (n : ℕ) → n ≤ n + 1
 one_more n = omega arith
@@ -63,36 +64,39 @@ add_one x xs = omega arith
 
 unless_grows : (s : CoreState) (o : Option Refusal) (x : Effect) → Grows s x.state → Grows s (unless_refused s o x).state
 unless_grows s None x grows = grows
-unless_grows s (Some r) x grows = record { apps = refl; given = one_more (length s.handles.given); created = one_more s.created }
+unless_grows s (Some r) x grows = record { apps = refl; given = one_more (length s.handles.given); created = one_more s.created; ended = one_more s.ended }
 
 module _ (s : CoreState) (short : Bool) (reads : CellReads) (who : Actor) (given : ℕ) where
   leaves : Grows s s
-  leaves = record { apps = refl; given = one_more (length s.handles.given); created = one_more s.created }
+  leaves = record { apps = refl; given = one_more (length s.handles.given); created = one_more s.created; ended = one_more s.ended }
 
   events_leave : (what : DeviceEvent) → Grows s (behind_event s what)
-  events_leave (event.Clock time) = record { apps = refl; given = one_more (length s.handles.given); created = one_more s.created }
-  events_leave _ = record { apps = refl; given = one_more (length s.handles.given); created = one_more s.created }
+  events_leave (event.Clock time) = record { apps = refl; given = one_more (length s.handles.given); created = one_more s.created; ended = one_more s.ended }
+  events_leave _ = record { apps = refl; given = one_more (length s.handles.given); created = one_more s.created; ended = one_more s.ended }
 
   pub grows : (what : Request) → Grows s (carried_out s short (rule_of s reads who given what)).state
   grows (device what) = events_leave what
   grows (create_instance major minor) =
       let r = rule_of s reads who given (create_instance major minor) in
-      unless_grows s (refusal short r) (told_on r.on r.effect) (record { apps = refl; given = add_one given s.handles.given; created = one_more s.created })
+      unless_grows s (refusal short r) (told_on r.on r.effect) (record { apps = refl; given = add_one given s.handles.given; created = one_more s.created; ended = one_more s.ended })
   grows (create_session instance system) =
       let r = rule_of s reads who given (create_session instance system) in
-      unless_grows s (refusal short r) (told_on r.on r.effect) (record { apps = refl; given = add_one given s.handles.given; created = as_many s.created })
+      unless_grows s (refusal short r) (told_on r.on r.effect) (record { apps = refl; given = add_one given s.handles.given; created = as_many s.created; ended = one_more s.ended })
   grows (create_reference_space session what offset) =
       let r = rule_of s reads who given (create_reference_space session what offset) in
-      unless_grows s (refusal short r) (told_on r.on r.effect) (record { apps = refl; given = add_one given s.handles.given; created = one_more s.created })
+      unless_grows s (refusal short r) (told_on r.on r.effect) (record { apps = refl; given = add_one given s.handles.given; created = one_more s.created; ended = one_more s.ended })
   grows (create_action_set instance name localized priority) =
       let r = rule_of s reads who given (create_action_set instance name localized priority) in
-      unless_grows s (refusal short r) (told_on r.on r.effect) (record { apps = refl; given = add_one given s.handles.given; created = one_more s.created })
+      unless_grows s (refusal short r) (told_on r.on r.effect) (record { apps = refl; given = add_one given s.handles.given; created = one_more s.created; ended = one_more s.ended })
   grows (create_action set name type subs localized) =
       let r = rule_of s reads who given (create_action set name type subs localized) in
-      unless_grows s (refusal short r) (told_on r.on r.effect) (record { apps = refl; given = add_one given s.handles.given; created = one_more s.created })
+      unless_grows s (refusal short r) (told_on r.on r.effect) (record { apps = refl; given = add_one given s.handles.given; created = one_more s.created; ended = one_more s.ended })
+  grows (end_frame session time blend layers) =
+      let r = rule_of s reads who given (end_frame session time blend layers) in
+      unless_grows s (refusal short r) (told_on r.on r.effect) (record { apps = refl; given = one_more (length s.handles.given); created = one_more s.created; ended = as_many s.ended })
   grows what =
       let r = rule_of s reads who given what in
-      unless_grows s (refusal short r) (told_on r.on r.effect) (record { apps = refl; given = one_more (length s.handles.given); created = one_more s.created })
+      unless_grows s (refusal short r) (told_on r.on r.effect) (record { apps = refl; given = one_more (length s.handles.given); created = one_more s.created; ended = one_more s.ended })
 
 -- ---- a call that is built
 
@@ -102,6 +106,9 @@ built_is_there s reads who given = by
     by : (r : Request) → is_built r ≡ true → (rule_of s reads who given r).is_there ≡ true
     by (device what) built = built
     by (create_instance major minor) built = refl
+    by (wait_frame session) built = refl
+    by (begin_frame session) built = refl
+    by (end_frame session time blend layers) built = built
     by _ built = built
 
 pub built_is_locked : (what : Request) → is_built what ≡ true → is_locked what ≡ true

@@ -1,6 +1,7 @@
 // What each call does, a method a call.
 mod bindings;
 mod device;
+mod frames;
 mod instance;
 mod own;
 mod paths;

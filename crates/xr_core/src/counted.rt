@@ -1,18 +1,20 @@
 // A core: its parts decide each call, and here alone it is counted.
-ghost use Rattle.std.specs.Prelude.{◌≡◌, ◌≤◌, ◌<◌, ◌^◌, ◌+◌, ◌↔◌, IfOk, IsTrue, length, not};
-ghost use Rattle.std.specs.List.{list_all};
+ghost use Rattle.std.specs.Prelude.{◌≡◌, ◌≤◌, ◌<◌, ◌^◌, ◌+◌, ◌↔◌, ◌&&◌, is_none, IfOk, IsTrue, length, not};
 ghost use Rattle.xr_types.specs.declared.limits.TheConstants.{MOST_SCRIPTS};
 ghost use Rattle.xr_model.specs.machine.Request.{request_of};
 ghost use Rattle.xr_model.specs.machine.Marks.{is_set};
 ghost use Rattle.xr_model.specs.machine.State.{CellReads, with_apps, opening_core};
 ghost use Rattle.xr_model.specs.machine.Machine.{IsPresent};
+ghost use Rattle.xr_model.specs.machine.Refusals.{first_of};
+ghost use Rattle.xr_model.specs.machine.Rule.{refusals};
+ghost use Rattle.xr_model.specs.machine.Rules.Frames.{wait_frame_rule, next_frame_rule};
 ghost use Rattle.xr_model.specs.machine.CoreCalls.{MayMake, CoreApplies};
 
 use crate::halt::{Halt, refusal};
 use crate::parts::Parts;
 use std::alloc::Global;
 use std::marker::Model;
-use xr_types::{Actor, Call, NoMemory, Reply, Step};
+use xr_types::{Actor, Call, NoMemory, Reply, Shown, Step};
 
 /// What the machine of one thread keeps beside its cells, seen by contracts as the core's half of the state: the parts, and
 /// how many locked calls were answered. Memory for path texts and suggestions is taken from its allocator.
@@ -31,7 +33,7 @@ impl Model for Core {
 
     ghost view = { λ c. record c.parts { locked = c.calls } };
 
-    ghost invariant = { λ c. (length c.parts.handles.given ≤ c.calls) × (c.parts.created ≤ c.calls) };
+    ghost invariant = { λ c. (length c.parts.handles.given ≤ c.calls) × (c.parts.created ≤ c.calls) × (c.parts.ended ≤ c.calls) };
 }
 
 /// Counts a call that is made, and answers it.
@@ -88,24 +90,33 @@ impl Core {
         self.parts.mark_value(mark).is_none()
     }
 
-    /// Whether the compositor's `NextFrame` has to wait: some application hasn't left.
-    pub fn next_frame_waits(&self) -> bool
-        ensures { result ≡ not (list_all (λ has_left. has_left) self.now.left) }
+    /// Whether `WaitFrame` of this session has to wait: a frame is waited for, or more than two are pending or begun, and nothing
+    /// refuses the call.
+    pub fn wait_frame_waits(&self, session: u64) -> bool
+        ensures { result ≡ ((wait_frame_rule self.now session).waits && is_none (first_of (refusals (wait_frame_rule self.now session)))) }
     {
-        !self.parts.all_left()
+        self.parts.wait_frame_waits(session)
+    }
+
+    /// Whether the compositor's `NextFrame` has to wait: no frame is pending, and some application hasn't left.
+    pub fn next_frame_waits(&self) -> bool
+        ensures { result ≡ (next_frame_rule self.now).waits }
+    {
+        self.parts.next_frame_waits()
     }
 
     /// Makes a call that is built, or says that it has to wait and leaves all as it was. `text` is the buffer that
-    /// `path_to_string` is lent, of the call's `capacity`; for other calls it may have any size and stays.
+    /// `path_to_string` is lent, of the call's `capacity`; for other calls it may have any size and stays. `shown` is the place
+    /// for the frame that `NextFrame` shows; it stays where none is.
     /// Whatever the cells tell, the reply is the machine's to an allowed entry: it gives a handle exactly where a creation
     /// succeeds, and `OutOfMemory` comes only to a new path text that would else be interned, and to suggestions that would
-    /// else be taken. No other call takes memory.
-    pub fn apply(&mut self, who: Actor, call: &Call<'_>, text: &mut [u8]) -> Step
+    /// else be taken.
+    pub fn apply(&mut self, who: Actor, call: &Call<'_>, text: &mut [u8], shown: &mut Shown) -> Step
         requires calls { self.old.locked < 2 ^ 44 }
         requires may { MayMake self.old who (request_of call.now) (length text.old) }
-        ensures { (reads : CellReads) → CoreApplies reads self.old self.new who call.now text.old text.new result }
+        ensures { (reads : CellReads) → CoreApplies reads self.old self.new who call.now (record { text = text.old; frame = shown.old }) (record { text = text.new; frame = shown.new }) result }
     {
-        let reply = match self.parts.decide(self.alloc, who, call, text) {
+        let reply = match self.parts.decide(self.alloc, who, call, text, shown) {
             Ok(reply) => reply,
             Err(Halt::Refused(code)) => refusal(code),
             Err(Halt::NotReady) => return Step::NotReady,

@@ -1,5 +1,5 @@
 // What the device has told of itself.
-ghost use Rattle.std.specs.Prelude.{◌≡◌};
+ghost use Rattle.std.specs.Prelude.{◌≡◌, ◌≤ℤ◌, pos};
 ghost use Rattle.xr_model.specs.machine.Device.{first_device};
 ghost use Rattle.xr_model.specs.machine.Rules.Device.{later_of};
 
@@ -21,9 +21,12 @@ pub(crate) struct DeviceValues {
 }
 
 impl Model for DeviceValues {
+    ghost use Rattle.std.specs.Prelude.{◌≤ℤ◌, pos};
     ghost use Rattle.xr_model.specs.machine.Device.{Device};
 
     ghost Value = { Device };
+
+    ghost invariant = { λ d. pos 1 ≤ℤ d.period };
 
     ghost view = { λ d. record { clock = d.clock; base = d.base; period = d.period; wish = d.wish; stage = d.stage } };
 }
@@ -48,6 +51,20 @@ impl DeviceValues {
         self.clock
     }
 
+    pub(crate) fn base(&self) -> i64
+        ensures { result ≡ self.now.base }
+    {
+        self.base
+    }
+
+    /// The period of frames, at least 1.
+    pub(crate) fn period(&self) -> i64
+        ensures period { result ≡ self.now.period }
+        ensures some { pos 1 ≤ℤ result }
+    {
+        self.period
+    }
+
     pub(crate) fn wish(&self) -> Wish
         ensures { result ≡ self.now.wish }
     {
@@ -70,6 +87,7 @@ impl DeviceValues {
     }
 
     pub(crate) fn set_grid(&mut self, base: i64, period: i64)
+        requires { pos 1 ≤ℤ period }
         ensures { self.new ≡ record self.old { base = base; period = period } }
     {
         self.base = base;

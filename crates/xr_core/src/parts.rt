@@ -24,6 +24,7 @@ use std::alloc::Global;
 use std::marker::Model;
 use xr_bindings::Bindings;
 use xr_events::Events;
+use xr_frames::Frames;
 use xr_handles::Handles;
 use xr_paths::Paths;
 use xr_sets::Sets;
@@ -68,6 +69,10 @@ pub(crate) struct Parts {
     pub(crate) bindings: Bindings,
     /// The live spaces, in the order of their creation, and the samples of their origins.
     pub(crate) spaces: Spaces,
+    /// The frame loop of the live session, and the frames that are pending.
+    pub(crate) frames: Frames,
+    /// How many frames were ended.
+    pub(crate) ended: u64,
     /// What the last sync found. None was made yet.
     pub(crate) states: States,
     /// What the device has told of itself.
@@ -97,6 +102,8 @@ impl Model for Parts {
       sets = c.sets;
       suggestions = c.bindings;
       spaces = c.spaces;
+      frames = c.frames;
+      ended = c.ended;
       device = c.device;
       marks = c.marks;
       apps = c.apps;
@@ -173,6 +180,8 @@ impl Parts {
             sets: Sets::start(),
             bindings: Bindings::start(),
             spaces,
+            frames: Frames::start(),
+            ended: 0,
             states: NO_STATES,
             device: DeviceValues::start(),
             marks: [None; MARKS],

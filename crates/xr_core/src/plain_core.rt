@@ -1,17 +1,19 @@
 // A core and plain cells as one value, seen as the whole state. It knows no call.
-ghost use Rattle.std.specs.Prelude.{◌≡◌, ◌≤◌, ◌<◌, ◌^◌, ◌↔◌, IfOk, IsTrue, length, not};
+ghost use Rattle.std.specs.Prelude.{◌≡◌, ◌≤◌, ◌<◌, ◌^◌, ◌↔◌, ◌&&◌, is_none, IfOk, IsTrue, length, not};
 ghost use Rattle.xr_types.specs.declared.limits.TheConstants.{MOST_SCRIPTS};
-ghost use Rattle.std.specs.List.{list_all};
 ghost use Rattle.xr_model.specs.machine.Request.{request_of};
 ghost use Rattle.xr_model.specs.machine.Marks.{is_set};
 ghost use Rattle.xr_model.specs.machine.State.{with_apps, opening};
 ghost use Rattle.xr_model.specs.machine.Machine.{IsPresent};
+ghost use Rattle.xr_model.specs.machine.Refusals.{first_of};
+ghost use Rattle.xr_model.specs.machine.Rule.{refusals};
+ghost use Rattle.xr_model.specs.machine.Rules.Frames.{wait_frame_rule, next_frame_rule};
 ghost use Rattle.xr_model.specs.machine.CoreCalls.{MayMake, Applies};
 
 use crate::{Core, PlainCells};
 use std::alloc::Global;
 use std::marker::Model;
-use xr_types::{Actor, Call, NoMemory, Step};
+use xr_types::{Actor, Call, NoMemory, Shown, Step};
 
 /// The machine of one thread: a core over plain cells, seen by contracts as its state.
 #[derive(Drop)]
@@ -70,23 +72,31 @@ impl PlainCore {
         self.core.await_waits(mark)
     }
 
-    /// Whether the compositor's `NextFrame` has to wait: some application hasn't left.
+    /// Whether `WaitFrame` of this session has to wait: a frame is waited for, or more than two are pending or begun, and nothing
+    /// refuses the call.
+    pub fn wait_frame_waits(&self, session: u64) -> bool
+        ensures { result ≡ ((wait_frame_rule self.now.core session).waits && is_none (first_of (refusals (wait_frame_rule self.now.core session)))) }
+    {
+        self.core.wait_frame_waits(session)
+    }
+
+    /// Whether the compositor's `NextFrame` has to wait: no frame is pending, and some application hasn't left.
     pub fn next_frame_waits(&self) -> bool
-        ensures { result ≡ not (list_all (λ has_left. has_left) self.now.core.left) }
+        ensures { result ≡ (next_frame_rule self.now.core).waits }
     {
         self.core.next_frame_waits()
     }
 
     /// Makes a call that is built, or says that it has to wait and leaves all as it was. `text` is the buffer that
-    /// `path_to_string` is lent, of the call's `capacity`; for other calls it may have any size and stays.
+    /// `path_to_string` is lent, of the call's `capacity`; for other calls it may have any size and stays. `shown` is the place
+    /// for the frame that `NextFrame` shows; it stays where none is.
     /// The reply is the machine's to an allowed entry: it gives a handle exactly where a creation succeeds, and
     /// `OutOfMemory` comes only to a new path text that would else be interned, and to suggestions that would else be taken.
-    /// No other call takes memory.
-    pub fn apply(&mut self, who: Actor, call: &Call<'_>, text: &mut [u8]) -> Step
+    pub fn apply(&mut self, who: Actor, call: &Call<'_>, text: &mut [u8], shown: &mut Shown) -> Step
         requires calls { self.old.core.locked < 2 ^ 44 }
         requires may { MayMake self.old.core who (request_of call.now) (length text.old) }
-        ensures { Applies self.old self.new who call.now text.old text.new result }
+        ensures { Applies self.old self.new who call.now (record { text = text.old; frame = shown.old }) (record { text = text.new; frame = shown.new }) result }
     {
-        self.core.apply(who, call, text)
+        self.core.apply(who, call, text, shown)
     }
 }

@@ -1,9 +1,9 @@
 // The live sessions, what changes them, and what is told of that.
 ghost use Rattle.std.specs.Option.{option_copied};
-ghost use Rattle.std.specs.Prelude.{◌≡◌, ◌<◌, [], ◌∷◌, length, map, not, is_some, Some, None};
+ghost use Rattle.std.specs.Prelude.{◌≡◌, ◌<◌, ◌||◌, [], ◌∷◌, length, map, not, is_some, Some, None};
 ghost use Rattle.std.specs.List.{filter};
 ghost use Rattle.xr_types.specs.declared.code.Code.TheVariants.{Success};
-ghost use Rattle.xr_model.specs.machine.SessionLife.{started_session, is_lost};
+ghost use Rattle.xr_model.specs.machine.SessionLife.{started_session, synced_session, is_lost, is_state};
 ghost use Rattle.xr_model.specs.machine.Handles.{is_among};
 ghost use Rattle.xr_model.specs.machine.Refusals.{first_of};
 ghost use Rattle.xr_model.specs.machine.LiveSessions.{session_at, life_in, with_life, with_life_at, with_session_at, with_attached, without_sets, each_changed, told_states, told_changes};
@@ -162,6 +162,23 @@ impl Session {
         }
     }
 
+    /// Whether a period of it is running.
+    pub(crate) fn is_running(&self) -> bool
+        ensures { result ≡ self.now.life.running }
+    {
+        self.life.running()
+    }
+
+    /// Whether it is visible or focused.
+    pub(crate) fn is_seen(&self) -> bool
+        ensures { result ≡ is_state self.now.life.state SessionState.Visible || is_state self.now.life.state SessionState.Focused }
+    {
+        matches!(
+            self.life.state(),
+            SessionState::Visible | SessionState::Focused
+        )
+    }
+
     /// Whether it has attached action sets.
     pub(crate) fn has_attached(&self) -> bool
         ensures { result ≡ is_some self.now.attached }
@@ -195,6 +212,16 @@ impl Session {
         let code = live(&mut self.life, call, wish, &mut changes);
         tell(events, self.ordinal, self.handle, &changes);
         code
+    }
+
+    /// A frame of it was ended; tells what it went through.
+    fn sync(&mut self, wish: Wish, events: &mut Events)
+        ensures life { self.new ≡ with_life (synced_session wish self.old.life).life self.old }
+        ensures events { events.new ≡ told_states events.old self.old.ordinal self.old.handle (synced_session wish self.old.life).through }
+    {
+        let mut changes = Changes::new();
+        self.life.synced(wish, &mut changes);
+        tell(events, self.ordinal, self.handle, &changes);
     }
 
     /// Changes with all others, and tells what it went through.
@@ -279,6 +306,22 @@ pub(crate) fn change_life(
     ensures code { result ≡ answer_to call (life_in (session_at sessions.old.items handle)) }
 {
     sessions[place].make(call, wish, events)
+}
+
+/// A frame of the session in a place was ended, which tells what it went through.
+pub(crate) fn sync_at(
+    sessions: &mut ArrayVec<Session, SESSIONS>,
+    handle: u64,
+    place: usize,
+    wish: Wish,
+    events: &mut Events,
+)
+    requires found { place_at sessions.old.items handle ≡ Some place }
+    requires within { place < length sessions.old.items }
+    ensures sessions { sessions.new.items ≡ with_life_at handle (synced_session wish (life_in (session_at sessions.old.items handle))).life sessions.old.items }
+    ensures events { events.new ≡ told_states events.old (ordinal_in (session_at sessions.old.items handle)) handle (synced_session wish (life_in (session_at sessions.old.items handle))).through }
+{
+    sessions[place].sync(wish, events);
 }
 
 /// The session in a place has attached these action sets.

@@ -5,34 +5,38 @@ ghost use Rattle.xr_model.specs.scenario.Built.{is_built_op, are_built};
 
 use xr_types::{Op, Script};
 
+/// Whether an op is built. A frame may have no layers so far.
 fn is_built(op: &Op) -> bool
     ensures { result ≡ is_built_op op.now }
 {
-    matches!(
-        op,
+    match op {
         Op::CreateInstance { .. }
-            | Op::DestroyInstance { .. }
-            | Op::GetSystem { .. }
-            | Op::StringToPath { .. }
-            | Op::PathToString { .. }
-            | Op::PollEvent { .. }
-            | Op::CreateSession { .. }
-            | Op::DestroySession { .. }
-            | Op::BeginSession { .. }
-            | Op::EndSession { .. }
-            | Op::RequestExitSession { .. }
-            | Op::CreateReferenceSpace { .. }
-            | Op::DestroySpace { .. }
-            | Op::LocateSpace { .. }
-            | Op::CreateActionSet { .. }
-            | Op::DestroyActionSet { .. }
-            | Op::CreateAction { .. }
-            | Op::DestroyAction { .. }
-            | Op::SuggestBindings { .. }
-            | Op::AttachSets { .. }
-            | Op::Mark { .. }
-            | Op::Await { .. }
-    )
+        | Op::DestroyInstance { .. }
+        | Op::GetSystem { .. }
+        | Op::StringToPath { .. }
+        | Op::PathToString { .. }
+        | Op::PollEvent { .. }
+        | Op::CreateSession { .. }
+        | Op::DestroySession { .. }
+        | Op::BeginSession { .. }
+        | Op::EndSession { .. }
+        | Op::RequestExitSession { .. }
+        | Op::CreateReferenceSpace { .. }
+        | Op::DestroySpace { .. }
+        | Op::LocateSpace { .. }
+        | Op::CreateActionSet { .. }
+        | Op::DestroyActionSet { .. }
+        | Op::CreateAction { .. }
+        | Op::DestroyAction { .. }
+        | Op::SuggestBindings { .. }
+        | Op::AttachSets { .. }
+        | Op::WaitFrame { .. }
+        | Op::BeginFrame { .. }
+        | Op::Mark { .. }
+        | Op::Await { .. } => true,
+        Op::EndFrame { layers, .. } => layers.as_slice().is_empty(),
+        _ => false,
+    }
 }
 
 fn all_built(ops: &[Op]) -> bool

@@ -1,8 +1,6 @@
 // The loop of a session and the frames that are pending, and the calls on them.
-ghost use Rattle.std.specs.Prelude.{◌≡◌, ◌<◌, ◌≤ℤ◌, ◌++◌, ◌∷◌, [], IfSome, pos, None, true, false, length, drop, slice_get, if◌then◌else◌};
-ghost use Rattle.std.specs.Option.{option_map};
-ghost use Rattle.xr_model.specs.machine.Frames.{no_frames, new_loop, reset_loop, waited_loop, begun_loop, ended_loop, predicted_time, is_frame_held_back, begun_code};
-ghost use Rattle.xr_frames.specs.Listed.{frame_of};
+ghost use Rattle.std.specs.Prelude.{◌≡◌, ◌≤ℤ◌, ◌++◌, ◌∷◌, [], IfSome, pos, None, true, not, false, drop, slice_get, if◌then◌else◌};
+ghost use Rattle.xr_model.specs.machine.Frames.{no_frames, new_loop, reset_loop, waited_loop, begun_loop, ended_loop, predicted_time, is_frame_held_back, begun_code, is_empty};
 
 use crate::times::predicted_time;
 use arrayvec::ArrayVec;
@@ -24,15 +22,18 @@ pub struct Frames {
 }
 
 impl Model for Frames {
+    ghost use Rattle.std.specs.Prelude.{◌≤◌, ◌+◌, length};
     ghost use Rattle.xr_model.specs.machine.Frames as machine;
-    ghost use Rattle.xr_frames.specs.Listed.{frames_of};
+    ghost use Rattle.xr_model.specs.machine.Frames.{one_if};
 
     ghost Value = { machine.Frames };
 
     ghost view = { λ f. record {
       frame_loop = record { predicted = f.predicted; has_waited = f.has_waited; has_begun = f.has_begun };
-      pending = frames_of f.pending.items;
+      pending = f.pending.items;
     } };
+
+    ghost invariant = { λ f. length f.pending.items + one_if f.has_begun + one_if f.has_waited ≤ 3 };
 }
 
 impl Frames {
@@ -70,8 +71,8 @@ impl Frames {
         })
     }
 
-    /// Whether a wait has to wait.
-    fn is_held_back(&self) -> bool
+    /// Whether a wait has to wait: while a frame is waited for, and while more than two are pending or begun.
+    pub fn is_held_back(&self) -> bool
         ensures { result ≡ is_frame_held_back self.now }
     {
         if self.has_waited {
@@ -83,6 +84,7 @@ impl Frames {
 
     /// A frame is waited for, for which this time is predicted.
     fn set_waited(&mut self, time: i64)
+        requires { is_frame_held_back self.old ≡ false }
         ensures { self.new ≡ record self.old { frame_loop = waited_loop self.old.frame_loop time } }
     {
         self.predicted = time;
@@ -93,9 +95,8 @@ impl Frames {
     /// frame that was begun and not ended is discarded, which its success tells (`FrameDiscarded`). OpenXR 1.0 chapter 10,
     /// xrBeginFrame.
     pub fn begin(&mut self) -> Code
-        ensures refused { self.old.frame_loop.has_waited ≡ false → (result ≡ Code.CallOrderInvalid) × (self.new ≡ self.old) }
-        ensures begun { self.old.frame_loop.has_waited ≡ true → (result ≡ begun_code self.old.frame_loop)
-            × (self.new ≡ record self.old { frame_loop = begun_loop self.old.frame_loop }) }
+        ensures code { result ≡ (if self.old.frame_loop.has_waited then begun_code self.old.frame_loop else Code.CallOrderInvalid) }
+        ensures kept { self.new ≡ (if self.old.frame_loop.has_waited then record self.old { frame_loop = begun_loop self.old.frame_loop } else self.old) }
     {
         if !self.has_waited {
             return Code::CallOrderInvalid;
@@ -125,16 +126,22 @@ impl Frames {
     /// Ends the frame that is begun: it is pending from now on, behind those that are. OpenXR 1.0 chapter 10, xrEndFrame.
     pub fn end(&mut self, frame: Frame)
         requires begun { self.old.frame_loop.has_begun ≡ true }
-        requires few { length self.old.pending < 3 }
-        ensures { self.new ≡ record { frame_loop = ended_loop self.old.frame_loop; pending = self.old.pending ++ frame_of frame ∷ [] } }
+        ensures { self.new ≡ record { frame_loop = ended_loop self.old.frame_loop; pending = self.old.pending ++ frame ∷ [] } }
     {
         self.has_begun = false;
         self.pending.push(frame);
     }
 
+    /// Whether a frame is pending.
+    pub fn has_pending(&self) -> bool
+        ensures { result ≡ not (is_empty self.now.pending) }
+    {
+        !self.pending.is_empty()
+    }
+
     /// Takes the frame that is pending longest, where one is.
     pub fn pop(&mut self) -> Option<Frame>
-        ensures frame { option_map frame_of result ≡ slice_get self.old.pending 0 }
+        ensures frame { result ≡ slice_get self.old.pending 0 }
         ensures rest { self.new ≡ record self.old { pending = drop 1 self.old.pending } }
     {
         self.pending.pop_at(0)

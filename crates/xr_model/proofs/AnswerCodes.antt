@@ -2,16 +2,17 @@
 use Rattle.std.proofs.Common.{◌≡◌, ◌&&◌, ◌⊎◌, inl, inr, zero, suc, ℕ, Bool, true, false, List, [], ◌∷◌, ◌++◌, length, map, Option, Some, None, refl, sym, ap, subst, ◌∙◌, append_assoc, true≢false}
 use Rattle.std.specs.Prelude.{if◌then◌else◌, flat_map, is_some}
 use Rattle.xr_types.specs.declared.code.Code.{Code}
-use Rattle.xr_types.specs.declared.code.Code.TheVariants.{Success, SessionLossPending, OutOfMemory, CallOrderInvalid, HandleInvalid, SessionLost, NameInvalid, NameDuplicated, PathFormatInvalid, ValidationFailure, PathInvalid, PathUnsupported, ActionsetsAlreadyAttached, LimitReached}
+use Rattle.xr_types.specs.declared.code.Code.TheVariants.{Success, SessionLossPending, FrameDiscarded, OutOfMemory, CallOrderInvalid, HandleInvalid, SessionLost, NameInvalid, NameDuplicated, PathFormatInvalid, ValidationFailure, PathInvalid, PathUnsupported, ActionsetsAlreadyAttached, LimitReached}
 use Rattle.xr_types.specs.declared.handles.Kind.{Kind}
 use Rattle.xr_types.specs.declared.handles.Kind.TheVariants as kind
 use Rattle.xr_types.specs.declared.input.Binding.{Binding}
 use Rattle.xr_types.specs.declared.input.Profile.{Profile}
-use Rattle.xr_model.specs.machine.Request.{Request, create_action, suggest_bindings, attach_sets, device}
+use Rattle.xr_model.specs.machine.Request.{Request, create_action, suggest_bindings, attach_sets, begin_frame, end_frame, device}
 use Rattle.xr_model.specs.machine.Handles.{Handles, no_handle}
 use Rattle.xr_model.specs.machine.Refusals.{Refusal, when, first_of}
 use Rattle.xr_model.specs.machine.Rule.{Effect, Rule, ahead, refusals, or_short, told_on, unless_refused, carried_out}
 use Rattle.xr_model.specs.machine.SessionRule.{Loss, loss_of, code_on, losses}
+use Rattle.xr_model.specs.machine.Frames.{FrameLoop, begun_code}
 use Rattle.xr_model.specs.machine.Rules.Session.{life_of}
 use Rattle.xr_model.proofs.Rows.{both_of}
 use Rattle.xr_model.proofs.SessionAnswers.{first_stays, first_skips}
@@ -53,6 +54,18 @@ on_success (Some loss) x true there plain = subst (λ (c : Code). IsOneOf (Succe
     by true = inr (inl refl)
     by false = inl refl
 
+-- a frame that is begun may discard another
+begun_success : (loss : Loss) (l : FrameLoop) → IsOneOf (Success ∷ SessionLossPending ∷ FrameDiscarded ∷ []) (code_on loss (begun_code l))
+begun_success loss l = by l.has_begun
+  where
+    plain : (b : Bool) → IsOneOf (Success ∷ SessionLossPending ∷ FrameDiscarded ∷ []) (if b then SessionLossPending else Success)
+    plain true = inr (inl refl)
+    plain false = inl refl
+
+    by : (b : Bool) → IsOneOf (Success ∷ SessionLossPending ∷ FrameDiscarded ∷ []) (code_on loss (if b then FrameDiscarded else Success))
+    by true = inr (inr (inl refl))
+    by false = plain loss.pending
+
 pub refusals_are_the_table : RefusalsAreTheTable
 refusals_are_the_table s reads e = by e.request
   where
@@ -74,6 +87,18 @@ refusals_are_the_table s reads e = by e.request
       order = λ none. refl;
       memory = λ none. refl;
       success = on_success (Some (loss_of (life_of s session))) (rule s reads (record e { request = attach_sets session handles })).effect true refl refl;
+    }
+    by (begin_frame session) there = record {
+      refusals = refl;
+      order = λ none. cc;
+      memory = λ none. refl;
+      success = begun_success (loss_of (life_of s session)) s.frames.frame_loop;
+    }
+    by (end_frame session time blend layers) there = record {
+      refusals = refl;
+      order = λ none. cc;
+      memory = λ none. refl;
+      success = on_success (Some (loss_of (life_of s session))) (rule s reads (record e { request = end_frame session time blend layers })).effect true refl refl;
     }
     by (device what) there = record { refusals = refl; order = λ none. refl; memory = λ none. refl; success = inl refl }
     by r there =

@@ -5,8 +5,8 @@ use Rattle.xr_types.specs.Code.{is_success}
 use Rattle.xr_types.specs.declared.code.Code.{Code}
 use Rattle.xr_types.specs.declared.code.Code.TheVariants.{Success, SessionLossPending, FrameDiscarded}
 use Rattle.xr_model.specs.machine.SessionRule.{Loss}
-use Rattle.xr_model.proofs.Successes.{success_still}
-use Rattle.xr_model.specs.machine.Request.{Entry, Outcome, is_locked, Request, leave}
+use Rattle.xr_model.proofs.Successes.{success_still, begun_succeeds}
+use Rattle.xr_model.specs.machine.Request.{Entry, Outcome, is_locked, Request, begin_frame, leave}
 use Rattle.xr_model.specs.machine.Refusals.{Refusal}
 use Rattle.xr_model.specs.machine.State.{CoreState, CellReads, State}
 use Rattle.xr_model.specs.machine.Rule.{Effect, refusal, told_on, unless_refused, locked_after}
@@ -32,6 +32,7 @@ effects_succeed : (s : CoreState) (reads : CellReads) (e : Entry) → is_success
 effects_succeed s reads e = by e.request
   where
     by : (r : Request) → is_success (rule s reads (record e { request = r })).effect.code ≡ true
+    by (begin_frame session) = begun_succeeds s.frames.frame_loop
     by leave = refl
     by _ = refl
 

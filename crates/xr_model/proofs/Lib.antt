@@ -51,3 +51,8 @@ pub mod SampleOrder
 pub mod OriginSamples
 pub mod LaterPoses
 pub mod PredictedTimes
+pub mod OrderCodes
+pub mod FrameOrder
+pub mod CallOrders
+pub mod FrameLists
+pub mod TakenFrames

@@ -111,7 +111,7 @@ found_left p (x ∷ xs) k = by (p x.handle) refl (x.handle == k) refl (found_lef
     by false ep c ec more = rw ec (away c ep ec more)
 
 -- what is live without a handle was live before
-live_before : (h : Handles) (handle k : ℕ) → is_live (without h handle) kind.Session k && is_live h kind.Session k ≡ is_live (without h handle) kind.Session k
+pub live_before : (h : Handles) (handle k : ℕ) → is_live (without h handle) kind.Session k && is_live h kind.Session k ≡ is_live (without h handle) kind.Session k
 live_before h handle k = by (k == 0) refl (has h.sessions k) refl
   where
     and_true : (b : Bool) → b && true ≡ b

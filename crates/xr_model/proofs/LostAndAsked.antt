@@ -5,9 +5,9 @@ use Rattle.xr_types.specs.Code.{is_success}
 use Rattle.xr_types.specs.declared.device.DeviceEvent.{DeviceEvent}
 use Rattle.xr_types.specs.declared.device.DeviceEvent.TheVariants as event
 use Rattle.xr_types.specs.declared.device.Wish.{Wish}
-use Rattle.xr_types.specs.declared.session.SessionState.TheVariants.{Exiting, LossPending}
-use Rattle.xr_model.specs.machine.Request.{Request, begin_session, end_session, request_exit_session, device}
-use Rattle.xr_model.specs.machine.SessionLife.{Life, is_state, unchanged, begun_session, ended_session, exiting_session, losing_session}
+use Rattle.xr_types.specs.declared.session.SessionState.TheVariants.{Ready, Synchronized, Exiting, LossPending}
+use Rattle.xr_model.specs.machine.Request.{Request, begin_session, end_session, request_exit_session, end_frame, device}
+use Rattle.xr_model.specs.machine.SessionLife.{Life, is_state, unchanged, begun_session, ended_session, exiting_session, losing_session, synced_session, entered}
 use Rattle.xr_model.specs.machine.Machine.{step, reads_of}
 use Rattle.xr_model.specs.laws.SessionLifeLaws.{LostStaysLost, asks_for_end, OnlyItsCallAsksForTheEnd}
 use Rattle.xr_model.proofs.SessionLives.{life_after, lived_on}
@@ -21,6 +21,14 @@ losing_leaves life = by (is_state life.state Exiting || is_state life.state Loss
   where
     by : (b : Bool)
         → Leaves life (if b then unchanged life else record { life = record life { state = LossPending }; through = LossPending ∷ [] }).life
+    by true = (refl, refl)
+    by false = (refl, refl)
+
+-- nor does the first frame of a period
+synced_leaves : (w : Wish) (life : Life) → Leaves life (synced_session w life).life
+synced_leaves w life = by (is_state life.state Ready)
+  where
+    by : (b : Bool) → Leaves life (if b then entered w life Synchronized else unchanged life).life
     by true = (refl, refl)
     by false = (refl, refl)
 
@@ -44,6 +52,7 @@ still_lost w r handle good life lost = by r
     by (begin_session session view) = either (good && (session == handle)) (begun_session life) lost
     by (end_session session) = either (good && (session == handle)) (ended_session w life).life lost
     by (request_exit_session session) = either (good && (session == handle)) (exiting_session w life).life lost
+    by (end_frame session time blend layers) = either (good && (session == handle)) (synced_session w life).life ((synced_leaves w life).0 ∙ lost)
     by (device what) = events what
     by _ = lost
 
@@ -85,6 +94,7 @@ asked_after w r handle good life = by r
     by (begin_session session view) = either (good && (session == handle)) (begun_session life) refl
     by (end_session session) = either (good && (session == handle)) (ended_session w life).life refl
     by (request_exit_session session) = asks good (session == handle)
+    by (end_frame session time blend layers) = either (good && (session == handle)) (synced_session w life).life (synced_leaves w life).1
     by (device what) = events what
     by _ = or_not life.exit
 

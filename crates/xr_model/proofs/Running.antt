@@ -6,10 +6,10 @@ use Rattle.xr_types.specs.declared.device.DeviceEvent.{DeviceEvent}
 use Rattle.xr_types.specs.declared.device.DeviceEvent.TheVariants as event
 use Rattle.xr_types.specs.declared.device.Wish.{Wish}
 use Rattle.xr_types.specs.declared.handles.Kind.TheVariants as kind
-use Rattle.xr_types.specs.declared.session.SessionState.TheVariants.{Exiting, LossPending}
-use Rattle.xr_model.specs.machine.Request.{Entry, Request, create_session, begin_session, end_session, request_exit_session, device}
+use Rattle.xr_types.specs.declared.session.SessionState.TheVariants.{Ready, Synchronized, Exiting, LossPending}
+use Rattle.xr_model.specs.machine.Request.{Entry, Request, create_session, begin_session, end_session, request_exit_session, end_frame, device}
 use Rattle.xr_model.specs.machine.Handles.{is_live, was_given}
-use Rattle.xr_model.specs.machine.SessionLife.{Life, is_state, unchanged, begun_session, ended_session, exiting_session, losing_session, started_session}
+use Rattle.xr_model.specs.machine.SessionLife.{Life, is_state, unchanged, begun_session, ended_session, exiting_session, losing_session, started_session, entered}
 use Rattle.xr_model.specs.machine.LiveSessions.{Session, session_at}
 use Rattle.xr_model.specs.machine.State.{State, opening}
 use Rattle.xr_model.specs.machine.Machine.{rule, step, reads_of, IsAllowed, IsGiven}
@@ -59,6 +59,11 @@ runs_after w r handle good life = by r
     asked true = refl
     asked false = refl
 
+    synced : (a b : Bool) → (if a then (if b then entered w life Synchronized else unchanged life).life else life).running ≡ life.running
+    synced true true = refl
+    synced true false = refl
+    synced false b = refl
+
     events : (what : DeviceEvent) → (life_after w (device what) handle good life).running ≡ life.running
     events event.Loss = losing_runs life
     events (event.Wish wish) = refl
@@ -68,6 +73,7 @@ runs_after w r handle good life = by r
     by (begin_session session view) = begun good (session == handle)
     by (end_session session) = ended good (session == handle)
     by (request_exit_session session) = asked (good && (session == handle))
+    by (end_frame session time blend layers) = synced (good && (session == handle)) (is_state life.state Ready)
     by (device what) = events what
     by _ = refl
 

@@ -8,7 +8,7 @@ use Rattle.xr_types.specs.declared.code.Code.{Code}
 use Rattle.xr_types.specs.declared.code.Code.TheVariants.{Success, SessionLost, SessionLossPending, HandleInvalid, CallOrderInvalid}
 use Rattle.xr_types.specs.declared.input.Binding.{Binding}
 use Rattle.xr_types.specs.declared.input.Profile.{Profile}
-use Rattle.xr_model.specs.machine.Request.{Entry, Request, begin_session, end_session, request_exit_session, create_reference_space, locate_space, attach_sets, create_action, suggest_bindings}
+use Rattle.xr_model.specs.machine.Request.{Entry, Request, begin_session, end_session, request_exit_session, create_reference_space, locate_space, attach_sets, wait_frame, begin_frame, end_frame, create_action, suggest_bindings}
 use Rattle.xr_model.specs.machine.Handles.{Handles, is_live, no_handle}
 use Rattle.xr_model.specs.machine.HandlePlaces.{parent_of}
 use Rattle.xr_model.specs.machine.Refusals.{Refusal, when, first_of}
@@ -18,6 +18,7 @@ use Rattle.xr_model.specs.machine.SessionRule.{Loss, loss_of, code_on, losses}
 use Rattle.xr_model.specs.machine.Sets.{no_users}
 use Rattle.xr_model.specs.machine.Rules.Bindings.{profile_at, bindings_checks}
 use Rattle.xr_model.specs.machine.Rules.Sets.{sub_checks, with_user, user_at}
+use Rattle.xr_model.specs.machine.Frames.{FrameLoop, begun_code}
 use Rattle.xr_model.specs.machine.Rules.Session.{life_of}
 use Rattle.xr_model.specs.machine.Rules.Spaces.{session_above}
 use Rattle.xr_model.specs.machine.Machine.{rule, reads_of}
@@ -75,7 +76,13 @@ first_none test (r ∷ rs) none = by r.holds (not (test r.code)) refl none (firs
     by true true e none more = e
     by false true e none more = more none
 
--- the code of a loss, or of a pending one
+-- what a session says of itself: that it is lost, that its loss is pending, that a call comes out of order
+abbrev pub is_session : Code → Bool
+is_session SessionLost = true
+is_session SessionLossPending = true
+is_session CallOrderInvalid = true
+is_session _ = false
+
 abbrev pub is_loss : Code → Bool
 is_loss SessionLost = true
 is_loss SessionLossPending = true
@@ -85,17 +92,29 @@ abbrev pub is_pending : Code → Bool
 is_pending SessionLossPending = true
 is_pending _ = false
 
+-- a test is passed over where a wider one is
+pub none_fewer : (wide test : Code → Bool) → ((c : Code) → not (wide c) ≡ true → not (test c) ≡ true) → (rs : List Refusal) → none_with wide rs ≡ true → none_with test rs ≡ true
+none_fewer wide test fewer [] none = refl
+none_fewer wide test fewer (r ∷ rs) none = by (not (wide r.code)) refl none (none_fewer wide test fewer rs)
+  where
+    by : (c : Bool) → not (wide r.code) ≡ c → c && none_with wide rs ≡ true → (none_with wide rs ≡ true → none_with test rs ≡ true) → not (test r.code) && none_with test rs ≡ true
+    by true e none more = rw (fewer r.code e) (more none)
+    by false e none more = absurd (true≢false (sym none))
+
+loss_is_session : (c : Code) → not (is_session c) ≡ true → not (is_loss c) ≡ true
+loss_is_session SessionLost e = absurd (true≢false (sym e))
+loss_is_session SessionLossPending e = absurd (true≢false (sym e))
+loss_is_session _ e = refl
+
+no_loss : (rs : List Refusal) → none_with is_session rs ≡ true → none_with is_loss rs ≡ true
+no_loss = none_fewer is_session is_loss loss_is_session
+
 pending_is_loss : (c : Code) → not (is_loss c) ≡ true → not (is_pending c) ≡ true
 pending_is_loss SessionLossPending e = absurd (true≢false (sym e))
 pending_is_loss _ e = refl
 
 none_pending : (rs : List Refusal) → none_with is_loss rs ≡ true → none_with is_pending rs ≡ true
-none_pending [] none = refl
-none_pending (r ∷ rs) none = by (not (is_loss r.code)) refl none (none_pending rs)
-  where
-    by : (c : Bool) → not (is_loss r.code) ≡ c → c && none_with is_loss rs ≡ true → (none_with is_loss rs ≡ true → none_with is_pending rs ≡ true) → not (is_pending r.code) && none_with is_pending rs ≡ true
-    by true e none more = rw (pending_is_loss r.code e) (more none)
-    by false e none more = absurd (true≢false (sym none))
+none_pending = none_fewer is_loss is_pending pending_is_loss
 
 short_none : (short : Bool) (o : Option Refusal) → none_in is_loss o ≡ true → none_in is_loss (or_short short o) ≡ true
 short_none false o none = none
@@ -111,38 +130,48 @@ pub short_some : (short : Bool) (o : Option Refusal) (r : Refusal) → o ≡ Som
 short_some false o r e = e
 short_some true o r e = rw e refl
 
--- ---- no rule itself answers by a loss
+-- ---- no rule itself answers for the session
 
 -- the refusals behind the session's loss
 abbrev pub own : Rule → List Refusal
 own r = r.before ++ when r.disorder CallOrderInvalid ∷ r.behind
 
-pub record Lossless (r : Rule) : Type 0 where
-  pub handles : none_with is_loss r.handles ≡ true
-  pub own : none_with is_loss (own r) ≡ true
-  pub code : is_loss r.effect.code ≡ false
+-- no rule has such a code in its lists or as its own
+pub record Sessionless (r : Rule) : Type 0 where
+  pub handles : none_with is_session r.handles ≡ true
+  pub before : none_with is_session r.before ≡ true
+  pub behind : none_with is_session r.behind ≡ true
+  pub code : is_session r.effect.code ≡ false
 
-none_subs : (atoms : List (List ℕ)) (declared : List Bool) (subs : List ℕ) → none_with is_loss (sub_checks atoms declared subs) ≡ true
+none_subs : (atoms : List (List ℕ)) (declared : List Bool) (subs : List ℕ) → none_with is_session (sub_checks atoms declared subs) ≡ true
 none_subs atoms declared [] = refl
 none_subs atoms declared (sub ∷ subs) = none_subs atoms (with_user declared (user_at atoms sub)) subs
 
-none_handles : (h : Handles) (kind : Kind) (handles : List ℕ) → none_with is_loss (map (no_handle h kind) handles) ≡ true
+none_handles : (h : Handles) (kind : Kind) (handles : List ℕ) → none_with is_session (map (no_handle h kind) handles) ≡ true
 none_handles h kind [] = refl
 none_handles h kind (handle ∷ handles) = none_handles h kind handles
 
-none_bindings : (s : CoreState) (o : Option Profile) (list : List Binding) → none_with is_loss (bindings_checks s o list) ≡ true
+none_bindings : (s : CoreState) (o : Option Profile) (list : List Binding) → none_with is_session (bindings_checks s o list) ≡ true
 none_bindings s None list = refl
 none_bindings s (Some which) [] = refl
 none_bindings s (Some which) (b ∷ list) = none_bindings s (Some which) list
 
-pub lossless : (s : CoreState) (reads : CellReads) (e : Entry) → Lossless (rule s reads e)
-lossless s reads e = by e.request
+begun_sessionless : (l : FrameLoop) → is_session (begun_code l) ≡ false
+begun_sessionless l = by l.has_begun
   where
-    by : (r : Request) → Lossless (rule s reads (record e { request = r }))
-    by (create_action set name type subs localized) = record { handles = refl; own = none_more is_loss (sub_checks s.atoms no_users subs) _ (none_subs s.atoms no_users subs) refl; code = refl }
-    by (suggest_bindings instance profile list) = record { handles = refl; own = none_bindings s (profile_at s.atoms profile) list; code = refl }
-    by (attach_sets session handles) = record { handles = refl; own = none_handles s.handles kind.ActionSet handles; code = refl }
-    by _ = record { handles = refl; own = refl; code = refl }
+    by : (b : Bool) → is_session (begun_code (record l { has_begun = b })) ≡ false
+    by true = refl
+    by false = refl
+
+pub sessionless : (s : CoreState) (reads : CellReads) (e : Entry) → Sessionless (rule s reads e)
+sessionless s reads e = by e.request
+  where
+    by : (r : Request) → Sessionless (rule s reads (record e { request = r }))
+    by (create_action set name type subs localized) = record { handles = refl; before = refl; behind = none_more is_session (sub_checks s.atoms no_users subs) _ (none_subs s.atoms no_users subs) refl; code = refl }
+    by (suggest_bindings instance profile list) = record { handles = refl; before = refl; behind = none_bindings s (profile_at s.atoms profile) list; code = refl }
+    by (attach_sets session handles) = record { handles = refl; before = refl; behind = none_handles s.handles kind.ActionSet handles; code = refl }
+    by (begin_frame session) = record { handles = refl; before = refl; behind = refl; code = begun_sessionless s.frames.frame_loop }
+    by _ = record { handles = refl; before = refl; behind = refl; code = refl }
 
 -- ---- the code of a call on a session
 
@@ -153,9 +182,9 @@ success_is_not_lost loss = by (loss.pending)
     by true e = cc
     by false e = cc
 
-told_is_not_lost : (loss : Loss) (code : Code) → is_loss code ≡ false → code_on loss code ≡ SessionLost → ⊥
+told_is_not_lost : (loss : Loss) (code : Code) → is_session code ≡ false → code_on loss code ≡ SessionLost → ⊥
 told_is_not_lost loss Success apart is = success_is_not_lost loss is
-told_is_not_lost loss _ apart is = true≢false (sym (ap is_loss is) ∙ apart)
+told_is_not_lost loss _ apart is = true≢false (sym (ap is_session is) ∙ apart)
 
 some_is_none : (r : Refusal) → Some r ≡ None → ⊥
 some_is_none r e = cc
@@ -167,13 +196,19 @@ success_pending loss = by (loss.pending)
     by true = ((λ e. (refl, refl)), (λ two. refl))
     by false = ((λ e. cc), (λ two. absurd (true≢false (sym two.1))))
 
-told_pending : (loss : Loss) (code : Code) → is_loss code ≡ false → (code_on loss code ≡ SessionLossPending) ↔ ((code ≡ Success) × (loss.pending ≡ true))
+told_pending : (loss : Loss) (code : Code) → is_session code ≡ false → (code_on loss code ≡ SessionLossPending) ↔ ((code ≡ Success) × (loss.pending ≡ true))
 told_pending loss Success apart = success_pending loss
-told_pending loss _ apart = ((λ is. absurd (true≢false (sym (ap is_loss is) ∙ apart))), (λ two. cc))
+told_pending loss _ apart = ((λ is. absurd (true≢false (sym (ap is_session is) ∙ apart))), (λ two. cc))
 
-module _ (s : CoreState) (short : Bool) (r : Rule) (loss : Loss) (on : r.on ≡ Some loss) (none : Lossless r) where
+module _ (s : CoreState) (short : Bool) (r : Rule) (loss : Loss) (on : r.on ≡ Some loss) (less : Sessionless r) where
   whole : refusals r ≡ r.handles ++ when loss.lost SessionLost ∷ own r
   whole = ap (λ (o : Option Loss). r.handles ++ (losses o ++ own r)) on
+
+  handles_none : none_with is_loss r.handles ≡ true
+  handles_none = no_loss r.handles less.handles
+
+  own_none : none_with is_loss (own r) ≡ true
+  own_none = none_more is_loss r.before (when r.disorder CallOrderInvalid ∷ r.behind) (no_loss r.before less.before) (no_loss r.behind less.behind)
 
   -- the code by the first of all refusals
   code_by : (o : Option Refusal) → refusal short r ≡ o → (carried_out s short r).code ≡ (unless_refused s o (record r.effect { code = code_on loss r.effect.code })).code
@@ -186,7 +221,7 @@ module _ (s : CoreState) (short : Bool) (r : Rule) (loss : Loss) (on : r.on ≡ 
       by (Some x) eo b eb =
           let first : first_of (refusals r) ≡ Some x = ap first_of whole ∙ first_stays r.handles (when loss.lost SessionLost ∷ own r) x eo in
           let told = code_by (Some x) (short_some (r.takes_memory && short) (first_of (refusals r)) x first) in
-          let apart : not (is_loss x.code) ≡ true = ap (none_in is_loss) (sym eo) ∙ first_none is_loss r.handles none.handles in
+          let apart : not (is_loss x.code) ≡ true = ap (none_in is_loss) (sym eo) ∙ first_none is_loss r.handles handles_none in
           ((λ code. absurd (true≢false (sym apart ∙ ap (λ c. not (is_loss c)) (sym told ∙ code)))), (λ both. absurd (some_is_none x (sym eo ∙ both.0))))
       by None eo true eb =
           let first : first_of (refusals r) ≡ Some (when loss.lost SessionLost) = ap first_of whole ∙ first_skips r.handles (when loss.lost SessionLost ∷ own r) eo ∙ rw eb refl in
@@ -194,22 +229,22 @@ module _ (s : CoreState) (short : Bool) (r : Rule) (loss : Loss) (on : r.on ≡ 
           ((λ code. (eo, eb)), (λ both. told))
       by None eo false eb =
           let first : first_of (refusals r) ≡ first_of (own r) = ap first_of whole ∙ first_skips r.handles (when loss.lost SessionLost ∷ own r) eo ∙ rw eb refl in
-          let few = short_none (r.takes_memory && short) (first_of (refusals r)) (ap (none_in is_loss) first ∙ first_none is_loss (own r) none.own) in
+          let few = short_none (r.takes_memory && short) (first_of (refusals r)) (ap (none_in is_loss) first ∙ first_none is_loss (own r) own_none) in
           ((λ code. absurd (neither (refusal short r) refl few code)), (λ both. absurd (true≢false (sym both.1 ∙ eb))))
         where
           neither : (o : Option Refusal) → refusal short r ≡ o → none_in is_loss o ≡ true → (carried_out s short r).code ≡ SessionLost → ⊥
-          neither None found few code = told_is_not_lost loss r.effect.code none.code (sym (code_by None found) ∙ code)
+          neither None found few code = told_is_not_lost loss r.effect.code less.code (sym (code_by None found) ∙ code)
           neither (Some x) found few code = true≢false (sym few ∙ ap (λ c. not (is_loss c)) (sym (code_by (Some x) found) ∙ code))
 
   pub answered_pending : ((carried_out s short r).code ≡ SessionLossPending) ↔ ((refusal short r ≡ None) × (r.effect.code ≡ Success) × (loss.pending ≡ true))
   answered_pending = by (refusal short r) refl
     where
       few : none_in is_pending (refusal short r) ≡ true
-      few = short_pending (r.takes_memory && short) (first_of (refusals r)) (first_none is_pending (refusals r) (ap (none_with is_pending) whole ∙ none_more is_pending r.handles (when loss.lost SessionLost ∷ own r) (none_pending r.handles none.handles) (none_pending (own r) none.own)))
+      few = short_pending (r.takes_memory && short) (first_of (refusals r)) (first_none is_pending (refusals r) (ap (none_with is_pending) whole ∙ none_more is_pending r.handles (when loss.lost SessionLost ∷ own r) (none_pending r.handles handles_none) (none_pending (own r) own_none)))
 
       by : (o : Option Refusal) → refusal short r ≡ o → ((carried_out s short r).code ≡ SessionLossPending) ↔ ((refusal short r ≡ None) × (r.effect.code ≡ Success) × (loss.pending ≡ true))
       by None found =
-          let both = told_pending loss r.effect.code none.code in
+          let both = told_pending loss r.effect.code less.code in
           let told = code_by None found in
           ((λ code. let two = both.0 (sym told ∙ code) in (found, two.0, two.1)), (λ all. told ∙ both.1 (all.1, all.2)))
       by (Some x) found =
@@ -240,12 +275,15 @@ module _ (s : CoreState) (session : ℕ) where
       by (request_exit_session other) named = life_is other (named_is other session named)
       by (create_reference_space other what offset) named = life_is other (named_is other session named)
       by (attach_sets other handles) named = life_is other (named_is other session named)
+      by (wait_frame other) named = life_is other (named_is other session named)
+      by (begin_frame other) named = life_is other (named_is other session named)
+      by (end_frame other time blend layers) named = life_is other (named_is other session named)
       by (locate_space space base time) named = life_is (session_above s.handles space) (above_is (is_live s.handles kind.Space space && is_live s.handles kind.Space base) space named)
       by _ named = cc
 
 pub pending_losses : PendingLosses
 pending_losses s e session named =
-    answered_pending s.core e.short (rule s.core (reads_of s e.request) e) (loss_of (life_of s.core session)) (named_on s.core session (reads_of s e.request) e named) (lossless s.core (reads_of s e.request) e)
+    answered_pending s.core e.short (rule s.core (reads_of s e.request) e) (loss_of (life_of s.core session)) (named_on s.core session (reads_of s e.request) e named) (sessionless s.core (reads_of s e.request) e)
 
 -- handles that are live are not refused
 live_first : (live : Bool) → ((first_of (when (not live) HandleInvalid ∷ []) ≡ None) ↔ (live ≡ true))
@@ -260,7 +298,7 @@ AsLive settings es e session r =
 pub lost_sessions : LostSessions
 lost_sessions settings es e session legal named =
     let s = after (opening settings) es in
-    let answer = answered_lost s.core e.short (rule s.core (reads_of s e.request) e) (loss_of (life_of s.core session)) (named_on s.core session (reads_of s e.request) e named) (lossless s.core (reads_of s e.request) e) in
+    let answer = answered_lost s.core e.short (rule s.core (reads_of s e.request) e) (loss_of (life_of s.core session)) (named_on s.core session (reads_of s e.request) e named) (sessionless s.core (reads_of s e.request) e) in
     let handles = by_handles e.request named in
     ((λ code. let two = answer.0 code in let live = handles.0 two.0 in (live, sym (known_loss settings es session legal live) ∙ two.1)), (λ two. answer.1 (handles.1 two.0, known_loss settings es session legal two.0 ∙ two.1)))
   where
@@ -273,6 +311,9 @@ lost_sessions settings es e session legal named =
     by_handles (request_exit_session other) named = one other (named_is other session named)
     by_handles (create_reference_space other what offset) named = one other (named_is other session named)
     by_handles (attach_sets other handles) named = one other (named_is other session named)
+    by_handles (wait_frame other) named = one other (named_is other session named)
+    by_handles (begin_frame other) named = one other (named_is other session named)
+    by_handles (end_frame other time blend layers) named = one other (named_is other session named)
     by_handles (locate_space space base time) named = cases (is_live (after (opening settings) es).core.handles kind.Space space) refl (is_live (after (opening settings) es).core.handles kind.Space base) refl named
       where
         cases : (a : Bool) → is_live (after (opening settings) es).core.handles kind.Space space ≡ a → (b : Bool) → is_live (after (opening settings) es).core.handles kind.Space base ≡ b → (if a && b then parent_of (after (opening settings) es).core.handles space else None) ≡ Some session

@@ -7,7 +7,7 @@ use Rattle.xr_types.specs.declared.device.DeviceEvent.{DeviceEvent}
 use Rattle.xr_types.specs.declared.device.DeviceEvent.TheVariants as event
 use Rattle.xr_types.specs.declared.device.Wish.{Wish}
 use Rattle.xr_types.specs.declared.handles.Kind.TheVariants as kind
-use Rattle.xr_model.specs.machine.Request.{Entry, Request, destroy_instance, create_session, destroy_session, begin_session, end_session, request_exit_session, destroy_action_set, destroy_action, attach_sets, device}
+use Rattle.xr_model.specs.machine.Request.{Entry, Request, destroy_instance, create_session, destroy_session, begin_session, end_session, request_exit_session, destroy_action_set, destroy_action, attach_sets, end_frame, device}
 use Rattle.xr_model.specs.machine.Handles.{is_live, destroyed_by, without}
 use Rattle.xr_model.specs.machine.Refusals.{Refusal}
 use Rattle.xr_model.specs.machine.State.{CoreState, CellReads}
@@ -15,7 +15,7 @@ use Rattle.xr_model.specs.machine.Rule.{Effect, refusal, refusals, told_on, unle
 use Rattle.xr_model.specs.machine.SessionRule.{loss_of}
 use Rattle.xr_model.specs.machine.Rules.Device.{behind_event}
 use Rattle.xr_model.specs.machine.Rules.Session.{new_session, changed_in, life_of}
-use Rattle.xr_model.specs.machine.SessionLife.{Life, Changed, unchanged, started_session, settled_session, begun_session, ended_session, exiting_session, losing_session, lost_session}
+use Rattle.xr_model.specs.machine.SessionLife.{Life, Changed, unchanged, started_session, settled_session, begun_session, ended_session, exiting_session, losing_session, lost_session, synced_session}
 use Rattle.xr_model.specs.machine.LiveSessions.{Session, session_at, with_session_at, with_life, with_attached, without_sets, still_live, sessions_left, each_changed}
 use Rattle.xr_model.specs.machine.Sets.{sets_named}
 use Rattle.xr_model.specs.laws.SessionLaws.{creates_session}
@@ -124,6 +124,7 @@ abbrev pub life_after : Wish → Request → ℕ → Bool → Life → Life
 life_after w (begin_session session view) handle good life = if good && (session == handle) then begun_session life else life
 life_after w (end_session session) handle good life = if good && (session == handle) then (ended_session w life).life else life
 life_after w (request_exit_session session) handle good life = if good && (session == handle) then (exiting_session w life).life else life
+life_after w (end_frame session time blend layers) handle good life = if good && (session == handle) then (synced_session w life).life else life
 life_after w (device (event.Wish wish)) handle good life = (settled_session wish life).life
 life_after w (device event.Loss) handle good life = (losing_session life).life
 life_after w (device event.Lost) handle good life = lost_session life
@@ -284,6 +285,11 @@ module _ (s : CoreState) (reads : CellReads) (e : Entry) (handle : ℕ) where
           carried (Lives (request_exit_session session)) s (refusal e.short f) (told_on f.on f.effect) (first_none is_success (refusals f) refl)
           (success_succeeds (loss_of (life_of s session))) all_same
           (follows_changed (exiting_session s.device.wish) false fresh s.sessions session handle)
+      by (end_frame session time blend layers) =
+          let f = rule s reads (record e { request = end_frame session time blend layers }) in
+          carried (Lives (end_frame session time blend layers)) s (refusal e.short f) (told_on f.on f.effect) (first_none is_success (refusals f) refl)
+          (success_succeeds (loss_of (life_of s session))) all_same
+          (follows_changed (synced_session s.device.wish) false fresh s.sessions session handle)
       by (attach_sets session sets) =
           let f = rule s reads (record e { request = attach_sets session sets }) in
           kept (λ xs. Lives (attach_sets session sets) xs true) s (refusal e.short f) (told_on f.on f.effect) all_same

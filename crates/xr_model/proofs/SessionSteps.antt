@@ -1,11 +1,11 @@
 -- What an entry does to the handles and to the listed sessions: the one case split for laws on both.
-use Rattle.std.proofs.Common.{◌≡◌, ◌==◌, ◌&&◌, ◌||◌, ℕ, Bool, true, false, List, [], ◌∷◌, ◌++◌, Option, Some, None, ap, refl}
+use Rattle.std.proofs.Common.{◌≡◌, ◌==◌, ◌&&◌, ◌||◌, ℕ, Bool, true, false, List, [], ◌∷◌, ◌++◌, Option, Some, None, ap, ◌∙◌, refl}
 use Rattle.std.specs.Prelude.{if◌then◌else◌}
 use Rattle.xr_types.specs.Code.{is_success}
 use Rattle.xr_types.specs.declared.device.DeviceEvent.{DeviceEvent}
 use Rattle.xr_types.specs.declared.device.DeviceEvent.TheVariants as event
 use Rattle.xr_types.specs.declared.handles.Kind.TheVariants as kind
-use Rattle.xr_model.specs.machine.Request.{Entry, Request, create_instance, destroy_instance, create_session, destroy_session, begin_session, end_session, request_exit_session, create_reference_space, destroy_space, create_action_set, destroy_action_set, create_action, destroy_action, attach_sets, device}
+use Rattle.xr_model.specs.machine.Request.{Entry, Request, create_instance, destroy_instance, create_session, destroy_session, begin_session, end_session, request_exit_session, create_reference_space, destroy_space, create_action_set, destroy_action_set, create_action, destroy_action, attach_sets, end_frame, device}
 use Rattle.xr_model.specs.machine.Handles.{Handles, is_live, has_room, with_handle, without, without_alone, destroyed_by}
 use Rattle.xr_model.specs.machine.Sets.{sets_named}
 use Rattle.xr_model.specs.machine.Refusals.{Refusal}
@@ -14,12 +14,13 @@ use Rattle.xr_model.specs.machine.Rule.{Effect, refusal, told_on, unless_refused
 use Rattle.xr_model.specs.machine.Rules.Instance.{the_system}
 use Rattle.xr_model.specs.machine.Rules.Device.{behind_event}
 use Rattle.xr_model.specs.machine.Rules.Session.{new_session, with_change}
-use Rattle.xr_model.specs.machine.SessionLife.{Life, Changed, unchanged, started_session, settled_session, begun_session, ended_session, exiting_session, losing_session, lost_session, is_state}
+use Rattle.xr_model.specs.machine.SessionLife.{Life, Changed, unchanged, started_session, settled_session, begun_session, ended_session, exiting_session, losing_session, lost_session, synced_session, entered, is_state}
 use Rattle.xr_model.specs.machine.LiveSessions.{Session, session_at, with_session_at, with_life, with_attached, sessions_left, each_changed}
 use Rattle.xr_model.specs.laws.SessionLaws.{is_device_lost, is_session_creation}
 use Rattle.xr_model.specs.machine.Machine.{core_step, rule}
 use Rattle.xr_model.proofs.Listed.{found_once}
-use Rattle.xr_types.specs.declared.session.SessionState.TheVariants.{Exiting, LossPending}
+use Rattle.xr_types.specs.declared.device.Wish.{Wish}
+use Rattle.xr_types.specs.declared.session.SessionState.TheVariants.{Ready, Synchronized, Exiting, LossPending}
 
 -- a property that the handles and the sessions have before an entry, and that each thing that it may do keeps
 pub record Keeps (P : Handles → List Session → Type 0) (s : CoreState) (reads : CellReads) (e : Entry) : Type 0 where
@@ -51,6 +52,13 @@ losing_keeps life = by (is_state life.state Exiting) (is_state life.state LossPe
     by true b = refl
     by false true = refl
     by false false = refl
+
+pub synced_keeps : (w : Wish) (life : Life) → (synced_session w life).life.lost ≡ life.lost
+synced_keeps w life = by (is_state life.state Ready)
+  where
+    by : (a : Bool) → (if a then entered w life Synchronized else unchanged life).life.lost ≡ life.lost
+    by true = refl
+    by false = refl
 
 module _ (P : Handles → List Session → Type 0) (s : CoreState) (reads : CellReads) (e : Entry) where
   changed : (session : ℕ) (f : Life → Changed) (o : Option Session) → session_at s.sessions session ≡ o → Has P s → ((x : Session) → session_at s.sessions session ≡ Some x → P s.handles (with_session_at x.handle (with_life (f x.life).life) s.sessions)) → Has P (with_change s o f)
@@ -127,5 +135,8 @@ kept_by_step P s reads e = by e.request
     by (attach_sets session handles) k =
         let f = rule s reads (record e { request = attach_sets session handles }) in
         kept P s (refusal e.short f) (told_on f.on f.effect) (k.same refl refl) (λ none. k.attach refl refl session handles)
+    by (end_frame session time blend layers) k =
+        let f = rule s reads (record e { request = end_frame session time blend layers }) in
+        kept P s (refusal e.short f) (told_on f.on f.effect) (k.same refl refl) (λ none. changed P s reads e session (synced_session s.device.wish) (session_at s.sessions session) refl (k.same refl refl) (λ x found. k.lives refl refl x.handle (with_life _) (λ y. refl) (λ y there. synced_keeps s.device.wish x.life ∙ ap (λ (z : Session). z.life.lost) (found_once s.sessions session x y found there)) (λ y. refl)))
     by (device what) k = events P s reads e what k
     by r k = let f = rule s reads (record e { request = r }) in kept P s (refusal e.short f) (told_on f.on f.effect) (k.same refl refl) (λ none. k.same refl refl)

@@ -5,10 +5,10 @@ use Rattle.xr_types.specs.Code.{is_success}
 use Rattle.xr_types.specs.declared.device.DeviceEvent.{DeviceEvent}
 use Rattle.xr_types.specs.declared.device.DeviceEvent.TheVariants as event
 use Rattle.xr_types.specs.declared.device.Wish.{Wish}
-use Rattle.xr_types.specs.declared.session.SessionState.TheVariants.{Idle, Exiting, LossPending}
-use Rattle.xr_model.specs.machine.Request.{Entry, Request, create_session, begin_session, end_session, request_exit_session, device}
+use Rattle.xr_types.specs.declared.session.SessionState.TheVariants.{Idle, Ready, Synchronized, Exiting, LossPending}
+use Rattle.xr_model.specs.machine.Request.{Entry, Request, create_session, begin_session, end_session, request_exit_session, end_frame, device}
 use Rattle.xr_model.specs.machine.Refusals.{Refusal}
-use Rattle.xr_model.specs.machine.SessionLife.{Life, next_state, is_state, unchanged, begun_session, ended_session, exiting_session, losing_session, started_session}
+use Rattle.xr_model.specs.machine.SessionLife.{Life, next_state, is_state, unchanged, begun_session, ended_session, exiting_session, losing_session, started_session, synced_session, entered}
 use Rattle.xr_model.specs.machine.LiveSessions.{Session, session_at}
 use Rattle.xr_model.specs.machine.State.{CoreState, State, opening}
 use Rattle.xr_model.specs.machine.Rule.{Effect, refusal, told_on, unless_refused}
@@ -57,6 +57,14 @@ losing_settles w life settled = by (is_state life.state Exiting || is_state life
     by true = settled
     by false = refl
 
+-- the first frame of a period settles its session
+synced_settles : (w : Wish) (life : Life) → HasSettled w life → HasSettled w (synced_session w life).life
+synced_settles w life settled = by (is_state life.state Ready)
+  where
+    by : (b : Bool) → HasSettled w (if b then entered w life Synchronized else unchanged life).life
+    by true = no_row_fits w (record life { state = Synchronized })
+    by false = settled
+
 -- a life that has settled has so after a request
 settled_life : (w : Wish) (r : Request) (handle : ℕ) (good : Bool) (life : Life) → HasSettled w life
     → HasSettled (wish_after w r) (life_after w r handle good life)
@@ -77,6 +85,7 @@ settled_life w r handle good life settled = by r
         either (good && (session == handle)) (ended_session w life).life (no_row_fits w (record life { running = false; state = Idle }))
     by (request_exit_session session) =
         either (good && (session == handle)) (exiting_session w life).life (no_row_fits w (record life { exit = true }))
+    by (end_frame session time blend layers) = either (good && (session == handle)) (synced_session w life).life (synced_settles w life settled)
     by (device what) = events what
     by _ = settled
 

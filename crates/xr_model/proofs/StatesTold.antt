@@ -4,15 +4,16 @@ use Rattle.std.specs.Prelude.{is_some, if◌then◌else◌}
 use Rattle.xr_types.specs.declared.device.DeviceEvent.{DeviceEvent}
 use Rattle.xr_types.specs.declared.device.DeviceEvent.TheVariants as event
 use Rattle.xr_types.specs.declared.handles.Kind.TheVariants as kind
-use Rattle.xr_types.specs.declared.session.SessionState.TheVariants.{Exiting, LossPending, Idle}
-use Rattle.xr_model.specs.machine.Request.{Entry, Request, destroy_instance, poll_event, create_session, destroy_session, begin_session, end_session, request_exit_session, destroy_action_set, destroy_action, attach_sets, device}
+use Rattle.xr_types.specs.declared.session.SessionState.TheVariants.{Ready, Synchronized, Exiting, LossPending, Idle}
+use Rattle.xr_model.specs.machine.Request.{Entry, Request, destroy_instance, poll_event, create_session, destroy_session, begin_session, end_session, request_exit_session, destroy_action_set, destroy_action, attach_sets, end_frame, device}
 use Rattle.xr_types.specs.declared.session.Event.{Event}
+use Rattle.xr_types.specs.declared.device.Wish.{Wish}
 use Rattle.xr_types.specs.declared.session.SessionState.{SessionState}
 use Rattle.xr_model.specs.machine.Events.{Queue}
 use Rattle.xr_model.specs.machine.Handles.{is_live, without, destroyed_by, was_given}
 use Rattle.xr_model.specs.machine.Sets.{sets_named}
 use Rattle.xr_model.specs.machine.Refusals.{Refusal}
-use Rattle.xr_model.specs.machine.SessionLife.{Life, Changed, unchanged, started_session, begun_session, settled_session, ended_session, exiting_session, losing_session, lost_session, last_of, is_state}
+use Rattle.xr_model.specs.machine.SessionLife.{Life, Changed, unchanged, started_session, begun_session, settled_session, ended_session, exiting_session, losing_session, lost_session, synced_session, entered, last_of, is_state}
 use Rattle.xr_model.specs.machine.LiveSessions.{Session, session_at, with_session_at, with_attached, without_sets, still_live, sessions_left, told_states, each_changed, told_changes}
 use Rattle.xr_model.specs.machine.State.{CoreState, Settings, State, opening}
 use Rattle.xr_model.specs.machine.Rule.{Effect, refusal, told_on, unless_refused}
@@ -69,6 +70,13 @@ losing_truly : (life : Life) → (losing_session life).life.state ≡ last_of li
 losing_truly life = by (is_state life.state Exiting || is_state life.state LossPending)
   where
     by : (b : Bool) → (if b then unchanged life else record { life = record life { state = LossPending }; through = LossPending ∷ [] }).life.state ≡ last_of life.state (if b then unchanged life else record { life = record life { state = LossPending }; through = LossPending ∷ [] }).through
+    by true = refl
+    by false = refl
+
+synced_truly : (w : Wish) (life : Life) → (synced_session w life).life.state ≡ last_of life.state (synced_session w life).through
+synced_truly w life = by (is_state life.state Ready)
+  where
+    by : (b : Bool) → (if b then entered w life Synchronized else unchanged life).life.state ≡ last_of life.state (if b then entered w life Synchronized else unchanged life).through
     by true = refl
     by false = refl
 
@@ -191,6 +199,10 @@ told_step s e allowed known listed apart = by e.request allowed
         let f = rule s.core (reads_of s (request_exit_session session)) (record e { request = request_exit_session session }) in
         unless (λ q ys. Tells s.core.events q s.core.sessions ys) s.core (refusal e.short f) (told_on f.on f.effect) (as_before s apart)
         (λ none. changed s.core.events s.core.sessions (exiting_session s.core.device.wish) (λ life. refl) session (session_at s.core.sessions session) refl)
+    by (end_frame session time blend layers) allowed no_poll no_end =
+        let f = rule s.core (reads_of s (end_frame session time blend layers)) (record e { request = end_frame session time blend layers }) in
+        unless (λ q ys. Tells s.core.events q s.core.sessions ys) s.core (refusal e.short f) (told_on f.on f.effect) (as_before s apart)
+        (λ none. changed s.core.events s.core.sessions (synced_session s.core.device.wish) (synced_truly s.core.device.wish) session (session_at s.core.sessions session) refl)
     by (attach_sets session handles) allowed no_poll no_end =
         let f = rule s.core (reads_of s (attach_sets session handles)) (record e { request = attach_sets session handles }) in
         unless (λ q ys. Tells s.core.events q s.core.sessions ys) s.core (refusal e.short f) (told_on f.on f.effect) (as_before s apart)

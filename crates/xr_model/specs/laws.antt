@@ -15,3 +15,5 @@ pub mod EventLaws
 pub mod SessionLifeLaws
 pub mod SpaceLaws
 pub mod FrameLaws
+pub mod Past
+pub mod OrderLaws

@@ -8,6 +8,8 @@ ghost use Rattle.xr_model.specs.laws.HandleLaws.{NoOrphans, DestroyedForGood, Ha
 ghost use Rattle.xr_model.specs.laws.Laws.{RefusalsChangeNothing, AfterIsInTurn, EntriesAreCounted, PlacesCount, FrontsAreLegal, ExchangesStand};
 ghost use Rattle.xr_model.specs.laws.SessionLaws.{SessionsAreListed, LostSessions, PendingLosses};
 ghost use Rattle.xr_model.specs.laws.ListLaws.{ListedWhereLive, DestroyingFilters, AtomsStay, AtomsGo, SealedStays, AttachingSeals, NewSessionsAreBare, AttachesOnce, CreatingLeavesPlaces, DestroyingLeavesPlaces, SamplesAreFew};
+ghost use Rattle.xr_model.specs.laws.OrderLaws.{CallOrder, WaitsAndBegins};
+ghost use Rattle.xr_model.specs.laws.FrameLaws.{AtMostThree, FramesAsSubmitted, TakenAreHalf, TimesArePredicted};
 ghost use Rattle.xr_model.specs.laws.RunLaws.{UnfinishedHaveTurns, EachHasItsTurn, OneTurnBetween, TurnsMakeReadyCalls, StuckWhereNobodyIsReady, CallsFollowScripts, CallsAreReady, NamesStandForValues, StuckNamesTheUnfinished, DoneExactlyWhereAllIsDone};
 ghost use Rattle.xr_model.specs.laws.MarkLaws.{AwaitGivesTheLastValue, DeviceAwaitsMarks};
 ghost use Rattle.xr_model.specs.laws.AnswerTableLaws.{RefusalsAreTheTable, AnswersAreTheTable};
@@ -15,7 +17,6 @@ ghost use Rattle.xr_model.specs.laws.SuggestionLaws.{SuggestionsAreTheLastTaken}
 ghost use Rattle.xr_model.specs.laws.EventLaws.{EventsAddUp, StatesAreTold, EventsGo, HistoriesAddUp};
 ghost use Rattle.xr_model.specs.laws.SessionLifeLaws.{ClockNeverFalls, SessionsHaveSettled, LostStaysLost, OnlyItsCallAsksForTheEnd, RunningIsBegunAndNotEnded};
 ghost use Rattle.xr_model.specs.laws.SpaceLaws.{SampleTimesFall, PoseIsTheNewestNotLater, SamplesAreTheirOrigins, OriginsHaveTheirPlaces, LaterPosesAreTaken};
-ghost use Rattle.xr_model.specs.laws.FrameLaws.{TimesArePredicted};
 ghost use Rattle.xr_model.specs.laws.StateLaws.{NoRowFits};
 
 /// A refusal, a timeout and the want of an event change nothing but the count of locked calls.
@@ -342,6 +343,37 @@ pub fn events_go()
 /// As long as the instance isn't ended, what polls told, what was lost and what waits adds up to the states that came.
 pub fn histories_add_up()
     ensures { HistoriesAddUp }
+{}
+
+/// In every legal history the begun frames of a running period are at most those waited for, and these at most one more.
+#[tactic(auto, using(crate::proofs::FrameOrder::waits_and_begins))]
+pub fn waits_and_begins()
+    ensures { WaitsAndBegins }
+{}
+
+/// After a legal history, a call is answered as out of order exactly where no earlier refusal of it holds and the counts
+/// over the history say so.
+#[tactic(auto, using(crate::proofs::CallOrders::call_order))]
+pub fn call_order()
+    ensures { CallOrder }
+{}
+
+/// After every history, the frames that were shown and then those that are pending are those that were submitted, in order.
+#[tactic(auto, using(crate::proofs::FrameLists::frames_as_submitted))]
+pub fn frames_as_submitted()
+    ensures { FramesAsSubmitted }
+{}
+
+/// After every legal history, at most three frames are pending.
+#[tactic(auto, using(crate::proofs::FrameLists::at_most_three))]
+pub fn at_most_three()
+    ensures { AtMostThree }
+{}
+
+/// After every history, the frames that were taken are at most half of the calls to begin or to end a frame.
+#[tactic(auto, using(crate::proofs::TakenFrames::taken_are_half))]
+pub fn taken_are_half()
+    ensures { TakenAreHalf }
 {}
 
 /// A predicted time is the least time of the grid that is later than the last one and the clock, or the largest time.

@@ -71,7 +71,7 @@ impl Names {
     }
 
     /// The value of a field.
-    pub(crate) fn value_of(&self, used: Use) -> u64
+    pub fn value_of(&self, used: Use) -> u64
         ensures { result ≡ value_of self.now used }
     {
         match used {

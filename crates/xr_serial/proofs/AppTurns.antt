@@ -8,12 +8,11 @@ use Rattle.std.proofs.lemmas.List.{map-set, set-get_or, drop_all, get_or_default
 use Rattle.std.proofs.Math.Seq.{map-set_same}
 use Rattle.xr_types.specs.declared.calls.Actor.{Actor}
 use Rattle.xr_types.specs.declared.calls.Actor.TheVariants.{App, Device}
-use Rattle.xr_types.specs.declared.calls.Reply.{Reply}
 use Rattle.xr_types.specs.declared.device.DeviceEvent.{DeviceEvent}
 use Rattle.xr_types.specs.declared.scenario.Op.{Op}
 use Rattle.xr_types.specs.declared.scenario.Scenario.{Scenario}
 use Rattle.xr_model.specs.machine.Request as request
-use Rattle.xr_model.specs.machine.Request.{Request, leave}
+use Rattle.xr_model.specs.machine.Request.{Request, Outcome, leave}
 use Rattle.xr_model.specs.machine.CoreCalls.{entry_of}
 use Rattle.xr_model.specs.machine.State.{State}
 use Rattle.xr_model.specs.machine.Machine.{IsPresent}
@@ -31,7 +30,8 @@ use Rattle.xr_serial.specs.inside.RunInvariant.{AppKept, app_work, apps_work, ev
 use Rattle.xr_serial.proofs.Ops.{ready_started, ruled_unstarted, ruled_locked}
 use Rattle.xr_serial.proofs.OnlyLeaveLeaves.{call_keeps, op_stays}
 use Rattle.xr_serial.proofs.Parts.{AreAll, parts_count, app_at, app_set}
-use Rattle.xr_serial.proofs.Steps.{IsAgendaOf, outcome_of, Goes, AreSo, made_turn, passed_turn, same_parts}
+use Rattle.xr_serial.proofs.Steps.{IsAgendaOf, Goes, AreSo, made_turn, passed_turn, same_parts}
+use Rattle.xr_serial.proofs.Pending.{brings, brings_one, op_is_bringing}
 use Rattle.xr_serial.proofs.Work.{work_set}
 use Rattle.xr_serial.proofs.Apps.{op_more, leave_more, one_more}
 
@@ -74,14 +74,14 @@ module _ (scenario : Scenario) (place idle : ℕ) (s after : State) (run : RunSt
   old_kept kept = subst (λ (app : AppState). AppKept ops app (kept.calls (App (place + 1)))) (here old) (kept.kept.apps.each place old within)
 
   -- it makes a call
-  goes_on : (what : Request) (answer : Reply) (bytes : List ℕ) (app : AppState) (agenda : Agenda) (clock : ℤ) (kept : RunInvariant scenario place idle s run start now) → IsAnswered s after (App (place + 1)) what answer bytes
-      → script_part (place + 1) ops old (get_or kept.clocks place (pos 0)) ≡ agenda ∷ [] → IsAgendaOf (App (place + 1)) what agenda → agenda_after agenda after (outcome_of answer bytes) ≡ script_part (place + 1) ops app clock
-      → AppKept ops app (kept.calls (App (place + 1)) ++ exchange_of what answer bytes ∷ []) → after.core.apps ≡ s.core.apps → after.core.left ≡ map (λ (a : AppState). a.has_left) (set run.apps place app) → after.core.locked ≡ s.core.locked + 1
-      → app_work ops app + 1 ≤ app_work ops old → RunInvariant scenario (turn_behind place (actors_of scenario)) 0 after (record run { apps = set run.apps place app }) start now
-  goes_on what answer bytes app agenda clock kept call alone of next more known left locks less =
-      let t : request.Exchange = exchange_of what answer bytes in
+  goes_on : (what : Request) (outcome : Outcome) (app : AppState) (agenda : Agenda) (clock : ℤ) (kept : RunInvariant scenario place idle s run start now) → IsAnswered s after (App (place + 1)) what outcome
+      → script_part (place + 1) ops old (get_or kept.clocks place (pos 0)) ≡ agenda ∷ [] → IsAgendaOf (App (place + 1)) what agenda → agenda_after agenda after outcome ≡ script_part (place + 1) ops app clock
+      → AppKept ops app (kept.calls (App (place + 1)) ++ exchange_of what outcome ∷ []) → after.core.apps ≡ s.core.apps → after.core.left ≡ map (λ (a : AppState). a.has_left) (set run.apps place app) → after.core.locked ≡ s.core.locked + 1
+      → app_work ops app + length after.core.frames.pending + 1 ≤ app_work ops old + length s.core.frames.pending → RunInvariant scenario (turn_behind place (actors_of scenario)) 0 after (record run { apps = set run.apps place app }) start now
+  goes_on what outcome app agenda clock kept call alone of next more known left locks less =
+      let t : request.Exchange = exchange_of what outcome in
       let all : AreAll scenario run kept.clocks = all_of scenario s run kept.clocks kept.calls start now kept.kept in
-      let goes : Goes place (parts_of scenario run kept.clocks) s after (App (place + 1)) what answer bytes = record {
+      let goes : Goes place (parts_of scenario run kept.clocks) s after (App (place + 1)) what outcome = record {
         agenda = λ rest. agenda;
         alone = λ rest. app_at scenario run kept.clocks rest all place old within ∙ ap (λ (a : AppState). script_part (place + 1) ops a (get_or kept.clocks place (pos 0))) (here old) ∙ alone;
         of = λ rest. of;
@@ -98,12 +98,12 @@ module _ (scenario : Scenario) (place idle : ℕ) (s after : State) (run : RunSt
             same_parts scenario (turn_behind place (actors_of scenario)) 0 after after run.side.over (events_told run.side (kept.calls Device)) _ (calls_with kept.calls (App (place + 1)) t)
             (parts_of scenario (record run { apps = set run.apps place app }) (set kept.clocks place clock))
             (λ rest ok. ap (set (parts_of scenario run kept.clocks rest) place) next ∙ app_set scenario run kept.clocks rest all place app clock within)
-            (made_turn scenario place idle s after run.side.over (events_told run.side (kept.calls Device)) (parts_of scenario run kept.clocks) (actors_of scenario) kept.calls (App (place + 1)) what answer bytes
+            (made_turn scenario place idle s after run.side.over (events_told run.side (kept.calls Device)) (parts_of scenario run kept.clocks) (actors_of scenario) kept.calls (App (place + 1)) what outcome
             (are_so scenario place idle run kept.clocks all turn_within few) goes kept.standing);
         kept = record {
           apps = one_more scenario.scripts s after run.apps kept.clocks kept.calls place app clock t within kept.kept.apps known left more;
           device = kept.kept.device;
-          end = kept.kept.end;
+          compositor = kept.kept.compositor;
           counted = omega (arith, counted, locks);
           work = omega (arith, work, set_work, less, locks);
         };
@@ -115,38 +115,40 @@ module _ (scenario : Scenario) (place idle : ℕ) (s after : State) (run : RunSt
   op_made app m more stays kept =
       let what : Request = request_for old.names m.op in
       let clock : ℤ = get_or kept.clocks place (pos 0) in
-      let t : request.Exchange = exchange_of what m.answer m.bytes in
-      let e = entry_of (App (place + 1)) what m.answer in
+      let t : request.Exchange = exchange_of what m.outcome in
+      let e = entry_of (App (place + 1)) what m.outcome.reply in
+      let pending : length after.core.frames.pending ≤ length s.core.frames.pending + 1 = rw m.call.leads (brings_one s e (op_is_bringing old.names m.op)) in
       let same_left : after.core.left ≡ s.core.left = rw m.call.leads (call_keeps s e (op_stays old.names m.op)) in
       rw m.app
-      (goes_on what m.answer m.bytes (app_with old m.op t) (script (place + 1) (old.made + 1) (drop old.made ops) old.names clock) (clock_behind clock what after) kept m.call
+      (goes_on what m.outcome (app_with old m.op t) (script (place + 1) (old.made + 1) (drop old.made ops) old.names clock) (clock_behind clock what after) kept m.call
       (rw stays refl)
       (record { actor = refl; call = rw m.here (ruled_unstarted clock s e m.call.allowed) })
       (rw (m.here, stays) refl)
-      (op_more ops old (kept.calls (App (place + 1))) m.op m.answer m.bytes more m.here stays (old_kept kept))
+      (op_more ops old (kept.calls (App (place + 1))) m.op m.outcome more m.here stays (old_kept kept))
       (rw m.call.leads refl)
       (same_left ∙ kept.kept.apps.left ∙ sym (map-set_same (λ (a : AppState). a.has_left) run.apps place (app_with old m.op t) old (ap (λ (a : AppState). a.has_left) (sym (here old)))))
       (rw (m.call.leads, ruled_locked s e m.call.allowed) refl)
-      (rw stays (omega (arith, more))))
+      (rw stays (omega (arith, more, pending))))
 
   -- `leave`
   pub leaves : (app : AppState) → Leaves (place + 1) old app s after → old.made ≡ length ops → old.has_left ≡ false → RunInvariant scenario place idle s run start now
       → RunInvariant scenario (turn_behind place (actors_of scenario)) 0 after (record run { apps = set run.apps place app }) start now
   leaves app m all stays kept =
       let clock : ℤ = get_or kept.clocks place (pos 0) in
-      let t : request.Exchange = exchange_of leave m.answer m.bytes in
+      let t : request.Exchange = exchange_of leave m.outcome in
       let none : drop old.made ops ≡ [] = none_left ops old.made all in
       let own : place + 1 - 1 ≡ place = omega arith in
+      let pending : length after.core.frames.pending ≤ length s.core.frames.pending + 0 = rw m.call.leads (brings s (entry_of (App (place + 1)) leave m.outcome.reply) tt) in
       rw m.app
-      (goes_on leave m.answer m.bytes (app_left old t) (script (place + 1) (old.made + 1) (drop old.made ops) old.names clock) clock kept m.call
+      (goes_on leave m.outcome (app_left old t) (script (place + 1) (old.made + 1) (drop old.made ops) old.names clock) clock kept m.call
       (rw stays refl)
       (record { actor = refl; call = rw none refl })
       (rw none refl)
-      (leave_more ops old (kept.calls (App (place + 1))) m.answer m.bytes all stays (old_kept kept))
+      (leave_more ops old (kept.calls (App (place + 1))) m.outcome all stays (old_kept kept))
       (rw m.call.leads refl)
       (rw (m.call.leads, own, kept.kept.apps.left) (sym (map-set (λ (a : AppState). a.has_left) run.apps place (app_left old t))))
       (rw m.call.leads refl)
-      (rw stays (omega arith)))
+      (rw stays (omega (arith, pending))))
 
   -- it has to wait
   pub op_waits : (app : AppState) → OpWaits (place + 1) ops old app s after → old.has_left ≡ false → RunInvariant scenario place idle s run start now

@@ -6,11 +6,10 @@ use Rattle.std.proofs.lemmas.List.{get_or-set_same, get_or-set_other}
 use Rattle.std.proofs.lemmas.Grind.{common_steps}
 use Rattle.xr_types.specs.declared.calls.Actor.{Actor}
 use Rattle.xr_types.specs.declared.calls.Actor.TheVariants.{App}
-use Rattle.xr_types.specs.declared.calls.Reply.{Reply}
 use Rattle.xr_types.specs.declared.made.Made.{Made}
 use Rattle.xr_types.specs.declared.scenario.Op.{Op}
 use Rattle.xr_model.specs.machine.Request as request
-use Rattle.xr_model.specs.machine.Request.{Request, leave}
+use Rattle.xr_model.specs.machine.Request.{Request, Outcome, leave}
 use Rattle.xr_model.specs.machine.State.{State}
 use Rattle.xr_model.specs.runs.NameValues.{value_given}
 use Rattle.xr_model.specs.runs.Scripts.{request_for}
@@ -34,15 +33,15 @@ drop_all ops = grind (arith, common_steps)
 left_no_calls : (app : AppState) (calls : List request.Exchange) → app.has_left ≡ false → length calls ≡ app.made + (if app.has_left then 1 else 0) → length calls ≡ app.made + 0
 left_no_calls app calls stays count = count ∙ rw stays refl
 
-pub op_more : (ops : List Op) (app : AppState) (calls : List request.Exchange) (o : Op) (answer : Reply) (bytes : List ℕ) → app.made < length ops → drop app.made ops ≡ o ∷ drop (app.made + 1) ops → app.has_left ≡ false → AppKept ops app calls
-    → AppKept ops (app_with app o (exchange_of (request_for app.names o) answer bytes)) (calls ++ exchange_of (request_for app.names o) answer bytes ∷ [])
-op_more ops app calls o answer bytes within here stays kept =
-    let t : request.Exchange = exchange_of (request_for app.names o) answer bytes in
+pub op_more : (ops : List Op) (app : AppState) (calls : List request.Exchange) (o : Op) (outcome : Outcome) → app.made < length ops → drop app.made ops ≡ o ∷ drop (app.made + 1) ops → app.has_left ≡ false → AppKept ops app calls
+    → AppKept ops (app_with app o (exchange_of (request_for app.names o) outcome)) (calls ++ exchange_of (request_for app.names o) outcome ∷ [])
+op_more ops app calls o outcome within here stays kept =
+    let t : request.Exchange = exchange_of (request_for app.names o) outcome in
     let count : length calls ≡ app.made + 0 = left_no_calls app calls stays kept.count in
     let place : 1 + length calls ≡ app.made + 1 = omega (arith, count) in
     record {
       within = omega (arith, within);
-      named = length-set app.names (app.made + 1 - 1) (value_given o answer.gives) ∙ kept.named;
+      named = length-set app.names (app.made + 1 - 1) (value_given o outcome.reply.gives) ∙ kept.named;
       list_is = sym (made_snoc 1 calls t ∙ rw (place, ← kept.list_is) refl);
       count = length-append calls (t ∷ []) ∙ rw stays (omega (arith, count));
       follows = λ more here_yet h. rw append_assoc (kept.follows (t ∷ more) stays (rw here (same_request app.names o, h)));
@@ -51,10 +50,10 @@ op_more ops app calls o answer bytes within here stays kept =
       front = λ e. absurd (true≢false (sym e ∙ stays));
     }
 
-pub leave_more : (ops : List Op) (app : AppState) (calls : List request.Exchange) (answer : Reply) (bytes : List ℕ) → app.made ≡ length ops → app.has_left ≡ false → AppKept ops app calls
-    → AppKept ops (app_left app (exchange_of leave answer bytes)) (calls ++ exchange_of leave answer bytes ∷ [])
-leave_more ops app calls answer bytes all stays kept =
-    let t : request.Exchange = exchange_of leave answer bytes in
+pub leave_more : (ops : List Op) (app : AppState) (calls : List request.Exchange) (outcome : Outcome) → app.made ≡ length ops → app.has_left ≡ false → AppKept ops app calls
+    → AppKept ops (app_left app (exchange_of leave outcome)) (calls ++ exchange_of leave outcome ∷ [])
+leave_more ops app calls outcome all stays kept =
+    let t : request.Exchange = exchange_of leave outcome in
     let none : drop app.made ops ≡ [] = rw all (drop_all ops) in
     let count : length calls ≡ app.made + 0 = left_no_calls app calls stays kept.count in
     let place : 1 + length calls ≡ app.made + 1 = omega (arith, count) in

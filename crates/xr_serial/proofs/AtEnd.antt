@@ -14,23 +14,29 @@ use Rattle.xr_types.specs.declared.scenario.Op.{Op}
 use Rattle.xr_types.specs.declared.scenario.Scenario.{Scenario}
 use Rattle.xr_io.specs.Outside.{Rose}
 use Rattle.xr_model.specs.machine.Request as request
-use Rattle.xr_model.specs.machine.Request.{Request, wait_image, Entry}
+use Rattle.xr_model.specs.machine.Request.{Request, wait_image, next_frame, Entry, Outcome, is_actor}
 use Rattle.xr_model.specs.machine.State.{State, opening}
-use Rattle.xr_model.specs.machine.History.{calls_of}
+use Rattle.xr_model.specs.machine.History.{shown_if, calls_from, calls_of}
 use Rattle.xr_model.specs.runs.Scripts.{request_for, FollowsSoFar}
-use Rattle.xr_model.specs.runs.Robin.{Agenda, script, with_start, device_calls, first_agendas, IsRobinFrom, agendas_left, in_round}
+use Rattle.xr_model.specs.runs.Robin.{Agenda, script, events, compositor, actor_of, next_call, NextMove, next_move, IsCallOf, agendas_behind, with_start, device_calls, first_agendas, IsRobinFrom, agendas_left, in_round}
+use Rattle.xr_types.specs.declared.calls.Gives.TheVariants.{Ended}
+use Rattle.xr_types.specs.Frames.{ShownFrame}
+use Rattle.xr_model.specs.laws.FrameLaws.{shown_from}
+use Rattle.xr_model.specs.machine.Machine.{step}
+use Rattle.xr_serial.specs.inside.Made.{exchange_of}
 use Rattle.xr_model.specs.report.RunEnding.{is_fault}
-use Rattle.xr_model.specs.runs.Lists.{name_of, end_of, events_in, lists_to, lists_of, made_from, waiting_of}
+use Rattle.xr_model.specs.runs.Lists.{name_of, end_of, frames_in, events_in, lists_to, lists_of, made_from, waiting_of}
 use Rattle.xr_serial.specs.Ran.{settings_of, OfEachScript, IsEnd, IsWhole, Ran}
 use Rattle.xr_serial.specs.inside.RunState.{AppState, RunState}
 use Rattle.xr_device.specs.Prospect.{Prospect}
 use Rattle.xr_serial.specs.inside.Turns.{script_part, script_parts, device_part, compositor_part, pending_list, parts_of, actors_of, from_turn, joined, AreHeldBack}
 use Rattle.xr_serial.specs.inside.Past.{IsRest}
-use Rattle.xr_serial.specs.inside.RunInvariant.{AppKept, EndKept, events_told, RunInvariant}
+use Rattle.xr_serial.specs.inside.RunInvariant.{AppKept, WereShown, EndKept, events_told, RunInvariant}
 use Rattle.xr_serial.specs.inside.AtEnd.{app_next, apps_next, next_name, next_calls, lists_at}
 use Rattle.xr_serial.proofs.TurnOrder.{none_turn, all_held}
 use Rattle.xr_serial.proofs.Parts.{AreAll, parts_count}
-use Rattle.xr_serial.proofs.Ops.{name_is}
+use Rattle.xr_serial.proofs.Lending.{IsHidden, shows_none}
+use Rattle.xr_serial.proofs.Ops.{name_is, op_hidden}
 use Rattle.xr_serial.proofs.AppTurns.{all_of}
 use Rattle.xr_serial.proofs.Ending.{Gives, gives, events_sound, in_round_is, device_held}
 
@@ -48,13 +54,53 @@ follows_so_far ops app calls kept = by app.has_left refl
 
 -- ---- the compositor
 
+none_ended : (calls : List request.Exchange) → WereShown calls → end_of calls ≡ None
+none_ended [] were = refl
+none_ended (t ∷ calls) were = rw were.1 (none_ended calls were.2)
+
+last_ended : (front : List request.Exchange) (last : Outcome) → WereShown front → last.reply.gives ≡ Ended → end_of (front ++ exchange_of next_frame last ∷ []) ≡ Some last.reply
+last_ended [] last were ends = rw ends refl
+last_ended (t ∷ front) last were ends = rw were.1 (last_ended front last were.2 ends)
+
 ends_so : (ended : Option Reply) (calls : List request.Exchange) → EndKept ended calls → end_of calls ≡ ended
-ends_so None calls none = rw none refl
-ends_so (Some reply) calls end = rw (end.0, end.1) refl
+ends_so None calls were = none_ended calls were
+ends_so (Some reply) calls end = rw end.2 (last_ended end.0 end.1 end.3 (ap (λ (r : Reply). r.gives) end.4 ∙ end.5) ∙ ap Some end.4)
+
+ends_last : (front : List request.Exchange) (last : Outcome) → WereShown front → last.reply.gives ≡ Ended → IsEnd (front ++ exchange_of next_frame last ∷ [])
+ends_last [] last were ends = (refl, ends)
+ends_last (t ∷ []) last were ends = (were.0, were.1, (refl, ends))
+ends_last (t ∷ u ∷ front) last were ends = (were.0, were.1, ends_last (u ∷ front) last were.2 ends)
 
 ends_once : (ended : Option Reply) (calls : List request.Exchange) → EndKept ended calls → map waiting_of (compositor_part ended) ≡ [] → IsEnd calls
 ends_once None calls none h = absurd (filled _ [] h)
-ends_once (Some reply) calls end none = rw end.0 (refl, end.1)
+ends_once (Some reply) calls end none = rw end.2 (ends_last end.0 end.1 end.3 (ap (λ (r : Reply). r.gives) end.4 ∙ end.5))
+
+-- ---- the frames that a history shows
+
+-- the frames of the compositor's calls are all that a history of the round robin shows
+robin_shows : (s : State) (agendas : List Agenda) (es : List Entry) → IsRobinFrom s agendas es → frames_in (calls_from s Compositor es) ≡ shown_from s es
+robin_shows s agendas [] robin = refl
+robin_shows s agendas (e ∷ es) robin = by (next_move s [] agendas) robin.0 (robin_shows (step s e).0 (agendas_behind (next_move s [] agendas) (step s e).0 (step s e).1) es robin.1)
+  where
+    rest : List ShownFrame
+    rest = shown_from (step s e).0 es
+
+    -- a call of another is hidden
+    hidden : is_actor Compositor e.actor ≡ false → IsHidden e.request → frames_in (calls_from (step s e).0 Compositor es) ≡ rest → frames_in (calls_from s Compositor (e ∷ es)) ≡ shown_from s (e ∷ es)
+    hidden other still more = rw (other, shows_none s e still) more
+
+    own : is_actor Compositor e.actor ≡ true → frames_in (calls_from (step s e).0 Compositor es) ≡ rest → frames_in (calls_from s Compositor (e ∷ es)) ≡ shown_from s (e ∷ es)
+    own mine more = rw mine (ap (λ (l : List ShownFrame). shown_if (step s e).1.shown ++ l) more)
+
+    by : (m : Option NextMove) → IsCallOf m e → frames_in (calls_from (step s e).0 Compositor es) ≡ rest → frames_in (calls_from s Compositor (e ∷ es)) ≡ shown_from s (e ∷ es)
+    by None is more = absurd is
+    by (Some m) is more = of m.agenda is.0 is.1
+      where
+        of : (x : Agenda) → e.actor ≡ actor_of x → e.request ≡ next_call x → frames_in (calls_from s Compositor (e ∷ es)) ≡ shown_from s (e ∷ es)
+        of (script app place [] values clock) who what = hidden (rw who refl) (rw what tt) more
+        of (script app place (o ∷ os) values clock) who what = hidden (rw who refl) (subst IsHidden (sym what) (op_hidden clock values o)) more
+        of (events event later) who what = hidden (rw who refl) (rw what tt) more
+        of compositor who what = own (rw who refl) more
 
 -- ---- those left
 
@@ -190,7 +236,7 @@ module _ (scenario : Scenario) (turn : ℕ) (s : State) (run : RunState) (start 
       let scripts : List Agenda = joined (script_parts 1 scenario.scripts run.apps inv.clocks) in
       let part : List Agenda = device_part run.side.pending device.rest in
       ap (λ (l : List Agenda). map waiting_of (in_round (length scenario.scripts) l)) left_are ∙ ap (map waiting_of) (in_round_is scenario run inv.clocks device.rest all turn)
-      ∙ map-append waiting_of (scripts ++ part) (compositor_part run.ended) ∙ ap (λ (l : List Waiting). l ++ map waiting_of (compositor_part run.ended)) (map-append waiting_of scripts part)
+      ∙ map-append waiting_of (scripts ++ part) (compositor_part run.compositor.ended) ∙ ap (λ (l : List Waiting). l ++ map waiting_of (compositor_part run.compositor.ended)) (map-append waiting_of scripts part)
       ∙ rw (parts_wait 1 scenario.scripts run.apps inv.clocks all.count all.timed, device_waits run.side.over run.side.pending device.rest device.none known) refl
 
   kept_at : (place : ℕ) → place < length scenario.scripts → AppKept (get_or scenario.scripts place []) (get_or run.apps place nobody) (inv.calls (App (place + 1)))
@@ -207,7 +253,7 @@ module _ (scenario : Scenario) (turn : ℕ) (s : State) (run : RunState) (start 
   all_apps = let size = all.count in apps_are (length scenario.scripts) (omega arith) ∙ ap (map (λ (app : AppState). app.calls)) (take_all (length scenario.scripts) run.apps (omega (arith, size)))
 
   lists_are : lists_at scenario run ≡ lists_of (settings_of scenario) history (agendas_left (opening (settings_of scenario)) (first_agendas scenario calls) history)
-  lists_are = rw (next_are, all_apps, calls_are Device, calls_are Compositor, ← inv.kept.device.list_is, ← inv.kept.device.events_are, ends_so run.ended (inv.calls Compositor) inv.kept.end) refl
+  lists_are = rw (next_are, all_apps, calls_are Device, calls_are Compositor, ← inv.kept.device.list_is, ← inv.kept.device.events_are, ends_so run.compositor.ended (inv.calls Compositor) inv.kept.compositor.end, ← inv.kept.compositor.frames_are, ← inv.kept.compositor.replies_are) refl
 
   follow_so_far : OfEachScript scenario history FollowsSoFar
   follow_so_far place within = rw (calls_are (App (place + 1))) (follows_so_far (get_or scenario.scripts place []) (get_or run.apps place nobody) (inv.calls (App (place + 1))) (kept_at place within))
@@ -216,12 +262,12 @@ module _ (scenario : Scenario) (turn : ℕ) (s : State) (run : RunState) (start 
   whole none =
       let apps : List Waiting = apps_next 1 scenario.scripts run.apps in
       let told : List Waiting = map waiting_of (device_part run.side.pending []) in
-      let ends : List Waiting = map waiting_of (compositor_part run.ended) in
+      let ends : List Waiting = map waiting_of (compositor_part run.compositor.ended) in
       let both : apps ++ told ≡ [] = front_none (apps ++ told) ends none in
       let unknown : run.side.pending ≡ None = no_pending run.side.pending (behind_none apps told both) in
       record {
         follow = λ place within. rw (calls_are (App (place + 1))) ((kept_at place within).whole (all_gone 1 scenario.scripts run.apps place nobody all.count (front_none apps told both) within));
-        ends = rw (calls_are Compositor) (ends_once run.ended (inv.calls Compositor) inv.kept.end (behind_none (apps ++ told) ends none));
+        ends = rw (calls_are Compositor) (ends_once run.compositor.ended (inv.calls Compositor) inv.kept.compositor.end (behind_none (apps ++ told) ends none));
         device =
             ap events_in (calls_are Device)
             ∙ sym
@@ -241,6 +287,9 @@ module _ (scenario : Scenario) (turn : ℕ) (s : State) (run : RunState) (start 
     follow = follow_so_far;
     device = (pending_list run.side.pending ++ device.rest, rw (calls_are Device) (device.calls_are ∙ append_assoc (events_in (inv.calls Device)) (pending_list run.side.pending) device.rest));
     whole = whole;
+    shown =
+        inv.kept.compositor.frames_are ∙ ap frames_in (sym (calls_are Compositor))
+        ∙ robin_shows (opening (settings_of scenario)) (first_agendas scenario calls) history robin;
     made = lists_are;
   }
 

@@ -23,7 +23,7 @@ use Rattle.xr_serial.proofs.Work.{work_at_start}
 
 -- a run before its first call
 abbrev pub start_of : Scenario → RunState
-start_of scenario = record { apps = map new_app scenario.scripts; side = record { pending = None; over = false; events = []; calls = [] }; ended = None }
+start_of scenario = record { apps = map new_app scenario.scripts; side = record { pending = None; over = false; events = []; calls = [] }; compositor = record { frames = []; replies = []; ended = None } }
 
 gives_all : (told : Option DeviceStream) → GivesMore told told []
 gives_all None = tt
@@ -116,7 +116,7 @@ starts scenario start few =
           later = omega arith;
           unfailed = λ e. refl;
         };
-        end = refl;
+        compositor = record { frames_are = refl; replies_are = refl; end = tt };
         counted = omega arith;
         work = omega (arith, work, few);
       };

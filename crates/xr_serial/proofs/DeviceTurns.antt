@@ -1,10 +1,8 @@
--- What the loop keeps in the turns of the device and of the compositor.
-use Rattle.std.proofs.Common.{◌≡◌, ◌+◌, ◌<◌, ◌≤◌, ℕ, Bool, true, false, List, [], ◌∷◌, ◌++◌, length, Option, Some, None, refl, sym, ap, subst, ◌∙◌, arith, append-nil, length-append, true≢false}
+-- What the loop keeps in the device's turn.
+use Rattle.std.proofs.Common.{◌≡◌, ◌+◌, ◌<◌, ◌≤◌, ℕ, Bool, true, false, List, [], ◌∷◌, ◌++◌, length, Option, Some, None, refl, sym, ap, subst, ◌∙◌, arith, append-nil, length-append}
 use Rattle.std.specs.Prelude.{if◌then◌else◌, is_some}
 use Rattle.xr_types.specs.declared.calls.Actor.{Actor}
-use Rattle.xr_types.specs.declared.calls.Actor.TheVariants.{Compositor, Device}
-use Rattle.xr_types.specs.declared.calls.Gives.TheVariants.{Ended}
-use Rattle.xr_types.specs.declared.calls.Reply.{Reply}
+use Rattle.xr_types.specs.declared.calls.Actor.TheVariants.{Device}
 use Rattle.xr_types.specs.declared.device.DeviceEvent.{DeviceEvent}
 use Rattle.xr_types.specs.declared.device.DeviceEvent.TheVariants as event
 use Rattle.xr_types.specs.declared.scenario.Scenario.{Scenario}
@@ -12,25 +10,22 @@ use Rattle.xr_model.specs.machine.Request as request
 use Rattle.xr_model.specs.machine.Request.{Outcome, device, next_frame}
 use Rattle.xr_model.specs.machine.CoreCalls.{entry_of}
 use Rattle.xr_model.specs.machine.State.{State}
-use Rattle.xr_model.specs.machine.Machine.{ready}
-use Rattle.xr_model.specs.runs.Robin.{Agenda, events, compositor, device_agendas}
+use Rattle.xr_model.specs.runs.Robin.{Agenda, events, device_agendas}
 use Rattle.xr_model.specs.runs.Lists.{made_at, events_in}
-use Rattle.xr_serial.specs.inside.Made.{IsAnswered, asked, exchange_of, calls_with}
+use Rattle.xr_serial.specs.inside.Made.{exchange_of, calls_with}
 use Rattle.xr_serial.specs.inside.RunState.{SideState, RunState}
 use Rattle.xr_device.specs.Prospect.{Prospect}
-use Rattle.xr_serial.specs.inside.Sides.{Fetched, side_asked, side_with, EventMade, EventWaits, EventTurn, EndTurn}
-use Rattle.xr_serial.specs.inside.Turns.{pending_list, device_part, compositor_part, parts_of, actors_of, turn_behind, AreHeldBack}
+use Rattle.xr_serial.specs.inside.Sides.{Fetched, side_asked, side_with, EventMade, EventWaits, EventTurn}
+use Rattle.xr_serial.specs.inside.Turns.{pending_list, device_part, parts_of, actors_of, turn_behind, AreHeldBack}
 use Rattle.xr_serial.specs.inside.Past.{Standing}
-use Rattle.xr_serial.specs.inside.RunInvariant.{DeviceKept, EndKept, side_work, end_work, events_told, RunInvariant}
+use Rattle.xr_serial.specs.inside.RunInvariant.{DeviceKept, side_work, events_told, RunInvariant}
+use Rattle.xr_serial.proofs.Pending.{brings}
 use Rattle.xr_serial.proofs.OnlyLeaveLeaves.{call_keeps}
-use Rattle.xr_serial.proofs.Parts.{AreAll, device_at, compositor_at, device_set, compositor_set}
+use Rattle.xr_serial.proofs.Parts.{AreAll, device_at, device_set}
 use Rattle.xr_serial.proofs.Steps.{Goes, made_turn, same_parts, device_tells, device_ends}
 use Rattle.xr_serial.proofs.Apps.{others_more}
 use Rattle.xr_serial.proofs.Told.{is_open, tells_event, tells_end, tells_garbled, tells_fault, events_snoc, event_kept}
 use Rattle.xr_serial.proofs.AppTurns.{all_of, are_so, passes}
-
-some-none : (reply : Reply) → Some reply ≡ None → ⊥
-some-none reply is = absurd (true≢false (ap is_some is))
 
 -- a run with this of its device
 abbrev pub with_side : RunState → SideState → RunState
@@ -55,10 +50,10 @@ module _ (scenario : Scenario) (idle : ℕ) (s after : State) (run : RunState) (
   pub event_made : (side : SideState) (e : DeviceEvent) → run.side.pending ≡ Some e → EventMade e run.side side s after → RunInvariant scenario place idle s run start now
       → RunInvariant scenario (turn_behind place (actors_of scenario)) 0 after (with_side run side) start now
   event_made side e this m kept =
-      let t : request.Exchange = exchange_of (device e) m.answer m.bytes in
+      let t : request.Exchange = exchange_of (device e) m.outcome in
       let all : AreAll scenario run kept.clocks = all_of scenario s run kept.clocks kept.calls start now kept.kept in
       let new : SideState = side_with run.side e t in
-      let goes : Goes place (parts_of scenario run kept.clocks) s after Device (device e) m.answer m.bytes = record {
+      let goes : Goes place (parts_of scenario run kept.clocks) s after Device (device e) m.outcome = record {
         agenda = λ rest. events e rest;
         alone = λ rest. device_at scenario run kept.clocks rest all ∙ ap (λ (p : Option DeviceEvent). device_part p rest) this;
         of = λ rest. record { actor = refl; call = refl };
@@ -68,9 +63,10 @@ module _ (scenario : Scenario) (idle : ℕ) (s after : State) (run : RunState) (
       let counted = kept.kept.counted in
       let grown : length (run.side.calls ++ made_at (length run.side.calls + 1) t ∷ []) ≡ length run.side.calls + 1 = length-append run.side.calls (made_at (length run.side.calls + 1) t ∷ []) in
       let locks : after.core.locked ≡ s.core.locked + 1 = rw m.call.leads refl in
+      let pending : length after.core.frames.pending ≤ length s.core.frames.pending + 0 = rw m.call.leads (brings s (entry_of Device (device e) m.outcome.reply) tt) in
       let spent : side_work run.side now.bound ≡ side_work new now.bound + 1 = ap (λ (p : Option DeviceEvent). (if is_some p then 1 else 0) + (if run.side.over then 0 else now.bound + 1)) this ∙ one_spent (if run.side.over then 0 else now.bound + 1) in
       let told : events_told run.side (kept.calls Device) ≡ events_told new (kept.calls Device ++ t ∷ []) =
-      ap (λ (p : Option DeviceEvent). events_in (kept.calls Device) ++ pending_list p) this ∙ sym (append-nil (events_in (kept.calls Device ++ t ∷ [])) ∙ events_snoc (kept.calls Device) e m.answer m.bytes) in
+      ap (λ (p : Option DeviceEvent). events_in (kept.calls Device) ++ pending_list p) this ∙ sym (append-nil (events_in (kept.calls Device ++ t ∷ [])) ∙ events_snoc (kept.calls Device) e m.outcome) in
       rw m.side (record {
         calls = calls_with kept.calls Device t;
         clocks = kept.clocks;
@@ -78,14 +74,14 @@ module _ (scenario : Scenario) (idle : ℕ) (s after : State) (run : RunState) (
             begun_again scenario (turn_behind place (actors_of scenario)) 0 after run.side.over _ _ _ (calls_with kept.calls Device t) told
             (same_parts scenario (turn_behind place (actors_of scenario)) 0 after after run.side.over (events_told run.side (kept.calls Device)) _ (calls_with kept.calls Device t) (parts_of scenario (with_side run new) kept.clocks)
             (λ rest ok. device_set scenario run kept.clocks rest all new rest)
-            (made_turn scenario place idle s after run.side.over (events_told run.side (kept.calls Device)) (parts_of scenario run kept.clocks) (actors_of scenario) kept.calls Device (device e) m.answer m.bytes
+            (made_turn scenario place idle s after run.side.over (events_told run.side (kept.calls Device)) (parts_of scenario run kept.clocks) (actors_of scenario) kept.calls Device (device e) m.outcome
             (are_so scenario place idle run kept.clocks all device_within few) goes kept.standing));
         kept = record {
-          apps = others_more scenario.scripts s after run.apps kept.clocks kept.calls (calls_with kept.calls Device t) kept.kept.apps (rw m.call.leads refl) (rw m.call.leads (call_keeps s (entry_of Device (device e) m.answer) tt)) (λ place. refl);
-          device = event_kept run.side (kept.calls Device) start now e m.answer m.bytes this kept.kept.device;
-          end = kept.kept.end;
+          apps = others_more scenario.scripts s after run.apps kept.clocks kept.calls (calls_with kept.calls Device t) kept.kept.apps (rw m.call.leads refl) (rw m.call.leads (call_keeps s (entry_of Device (device e) m.outcome.reply) tt)) (λ place. refl);
+          device = event_kept run.side (kept.calls Device) start now e m.outcome this kept.kept.device;
+          compositor = kept.kept.compositor;
           counted = omega (arith, counted, grown, locks);
-          work = omega (arith, work, locks, spent);
+          work = omega (arith, work, locks, spent, pending);
         };
       })
 
@@ -127,7 +123,7 @@ module _ (scenario : Scenario) (turn idle : ℕ) (s : State) (run : RunState) (s
             begun_again scenario turn idle s over ((events_in (kept.calls Device) ++ []) ++ e ∷ []) (events_in (kept.calls Device) ++ e ∷ []) (parts_of scenario (with_side run (side_asked side (Some e) over)) kept.clocks) kept.calls
             (ap (λ (l : List DeviceEvent). l ++ e ∷ []) (append-nil (events_in (kept.calls Device))))
             (device_tells scenario turn idle s (parts_of scenario before kept.clocks) over (events_in (kept.calls Device) ++ []) kept.calls e kept.standing);
-        kept = record { apps = kept.kept.apps; device = told; end = kept.kept.end; counted = kept.kept.counted; work = omega (arith, work, less) };
+        kept = record { apps = kept.kept.apps; device = told; compositor = kept.kept.compositor; counted = kept.kept.counted; work = omega (arith, work, less) };
       }
 
   -- nothing more comes
@@ -139,7 +135,7 @@ module _ (scenario : Scenario) (turn idle : ℕ) (s : State) (run : RunState) (s
         calls = kept.calls;
         clocks = kept.clocks;
         standing = device_ends scenario turn idle s (parts_of scenario before kept.clocks) (events_in (kept.calls Device) ++ []) kept.calls kept.standing;
-        kept = record { apps = kept.kept.apps; device = told; end = kept.kept.end; counted = kept.kept.counted; work = omega (arith, work, less) };
+        kept = record { apps = kept.kept.apps; device = told; compositor = kept.kept.compositor; counted = kept.kept.counted; work = omega (arith, work, less) };
       }
 
   looked : (pending : Option DeviceEvent) (over : Bool) → Fetched now now2 pending over → RunInvariant scenario turn idle s before start now → RunInvariant scenario turn idle s (with_side run (side_asked side pending over)) start now2
@@ -156,75 +152,3 @@ module _ (scenario : Scenario) (turn idle : ℕ) (s : State) (run : RunState) (s
       let was : side ≡ is_open side = ap (λ (p : Option DeviceEvent). side_asked side p side.over) unknown ∙ ap (λ (o : Bool). side_asked side None o) going in
       subst (λ (x : SideState). RunInvariant scenario turn idle s (with_side run x) start now2) (sym same)
       (looked new.pending new.over f (subst (λ (x : SideState). RunInvariant scenario turn idle s (with_side run x) start now) was kept))
-
--- ---- the compositor's turn
-
-end_gives : (s after : State) (answer : Reply) → IsAnswered s after Compositor next_frame answer [] → answer.gives ≡ Ended
-end_gives s after answer call = sym (ap (λ (o : Outcome). o.reply.gives) call.outcome)
-
-none_yet : (ended : Option Reply) (calls : List request.Exchange) → ended ≡ None → EndKept ended calls → calls ≡ []
-none_yet None calls unended kept = kept
-none_yet (Some reply) calls unended kept = absurd (some-none reply unended)
-
-ended_part : (ended : Option Reply) → is_some ended ≡ true → compositor_part ended ≡ []
-ended_part None told = absurd (true≢false (sym told))
-ended_part (Some reply) told = refl
-
-module _ (scenario : Scenario) (idle : ℕ) (s after : State) (run : RunState) (start now : Prospect) (few : idle < actors_of scenario) where
-  abbrev last : ℕ
-  last = length scenario.scripts + 1
-
-  last_within : last < actors_of scenario
-  last_within = omega arith
-
-  end_made : (answer : Reply) → run.ended ≡ None → IsAnswered s after Compositor next_frame answer [] → RunInvariant scenario last idle s run start now
-      → RunInvariant scenario (turn_behind last (actors_of scenario)) 0 after (record run { ended = Some answer }) start now
-  end_made answer unended call kept =
-      let t : request.Exchange = exchange_of next_frame answer [] in
-      let gives = end_gives s after answer call in
-      let all : AreAll scenario run kept.clocks = all_of scenario s run kept.clocks kept.calls start now kept.kept in
-      let goes : Goes last (parts_of scenario run kept.clocks) s after Compositor next_frame answer [] = record {
-        agenda = λ rest. compositor;
-        alone = λ rest. compositor_at scenario run kept.clocks rest all ∙ ap compositor_part unended;
-        of = λ rest. record { actor = refl; call = refl };
-        made = call;
-      } in
-      let work = kept.kept.work in
-      let counted = kept.kept.counted in
-      let locks : after.core.locked ≡ s.core.locked + 1 = rw call.leads refl in
-      let spent : end_work run.ended ≡ 1 = ap end_work unended in
-      let none : kept.calls Compositor ≡ [] = none_yet run.ended (kept.calls Compositor) unended kept.kept.end in
-      record {
-        calls = calls_with kept.calls Compositor t;
-        clocks = kept.clocks;
-        standing =
-            same_parts scenario (turn_behind last (actors_of scenario)) 0 after after run.side.over (events_told run.side (kept.calls Device)) _ (calls_with kept.calls Compositor t) (parts_of scenario (record run { ended = Some answer }) kept.clocks)
-            (λ rest ok. rw gives (compositor_set scenario run kept.clocks rest all (Some answer)))
-            (made_turn scenario last idle s after run.side.over (events_told run.side (kept.calls Device)) (parts_of scenario run kept.clocks) (actors_of scenario) kept.calls Compositor next_frame answer []
-            (are_so scenario last idle run kept.clocks all last_within few) goes kept.standing);
-        kept = record {
-          apps = others_more scenario.scripts s after run.apps kept.clocks kept.calls (calls_with kept.calls Compositor t) kept.kept.apps (rw call.leads refl) (rw call.leads (call_keeps s (entry_of Compositor next_frame answer) tt)) (λ place. refl);
-          device = kept.kept.device;
-          end = (rw none refl, gives);
-          counted = omega (arith, counted, locks);
-          work = omega (arith, work, locks, spent);
-        };
-      }
-
-  end_waits : run.ended ≡ None → ready s (asked Compositor next_frame) ≡ false → RunInvariant scenario last idle s run start now → RunInvariant scenario (turn_behind last (actors_of scenario)) (idle + 1) s run start now
-  end_waits unended waits kept =
-      let all : AreAll scenario run kept.clocks = all_of scenario s run kept.clocks kept.calls start now kept.kept in
-      passes scenario last idle s run start now last_within few kept
-      (λ rest ok. subst (AreHeldBack s) (sym (compositor_at scenario run kept.clocks rest all ∙ ap compositor_part unended)) (waits, tt))
-
-  -- it was told the end
-  pub end_over : is_some run.ended ≡ true → RunInvariant scenario last idle s run start now → RunInvariant scenario (turn_behind last (actors_of scenario)) (idle + 1) s run start now
-  end_over told kept =
-      let all : AreAll scenario run kept.clocks = all_of scenario s run kept.clocks kept.calls start now kept.kept in
-      passes scenario last idle s run start now last_within few kept
-      (λ rest ok. subst (AreHeldBack s) (sym (compositor_at scenario run kept.clocks rest all ∙ ended_part run.ended told)) tt)
-
-  pub end_turn : (ended : Option Reply) (went : Bool) → run.ended ≡ None → EndTurn ended s after went → RunInvariant scenario last idle s run start now
-      → RunInvariant scenario (turn_behind last (actors_of scenario)) (if went then 0 else idle + 1) after (record run { ended = ended }) start now
-  end_turn ended true unended m kept = rw m.2 (end_made m.0 unended m.1 kept)
-  end_turn ended false unended m kept = rw (m.1, m.2) (subst (λ (e : Option Reply). RunInvariant scenario (turn_behind last (actors_of scenario)) (idle + 1) s (record run { ended = e }) start now) unended (end_waits unended m.0 kept))

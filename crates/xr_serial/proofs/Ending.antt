@@ -312,7 +312,7 @@ module _ (scenario : Scenario) (run : RunState) (clocks : List ℤ) (rest : List
   device = pending_list run.side.pending ++ rest
 
   abbrev two : List (List Agenda)
-  two = device_agendas device ∷ compositor_part run.ended ∷ []
+  two = device_agendas device ∷ compositor_part run.compositor.ended ∷ []
 
   abbrev left : List Agenda
   left = joined (from_turn turn (scripts ++ two))
@@ -323,8 +323,8 @@ module _ (scenario : Scenario) (run : RunState) (clocks : List ℤ) (rest : List
   app_left : (place : ℕ) → place < length scenario.scripts → agendas_of (App (suc place)) left ≡ get_or scripts place []
   app_left place within =
       let size = count in
-      any_turn (App (suc place)) turn (scripts ++ two) (app_one device run.ended (suc place) 1 place scenario.scripts run.apps clocks (omega arith)) ∙ of_parts-append (App (suc place)) scripts two
-      ∙ rw (none_of (App (suc place)) two (device_app (suc place) device, (compositor_app (suc place) run.ended, tt)))
+      any_turn (App (suc place)) turn (scripts ++ two) (app_one device run.compositor.ended (suc place) 1 place scenario.scripts run.apps clocks (omega arith)) ∙ of_parts-append (App (suc place)) scripts two
+      ∙ rw (none_of (App (suc place)) two (device_app (suc place) device, (compositor_app (suc place) run.compositor.ended, tt)))
       (append-nil (of_parts (App (suc place)) scripts) ∙ own_at (suc place) 1 place scenario.scripts run.apps clocks (omega arith) (omega (arith, within, size)))
 
   scripts_left : (n : ℕ) → n ≤ length scenario.scripts → scripts_to n left ≡ joined (take n scripts)
@@ -336,21 +336,21 @@ module _ (scenario : Scenario) (run : RunState) (clocks : List ℤ) (rest : List
 
   device_left : agendas_of Device left ≡ device_agendas device
   device_left =
-      any_turn Device turn (scripts ++ two) (device_one device run.ended 1 scenario.scripts run.apps clocks) ∙ of_parts-append Device scripts two
+      any_turn Device turn (scripts ++ two) (device_one device run.compositor.ended 1 scenario.scripts run.apps clocks) ∙ of_parts-append Device scripts two
       ∙ rw (none_of Device scripts (scripts_none Device 1 scenario.scripts run.apps clocks (λ n least. refl)))
-      (agendas-append Device (device_agendas device) (compositor_part run.ended ++ []) ∙ rw (append-nil (compositor_part run.ended), device_own device, compositor_device run.ended) (append-nil (device_agendas device)))
+      (agendas-append Device (device_agendas device) (compositor_part run.compositor.ended ++ []) ∙ rw (append-nil (compositor_part run.compositor.ended), device_own device, compositor_device run.compositor.ended) (append-nil (device_agendas device)))
 
-  compositor_left : agendas_of Compositor left ≡ compositor_part run.ended
+  compositor_left : agendas_of Compositor left ≡ compositor_part run.compositor.ended
   compositor_left =
-      any_turn Compositor turn (scripts ++ two) (compositor_one device run.ended 1 scenario.scripts run.apps clocks) ∙ of_parts-append Compositor scripts two
+      any_turn Compositor turn (scripts ++ two) (compositor_one device run.compositor.ended 1 scenario.scripts run.apps clocks) ∙ of_parts-append Compositor scripts two
       ∙ rw (none_of Compositor scripts (scripts_none Compositor 1 scenario.scripts run.apps clocks (λ n least. refl)))
-      (agendas-append Compositor (device_agendas device) (compositor_part run.ended ++ []) ∙ rw (append-nil (compositor_part run.ended), device_compositor device, compositor_own run.ended) refl)
+      (agendas-append Compositor (device_agendas device) (compositor_part run.compositor.ended ++ []) ∙ rw (append-nil (compositor_part run.compositor.ended), device_compositor device, compositor_own run.compositor.ended) refl)
 
   -- in the order of a round
-  pub in_round_is : in_round (length scenario.scripts) left ≡ joined scripts ++ device_part run.side.pending rest ++ compositor_part run.ended
+  pub in_round_is : in_round (length scenario.scripts) left ≡ joined scripts ++ device_part run.side.pending rest ++ compositor_part run.compositor.ended
   in_round_is =
       let size = count in
-      rw (scripts_left (length scenario.scripts) (omega arith), device_left, compositor_left) (ap (λ (l : List (List Agenda)). joined l ++ device_agendas device ++ compositor_part run.ended) (take_all (length scenario.scripts) scripts (omega (arith, size))))
+      rw (scripts_left (length scenario.scripts) (omega arith), device_left, compositor_left) (ap (λ (l : List (List Agenda)). joined l ++ device_agendas device ++ compositor_part run.compositor.ended) (take_all (length scenario.scripts) scripts (omega (arith, size))))
 
   -- ---- nobody can
 
@@ -371,4 +371,4 @@ module _ (scenario : Scenario) (run : RunState) (clocks : List ℤ) (rest : List
       held_append s (joined (take turn parts)) (joined (drop turn parts)) (held_behind s (joined (drop turn parts)) (joined (take turn parts)) apart) (held_front s (joined (drop turn parts)) (joined (take turn parts)) apart) in
       let all_of_them : AreHeldBack s (joined scripts ++ joined two) =
       subst (AreHeldBack s) (sym (joined-append (take turn parts) (drop turn parts)) ∙ ap joined (take-append-drop turn parts) ∙ joined-append scripts two) again in
-      held_front s (device_agendas device) (compositor_part run.ended ++ []) (held_behind s (joined scripts) (joined two) all_of_them)
+      held_front s (device_agendas device) (compositor_part run.compositor.ended ++ []) (held_behind s (joined scripts) (joined two) all_of_them)

@@ -7,7 +7,7 @@ use Rattle.std.proofs.lemmas.Option.{same_Some}
 use Rattle.xr_types.specs.declared.calls.Actor.{Actor}
 use Rattle.xr_types.specs.declared.calls.Gives.TheVariants.{Size}
 use Rattle.xr_types.specs.declared.calls.Reply.{Reply}
-use Rattle.xr_model.specs.machine.Request.{Request, create_instance, destroy_instance, get_system, string_to_path, path_to_string, poll_event, create_session, destroy_session, begin_session, end_session, request_exit_session, create_reference_space, destroy_space, locate_space, create_action_set, destroy_action_set, create_action, destroy_action, suggest_bindings, attach_sets, leave, next_frame, Entry, Outcome}
+use Rattle.xr_model.specs.machine.Request.{Request, create_instance, destroy_instance, get_system, string_to_path, path_to_string, poll_event, create_session, destroy_session, begin_session, end_session, request_exit_session, create_reference_space, destroy_space, locate_space, create_action_set, destroy_action_set, create_action, destroy_action, suggest_bindings, attach_sets, wait_frame, begin_frame, end_frame, leave, next_frame, Entry, Outcome}
 use Rattle.xr_model.specs.machine.CoreCalls.{entry_of}
 use Rattle.xr_types.specs.declared.session.Event.{Event}
 use Rattle.xr_model.specs.machine.Events.{polled}
@@ -25,11 +25,13 @@ use Rattle.xr_model.specs.machine.Refusals.{Refusal, first_of}
 use Rattle.xr_model.specs.machine.State.{CoreState, State}
 use Rattle.xr_model.specs.machine.SessionRule.{Loss}
 use Rattle.xr_model.specs.machine.Rule.{Rule, Effect, refusals, or_short, refusal, told_on, unless_refused, carried_out}
-use Rattle.xr_model.specs.machine.CoreCalls.{written_over}
+use Rattle.xr_model.specs.machine.CoreCalls.{Lent, written_over, shown_over}
+use Rattle.xr_types.specs.Frames.{PendingFrame, ShownFrame}
+use Rattle.xr_model.specs.machine.Rules.Frames.{told_frame, oldest_shown}
 use Rattle.xr_model.specs.machine.Machine.{reads_of, step, rule, ready}
 use Rattle.xr_model.specs.machine.CoreCalls.{Answers}
 use Rattle.xr_serial.specs.inside.Lent.{lent_size, written_size}
-use Rattle.xr_serial.specs.inside.Made.{IsAnswered}
+use Rattle.xr_serial.specs.inside.Made.{IsAnswered, frame_told, frame_shown}
 
 -- a refusal that holds gives nothing that fits the buffer
 abbrev GiveNone : ℕ → List Refusal → Type 0
@@ -81,6 +83,11 @@ told_writes_none : (told : Option Event) → 0 ≡ written_size (told_event told
 told_writes_none None = refl
 told_writes_none (Some event) = refl
 
+-- nor does a frame, or the end
+told_writes_nothing : (fs : List PendingFrame) → 0 ≡ written_size (told_frame fs) 0
+told_writes_nothing [] = refl
+told_writes_nothing (f ∷ fs) = refl
+
 -- no user path and no handle of a list gives anything where it is refused
 subs_give_none : (atoms : List (List ℕ)) (declared : List Bool) (subs : List ℕ) (tail : List Refusal) → GiveNone 0 tail → GiveNone 0 (sub_checks atoms declared subs ++ tail)
 subs_give_none atoms declared [] tail none = none
@@ -126,8 +133,11 @@ text_fits s e = by e.request
     by (destroy_action action) = carried_writes s.core 0 e.short (rule_for (destroy_action action)) ((λ h. refl), ((λ h. refl), tt)) refl
     by (suggest_bindings instance profile list) = carried_writes s.core 0 e.short (rule_for (suggest_bindings instance profile list)) ((λ h. refl), ((λ h. refl), ((λ h. refl), ((λ h. refl), ((λ h. refl), ((λ h. refl), bindings_give_none s.core (profile_at s.core.atoms profile) list)))))) refl
     by (attach_sets session handles) = carried_writes s.core 0 e.short (rule_for (attach_sets session handles)) ((λ h. refl), ((λ h. refl), ((λ h. refl), ((λ h. refl), ((λ h. refl), handles_give_none s.core.handles kind.ActionSet handles))))) refl
+    by (wait_frame session) = carried_writes s.core 0 e.short (rule_for (wait_frame session)) ((λ h. refl), ((λ h. refl), ((λ h. refl), ((λ h. refl), tt)))) refl
+    by (begin_frame session) = carried_writes s.core 0 e.short (rule_for (begin_frame session)) ((λ h. refl), ((λ h. refl), ((λ h. refl), ((λ h. refl), tt)))) refl
+    by (end_frame session time blend layers) = carried_writes s.core 0 e.short (rule_for (end_frame session time blend layers)) ((λ h. refl), ((λ h. refl), ((λ h. refl), ((λ h. refl), ((λ h. refl), ((λ h. refl), tt)))))) refl
     by leave = refl
-    by next_frame = refl
+    by next_frame = told_writes_nothing s.core.frames.pending
     by _ = refl
 
 -- whether a call is ready is decided by neither a handle nor want of memory
@@ -139,7 +149,8 @@ ready_any s who _ g h a b = refl
 pub front_of-written : (bytes buffer : List ℕ) (n : ℕ) → length bytes ≡ n → take n (written_over bytes buffer) ≡ bytes
 front_of-written bytes buffer n e = subst (λ (m : ℕ). take m (bytes ++ drop (length bytes) buffer) ≡ bytes) e (grind (arith, common_steps))
 
--- no call that is built shows a frame
+-- ---- the frame that a call shows
+
 refused_shows : (s : CoreState) (found : Option Refusal) (e : Effect) → e.shown ≡ None → (unless_refused s found e).shown ≡ None
 refused_shows s None e none = none
 refused_shows s (Some r) e none = refl
@@ -148,24 +159,51 @@ told_shows : (on : Option Loss) (e : Effect) → e.shown ≡ None → (told_on o
 told_shows None e none = none
 told_shows (Some loss) e none = none
 
-shows_none : (s : State) (e : Entry) → (step s e).1.shown ≡ None
-shows_none s e = refused_shows s.core (refusal e.short (rule_for e.request)) (told_on (rule_for e.request).on (rule_for e.request).effect) (told_shows (rule_for e.request).on (rule_for e.request).effect (by e.request))
+-- only the compositor's call shows any
+abbrev pub IsHidden : Request → Type 0
+IsHidden next_frame = ⊥
+IsHidden _ = Unit {0}
+
+pub shows_none : (s : State) (e : Entry) → IsHidden e.request → (step s e).1.shown ≡ None
+shows_none s e hidden = refused_shows s.core (refusal e.short (rule_for e.request)) (told_on (rule_for e.request).on (rule_for e.request).effect) (told_shows (rule_for e.request).on (rule_for e.request).effect (by e.request hidden))
   where
     rule_for : Request → Rule
     rule_for r = rule s.core (reads_of s r) (record e { request = r })
 
-    by : (r : Request) → (rule_for r).effect.shown ≡ None
-    by (create_instance major minor) = refl
-    by _ = refl
+    by : (r : Request) → IsHidden r → (rule_for r).effect.shown ≡ None
+    by next_frame hidden = absurd hidden
+    by _ hidden = refl
 
-same_outcome : (o : Outcome) (answer : Reply) (bytes : List ℕ) → answer ≡ o.reply → bytes ≡ o.text → o.shown ≡ None → o ≡ record { reply = answer; text = bytes; shown = None }
-same_outcome o answer bytes e f g = rw (e, f, ← g) refl
+-- which shows the oldest that is pending
+oldest : (frame : ShownFrame) (fs : List PendingFrame) → frame_told (told_frame fs) (shown_over (oldest_shown fs) frame) ≡ oldest_shown fs
+oldest frame [] = refl
+oldest frame (f ∷ fs) = refl
 
--- what the core answered is a call that was made, with the bytes at the front of its buffer
-pub made_of : (old new : State) (who : Actor) (what : Request) (answer : Reply) (before written bytes : List ℕ) (n : ℕ) → Answers old (entry_of who what answer) new answer before written
-    → n ≡ written_size answer.gives (lent_size what) → bytes ≡ take n written → IsAnswered old new who what answer bytes
+-- what is left in the place of a frame is what was shown
+pub frame_left : (s : State) (e : Entry) (frame : ShownFrame) → frame_shown e.request (step s e).1.reply.gives (shown_over (step s e).1.shown frame) ≡ (step s e).1.shown
+frame_left s e frame = by e.request
+  where
+    entry : Request → Entry
+    entry r = record e { request = r }
+
+    by : (r : Request) → frame_shown r (step s (entry r)).1.reply.gives (shown_over (step s (entry r)).1.shown frame) ≡ (step s (entry r)).1.shown
+    by next_frame = oldest frame s.core.frames.pending
+    by (create_instance major minor) = sym (shows_none s (entry (create_instance major minor)) tt)
+    by r = sym (shows_none s (entry r) tt)
+
+-- ---- what the core answered
+
+same_outcome : (o : Outcome) (answer : Reply) (bytes : List ℕ) (shown : Option ShownFrame) → answer ≡ o.reply → bytes ≡ o.text → shown ≡ o.shown → o ≡ record { reply = answer; text = bytes; shown = shown }
+same_outcome o answer bytes shown e f g = rw (e, f, g) refl
+
+-- It is a call that was made, with the bytes at the front of its buffer and the frame in its place.
+pub made_of : (old new : State) (who : Actor) (what : Request) (answer : Reply) (before written : Lent) (bytes : List ℕ) (n : ℕ) → Answers old (entry_of who what answer) new answer before written
+    → n ≡ written_size answer.gives (lent_size what) → bytes ≡ take n written.text
+    → IsAnswered old new who what (record { reply = answer; text = bytes; shown = frame_shown what answer.gives written.frame })
 made_of old new who what answer before written bytes n a size front =
-    let text : List ℕ = (step old (entry_of who what answer)).1.text in
-    let fits : length text ≡ n = text_fits old (entry_of who what answer) ∙ ap (λ (r : Reply). written_size r.gives (lent_size what)) (sym a.replies) ∙ sym size in
-    let same : bytes ≡ text = front ∙ rw a.writes (front_of-written text before n fits) in
-    record { allowed = a.allowed; is_ready = a.is_ready; leads = a.leads; outcome = same_outcome (step old (entry_of who what answer)).1 answer bytes a.replies same (shows_none old (entry_of who what answer)) }
+    let led : Outcome = (step old (entry_of who what answer)).1 in
+    let fits : length led.text ≡ n = text_fits old (entry_of who what answer) ∙ ap (λ (r : Reply). written_size r.gives (lent_size what)) (sym a.replies) ∙ sym size in
+    let same : bytes ≡ led.text = front ∙ rw a.writes (front_of-written led.text before.text n fits) in
+    let shown : frame_shown what answer.gives written.frame ≡ led.shown =
+    ap (λ (l : Lent). frame_shown what answer.gives l.frame) a.writes ∙ ap (λ (r : Reply). frame_shown what r.gives (shown_over led.shown before.frame)) a.replies ∙ frame_left old (entry_of who what answer) before.frame in
+    record { allowed = a.allowed; is_ready = a.is_ready; leads = a.leads; comes = same_outcome led answer bytes (frame_shown what answer.gives written.frame) a.replies same shown }

@@ -4,11 +4,13 @@ pub mod Parts
 pub mod Ops
 pub mod Steps
 pub mod OnlyLeaveLeaves
+pub mod Pending
 pub mod Work
 pub mod Apps
 pub mod Told
 pub mod AppTurns
 pub mod DeviceTurns
+pub mod CompositorTurns
 pub mod AtStart
 pub mod Ending
 pub mod AtEnd

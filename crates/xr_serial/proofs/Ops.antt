@@ -1,5 +1,7 @@
 -- What is known of a script's op and of its call.
-use Rattle.std.proofs.Common.{◌≡◌, ◌<◌, ◌≤◌, ◌+◌, ℕ, ℤ, pos, true, true≢false, sym, List, [], ◌∷◌, length, drop, get_or, refl, add-one, drop-cons, arith, zero, suc}
+use Rattle.std.proofs.Common.{◌≡◌, ◌<◌, ◌≤◌, ◌+◌, ℕ, ℤ, pos, true, true≢false, sym, List, [], ◌∷◌, length, map, drop, get_or, refl, ◌∙◌, add-one, drop-cons, arith, zero, suc}
+use Rattle.std.specs.Prelude.{◌&&◌, ◌||◌, Bool, Option, Some, None, is_none, is_some, not, false}
+use Rattle.xr_model.specs.machine.Refusals.{Refusal}
 use Rattle.std.proofs.lemmas.Bool.Decides.{nat_tests}
 use Rattle.std.specs.List.{list_all}
 use Rattle.std.proofs.lemmas.Bool.{and_parts}
@@ -18,6 +20,9 @@ use Rattle.xr_model.specs.machine.Request.{Request, Entry, wait_image, get_boole
 use Rattle.xr_model.specs.runs.Robin.{with_start}
 use Rattle.xr_model.specs.machine.State.{State}
 use Rattle.xr_model.specs.machine.History.{StartsAt}
+use Rattle.xr_model.specs.machine.Frames.{is_empty}
+use Rattle.xr_model.specs.runs.NameValues.{layer_for}
+use Rattle.xr_serial.proofs.Lending.{IsHidden}
 use Rattle.xr_serial.specs.inside.Made.{asked}
 use Rattle.xr_types.specs.declared.calls.Actor.TheVariants.{App}
 use Rattle.xr_serial.specs.inside.Lent.{lent_size}
@@ -34,12 +39,22 @@ here_at ops i o h here = rw (add-one, drop-cons ops i o h, ← here) refl
 mark_in_range : (n : ℕ) → IsMark n → is_mark n ≡ true
 mark_in_range n m = let low = m.0 in let high = m.1 in grind (arith, nat_tests, low, high)
 
+empty_map : {A B : Type 0} (f : A → B) (xs : List A) → is_empty (map f xs) ≡ is_empty xs
+empty_map f [] = refl
+empty_map f (x ∷ xs) = refl
+
 pub op_asks : (values : List ℕ) (number : ℕ) (o : Op) → is_built_op o ≡ true → IsInRange o → MayAsk (App number) (request_for values o) (lent_size (request_for values o))
 op_asks values number (op.CreateInstance major minor) built r = record { built = refl; caller = refl; numbers = refl; buffer = tt }
 op_asks values number (op.PathToString instance path capacity) built r = record { built = refl; caller = refl; numbers = refl; buffer = refl }
 op_asks values number (op.Mark number' value) built r = record { built = refl; caller = refl; numbers = mark_in_range number' r.0; buffer = tt }
 op_asks values number (op.Await number') built r = record { built = refl; caller = refl; numbers = mark_in_range number' r; buffer = tt }
+op_asks values number (op.EndFrame session time blend layers) built r = record { built = empty_map (layer_for values) layers ∙ built; caller = refl; numbers = refl; buffer = tt }
 op_asks values number _ built r = record { built = built; caller = refl; numbers = refl; buffer = tt }
+
+-- no op asks for a frame to be shown
+pub op_hidden : (clock : ℤ) (values : List ℕ) (o : Op) → IsHidden (with_start clock (request_for values o))
+op_hidden clock values (op.CreateInstance major minor) = tt
+op_hidden clock values _ = tt
 
 -- what a call of an op in range is lent
 pub op_lent : (values : List ℕ) (o : Op) → IsInRange o → lent_size (request_for values o) ≤ 1024
@@ -61,6 +76,12 @@ no_start values _ = refl
 pub same_request : (values : List ℕ) (o : Op) → unstarted (request_for values o) ≡ request_for values o
 same_request values (op.CreateInstance major minor) = refl
 same_request values _ = refl
+
+-- a wait that nothing refuses isn't ready
+pub held_back : (waits : Bool) (found : Option Refusal) → (waits && is_none found) ≡ true → not waits || is_some found ≡ false
+held_back true None e = refl
+held_back true (Some r) e = absurd (true≢false (sym e))
+held_back false found e = absurd (true≢false (sym e))
 
 -- ---- a call and the clock at which a wait would begin
 

@@ -1,13 +1,12 @@
 -- What is left of each actor, by its place in a round.
-use Rattle.std.proofs.Common.{◌≡◌, ◌+◌, ◌-◌, ◌<◌, ℕ, ℤ, zero, suc, pos, List, [], ◌∷◌, ◌++◌, length, get_or, set, Option, refl, ap, subst, ◌∙◌, arith, length-append}
+use Rattle.std.proofs.Common.{◌≡◌, ◌+◌, ◌-◌, ◌<◌, ℕ, ℤ, zero, suc, pos, List, [], ◌∷◌, ◌++◌, length, get_or, set, refl, ap, subst, ◌∙◌, arith, length-append}
 use Rattle.std.proofs.Math.Seq.{get_or-append_seam, set-append_seam}
 use Rattle.std.proofs.lemmas.List.{get_or_append_left, get_or-append-add, set-append_left, set-append_right}
-use Rattle.xr_types.specs.declared.calls.Reply.{Reply}
 use Rattle.xr_types.specs.declared.device.DeviceEvent.{DeviceEvent}
 use Rattle.xr_types.specs.declared.scenario.Op.{Op}
 use Rattle.xr_types.specs.declared.scenario.Scenario.{Scenario}
 use Rattle.xr_model.specs.runs.Robin.{Agenda}
-use Rattle.xr_serial.specs.inside.RunState.{AppState, SideState, RunState}
+use Rattle.xr_serial.specs.inside.RunState.{AppState, SideState, CompositorState, RunState}
 use Rattle.xr_serial.specs.inside.Turns.{script_part, script_parts, device_part, compositor_part, parts_of, actors_of}
 
 -- ---- the applications
@@ -52,7 +51,7 @@ module _ (scenario : Scenario) (run : RunState) (clocks : List ℤ) (rest : List
   device = device_part run.side.pending rest
 
   abbrev compositor : List Agenda
-  compositor = compositor_part run.ended
+  compositor = compositor_part run.compositor.ended
 
   count : length scripts ≡ length scenario.scripts
   count = length-script_parts 1 scenario.scripts run.apps clocks all.count all.timed
@@ -68,7 +67,7 @@ module _ (scenario : Scenario) (run : RunState) (clocks : List ℤ) (rest : List
   pub device_at : get_or (parts_of scenario run clocks rest) (length scenario.scripts) [] ≡ device_part run.side.pending rest
   device_at = subst (λ (n : ℕ). get_or (scripts ++ device ∷ compositor ∷ []) n [] ≡ device) count (get_or-append_seam scripts device (compositor ∷ []) [])
 
-  pub compositor_at : get_or (parts_of scenario run clocks rest) (length scenario.scripts + 1) [] ≡ compositor_part run.ended
+  pub compositor_at : get_or (parts_of scenario run clocks rest) (length scenario.scripts + 1) [] ≡ compositor_part run.compositor.ended
   compositor_at = subst (λ (n : ℕ). get_or (scripts ++ device ∷ compositor ∷ []) (n + 1) [] ≡ compositor) count (get_or-append-add scripts (device ∷ compositor ∷ []) 1 [])
 
   -- where one of them has gone on
@@ -80,12 +79,12 @@ module _ (scenario : Scenario) (run : RunState) (clocks : List ℤ) (rest : List
       ∙ ap (λ (l : List (List Agenda)). l ++ device ∷ compositor ∷ []) (part_set 1 scenario.scripts run.apps clocks place (place + 1) app clock all.count all.timed within (omega arith))
 
   pub device_set : (side : SideState) (later : List DeviceEvent)
-      → set (parts_of scenario run clocks rest) (length scenario.scripts) (device_part side.pending later) ≡ script_parts 1 scenario.scripts run.apps clocks ++ device_part side.pending later ∷ compositor_part run.ended ∷ []
+      → set (parts_of scenario run clocks rest) (length scenario.scripts) (device_part side.pending later) ≡ script_parts 1 scenario.scripts run.apps clocks ++ device_part side.pending later ∷ compositor_part run.compositor.ended ∷ []
   device_set side later =
       subst (λ (n : ℕ). set (scripts ++ device ∷ compositor ∷ []) n (device_part side.pending later) ≡ scripts ++ device_part side.pending later ∷ compositor ∷ []) count (set-append_seam scripts device (compositor ∷ []) (device_part side.pending later))
 
-  pub compositor_set : (ended : Option Reply) → set (parts_of scenario run clocks rest) (length scenario.scripts + 1) (compositor_part ended) ≡ parts_of scenario (record run { ended = ended }) clocks rest
-  compositor_set ended =
+  pub compositor_set : (c : CompositorState) → set (parts_of scenario run clocks rest) (length scenario.scripts + 1) (compositor_part c.ended) ≡ parts_of scenario (record run { compositor = c }) clocks rest
+  compositor_set c =
       let behind : length scenario.scripts + 1 - length scenario.scripts ≡ 1 = omega arith in
-      set-append_right scripts (device ∷ compositor ∷ []) (length scenario.scripts) (length scenario.scripts + 1) (compositor_part ended) count (omega arith)
-      ∙ ap (λ (n : ℕ). scripts ++ set (device ∷ compositor ∷ []) n (compositor_part ended)) behind
+      set-append_right scripts (device ∷ compositor ∷ []) (length scenario.scripts) (length scenario.scripts + 1) (compositor_part c.ended) count (omega arith)
+      ∙ ap (λ (n : ℕ). scripts ++ set (device ∷ compositor ∷ []) n (compositor_part c.ended)) behind

@@ -1,8 +1,7 @@
 -- A run goes on: a call is made, a turn is passed, the device tells more.
 use Rattle.std.proofs.Common.{◌≡◌, ◌+◌, ◌<◌, ℕ, suc, Bool, true, false, List, [], ◌∷◌, ◌++◌, length, get_or, set, refl, sym, ap, subst, ◌∙◌, append_assoc, append-nil, true≢false, arith}
-use Rattle.std.specs.Prelude.{if◌then◌else◌, None}
+use Rattle.std.specs.Prelude.{if◌then◌else◌}
 use Rattle.xr_types.specs.declared.calls.Actor.{Actor}
-use Rattle.xr_types.specs.declared.calls.Reply.{Reply}
 use Rattle.xr_types.specs.Code.{is_out_of_memory}
 use Rattle.xr_types.specs.declared.device.DeviceEvent.{DeviceEvent}
 use Rattle.xr_types.specs.declared.scenario.Scenario.{Scenario}
@@ -21,15 +20,15 @@ use Rattle.std.proofs.lemmas.List.{set-get_or}
 
 -- ---- one call more in front of a history
 
-calls_more : (s after : State) (calls : Actor → List Exchange) (who by : Actor) (what : Request) (answer : Reply) (bytes : List ℕ) (more : List Entry) → IsAnswered s after by what answer bytes
-    → calls who ++ calls_from s who (entry_of by what answer ∷ more) ≡ calls_with calls by (exchange_of what answer bytes) who ++ calls_from after who more
-calls_more s after calls who by what answer bytes more made = each (is_actor who by) refl
+calls_more : (s after : State) (calls : Actor → List Exchange) (who by : Actor) (what : Request) (outcome : Outcome) (more : List Entry) → IsAnswered s after by what outcome
+    → calls who ++ calls_from s who (entry_of by what outcome.reply ∷ more) ≡ calls_with calls by (exchange_of what outcome) who ++ calls_from after who more
+calls_more s after calls who by what outcome more made = each (is_actor who by) refl
   where
     t : Exchange
-    t = exchange_of what answer bytes
+    t = exchange_of what outcome
 
-    each : (b : Bool) → is_actor who by ≡ b → calls who ++ calls_from s who (entry_of by what answer ∷ more) ≡ (if b then calls who ++ t ∷ [] else calls who) ++ calls_from after who more
-    each true e = rw (e, made.outcome, ← made.leads) (sym (append_assoc (calls who) (t ∷ []) (calls_from after who more)))
+    each : (b : Bool) → is_actor who by ≡ b → calls who ++ calls_from s who (entry_of by what outcome.reply ∷ more) ≡ (if b then calls who ++ t ∷ [] else calls who) ++ calls_from after who more
+    each true e = rw (e, made.comes, ← made.leads) (sym (append_assoc (calls who) (t ∷ []) (calls_from after who more)))
     each false e = rw (e, ← made.leads) refl
 
 -- the next call of an agenda
@@ -37,30 +36,27 @@ pub record IsAgendaOf (who : Actor) (what : Request) (x : Agenda) : Type 0 where
   pub actor : actor_of x ≡ who
   pub call : next_call x ≡ what
 
-is_ready : (s after : State) (who : Actor) (what : Request) (answer : Reply) (bytes : List ℕ) (x : Agenda) → IsAgendaOf who what x → IsAnswered s after who what answer bytes → is_next_ready s x ≡ true
-is_ready s after who what answer bytes x of made = rw (of.actor, of.call) (ready_any s who what 0 (given_by answer.gives) false (is_out_of_memory answer.code) ∙ made.is_ready)
+is_ready : (s after : State) (who : Actor) (what : Request) (outcome : Outcome) (x : Agenda) → IsAgendaOf who what x → IsAnswered s after who what outcome → is_next_ready s x ≡ true
+is_ready s after who what outcome x of made = rw (of.actor, of.call) (ready_any s who what 0 (given_by outcome.reply.gives) false (is_out_of_memory outcome.reply.code) ∙ made.is_ready)
 
-abbrev pub outcome_of : Reply → List ℕ → Outcome
-outcome_of answer bytes = record { reply = answer; text = bytes; shown = None }
+robin_more : (s after : State) (who : Actor) (what : Request) (outcome : Outcome) (x : Agenda) (others agendas : List Agenda) (more : List Entry) → IsAgendaOf who what x → IsAnswered s after who what outcome → Takes s x others agendas
+    → IsRobinFrom after (others ++ agenda_after x after outcome) more → IsRobinFrom s agendas (entry_of who what outcome.reply ∷ more)
+robin_more s after who what outcome x others agendas more of made t goes =
+    rw (t.found, made.comes, t.others_are, t.agenda) ((sym of.actor, sym of.call), subst (λ (n : State). IsRobinFrom n (others ++ agenda_after x n outcome) more) made.leads goes)
 
-robin_more : (s after : State) (who : Actor) (what : Request) (answer : Reply) (bytes : List ℕ) (x : Agenda) (others agendas : List Agenda) (more : List Entry) → IsAgendaOf who what x → IsAnswered s after who what answer bytes → Takes s x others agendas
-    → IsRobinFrom after (others ++ agenda_after x after (outcome_of answer bytes)) more → IsRobinFrom s agendas (entry_of who what answer ∷ more)
-robin_more s after who what answer bytes x others agendas more of made t goes =
-    rw (t.found, made.outcome, t.others_are, t.agenda) ((sym of.actor, sym of.call), subst (λ (n : State). IsRobinFrom n (others ++ agenda_after x n (outcome_of answer bytes)) more) made.leads goes)
-
-left_more : (s after : State) (who : Actor) (what : Request) (answer : Reply) (bytes : List ℕ) (x : Agenda) (others agendas : List Agenda) (more : List Entry) → IsAnswered s after who what answer bytes → Takes s x others agendas
-    → agendas_left s agendas (entry_of who what answer ∷ more) ≡ agendas_left after (others ++ agenda_after x after (outcome_of answer bytes)) more
-left_more s after who what answer bytes x others agendas more made t =
-    rw (t.found, made.outcome, t.others_are, t.agenda) (ap (λ (n : State). agendas_left n (others ++ agenda_after x n (outcome_of answer bytes)) more) (sym made.leads))
+left_more : (s after : State) (who : Actor) (what : Request) (outcome : Outcome) (x : Agenda) (others agendas : List Agenda) (more : List Entry) → IsAnswered s after who what outcome → Takes s x others agendas
+    → agendas_left s agendas (entry_of who what outcome.reply ∷ more) ≡ agendas_left after (others ++ agenda_after x after outcome) more
+left_more s after who what outcome x others agendas more made t =
+    rw (t.found, made.comes, t.others_are, t.agenda) (ap (λ (n : State). agendas_left n (others ++ agenda_after x n outcome) more) (sym made.leads))
 
 -- ---- a run goes on
 
 -- the actor whose turn it is makes its call
-pub record Goes (turn : ℕ) (parts : List DeviceEvent → List (List Agenda)) (s after : State) (who : Actor) (what : Request) (answer : Reply) (bytes : List ℕ) : Type 0 where
+pub record Goes (turn : ℕ) (parts : List DeviceEvent → List (List Agenda)) (s after : State) (who : Actor) (what : Request) (outcome : Outcome) : Type 0 where
   pub agenda : List DeviceEvent → Agenda
   pub alone : (rest : List DeviceEvent) → get_or (parts rest) turn [] ≡ agenda rest ∷ []
   pub of : (rest : List DeviceEvent) → IsAgendaOf who what (agenda rest)
-  pub made : IsAnswered s after who what answer bytes
+  pub made : IsAnswered s after who what outcome
 
 -- so many actors, and this turn's is one of them
 pub record AreSo (actors turn idle : ℕ) (parts : List DeviceEvent → List (List Agenda)) : Type 0 where
@@ -87,17 +83,17 @@ module _ (scenario : Scenario) (turn idle : ℕ) (s after : State) (over : Bool)
     order = λ rest ok. subst (λ (p : List (List Agenda)). IsTurnOrder s idle (from_turn turn p) (g.so_far.agendas rest)) (same rest ok) (g.order rest ok);
   }
 
-  pub made_turn : (actors : ℕ) (calls : Actor → List Exchange) (who : Actor) (what : Request) (answer : Reply) (bytes : List ℕ) → AreSo actors turn idle parts → (goes : Goes turn parts s after who what answer bytes) → Standing scenario turn idle s over begun parts calls
-      → Standing scenario (turn_behind turn actors) 0 after over begun (λ rest. set (parts rest) turn (agenda_after (goes.agenda rest) after (outcome_of answer bytes))) (calls_with calls who (exchange_of what answer bytes))
-  made_turn actors calls who what answer bytes are goes g = record {
+  pub made_turn : (actors : ℕ) (calls : Actor → List Exchange) (who : Actor) (what : Request) (outcome : Outcome) → AreSo actors turn idle parts → (goes : Goes turn parts s after who what outcome) → Standing scenario turn idle s over begun parts calls
+      → Standing scenario (turn_behind turn actors) 0 after over begun (λ rest. set (parts rest) turn (agenda_after (goes.agenda rest) after outcome)) (calls_with calls who (exchange_of what outcome))
+  made_turn actors calls who what outcome are goes g = record {
     so_far = record {
       past = p.past ++ e ∷ [];
       clocks = clocks_after p.clocks e after;
       agendas = λ rest. joined (others_of turn (parts rest)) ++ later rest;
       legal = λ more h. rw (append_assoc p.past (e ∷ []) more) (p.legal (e ∷ more) (goes.made.allowed, ruled_starts (clock_of p.clocks who) s e goes.made.allowed, goes.made.is_ready, subst (λ (n : State). IsLegalFrom n (clocks_after p.clocks e n) more) goes.made.leads h));
-      robin = λ rest ok more h. rw (append_assoc p.past (e ∷ []) more) (p.robin rest ok (e ∷ more) (robin_more s after who what answer bytes (goes.agenda rest) (joined (others_of turn (parts rest))) (p.agendas rest) more (goes.of rest) goes.made (takes rest ok) h));
-      left = λ rest ok more. rw (append_assoc p.past (e ∷ []) more) (p.left rest ok (e ∷ more) ∙ left_more s after who what answer bytes (goes.agenda rest) (joined (others_of turn (parts rest))) (p.agendas rest) more goes.made (takes rest ok));
-      made = λ other more. rw (append_assoc p.past (e ∷ []) more) (p.made other (e ∷ more) ∙ calls_more s after calls other who what answer bytes more goes.made);
+      robin = λ rest ok more h. rw (append_assoc p.past (e ∷ []) more) (p.robin rest ok (e ∷ more) (robin_more s after who what outcome (goes.agenda rest) (joined (others_of turn (parts rest))) (p.agendas rest) more (goes.of rest) goes.made (takes rest ok) h));
+      left = λ rest ok more. rw (append_assoc p.past (e ∷ []) more) (p.left rest ok (e ∷ more) ∙ left_more s after who what outcome (goes.agenda rest) (joined (others_of turn (parts rest))) (p.agendas rest) more goes.made (takes rest ok));
+      made = λ other more. rw (append_assoc p.past (e ∷ []) more) (p.made other (e ∷ more) ∙ calls_more s after calls other who what outcome more goes.made);
     };
     order = λ rest ok. record {
       coming = others_of turn (parts rest) ++ later rest ∷ [];
@@ -113,17 +109,17 @@ module _ (scenario : Scenario) (turn idle : ℕ) (s after : State) (over : Bool)
       p = g.so_far
 
       e : Entry
-      e = entry_of who what answer
+      e = entry_of who what outcome.reply
 
       later : List DeviceEvent → List Agenda
-      later rest = agenda_after (goes.agenda rest) after (outcome_of answer bytes)
+      later rest = agenda_after (goes.agenda rest) after outcome
 
       takes : (rest : List DeviceEvent) → IsRest over rest → Takes s (goes.agenda rest) (joined (others_of turn (parts rest))) (p.agendas rest)
       takes rest ok =
           let here : from_turn turn (parts rest) ≡ (goes.agenda rest ∷ []) ∷ others_of turn (parts rest) = from_turn_is turn (parts rest) (turn_in actors turn idle parts rest are) ∙ ap (λ (x : List Agenda). x ∷ others_of turn (parts rest)) (goes.alone rest) in
           takes_turn s idle (goes.agenda rest) (others_of turn (parts rest)) (p.agendas rest) (idle_in actors turn idle parts rest are)
           (subst (λ (order : List (List Agenda)). IsTurnOrder s idle order (p.agendas rest)) here (g.order rest ok))
-          (is_ready s after who what answer bytes (goes.agenda rest) (goes.of rest) goes.made)
+          (is_ready s after who what outcome (goes.agenda rest) (goes.of rest) goes.made)
 
   -- it has nothing left, or can't make its call
   pub passed_turn : (actors : ℕ) (calls : Actor → List Exchange) → AreSo actors turn idle parts → ((rest : List DeviceEvent) → IsRest over rest → AreHeldBack s (get_or (parts rest) turn [])) → Standing scenario turn idle s over begun parts calls

@@ -3,12 +3,11 @@ use Rattle.std.proofs.Common.{◌≡◌, ◌≤◌, ℕ, true, false, List, [], 
 use Rattle.std.specs.Prelude.{◌||◌, ◌+◌, suc}
 use Rattle.std.specs.List.{list_any}
 use Rattle.std.proofs.lemmas.List.Folds.{list_any-append}
-use Rattle.xr_types.specs.declared.calls.Reply.{Reply}
 use Rattle.xr_types.specs.declared.device.DeviceEvent.{DeviceEvent}
 use Rattle.xr_types.specs.declared.device.DeviceEvent.TheVariants as event
 use Rattle.xr_io.specs.Outside.{Rose}
 use Rattle.xr_model.specs.machine.Request as request
-use Rattle.xr_model.specs.machine.Request.{device}
+use Rattle.xr_model.specs.machine.Request.{Outcome, device}
 use Rattle.xr_model.specs.machine.Device.{is_built_event}
 use Rattle.xr_model.specs.laws.DeviceLaws.{is_of_line}
 use Rattle.xr_model.specs.device_text.DeviceText.{DeviceStream, Ending, ends, garbled_at}
@@ -26,9 +25,9 @@ use Rattle.xr_serial.specs.inside.Turns.{pending_list}
 use Rattle.xr_serial.specs.inside.RunInvariant.{GivesMore, DeviceKept}
 use Rattle.xr_serial.proofs.Apps.{made_snoc}
 
-pub events_snoc : (calls : List request.Exchange) (e : DeviceEvent) (answer : Reply) (bytes : List ℕ) → events_in (calls ++ exchange_of (device e) answer bytes ∷ []) ≡ events_in calls ++ e ∷ []
-events_snoc [] e answer bytes = refl
-events_snoc (t ∷ calls) e answer bytes = rw (events_snoc calls e answer bytes) (sym (append_assoc _ (events_in calls) (e ∷ [])))
+pub events_snoc : (calls : List request.Exchange) (e : DeviceEvent) (outcome : Outcome) → events_in (calls ++ exchange_of (device e) outcome ∷ []) ≡ events_in calls ++ e ∷ []
+events_snoc [] e outcome = refl
+events_snoc (t ∷ calls) e outcome = rw (events_snoc calls e outcome) (sym (append_assoc _ (events_in calls) (e ∷ [])))
 
 made_length : (place : ℕ) (calls : List request.Exchange) → length (made_from place calls) ≡ length calls
 made_length place [] = refl
@@ -167,23 +166,23 @@ module _ (side : SideState) (calls : List request.Exchange) (start now now2 : Pr
       closes event.Fault None (record { checked = refl; built = refl }) count (gives_front start.remaining now.remaining d.given d.came.0) refl (λ e. rose_later start.faults now.faults now2.faults d.later rose) (λ e. absurd (true≢false e))
 
 -- the call of its next event was made
-pub event_kept : (side : SideState) (calls : List request.Exchange) (start now : Prospect) (e : DeviceEvent) (answer : Reply) (bytes : List ℕ) → side.pending ≡ Some e → DeviceKept side calls start now
-    → DeviceKept (side_with side e (exchange_of (device e) answer bytes)) (calls ++ exchange_of (device e) answer bytes ∷ []) start now
-event_kept side calls start now e answer bytes this d =
-    let t : request.Exchange = exchange_of (device e) answer bytes in
+pub event_kept : (side : SideState) (calls : List request.Exchange) (start now : Prospect) (e : DeviceEvent) (outcome : Outcome) → side.pending ≡ Some e → DeviceKept side calls start now
+    → DeviceKept (side_with side e (exchange_of (device e) outcome)) (calls ++ exchange_of (device e) outcome ∷ []) start now
+event_kept side calls start now e outcome this d =
+    let t : request.Exchange = exchange_of (device e) outcome in
     let size : length side.calls ≡ length calls = ap length d.list_is ∙ made_length 1 calls in
     let place : 1 + length calls ≡ length side.calls + 1 = omega (arith, size) in
     record {
       given = d.given;
       closing = d.closing;
-      begun = d.begun ∙ ap (λ (p : Option DeviceEvent). events_in calls ++ pending_list p) this ∙ sym (append-nil (events_in (calls ++ t ∷ [])) ∙ events_snoc calls e answer bytes);
+      begun = d.begun ∙ ap (λ (p : Option DeviceEvent). events_in calls ++ pending_list p) this ∙ sym (append-nil (events_in (calls ++ t ∷ [])) ∙ events_snoc calls e outcome);
       came = d.came;
       counted = d.counted;
       faultless = d.faultless;
       sound = d.sound;
       done = tt;
       list_is = sym (made_snoc 1 calls t ∙ rw (place, ← d.list_is) refl);
-      events_are = rw (events_snoc calls e answer bytes, d.events_are) refl;
+      events_are = rw (events_snoc calls e outcome, d.events_are) refl;
       later = d.later;
       unfailed = d.unfailed;
     }

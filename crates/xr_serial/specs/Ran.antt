@@ -1,7 +1,7 @@
 -- A run of a scenario beside a device: the one history that its lists are of.
 use Rattle.std.specs.Prelude.{◌≡◌, ◌<◌, ◌≤◌, ◌+◌, ℕ, true, false, List, [], ◌∷◌, ◌++◌, length, slice_index_or, Option, Some, None}
 use Rattle.xr_types.specs.declared.calls.Actor.TheVariants.{App, Compositor, Device}
-use Rattle.xr_types.specs.declared.calls.Gives.TheVariants.{Ended}
+use Rattle.xr_types.specs.declared.calls.Gives.TheVariants.{Ended, Shown}
 use Rattle.xr_types.specs.declared.device.DeviceEvent.{DeviceEvent}
 use Rattle.xr_types.specs.declared.made.Lists.{Lists}
 use Rattle.xr_types.specs.declared.scenario.Op.{Op}
@@ -16,6 +16,7 @@ use Rattle.xr_model.specs.runs.Scripts.{Follows, FollowsSoFar}
 use Rattle.xr_model.specs.device_text.DeviceText.{DeviceStream, Ending}
 use Rattle.xr_model.specs.runs.Robin.{device_calls, last_event, first_agendas, IsRobin, agendas_left}
 use Rattle.xr_model.specs.runs.Lists.{lists_of, events_in}
+use Rattle.xr_model.specs.laws.FrameLaws.{shown_from}
 use Rattle.xr_model.specs.report.RunEnding.{is_fault, is_garbled}
 
 -- a machine of as many applications as the scenario has scripts
@@ -54,11 +55,11 @@ abbrev pub OfEachScript : Scenario → List Entry → (List Op → List request.
 OfEachScript scenario history P =
     (place : ℕ) → place < length scenario.scripts → P (slice_index_or scenario.scripts place []) (calls_of (settings_of scenario) (App (place + 1)) history)
 
--- the compositor asked once and was told the end
+-- the compositor was shown frames, and then told the end
 abbrev pub IsEnd : List request.Exchange → Type 0
 IsEnd [] = ⊥
 IsEnd (t ∷ []) = (t.request ≡ next_frame) × (t.outcome.reply.gives ≡ Ended)
-IsEnd (t ∷ u ∷ ts) = ⊥
+IsEnd (t ∷ u ∷ ts) = (t.request ≡ next_frame) × (t.outcome.reply.gives ≡ Shown) × IsEnd (u ∷ ts)
 
 -- All has come to its end: each application's calls are all of its script's ops and then `leave`, the compositor was told
 -- the end, and the device did all that it had to do.
@@ -69,8 +70,8 @@ pub record IsWhole (scenario : Scenario) (events : List DeviceEvent) (ending : O
 
 -- A run of a scenario: a legal history of the machine of one thread, the round robin's beside this device, in which each
 -- application's calls follow its script. The device gave so many events, of what it has told if it told anything. The lists
--- are those of this history, so each reply is the machine's at its call's place; they tell next calls exactly where the run
--- can't go on.
+-- are those of this history, so each reply is the machine's at its call's place, and the frames are those that the history
+-- shows; they tell next calls exactly where the run can't go on.
 pub record Ran (scenario : Scenario) (told : Option DeviceStream) (count : ℕ) (lists : Lists) : Type 0 where
   pub history : List Entry
   pub events : List DeviceEvent
@@ -82,4 +83,5 @@ pub record Ran (scenario : Scenario) (told : Option DeviceStream) (count : ℕ) 
   pub follow : OfEachScript scenario history FollowsSoFar
   pub device : (rest : List DeviceEvent) × (device_calls events ending ≡ events_in (calls_of (settings_of scenario) Device history) ++ rest)
   pub whole : lists.next ≡ [] → IsWhole scenario events ending history
+  pub shown : lists.compositor ≡ shown_from (opening (settings_of scenario)) history
   pub made : lists ≡ lists_of (settings_of scenario) history (agendas_left (opening (settings_of scenario)) (first_agendas scenario (device_calls events ending)) history)

@@ -8,7 +8,7 @@ ghost use Rattle.xr_serial.specs.inside.Lent.{lent_size, written_size};
 
 use std::alloc::Global;
 use xr_core::PlainCore;
-use xr_types::{Actor, Bytes, Call, CallName, Gives, Made, NoMemory, Reply, Step};
+use xr_types::{Actor, Bytes, Call, CallName, Gives, Made, NoMemory, Reply, Shown, Step};
 
 /// A reply, and the bytes put into the lent buffer.
 #[derive(Drop)]
@@ -28,21 +28,23 @@ fn written_size(gives: Gives, size: u64) -> u64
     }
 }
 
-/// Makes a call, which is lent a buffer of the size that it asks for, or says by nothing that it has to wait.
+/// Makes a call, which is lent a buffer of the size that it asks for and the place of a frame, or says by nothing that it has
+/// to wait.
 pub(crate) fn make(
     alloc: Global,
     core: &mut PlainCore,
     who: Actor,
     call: &Call<'_>,
     buffer: &mut [u8],
+    shown: &mut Shown,
 ) -> Result<Option<Answered>, NoMemory>
     requires calls { core.old.core.locked < 2 ^ 44 }
     requires asks { MayAsk who (request_of call.now) (lent_size (request_of call.now)) }
     requires present { IsPresent core.old.core who }
     requires size { length buffer.old ≡ lent_size (request_of call.now) }
-    ensures { IfOk result (λ answered. AnsweredOrWaits core.old core.new who (request_of call.now) answered) }
+    ensures { IfOk result (λ answered. AnsweredOrWaits core.old core.new who (request_of call.now) shown.new answered) }
 {
-    let Step::Done(reply) = core.apply(who, call, buffer) else {
+    let Step::Done(reply) = core.apply(who, call, buffer, shown) else {
         return Ok(None);
     };
     let written = written_size(reply.gives, buffer.len() as u64) as usize;

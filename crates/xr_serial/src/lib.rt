@@ -14,6 +14,7 @@ ghost use Rattle.xr_serial.specs.Ran.{Ran};
 
 mod application;
 mod calls;
+mod compositor;
 mod lists;
 mod machine;
 mod rounds;
@@ -27,8 +28,9 @@ use xr_device::Device;
 use xr_types::{Lists, NoMemory, Scenario};
 
 /// Runs a scenario beside a device and the compositor, and lists what was made: each script's calls and, behind its last
-/// op, `leave`; the device's calls with its events, its fault or its garbled line last; how the compositor ended; and,
-/// where nobody can go on, the next calls of those that have not finished.
+/// op, `leave`; the device's calls with its events, its fault or its garbled line last; the frames that the compositor was
+/// shown, with the replies of these calls, and how it ended; and, where nobody can go on, the next calls of those that have
+/// not finished.
 ///
 /// A turn goes to each script in order, to the device and to the compositor, round after round (the order is this
 /// project's own). In its turn an actor makes its next call, unless that has to wait; the device is asked for its next

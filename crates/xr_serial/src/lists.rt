@@ -113,7 +113,7 @@ fn waiting(alloc: Global, scenario: &Scenario, run: &Run) -> Result<Vec<Waiting>
     let mut next = Vec::new(alloc);
     add_apps(&mut next, scenario.scripts.as_slice(), run.apps.as_slice())?;
     add_next(&mut next, device_next(run.side.pending))?;
-    add_next(&mut next, compositor_next(&run.ended))?;
+    add_next(&mut next, compositor_next(&run.compositor.ended))?;
     Ok(next)
 }
 
@@ -137,14 +137,18 @@ pub(crate) fn lists(alloc: Global, scenario: &Scenario, run: Run) -> Result<List
     ensures { IfOk result (λ lists. lists ≡ lists_at scenario.now run) }
 {
     let next = waiting(alloc, scenario, &run)?;
-    let Run { apps, side, ended } = run;
+    let Run {
+        apps,
+        side,
+        compositor,
+    } = run;
     let apps = calls_of(alloc, apps)?;
     Ok(Lists {
         apps: Several::new(apps),
         device: Several::new(side.calls),
-        compositor: Several::new(Vec::new(alloc)),
-        ended,
-        shown: Several::new(Vec::new(alloc)),
+        compositor: Several::new(compositor.frames),
+        ended: compositor.ended,
+        shown: Several::new(compositor.replies),
         done: Several::new(Vec::new(alloc)),
         events: Several::new(side.events),
         next: Several::new(next),

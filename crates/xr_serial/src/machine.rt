@@ -2,6 +2,7 @@
 ghost use Rattle.std.specs.Prelude.{◌≡◌, ◌<◌, ◌≤◌, ◌^◌, ℕ, List, true, false, IfOk, length};
 ghost use Rattle.xr_types.specs.declared.limits.TheConstants.{MOST_SCRIPTS};
 ghost use Rattle.xr_types.specs.declared.calls.Actor.TheVariants.{App, Compositor};
+ghost use Rattle.xr_types.specs.Frames.{ShownFrame};
 ghost use Rattle.xr_model.specs.machine.Machine.{IsPresent, ready};
 ghost use Rattle.xr_model.specs.machine.CoreCalls.{MayAsk};
 ghost use Rattle.xr_model.specs.machine.Request.{request_of, next_frame};
@@ -17,18 +18,19 @@ use std::alloc::Global;
 use std::marker::Model;
 use xr_core::PlainCore;
 use xr_scenario_calls::{Names, Scratch, call_of};
-use xr_types::{Actor, Call, MOST_CAPACITY, NoMemory, Op};
+use xr_types::{Actor, Call, MOST_CAPACITY, NoMemory, Op, Shown};
 
 /// How many bytes a call of a script is lent at most: the largest `capacity` of the format.
 const MOST_LENT: usize = MOST_CAPACITY as usize;
 
-/// The core, with the room where the lists of a call stand while it is made and the buffer that it is lent, so that a
-/// turn that waits costs little. Contracts see it as the machine's state.
+/// The core, with the room where the lists of a call stand while it is made, and the buffer and the place of a frame that it is
+/// lent, so that a turn that waits costs little. Contracts see it as the machine's state.
 #[derive(Drop)]
 pub(crate) struct Machine {
     core: PlainCore,
     scratch: Scratch,
     buffer: [u8; MOST_LENT],
+    shown: Shown,
 }
 
 impl Model for Machine {
@@ -62,17 +64,31 @@ fn ask(
     names: &Names,
     scratch: &mut Scratch,
     buffer: &mut [u8],
+    shown: &mut Shown,
 ) -> Result<Option<Answered>, NoMemory>
     requires calls { core.old.core.locked < 2 ^ 44 }
     requires present { IsPresent core.old.core (App number) }
     requires ranged { IsInRange op.now }
     requires built { is_built_op op.now ≡ true }
     requires size { MOST_LENT ≤ length buffer.old }
-    ensures { IfOk result (λ answered. AnsweredOrWaits core.old core.new (App number) (request_for names.now op.now) answered) }
+    ensures { IfOk result (λ answered. AnsweredOrWaits core.old core.new (App number) (request_for names.now op.now) shown.new answered) }
 {
     let lent = &mut buffer[..lent_size(op) as usize];
     let call = call_of(op, names, scratch);
-    make(alloc, core, Actor::App(number), &call, lent)
+    make(alloc, core, Actor::App(number), &call, lent, shown)
+}
+
+/// Whether the call of an op has to wait, where that is seen at once: it awaits a mark that isn't set, or waits for a frame and
+/// is held back.
+#[tactic(auto, using(crate::proofs::Ops::held_back))]
+fn waits(core: &PlainCore, op: &Op, names: &Names) -> bool
+    ensures { (number : ℕ) → result ≡ true → ready core.now (asked (App number) (request_for names.now op.now)) ≡ false }
+{
+    match op {
+        Op::Await { mark } => core.await_waits(*mark),
+        Op::WaitFrame { session } => core.wait_frame_waits(names.value_of(*session)),
+        _ => false,
+    }
 }
 
 impl Machine {
@@ -87,10 +103,11 @@ impl Machine {
             core,
             scratch: Scratch::new(),
             buffer: [0; MOST_LENT],
+            shown: Shown::default(),
         })
     }
 
-    /// Makes a call that is lent nothing, or says by nothing that it has to wait.
+    /// Makes a call that is lent no buffer and shows no frame, or says by nothing that it has to wait.
     pub(crate) fn make(
         &mut self,
         alloc: Global,
@@ -101,9 +118,28 @@ impl Machine {
         requires asks { MayAsk who (request_of call.now) (lent_size (request_of call.now)) }
         requires present { IsPresent self.old.core who }
         requires size { lent_size (request_of call.now) ≡ 0 }
-        ensures { IfOk result (λ answered. AnsweredOrWaits self.old self.new who (request_of call.now) answered) }
+        ensures { (shown : ShownFrame) × IfOk result (λ answered. AnsweredOrWaits self.old self.new who (request_of call.now) shown answered) }
     {
-        make(alloc, &mut self.core, who, call, &mut [])
+        make(alloc, &mut self.core, who, call, &mut [], &mut self.shown)
+    }
+
+    /// Makes the compositor's call, or says by nothing that it has to wait. The frame that it shows is left in `shown`.
+    pub(crate) fn next_frame(
+        &mut self,
+        alloc: Global,
+        shown: &mut Shown,
+    ) -> Result<Option<Answered>, NoMemory>
+        requires calls { self.old.core.locked < 2 ^ 44 }
+        ensures { IfOk result (λ answered. AnsweredOrWaits self.old self.new Compositor next_frame shown.new answered) }
+    {
+        make(
+            alloc,
+            &mut self.core,
+            Actor::Compositor,
+            &Call::NextFrame,
+            &mut [],
+            shown,
+        )
     }
 
     /// Whether the compositor's next call has to wait.
@@ -113,8 +149,8 @@ impl Machine {
         self.core.next_frame_waits()
     }
 
-    /// Makes the call of an application's op, or says by nothing that it has to wait. A mark that isn't set is seen before the
-    /// call is made up, since a script may wait for many rounds.
+    /// Makes the call of an application's op, or says by nothing that it has to wait. A mark that isn't set and a frame that is
+    /// held back are seen before the call is made up, since a script may wait for many rounds.
     pub(crate) fn make_op(
         &mut self,
         alloc: Global,
@@ -126,18 +162,17 @@ impl Machine {
         requires present { IsPresent self.old.core (App number) }
         requires ranged { IsInRange op.now }
         requires built { is_built_op op.now ≡ true }
-        ensures { IfOk result (λ answered. AnsweredOrWaits self.old self.new (App number) (request_for names.now op.now) answered) }
+        ensures { (shown : ShownFrame) × IfOk result (λ answered. AnsweredOrWaits self.old self.new (App number) (request_for names.now op.now) shown answered) }
     {
         let Machine {
             core,
             scratch,
             buffer,
+            shown,
         } = self;
-        if let Op::Await { mark } = op {
-            if core.await_waits(*mark) {
-                return Ok(None);
-            }
+        if waits(core, op, names) {
+            return Ok(None);
         }
-        ask(alloc, core, number, op, names, scratch, buffer)
+        ask(alloc, core, number, op, names, scratch, buffer, shown)
     }
 }

@@ -7,24 +7,25 @@ ghost use Rattle.xr_model.specs.scenario.ScriptForm.{AllInForm};
 ghost use Rattle.xr_model.specs.machine.State.{opening};
 ghost use Rattle.xr_serial.specs.Ran.{settings_of};
 ghost use Rattle.xr_device.specs.Prospect.{Prospect};
-ghost use Rattle.xr_serial.specs.inside.Sides.{new_app, EndTurn};
+ghost use Rattle.xr_serial.specs.inside.Sides.{new_app};
 ghost use Rattle.xr_serial.specs.inside.Turns.{actors_of, turn_behind};
 ghost use Rattle.xr_serial.specs.inside.RunInvariant.{RunInvariant};
 
 use crate::application::Application;
+use crate::compositor::CompositorSide;
 use crate::machine::Machine;
 use crate::side::DeviceSide;
 use std::alloc::Global;
 use std::marker::Model;
 use xr_device::Device;
-use xr_types::{Actor, Call, NoMemory, Reply, Scenario, Script};
+use xr_types::{NoMemory, Scenario, Script};
 
-/// A run on its way: its applications, the device, and the reply that told the compositor the end.
+/// A run on its way: its applications, the device and the compositor.
 #[derive(Drop)]
 pub(crate) struct Run {
     pub(crate) apps: Vec<Application>,
     pub(crate) side: DeviceSide,
-    pub(crate) ended: Option<Reply>,
+    pub(crate) compositor: CompositorSide,
 }
 
 impl Model for Run {
@@ -32,7 +33,7 @@ impl Model for Run {
 
     ghost Value = { RunState };
 
-    ghost view = { λ run. record { apps = run.apps.items; side = run.side; ended = run.ended } };
+    ghost view = { λ run. record { apps = run.apps.items; side = run.side; compositor = run.compositor } };
 }
 
 /// The applications of these scripts before their first calls.
@@ -51,13 +52,13 @@ fn start_apps(alloc: Global, scripts: &[Script]) -> Result<Vec<Application>, NoM
 
 /// A run before its first call.
 pub(crate) fn start(alloc: Global, scenario: &Scenario) -> Result<Run, NoMemory>
-    ensures { IfOk result (λ run. run ≡ record { apps = map new_app scenario.now.scripts; side = record { pending = None; over = false; events = []; calls = [] }; ended = None }) }
+    ensures { IfOk result (λ run. run ≡ record { apps = map new_app scenario.now.scripts; side = record { pending = None; over = false; events = []; calls = [] }; compositor = record { frames = []; replies = []; ended = None } }) }
 {
     let apps = start_apps(alloc, scenario.scripts.as_slice())?;
     Ok(Run {
         apps,
         side: DeviceSide::new(alloc),
-        ended: None,
+        compositor: CompositorSide::new(alloc),
     })
 }
 
@@ -129,22 +130,6 @@ fn device_turn<D: Device>(
     Ok(went)
 }
 
-/// The compositor asks for a frame and is told the end, unless it has to wait; whether it was told.
-fn end(alloc: Global, machine: &mut Machine, ended: &mut Option<Reply>) -> Result<bool, NoMemory>
-    requires calls { machine.old.core.locked < 2 ^ 44 }
-    requires open { ended.old ≡ None }
-    ensures { IfOk result (λ went. EndTurn ended.new machine.old machine.new went) }
-{
-    if machine.next_frame_waits() {
-        return Ok(false);
-    }
-    let Some(answered) = machine.make(alloc, Actor::Compositor, &Call::NextFrame)? else {
-        return Ok(false);
-    };
-    *ended = Some(answered.reply);
-    Ok(true)
-}
-
 /// The compositor's turn; whether it made a call.
 fn compositor_turn(
     alloc: Global,
@@ -160,10 +145,10 @@ fn compositor_turn(
         → RunInvariant scenario.now (turn_behind (length scenario.now.scripts + 1) (actors_of scenario.now)) (if went then 0 else idle + 1) machine.new run.new start now) }
     ensures counts { IfOk result (λ went. machine.new.core.locked ≡ machine.old.core.locked + (if went then 1 else 0)) }
 {
-    if run.ended.is_some() {
+    if run.compositor.ended.is_some() {
         return Ok(false);
     }
-    let went = end(alloc, machine, &mut run.ended)?;
+    let went = run.compositor.take(alloc, machine)?;
     Ok(went)
 }
 

@@ -1,6 +1,7 @@
 pub mod Code
 pub mod Device
 pub mod Field
+pub mod Frames
 pub mod InputNames
 pub mod Name
 pub mod Op

@@ -4,6 +4,7 @@ ghost use Rattle.xr_types.specs.Printed.{blend_name, all_blends};
 
 use crate::Word;
 use arrayvec::ArrayVec;
+use std::marker::Model;
 
 /// How many layers a frame has at most (OpenXR 1.0 chapter 10).
 pub const MOST_LAYERS: usize = 16;
@@ -86,12 +87,30 @@ impl Default for ShownLayer {
 }
 
 /// A frame that the compositor shows: its number from 1, its predicted time in ns of device time, and
-/// its layers.
+/// its layers, which contracts see as a list.
 #[derive(Drop)]
 pub struct Shown {
     pub number: u64,
     pub time: i64,
     pub layers: ArrayVec<ShownLayer, MOST_LAYERS>,
+}
+
+impl Model for Shown {
+    ghost use Rattle.xr_types.specs.Frames.{ShownFrame};
+
+    ghost Value = { ShownFrame };
+
+    ghost view = { λ f. record { number = f.number; time = f.time; layers = f.layers.items } };
+}
+
+impl Default for Shown {
+    fn default() -> Shown {
+        Shown {
+            number: 0,
+            time: 0,
+            layers: ArrayVec::new(),
+        }
+    }
 }
 
 /// An image, by its chain's place from 0 and its index in the chain.
@@ -115,13 +134,21 @@ impl Default for FrameLayer {
 }
 
 /// A frame that was ended: its number from 1, its time in ns of device time, its layers, and the
-/// distinct images that they use in the order of first use.
+/// distinct images that they use in the order of first use. Contracts see layers and images as lists.
 #[derive(Drop)]
 pub struct Frame {
     pub number: u64,
     pub time: i64,
     pub layers: ArrayVec<FrameLayer, MOST_LAYERS>,
     pub images: ArrayVec<Image, MOST_LAYERS>,
+}
+
+impl Model for Frame {
+    ghost use Rattle.xr_types.specs.Frames.{PendingFrame};
+
+    ghost Value = { PendingFrame };
+
+    ghost view = { λ f. record { number = f.number; time = f.time; layers = f.layers.items; images = f.images.items } };
 }
 
 impl Default for Frame {

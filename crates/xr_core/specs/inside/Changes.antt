@@ -4,13 +4,14 @@ use Rattle.std.specs.List.{position_from}
 use Rattle.xr_types.specs.declared.code.Code.{Code}
 use Rattle.xr_types.specs.declared.device.Wish.{Wish}
 use Rattle.xr_types.specs.declared.session.SessionState.{SessionState}
+use Rattle.xr_model.specs.machine.Frames.{reset_loop}
 use Rattle.xr_model.specs.machine.Refusals.{Refusal, first_of, unless}
 use Rattle.xr_model.specs.machine.Request.{Request, begin_session, end_session, request_exit_session}
 use Rattle.xr_model.specs.machine.SessionLife.{Life, Changed, unchanged, settled_session, losing_session, lost_session, is_lost, begin_checks, begun_session, end_checks, ended_session, exit_checks, exiting_session}
 use Rattle.xr_model.specs.machine.PartAnswers.{code_by}
 use Rattle.xr_model.specs.machine.LiveSessions.{Session, session_at}
 use Rattle.xr_model.specs.machine.State.{CoreState}
-use Rattle.xr_model.specs.machine.Rules.Session.{life_of, with_change}
+use Rattle.xr_model.specs.machine.Rules.Session.{life_of, with_change, with_loop}
 use Rattle.xr_core.specs.declared.sessions.Change.{Change}
 use Rattle.xr_core.specs.declared.sessions.Change.TheVariants.{Settle, Loss, Lost}
 use Rattle.xr_core.specs.declared.sessions.LifeCall.{LifeCall}
@@ -57,6 +58,12 @@ answer_to call life = code_by (first_of (refusals_of call life))
 unfoldable pub changed_life : CoreState → ℕ → LifeCall → CoreState
 changed_life s session call =
     unless (first_of (refusals_of call (life_of s session))) s (with_change s (session_at s.sessions session) (change_of s.device.wish call))
+
+-- where the call begins or ends a running period, no frame is waited for or begun
+abbrev pub with_period : CoreState → LifeCall → CoreState
+with_period s (Begin view) = with_loop s (reset_loop s.frames.frame_loop)
+with_period s End = with_loop s (reset_loop s.frames.frame_loop)
+with_period s RequestExit = s
 
 abbrev pub ordinal_in : Option Session → ℕ
 ordinal_in None = 0

@@ -1,5 +1,7 @@
 -- The calls by groups: a group is a file of calls/, and one function of the core.
-use Rattle.xr_model.specs.machine.Request.{Request, create_instance, destroy_instance, get_system, poll_event, string_to_path, path_to_string, create_session, destroy_session, begin_session, end_session, request_exit_session, create_reference_space, destroy_space, locate_space, create_action_set, destroy_action_set, create_action, destroy_action, attach_sets, mark, await_mark, leave, next_frame}
+use Rattle.std.specs.Prelude.{◌≡◌, true}
+use Rattle.xr_model.specs.machine.Frames.{is_empty}
+use Rattle.xr_model.specs.machine.Request.{Request, create_instance, destroy_instance, get_system, poll_event, string_to_path, path_to_string, create_session, destroy_session, begin_session, end_session, request_exit_session, create_reference_space, destroy_space, locate_space, create_action_set, destroy_action_set, create_action, destroy_action, attach_sets, wait_frame, begin_frame, end_frame, mark, await_mark, leave}
 
 abbrev pub IsInstanceCall : Request → Type 0
 IsInstanceCall (create_instance major minor) = Unit {0}
@@ -35,10 +37,16 @@ IsSetCall (destroy_action action) = Unit {0}
 IsSetCall (attach_sets session sets) = Unit {0}
 IsSetCall _ = ⊥
 
--- marks, and how applications and the compositor end
+-- without layers so far
+abbrev pub IsFrameCall : Request → Type 0
+IsFrameCall (wait_frame session) = Unit {0}
+IsFrameCall (begin_frame session) = Unit {0}
+IsFrameCall (end_frame session time blend layers) = is_empty layers ≡ true
+IsFrameCall _ = ⊥
+
+-- marks, and how applications end
 abbrev pub IsOwnCall : Request → Type 0
 IsOwnCall (mark number value) = Unit {0}
 IsOwnCall (await_mark number) = Unit {0}
 IsOwnCall leave = Unit {0}
-IsOwnCall next_frame = Unit {0}
 IsOwnCall _ = ⊥

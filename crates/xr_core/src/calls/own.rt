@@ -1,14 +1,14 @@
 // The calls that are this project's own.
-ghost use Rattle.std.specs.Prelude.{◌≡◌, [], true};
+ghost use Rattle.std.specs.Prelude.{◌≡◌, true};
 ghost use Rattle.std.specs.List.{list_all};
 ghost use Rattle.xr_types.specs.Device.{is_mark};
 ghost use Rattle.xr_model.specs.machine.Marks.{mark_at, with_mark};
 ghost use Rattle.xr_model.specs.machine.Request as request;
-ghost use Rattle.xr_model.specs.machine.Request.{leave, next_frame, request_of};
+ghost use Rattle.xr_model.specs.machine.Request.{leave, request_of};
 ghost use Rattle.xr_model.specs.machine.Rule.{is_by};
 ghost use Rattle.xr_model.specs.machine.Machine.{IsPresent};
 ghost use Rattle.xr_model.specs.machine.CoreCalls.{asked};
-ghost use Rattle.xr_core.specs.inside.Deciding.{Decides, DecidesOver};
+ghost use Rattle.xr_core.specs.inside.Deciding.{Decides, DecidesBy};
 ghost use Rattle.xr_core.specs.inside.Groups.{IsOwnCall};
 
 use crate::halt::{Halt, done, giving};
@@ -21,7 +21,7 @@ impl Parts {
         requires present { IsPresent self.old who }
         requires caller { is_by (asked who (request_of call.now)).caller who ≡ true }
         requires numbers { (asked who (request_of call.now)).in_range ≡ true }
-        ensures { DecidesOver who self.old (request_of call.now) self.new result [] [] }
+        ensures { DecidesBy who self.old (request_of call.now) self.new result }
     {
         match call {
             Call::Mark { mark, value } => self.mark(*mark, *value),
@@ -30,7 +30,6 @@ impl Parts {
                 Actor::App(app) => self.leave(app),
                 Actor::Compositor | Actor::Device => unreachable!(),
             },
-            Call::NextFrame => self.next_frame(),
             _ => unreachable!(),
         }
     }
@@ -38,7 +37,7 @@ impl Parts {
     #[tactic(auto, using(crate::proofs::Start::left_set))]
     fn leave(&mut self, app: u8) -> Result<Reply, Halt>
         requires { IsPresent self.old (Actor.App app) }
-        ensures { DecidesOver (Actor.App app) self.old leave self.new result [] [] }
+        ensures { DecidesBy (Actor.App app) self.old leave self.new result }
     {
         let place = app as usize - 1;
         self.left[place] = true;
@@ -90,15 +89,5 @@ impl Parts {
             Some(value) => giving(Code::Success, Gives::Number(value)),
             None => Err(Halt::NotReady),
         }
-    }
-
-    /// Tells the end, or waits until every application has left. There are no frames.
-    fn next_frame(&mut self) -> Result<Reply, Halt>
-        ensures { Decides self.old next_frame self.new result }
-    {
-        if !self.all_left() {
-            return Err(Halt::NotReady);
-        }
-        giving(Code::Success, Gives::Ended)
     }
 }

@@ -2,7 +2,7 @@
 ghost use Rattle.std.specs.Prelude.{length};
 ghost use Rattle.xr_model.specs.machine.Request.{string_to_path, path_to_string, request_of};
 ghost use Rattle.xr_model.specs.machine.CoreCalls.{Fits, asked};
-ghost use Rattle.xr_core.specs.inside.Deciding.{Decides, DecidesOver};
+ghost use Rattle.xr_core.specs.inside.Deciding.{Decides, DecidesWriting};
 ghost use Rattle.xr_core.specs.inside.Groups.{IsPathCall};
 
 use crate::halt::{Halt, giving, refused};
@@ -21,7 +21,7 @@ impl Parts {
     ) -> Result<Reply, Halt>
         requires group { IsPathCall (request_of call.now) }
         requires buffer { Fits (asked who (request_of call.now)).lent (length out.old) }
-        ensures { DecidesOver who self.old (request_of call.now) self.new result out.old out.new }
+        ensures { DecidesWriting who self.old (request_of call.now) self.new result out.old out.new }
     {
         match call {
             Call::StringToPath { instance, text } => self.string_to_path(alloc, *instance, text),
@@ -46,7 +46,7 @@ impl Parts {
     }
 
     fn path_to_string(&mut self, instance: u64, path: u64, out: &mut [u8]) -> Result<Reply, Halt>
-        ensures { (who : Actor) → DecidesOver who self.old (path_to_string instance path (length out.old)) self.new result out.old out.new }
+        ensures { (who : Actor) → DecidesWriting who self.old (path_to_string instance path (length out.old)) self.new result out.old out.new }
     {
         self.live(Kind::Instance, instance)?;
         let answer = self.paths.text_of(path, out);

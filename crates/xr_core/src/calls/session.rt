@@ -7,7 +7,7 @@ ghost use Rattle.xr_model.specs.machine.Request.{create_session, destroy_session
 ghost use Rattle.xr_model.specs.machine.Rule.{refusals};
 ghost use Rattle.xr_model.specs.machine.SessionLife.{started_session};
 ghost use Rattle.xr_model.specs.machine.Rules.Session.{life_of, with_session, create_session_rule};
-ghost use Rattle.xr_core.specs.inside.Changes.{place_at, life_request, changed_life, answer_to};
+ghost use Rattle.xr_core.specs.inside.Changes.{place_at, life_request, changed_life, with_period, answer_to};
 ghost use Rattle.xr_core.specs.inside.Deciding.{Decides};
 ghost use Rattle.xr_core.specs.inside.Groups.{IsSessionCall};
 ghost use Rattle.xr_core.specs.inside.Refusing.{or_refused};
@@ -74,6 +74,7 @@ impl Parts {
         self.created += 1;
         let session = Session::create(handle, self.created, self.device.wish(), &mut self.events);
         self.sessions.push(session);
+        self.frames.renew();
         handle
     }
 
@@ -102,6 +103,16 @@ impl Parts {
         )
     }
 
+    /// A running period that begins or ends has no frame waited for or begun.
+    fn end_frames(&mut self, call: LifeCall)
+        ensures { self.new ≡ with_period self.old call }
+    {
+        match call {
+            LifeCall::Begin(_) | LifeCall::End => self.frames.reset(),
+            LifeCall::RequestExit => {}
+        }
+    }
+
     /// Begins a session, ends it, or asks for its end.
     fn change_life(&mut self, session: u64, call: LifeCall) -> Result<Reply, Halt>
         ensures { Decides self.old (life_request session call) self.new result }
@@ -114,6 +125,7 @@ impl Parts {
         if code != Code::Success {
             return refused(code);
         }
+        self.end_frames(call);
         done(success)
     }
 }

@@ -1,6 +1,6 @@
 -- What the core answers in turn: calls that were answered one after another are a legal history, and the
 -- answers are the machine's.
-use Rattle.std.specs.Prelude.{◌≡◌, ℕ, ℤ, false, List, [], ◌∷◌, ◌++◌}
+use Rattle.std.specs.Prelude.{◌≡◌, ℤ, false, List, [], ◌∷◌, ◌++◌}
 use Rattle.xr_types.specs.declared.calls.Actor.{Actor}
 use Rattle.xr_types.specs.declared.calls.Call.{Call}
 use Rattle.xr_types.specs.declared.calls.Reply.{Reply}
@@ -9,17 +9,17 @@ use Rattle.xr_types.specs.declared.calls.Step.TheVariants.{Done, NotReady}
 use Rattle.xr_model.specs.machine.Request.{Entry, request_of}
 use Rattle.xr_model.specs.machine.CoreCalls.{entry_of}
 use Rattle.xr_model.specs.machine.State.{State}
-use Rattle.xr_model.specs.machine.CoreCalls.{written_over}
+use Rattle.xr_model.specs.machine.CoreCalls.{Lent, left_in}
 use Rattle.xr_model.specs.machine.Machine.{step, ready}
 use Rattle.xr_model.specs.machine.CoreCalls.{Applies}
 use Rattle.xr_model.specs.machine.History.{after, clock_of, clocks_after, StartsAt, IsLegalFrom}
 
--- a call that was asked of the core: by whom, over which bytes, which it left, and what was answered
+-- a call that was asked of the core: by whom, what it was lent, how it left that, and what was answered
 pub record Asked : Type 0 where
   pub who : Actor
   pub call : Call
-  pub before : List ℕ
-  pub behind : List ℕ
+  pub before : Lent
+  pub behind : Lent
   pub answer : Step
 
 -- the clocks behind a call; one that has to wait leaves them
@@ -58,18 +58,18 @@ abbrev pub replies_from : State → List Entry → List Reply
 replies_from s [] = []
 replies_from s (e ∷ es) = (step s e).1.reply ∷ replies_from (step s e).0 es
 
--- A call left the machine's bytes at the front of what it was lent. One that has to wait isn't ready, and
--- left all as it was.
+-- A call left the machine's bytes at the front of the buffer that it was lent, and the machine's frame in its place. One that
+-- has to wait isn't ready, and left all as it was.
 abbrev pub Leaves : State → Asked → Step → Type 0
-Leaves s a (Done reply) = a.behind ≡ written_over (step s (entry_of a.who (request_of a.call) reply)).1.text a.before
+Leaves s a (Done reply) = a.behind ≡ left_in (step s (entry_of a.who (request_of a.call) reply)).1.text (step s (entry_of a.who (request_of a.call) reply)).1.shown a.before
 Leaves s a NotReady = (ready s (record { actor = a.who; request = request_of a.call; given = 0; short = false }) ≡ false) × (a.behind ≡ a.before)
 
 abbrev pub LeaveInTurn : State → List Asked → Type 0
 LeaveInTurn s [] = Unit {0}
 LeaveInTurn s (a ∷ asked) = Leaves s a a.answer × LeaveInTurn (after s (entry_if a.who a.call a.answer)) asked
 
--- Calls that are answered in turn are a legal history; what was answered and what was left in buffers is the
--- machine's.
+-- Calls that are answered in turn are a legal history; what was answered and what was left in what they were
+-- lent is the machine's.
 pub record AreHistory (s : State) (clocks : List ℤ) (asked : List Asked) (t : State) : Type 0 where
   pub legal : IsLegalFrom s clocks (entries_of asked)
   pub leads : t ≡ after s (entries_of asked)

@@ -3,8 +3,8 @@
 use Rattle.std.specs.Prelude.{zero, suc, ℕ, Bool, true, false, List, [], ◌∷◌, ◌++◌, flat_map, if◌then◌else◌}
 use Rattle.std.specs.List.{list_any}
 use Rattle.xr_types.specs.declared.code.Code.{Code}
-use Rattle.xr_types.specs.declared.code.Code.TheVariants.{Success, SessionLossPending, EventUnavailable, ValidationFailure, OutOfMemory, ApiVersionUnsupported, LimitReached, SizeInsufficient, HandleInvalid, SessionRunning, SessionNotRunning, SessionLost, SystemInvalid, PathInvalid, PathCountExceeded, PathFormatInvalid, PathUnsupported, SessionNotReady, SessionNotStopping, TimeInvalid, ReferenceSpaceUnsupported, FormFactorUnsupported, CallOrderInvalid, PoseInvalid, ViewConfigurationTypeUnsupported, NameDuplicated, NameInvalid, ActionsetsAlreadyAttached, LocalizedNameDuplicated, LocalizedNameInvalid}
-use Rattle.xr_model.specs.machine.Request.{Request, create_instance, destroy_instance, get_system, string_to_path, path_to_string, poll_event, create_session, destroy_session, begin_session, end_session, request_exit_session, create_reference_space, destroy_space, locate_space, create_action_set, destroy_action_set, create_action, destroy_action, suggest_bindings, attach_sets, mark, await_mark, leave, device, next_frame}
+use Rattle.xr_types.specs.declared.code.Code.TheVariants.{Success, SessionLossPending, EventUnavailable, FrameDiscarded, ValidationFailure, OutOfMemory, ApiVersionUnsupported, LimitReached, SizeInsufficient, HandleInvalid, SessionRunning, SessionNotRunning, SessionLost, SystemInvalid, PathInvalid, PathCountExceeded, PathFormatInvalid, PathUnsupported, SessionNotReady, SessionNotStopping, TimeInvalid, ReferenceSpaceUnsupported, FormFactorUnsupported, CallOrderInvalid, PoseInvalid, ViewConfigurationTypeUnsupported, NameDuplicated, NameInvalid, ActionsetsAlreadyAttached, LocalizedNameDuplicated, LocalizedNameInvalid, EnvironmentBlendModeUnsupported}
+use Rattle.xr_model.specs.machine.Request.{Request, create_instance, destroy_instance, get_system, string_to_path, path_to_string, poll_event, create_session, destroy_session, begin_session, end_session, request_exit_session, create_reference_space, destroy_space, locate_space, create_action_set, destroy_action_set, create_action, destroy_action, suggest_bindings, attach_sets, wait_frame, begin_frame, end_frame, mark, await_mark, leave, device, next_frame}
 
 -- ---- a row
 
@@ -34,6 +34,10 @@ storing refuses = record (plain refuses) { memory = true }
 -- a call on a session, whose success also tells of a pending loss
 abbrev pub on_session : List Refuses → Row
 on_session refuses = record (plain refuses) { succeeds = Success ∷ SessionLossPending ∷ [] }
+
+-- a call on a session that may also tell that a frame was discarded
+abbrev pub discarding : List Refuses → Row
+discarding refuses = record (on_session refuses) { succeeds = Success ∷ SessionLossPending ∷ FrameDiscarded ∷ [] }
 
 -- ---- the table
 
@@ -67,6 +71,11 @@ answers_of (suggest_bindings instance profile list) =
     ∷ each (HandleInvalid ∷ ActionsetsAlreadyAttached ∷ PathInvalid ∷ PathUnsupported ∷ []) ∷ [])
 answers_of (attach_sets session handles) =
     on_session (one HandleInvalid ∷ one SessionLost ∷ one ActionsetsAlreadyAttached ∷ one ValidationFailure ∷ each (HandleInvalid ∷ []) ∷ [])
+answers_of (wait_frame session) = on_session (one HandleInvalid ∷ one SessionLost ∷ one SessionNotRunning ∷ [])
+answers_of (begin_frame session) =
+    discarding (one HandleInvalid ∷ one SessionLost ∷ one SessionNotRunning ∷ one CallOrderInvalid ∷ [])
+answers_of (end_frame session time blend layers) =
+    on_session (one HandleInvalid ∷ one SessionLost ∷ one SessionNotRunning ∷ one CallOrderInvalid ∷ one TimeInvalid ∷ one EnvironmentBlendModeUnsupported ∷ [])
 answers_of (mark number value) = plain []
 answers_of (await_mark number) = plain []
 answers_of leave = plain []

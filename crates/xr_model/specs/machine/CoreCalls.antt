@@ -8,17 +8,33 @@ use Rattle.xr_types.specs.Code.{is_out_of_memory}
 use Rattle.xr_types.specs.declared.calls.Call.{Call}
 use Rattle.xr_types.specs.declared.calls.Step.{Step}
 use Rattle.xr_types.specs.declared.calls.Step.TheVariants.{Done, NotReady}
+use Rattle.xr_types.specs.Frames.{ShownFrame}
 use Rattle.xr_model.specs.machine.Device.{is_built_event}
+use Rattle.xr_model.specs.machine.Frames.{is_empty}
 use Rattle.xr_model.specs.machine.Rule.{Rule, is_by}
-use Rattle.xr_model.specs.machine.Request.{Request, create_instance, destroy_instance, get_system, string_to_path, path_to_string, poll_event, create_session, destroy_session, begin_session, end_session, request_exit_session, create_reference_space, destroy_space, locate_space, create_action_set, destroy_action_set, create_action, destroy_action, suggest_bindings, attach_sets, mark, await_mark, leave, device, next_frame, Entry, Outcome, request_of}
+use Rattle.xr_model.specs.machine.Request.{Request, create_instance, destroy_instance, get_system, string_to_path, path_to_string, poll_event, create_session, destroy_session, begin_session, end_session, request_exit_session, create_reference_space, destroy_space, locate_space, create_action_set, destroy_action_set, create_action, destroy_action, suggest_bindings, attach_sets, wait_frame, begin_frame, end_frame, mark, await_mark, leave, device, next_frame, Entry, Outcome, request_of}
 use Rattle.xr_model.specs.machine.State.{CoreState, State, CellReads, with_apps, opening_core}
 use Rattle.xr_model.specs.machine.Machine.{rule_of, step, ready, core_step, core_ready, IsPresent, IsAllowed, CoreAllows}
 
--- ---- entries and buffers
+-- ---- entries, and what calls are lent
 
 -- the bytes at the front of a buffer, and the rest of it as it was
 abbrev pub written_over : List ℕ → List ℕ → List ℕ
 written_over bytes buffer = bytes ++ drop (length bytes) buffer
+
+-- What a call is lent: a buffer for a text, and a place for a frame that is shown.
+pub record Lent : Type 0 where
+  pub text : List ℕ
+  pub frame : ShownFrame
+
+-- the place of a frame once this one is shown, or none
+abbrev pub shown_over : Option ShownFrame → ShownFrame → ShownFrame
+shown_over None before = before
+shown_over (Some frame) before = frame
+
+-- what was lent, once a call has written these bytes and shown this frame, or none
+abbrev pub left_in : List ℕ → Option ShownFrame → Lent → Lent
+left_in bytes shown lent = record { text = written_over bytes lent.text; frame = shown_over shown lent.frame }
 
 -- the handle that a reply gives, or 0
 abbrev pub given_by : Gives → ℕ
@@ -53,6 +69,9 @@ is_built (create_action set name kind subs localized) = true
 is_built (destroy_action action) = true
 is_built (suggest_bindings instance profile list) = true
 is_built (attach_sets session handles) = true
+is_built (wait_frame session) = true
+is_built (begin_frame session) = true
+is_built (end_frame session time blend layers) = is_empty layers
 is_built (mark number value) = true
 is_built (await_mark number) = true
 is_built leave = true
@@ -88,38 +107,39 @@ pub record MayMake (s : CoreState) (who : Actor) (what : Request) (size : ℕ) :
 
 -- ---- what is answered, and to which state it leads
 
--- A reply and the bytes over a buffer are the outcome of an entry that is allowed and ready, and new is what it leads to.
-pub record AnswersBy {S : Type 0} (allows : Type 0) (readiness : Bool) (led : S × Outcome) (new : S) (answer : Reply) (before after : List ℕ) : Type 0 where
+-- A reply and what is put into what the call is lent are the outcome of an entry that is allowed and ready, and new is what it
+-- leads to.
+pub record AnswersBy {S : Type 0} (allows : Type 0) (readiness : Bool) (led : S × Outcome) (new : S) (answer : Reply) (before after : Lent) : Type 0 where
   pub allowed : allows
   pub is_ready : readiness ≡ true
   pub leads : new ≡ led.0
   pub replies : answer ≡ led.1.reply
-  pub writes : after ≡ written_over led.1.text before
+  pub writes : after ≡ left_in led.1.text led.1.shown before
 
 -- a call that isn't made leaves all as it was
-pub record WaitsBy {S : Type 0} (readiness : Bool) (old new : S) (before after : List ℕ) : Type 0 where
+pub record WaitsBy {S : Type 0} (readiness : Bool) (old new : S) (before after : Lent) : Type 0 where
   pub not_ready : readiness ≡ false
   pub same : new ≡ old
   pub unwritten : after ≡ before
 
 -- of what a core keeps, where the cells tell so much
-abbrev pub CoreAnswers : CellReads → CoreState → Entry → CoreState → Reply → List ℕ → List ℕ → Type 0
+abbrev pub CoreAnswers : CellReads → CoreState → Entry → CoreState → Reply → Lent → Lent → Type 0
 CoreAnswers reads old e new answer before after = AnswersBy (CoreAllows old reads e) (core_ready old reads e) (core_step old reads e) new answer before after
 
-abbrev pub CoreWaits : CellReads → CoreState → Entry → CoreState → List ℕ → List ℕ → Type 0
+abbrev pub CoreWaits : CellReads → CoreState → Entry → CoreState → Lent → Lent → Type 0
 CoreWaits reads old e new before after = WaitsBy (core_ready old reads e) old new before after
 
-abbrev pub CoreApplies : CellReads → CoreState → CoreState → Actor → Call → List ℕ → List ℕ → Step → Type 0
+abbrev pub CoreApplies : CellReads → CoreState → CoreState → Actor → Call → Lent → Lent → Step → Type 0
 CoreApplies reads old new who call before after (Done answer) = CoreAnswers reads old (entry_of who (request_of call) answer) new answer before after
 CoreApplies reads old new who call before after NotReady = (given : ℕ) (short : Bool) → CoreWaits reads old (record { actor = who; request = request_of call; given = given; short = short }) new before after
 
 -- the same of whole states, whose cells tell it
-abbrev pub Answers : State → Entry → State → Reply → List ℕ → List ℕ → Type 0
+abbrev pub Answers : State → Entry → State → Reply → Lent → Lent → Type 0
 Answers old e new answer before after = AnswersBy (IsAllowed old e) (ready old e) (step old e) new answer before after
 
-abbrev pub Waits : State → Entry → State → List ℕ → List ℕ → Type 0
+abbrev pub Waits : State → Entry → State → Lent → Lent → Type 0
 Waits old e new before after = WaitsBy (ready old e) old new before after
 
-abbrev pub Applies : State → State → Actor → Call → List ℕ → List ℕ → Step → Type 0
+abbrev pub Applies : State → State → Actor → Call → Lent → Lent → Step → Type 0
 Applies old new who call before after (Done answer) = Answers old (entry_of who (request_of call) answer) new answer before after
 Applies old new who call before after NotReady = (given : ℕ) (short : Bool) → Waits old (record { actor = who; request = request_of call; given = given; short = short }) new before after

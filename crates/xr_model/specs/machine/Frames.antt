@@ -1,10 +1,9 @@
 -- The frame loop of a session and the frames that wait for the compositor (OpenXR 1.0 chapter 10, "Frame Synchronization" and
--- "Frame Submission"). Predicted times are this project's own. No call of the machine has them yet.
-use Rattle.std.specs.Prelude.{◌+ℤ◌, ◌-ℤ◌, int_lt, nat_abs, ◌-◌, ◌%◌, ◌^◌, pos, ℕ, ℤ, ◌+◌, nat_lt, Bool, true, false, List, [], length, if◌then◌else◌}
+-- "Frame Submission"). Predicted times are this project's own.
+use Rattle.std.specs.Prelude.{◌+ℤ◌, ◌-ℤ◌, int_lt, nat_abs, ◌-◌, ◌%◌, ◌^◌, pos, ℕ, ℤ, ◌+◌, nat_lt, Bool, true, false, List, [], ◌∷◌, length, if◌then◌else◌}
 use Rattle.xr_types.specs.declared.code.Code.{Code}
 use Rattle.xr_types.specs.declared.code.Code.TheVariants.{Success, FrameDiscarded}
-use Rattle.xr_types.specs.declared.frames.FrameLayer.{FrameLayer}
-use Rattle.xr_types.specs.declared.frames.Image.{Image}
+use Rattle.xr_types.specs.Frames.{PendingFrame}
 
 -- The time in ns that was predicted last, 0 before the first; whether a frame is waited for and not begun; and
 -- whether one is begun and not ended.
@@ -12,13 +11,6 @@ pub record FrameLoop : Type 0 where
   pub predicted : ℤ
   pub has_waited : Bool
   pub has_begun : Bool
-
--- a frame that was ended: its number from 1, its time, its layers, and the distinct images that they use
-pub record PendingFrame : Type 0 where
-  pub number : ℕ
-  pub time : ℤ
-  pub layers : List FrameLayer
-  pub images : List Image
 
 -- the loop of the live session, and the frames that were ended and not taken, the oldest first
 pub record Frames : Type 0 where
@@ -74,7 +66,7 @@ waited_loop l time = record l { predicted = time; has_waited = true }
 abbrev pub begun_loop : FrameLoop → FrameLoop
 begun_loop l = record l { has_waited = false; has_begun = true }
 
--- which is told
+-- what a begin tells: that another frame was discarded, or plain success
 abbrev pub begun_code : FrameLoop → Code
 begun_code l = if l.has_begun then FrameDiscarded else Success
 
@@ -84,3 +76,7 @@ ended_loop l = record l { has_begun = false }
 -- a wait has to wait while a frame is waited for, and while more than two frames are pending or begun
 abbrev pub is_frame_held_back : Frames → Bool
 is_frame_held_back f = if f.frame_loop.has_waited then true else nat_lt 2 (length f.pending + one_if f.frame_loop.has_begun)
+
+abbrev pub is_empty : {T : Type 0} → List T → Bool
+is_empty [] = true
+is_empty (x ∷ xs) = false

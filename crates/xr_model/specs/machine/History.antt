@@ -1,7 +1,8 @@
 -- Histories: the state after one, legal ones, the outcomes of their entries, and each actor's calls.
-use Rattle.std.specs.Prelude.{◌≡◌, ◌-◌, ℤ, pos, IsTrue, List, [], ◌∷◌, replicate, slice_get, slice_set, unwrap_or, if◌then◌else◌}
+use Rattle.std.specs.Prelude.{◌≡◌, ◌-◌, ℤ, pos, IsTrue, List, [], ◌∷◌, Option, Some, None, replicate, slice_get, slice_set, unwrap_or, if◌then◌else◌}
 use Rattle.xr_types.specs.declared.calls.Actor.{Actor}
 use Rattle.xr_types.specs.declared.calls.Actor.TheVariants.{App, Compositor, Device}
+use Rattle.xr_types.specs.Frames.{ShownFrame}
 use Rattle.xr_model.specs.machine.Request.{Request, wait_image, Entry, Exchange, is_actor, is_locked}
 use Rattle.xr_model.specs.machine.State.{Settings, State, opening}
 use Rattle.xr_model.specs.machine.Machine.{IsAllowed, ready, step}
@@ -46,6 +47,11 @@ abbrev pub IsLegal : Settings → List Entry → Type 0
 IsLegal settings history = IsLegalFrom (opening settings) (opening_clocks settings) history
 
 -- ---- what was answered
+
+-- the frame that a call shows, if it shows one
+abbrev pub shown_if : Option ShownFrame → List ShownFrame
+shown_if None = []
+shown_if (Some f) = f ∷ []
 
 -- the calls that an actor makes in a history, each with what it came to
 abbrev pub calls_from : State → Actor → List Entry → List Exchange

@@ -3,7 +3,7 @@ use Rattle.std.specs.Prelude.{◌≡◌, ◌≢◌, ◌≤◌, ◌-◌, ℕ, [],
 use Rattle.xr_types.specs.declared.calls.Actor.{Actor}
 use Rattle.xr_types.specs.declared.calls.Actor.TheVariants.{App, Compositor, Device}
 use Rattle.xr_types.specs.Code.{is_success}
-use Rattle.xr_model.specs.machine.Request.{Request, create_instance, destroy_instance, get_system, string_to_path, path_to_string, poll_event, create_session, destroy_session, begin_session, end_session, request_exit_session, create_reference_space, destroy_space, locate_space, create_action_set, destroy_action_set, create_action, destroy_action, suggest_bindings, attach_sets, mark, await_mark, leave, device, next_frame, Entry, Outcome}
+use Rattle.xr_model.specs.machine.Request.{Request, create_instance, destroy_instance, get_system, string_to_path, path_to_string, poll_event, create_session, destroy_session, begin_session, end_session, request_exit_session, create_reference_space, destroy_space, locate_space, create_action_set, destroy_action_set, create_action, destroy_action, suggest_bindings, attach_sets, wait_frame, begin_frame, end_frame, mark, await_mark, leave, device, next_frame, Entry, Outcome}
 use Rattle.xr_model.specs.machine.Handles.{Handles, was_given}
 use Rattle.xr_model.specs.machine.Refusals.{first_of}
 use Rattle.xr_model.specs.machine.State.{CoreState, Cells, State, CellReads}
@@ -15,7 +15,8 @@ use Rattle.xr_model.specs.machine.Rules.Sets.{create_action_set_rule, destroy_ac
 use Rattle.xr_model.specs.machine.Rules.Bindings.{suggest_bindings_rule}
 use Rattle.xr_model.specs.machine.Rules.Device.{device_rule}
 use Rattle.xr_model.specs.machine.Rules.Paths.{string_to_path_rule, path_to_string_rule}
-use Rattle.xr_model.specs.machine.Rules.Own.{leave_rule, mark_rule, await_mark_rule, next_frame_rule, no_rule}
+use Rattle.xr_model.specs.machine.Rules.Own.{leave_rule, mark_rule, await_mark_rule, no_rule}
+use Rattle.xr_model.specs.machine.Rules.Frames.{wait_frame_rule, begin_frame_rule, end_frame_rule, next_frame_rule}
 
 -- the rule of a call
 abbrev pub rule_of : CoreState → CellReads → Actor → ℕ → Request → Rule
@@ -39,6 +40,9 @@ rule_of s reads who given (create_action set name kind subs localized) = create_
 rule_of s reads who given (destroy_action action) = destroy_action_rule s action
 rule_of s reads who given (suggest_bindings instance profile list) = suggest_bindings_rule s instance profile list
 rule_of s reads who given (attach_sets session handles) = attach_sets_rule s session handles
+rule_of s reads who given (wait_frame session) = wait_frame_rule s session
+rule_of s reads who given (begin_frame session) = begin_frame_rule s session
+rule_of s reads who given (end_frame session time blend layers) = end_frame_rule s session time blend layers
 rule_of s reads who given (mark number value) = mark_rule s number value
 rule_of s reads who given (await_mark number) = await_mark_rule s number
 rule_of s reads who given leave = leave_rule s who

@@ -8,13 +8,13 @@ use Rattle.xr_types.specs.declared.calls.Reply.{Reply}
 use Rattle.xr_types.specs.declared.device.DeviceEvent.{DeviceEvent}
 use Rattle.xr_types.specs.declared.frames.Blend.{Blend}
 use Rattle.xr_types.specs.declared.frames.Layer.{Layer}
-use Rattle.xr_types.specs.declared.frames.ShownLayer.{ShownLayer}
 use Rattle.xr_types.specs.declared.input.ActionType.{ActionType}
 use Rattle.xr_types.specs.declared.input.ActiveSet.{ActiveSet}
 use Rattle.xr_types.specs.declared.input.Binding.{Binding}
 use Rattle.xr_types.specs.declared.session.Form.{Form}
 use Rattle.xr_types.specs.declared.session.ViewConfig.{ViewConfig}
 use Rattle.xr_types.specs.declared.spaces.RefKind.{RefKind}
+use Rattle.xr_types.specs.Frames.{ShownFrame}
 
 pub data Request : Type 0 where
   create_instance : ℕ → ℕ → Request  -- major, minor
@@ -116,12 +116,6 @@ is_actor (App j) (App k) = j == k
 is_actor Compositor Compositor = true
 is_actor Device Device = true
 is_actor _ _ = false
-
--- A frame that the compositor shows: its number from 1, its time in ns of device time, and its layers.
-pub record ShownFrame : Type 0 where
-  pub number : ℕ
-  pub time : ℤ
-  pub layers : List ShownLayer
 
 -- What a call came to: its reply, the bytes put into the buffer that it was lent, and the frame that it shows.
 pub record Outcome : Type 0 where

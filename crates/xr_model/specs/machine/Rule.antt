@@ -7,7 +7,8 @@ use Rattle.xr_types.specs.declared.code.Code.TheVariants.{Success, CallOrderInva
 use Rattle.xr_types.specs.declared.calls.Gives.{Gives}
 use Rattle.xr_types.specs.declared.calls.Gives.TheVariants.{Nothing}
 use Rattle.xr_types.specs.declared.handles.Kind.{Kind}
-use Rattle.xr_model.specs.machine.Request.{Request, ShownFrame, Outcome, is_locked}
+use Rattle.xr_types.specs.Frames.{ShownFrame}
+use Rattle.xr_model.specs.machine.Request.{Request, Outcome, is_locked}
 use Rattle.xr_model.specs.machine.Refusals.{Refusal, when, first_of}
 use Rattle.xr_model.specs.machine.SessionRule.{Loss, code_on, losses}
 use Rattle.xr_model.specs.machine.State.{CoreState}

@@ -7,3 +7,4 @@ pub mod Spaces
 pub mod Device
 pub mod Paths
 pub mod Own
+pub mod Frames

@@ -6,6 +6,7 @@ use Rattle.xr_types.specs.declared.input.Bound.{Bound}
 use Rattle.xr_model.specs.machine.Handles.{Handles, no_handles}
 use Rattle.xr_model.specs.machine.Bindings.{no_suggestions}
 use Rattle.xr_model.specs.machine.Events.{Queue, no_events}
+use Rattle.xr_model.specs.machine.Frames.{Frames, no_frames}
 use Rattle.xr_model.specs.machine.LiveSessions.{Session}
 use Rattle.xr_model.specs.machine.Marks.{no_marks}
 use Rattle.xr_model.specs.machine.Sets.{Sets, no_sets}
@@ -14,8 +15,9 @@ use Rattle.xr_model.specs.machine.Device.{Device, first_device}
 
 -- What a core keeps: the handles, the atoms' texts, the events that wait, the live sessions in the order of their
 -- creation, how many were created in the run, the action sets with their actions, what is suggested for each profile, the
--- spaces with the samples of their origins, what the device has told of itself, the marks, how many applications there are,
--- which of them have left, and how many locked calls were decided.
+-- spaces with the samples of their origins, the loop of frames and those that are pending, how many frames were ended in
+-- the run, what the device has told of itself, the marks, how many applications there are, which of them have left, and
+-- how many locked calls were decided.
 pub record CoreState : Type 0 where
   pub handles : Handles
   pub atoms : List (List ℕ)
@@ -25,6 +27,8 @@ pub record CoreState : Type 0 where
   pub sets : Sets
   pub suggestions : List (List Bound)
   pub spaces : Spaces
+  pub frames : Frames
+  pub ended : ℕ
   pub device : Device
   pub marks : List (Option ℕ)
   pub apps : ℕ
@@ -67,6 +71,8 @@ opening_core settings = record {
   sets = no_sets;
   suggestions = no_suggestions;
   spaces = no_spaces;
+  frames = no_frames;
+  ended = 0;
   device = first_device;
   marks = no_marks;
   apps = settings.apps;

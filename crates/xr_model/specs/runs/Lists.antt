@@ -1,4 +1,4 @@
--- What a history made: each application's calls with their replies, and how the compositor ended.
+-- What a history made: each application's calls with their replies, the frames that were shown, and how the compositor ended.
 use Rattle.std.specs.Prelude.{zero, suc, ℕ, ℤ, pos, ◌+◌, List, [], ◌∷◌, ◌++◌, map, Option, Some, None, if◌then◌else◌}
 use Rattle.xr_types.specs.declared.calls.Actor.TheVariants.{App, Compositor, Device}
 use Rattle.xr_types.specs.declared.calls.Reply.{Reply}
@@ -10,8 +10,9 @@ use Rattle.xr_types.specs.declared.device.DeviceEvent.TheVariants as event
 use Rattle.xr_types.specs.declared.names.CallName.{CallName}
 use Rattle.xr_types.specs.declared.names.CallName.TheVariants as call
 use Rattle.xr_model.specs.machine.Request.{Request, create_instance, destroy_instance, get_system, string_to_path, path_to_string, poll_event, create_session, destroy_session, begin_session, end_session, request_exit_session, create_reference_space, create_action_space, destroy_space, locate_space, create_action_set, destroy_action_set, create_action, destroy_action, suggest_bindings, attach_sets, sync_actions, get_boolean, get_float, get_vector, get_pose_active, create_swapchain, destroy_swapchain, acquire_image, wait_image, paint, release_image, wait_frame, begin_frame, end_frame, mark, await_mark, leave, device, next_frame, image_done, Entry, Exchange}
+use Rattle.xr_types.specs.Frames.{ShownFrame}
 use Rattle.xr_model.specs.machine.State.{Settings}
-use Rattle.xr_model.specs.machine.History.{calls_of}
+use Rattle.xr_model.specs.machine.History.{shown_if, calls_of}
 use Rattle.xr_model.specs.runs.Robin.{Agenda, script, events, compositor, next_call, in_round, is_ended}
 
 abbrev pub name_of : Request → CallName
@@ -86,6 +87,19 @@ abbrev pub end_of : List Exchange → Option Reply
 end_of [] = None
 end_of (t ∷ ts) = if is_ended t.outcome.reply.gives then Some t.outcome.reply else end_of ts
 
+-- the frames that the compositor's calls show, and the replies of these calls
+abbrev pub frames_in : List Exchange → List ShownFrame
+frames_in [] = []
+frames_in (t ∷ ts) = shown_if t.outcome.shown ++ frames_in ts
+
+abbrev pub reply_if_shown : Option ShownFrame → Reply → List Reply
+reply_if_shown None reply = []
+reply_if_shown (Some frame) reply = reply ∷ []
+
+abbrev pub replies_in : List Exchange → List Reply
+replies_in [] = []
+replies_in (t ∷ ts) = reply_if_shown t.outcome.shown t.outcome.reply ++ replies_in ts
+
 -- the events of the device's calls
 abbrev pub event_in : Request → List DeviceEvent
 event_in (device what) = what ∷ []
@@ -105,14 +119,14 @@ waiting_of (script app place ops values clock) = record { actor = App app; op = 
 waiting_of (events e es) = record { actor = Device; op = mark_awaited e; name = call.Await }
 waiting_of compositor = record { actor = Compositor; op = 0; name = call.NextFrame }
 
--- The lists of a history in which no frame is taken, and behind which these actors can't go on.
+-- The lists of a history in which no image is given back, and behind which these actors can't go on.
 abbrev pub lists_of : Settings → List Entry → List Agenda → Lists
 lists_of settings history left = record {
   apps = lists_to settings settings.apps history;
   device = made_from 1 (calls_of settings Device history);
-  compositor = [];
+  compositor = frames_in (calls_of settings Compositor history);
   ended = end_of (calls_of settings Compositor history);
-  shown = [];
+  shown = replies_in (calls_of settings Compositor history);
   done = [];
   events = events_in (calls_of settings Device history);
   next = map waiting_of (in_round settings.apps left);

@@ -6,6 +6,7 @@ use Rattle.xr_types.specs.declared.scenario.Op.TheVariants as op
 use Rattle.xr_types.specs.declared.scenario.Scenario.{Scenario}
 use Rattle.xr_types.specs.declared.status.Refusal.{Refusal}
 use Rattle.xr_types.specs.declared.status.Refusal.TheVariants.{Unbuilt}
+use Rattle.xr_model.specs.machine.Frames.{is_empty}
 use Rattle.xr_model.specs.scenario.Scenario.{scenario_of}
 
 abbrev pub is_built_op : Op → Bool
@@ -29,6 +30,9 @@ is_built_op (op.CreateAction set called kind subactions localized) = true
 is_built_op (op.DestroyAction action) = true
 is_built_op (op.SuggestBindings instance profile bindings) = true
 is_built_op (op.AttachSets session sets) = true
+is_built_op (op.WaitFrame session) = true
+is_built_op (op.BeginFrame session) = true
+is_built_op (op.EndFrame session time blend layers) = is_empty layers
 is_built_op (op.Mark number value) = true
 is_built_op (op.Await number) = true
 is_built_op _ = false

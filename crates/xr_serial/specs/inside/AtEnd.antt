@@ -32,15 +32,15 @@ apps_next number _ _ = []
 
 -- of all that haven't finished, in the order of a round
 abbrev pub next_calls : Scenario → RunState → List Waiting
-next_calls scenario run = apps_next 1 scenario.scripts run.apps ++ map waiting_of (device_part run.side.pending []) ++ map waiting_of (compositor_part run.ended)
+next_calls scenario run = apps_next 1 scenario.scripts run.apps ++ map waiting_of (device_part run.side.pending []) ++ map waiting_of (compositor_part run.compositor.ended)
 
 abbrev pub lists_at : Scenario → RunState → Lists
 lists_at scenario run = record {
   apps = map (λ app. app.calls) run.apps;
   device = run.side.calls;
-  compositor = [];
-  ended = run.ended;
-  shown = [];
+  compositor = run.compositor.frames;
+  ended = run.compositor.ended;
+  shown = run.compositor.replies;
   done = [];
   events = run.side.events;
   next = next_calls scenario run;

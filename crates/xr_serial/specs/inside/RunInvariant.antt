@@ -1,24 +1,24 @@
 -- What the loop of a run keeps from turn to turn.
-use Rattle.std.specs.Prelude.{◌≡◌, ◌≤◌, ◌<◌, ℕ, ℤ, ◌+◌, ◌-◌, Bool, true, false, List, [], ◌∷◌, ◌++◌, length, drop, map, Option, Some, None, IfSome, is_some, slice_index_or, if◌then◌else◌}
+use Rattle.std.specs.Prelude.{◌≡◌, ◌≤◌, ◌<◌, ℕ, ℤ, ◌+◌, ◌*◌, ◌-◌, Bool, true, false, List, [], ◌∷◌, ◌++◌, length, drop, map, Option, Some, None, IfSome, is_some, slice_index_or, if◌then◌else◌}
 use Rattle.std.specs.List.{list_any, sum_by}
 use Rattle.xr_types.specs.declared.calls.Actor.{Actor}
 use Rattle.xr_types.specs.declared.calls.Actor.TheVariants.{App, Compositor, Device}
-use Rattle.xr_types.specs.declared.calls.Gives.TheVariants.{Ended}
+use Rattle.xr_types.specs.declared.calls.Gives.TheVariants.{Ended, Shown}
 use Rattle.xr_types.specs.declared.calls.Reply.{Reply}
 use Rattle.xr_types.specs.declared.device.DeviceEvent.{DeviceEvent}
 use Rattle.xr_types.specs.declared.scenario.Op.{Op}
 use Rattle.xr_types.specs.declared.scenario.Scenario.{Scenario}
 use Rattle.xr_io.specs.Outside.{Rose}
 use Rattle.xr_model.specs.machine.Request as request
-use Rattle.xr_model.specs.machine.Request.{next_frame}
+use Rattle.xr_model.specs.machine.Request.{Outcome, next_frame}
 use Rattle.xr_model.specs.machine.State.{State}
 use Rattle.xr_model.specs.runs.Scripts.{FollowsFrom, Follows, FollowsSoFarFrom, FollowsSoFar}
 use Rattle.xr_model.specs.device_text.DeviceText.{DeviceStream, Ending}
 use Rattle.xr_model.specs.runs.Robin.{last_event}
 use Rattle.xr_model.specs.report.RunEnding.{is_fault}
-use Rattle.xr_model.specs.runs.Lists.{made_from, events_in}
+use Rattle.xr_model.specs.runs.Lists.{made_from, frames_in, replies_in, events_in}
 use Rattle.xr_serial.specs.inside.Made.{exchange_of}
-use Rattle.xr_serial.specs.inside.RunState.{AppState, SideState, RunState}
+use Rattle.xr_serial.specs.inside.RunState.{AppState, SideState, CompositorState, RunState}
 use Rattle.xr_device.specs.Prospect.{Prospect}
 use Rattle.xr_serial.specs.inside.Sides.{IsDone}
 use Rattle.xr_serial.specs.inside.Turns.{parts_of, pending_list}
@@ -82,15 +82,29 @@ pub record DeviceKept (side : SideState) (calls : List request.Exchange) (start 
 
 -- ---- the compositor
 
+-- these calls were each shown a frame
+abbrev pub WereShown : List request.Exchange → Type 0
+WereShown [] = Unit {0}
+WereShown (t ∷ ts) = (t.request ≡ next_frame) × (t.outcome.reply.gives ≡ Shown) × WereShown ts
+
+-- none of its calls was told the end, or the last was
 abbrev pub EndKept : Option Reply → List request.Exchange → Type 0
-EndKept None calls = calls ≡ []
-EndKept (Some reply) calls = (calls ≡ exchange_of next_frame reply [] ∷ []) × (reply.gives ≡ Ended)
+EndKept None calls = WereShown calls
+EndKept (Some reply) calls =
+    (front : List request.Exchange) × (last : Outcome) × (calls ≡ front ++ exchange_of next_frame last ∷ []) × WereShown front × (last.reply ≡ reply) × (reply.gives ≡ Ended)
+
+-- its frames and their replies are those of its calls
+pub record CompositorKept (c : CompositorState) (calls : List request.Exchange) : Type 0 where
+  pub frames_are : c.frames ≡ frames_in calls
+  pub replies_are : c.replies ≡ replies_in calls
+  pub end : EndKept c.ended calls
 
 -- ---- all
 
--- how many calls of an application are still to come, `leave` among them
+-- How many calls an application still brings at most, `leave` among them: each op its own call, and the compositor's of the frame
+-- that it may end.
 abbrev pub app_work : List Op → AppState → ℕ
-app_work ops app = (length ops - app.made) + (if app.has_left then 0 else 1)
+app_work ops app = 2 * (length ops - app.made) + (if app.has_left then 0 else 1)
 
 abbrev pub apps_work : List (List Op) → List AppState → ℕ
 apps_work (ops ∷ scripts) (app ∷ apps) = app_work ops app + apps_work scripts apps
@@ -105,15 +119,16 @@ end_work ended = if is_some ended then 0 else 1
 
 -- how many calls a run has at most
 abbrev pub most_calls : List (List Op) → ℕ
-most_calls scripts = sum_by length scripts + length scripts + 16777218
+most_calls scripts = 2 * sum_by length scripts + length scripts + 16777218
 
--- What a turn that makes no call keeps whole: what each actor has made, and how many calls are still to come at most.
+-- What a turn that makes no call keeps whole: what each actor has made, and how many calls are still to come at most, one for
+-- each pending frame among them.
 pub record RunKept (scenario : Scenario) (s : State) (run : RunState) (clocks : List ℤ) (calls : Actor → List request.Exchange) (start now : Prospect) : Type 0 where
   pub apps : AppsKept scenario.scripts s run.apps clocks calls
   pub device : DeviceKept run.side (calls Device) start now
-  pub end : EndKept run.ended (calls Compositor)
+  pub compositor : CompositorKept run.compositor (calls Compositor)
   pub counted : length run.side.calls ≤ s.core.locked
-  pub work : s.core.locked + (apps_work scenario.scripts run.apps + side_work run.side now.bound + end_work run.ended) ≤ most_calls scenario.scripts
+  pub work : s.core.locked + (apps_work scenario.scripts run.apps + side_work run.side now.bound + end_work run.compositor.ended + length s.core.frames.pending) ≤ most_calls scenario.scripts
 
 -- the events of the calls that the device has made, and what it has told beside them
 abbrev pub events_told : SideState → List request.Exchange → List DeviceEvent

@@ -3,6 +3,7 @@ use Rattle.std.specs.Prelude.{ℕ, Bool, List, Option}
 use Rattle.xr_types.specs.declared.calls.Reply.{Reply}
 use Rattle.xr_types.specs.declared.device.DeviceEvent.{DeviceEvent}
 use Rattle.xr_types.specs.declared.made.Made.{Made}
+use Rattle.xr_types.specs.Frames.{ShownFrame}
 
 -- An application: how many ops of its script were made, what its names stand for, its calls, and whether it has left.
 pub record AppState : Type 0 where
@@ -19,8 +20,14 @@ pub record SideState : Type 0 where
   pub events : List DeviceEvent
   pub calls : List Made
 
--- all actors; of the compositor the reply that told it the end
+-- The compositor: the frames that it was shown with the replies of these calls, and the reply that told it the end.
+pub record CompositorState : Type 0 where
+  pub frames : List ShownFrame
+  pub replies : List Reply
+  pub ended : Option Reply
+
+-- all actors
 pub record RunState : Type 0 where
   pub apps : List AppState
   pub side : SideState
-  pub ended : Option Reply
+  pub compositor : CompositorState

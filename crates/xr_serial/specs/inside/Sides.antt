@@ -10,16 +10,17 @@ use Rattle.xr_device.specs.Prospect.{Prospect}
 use Rattle.xr_device.specs.Answers.{Tells, IsTold}
 use Rattle.xr_device.specs.declared.Next.TheVariants as next
 use Rattle.xr_types.specs.declared.calls.Reply.{Reply}
+use Rattle.xr_types.specs.Frames.{ShownFrame}
 use Rattle.xr_types.specs.declared.scenario.Op.{Op}
 use Rattle.xr_types.specs.declared.scenario.Op.TheVariants as op
-use Rattle.xr_model.specs.machine.Request.{leave, device, next_frame, Exchange}
+use Rattle.xr_model.specs.machine.Request.{leave, device, next_frame, Outcome, Exchange}
 use Rattle.xr_model.specs.machine.State.{State}
 use Rattle.xr_model.specs.machine.Machine.{ready}
 use Rattle.xr_model.specs.runs.NameValues.{with_name_value, no_values}
 use Rattle.xr_model.specs.runs.Scripts.{request_for}
 use Rattle.xr_model.specs.runs.Lists.{made_at}
 use Rattle.xr_serial.specs.inside.Made.{IsAnswered, asked, exchange_of}
-use Rattle.xr_serial.specs.inside.RunState.{AppState, SideState}
+use Rattle.xr_serial.specs.inside.RunState.{AppState, SideState, CompositorState}
 
 -- ---- an application
 
@@ -42,11 +43,10 @@ app_left app t = record app { calls = app.calls ++ made_at (app.made + 1) t ∷ 
 -- The call of its next op was made.
 pub record OpMade (number : ℕ) (ops : List Op) (old new : AppState) (s after : State) : Type 0 where
   pub op : Op
-  pub answer : Reply
-  pub bytes : List ℕ
+  pub outcome : Outcome
   pub here : drop old.made ops ≡ op ∷ drop (old.made + 1) ops
-  pub call : IsAnswered s after (App number) (request_for old.names op) answer bytes
-  pub app : new ≡ app_with old op (exchange_of (request_for old.names op) answer bytes)
+  pub call : IsAnswered s after (App number) (request_for old.names op) outcome
+  pub app : new ≡ app_with old op (exchange_of (request_for old.names op) outcome)
 
 -- It has to wait, and all is as it was.
 pub record OpWaits (number : ℕ) (ops : List Op) (old new : AppState) (s after : State) : Type 0 where
@@ -62,10 +62,9 @@ OpTurn number ops old new s after false = OpWaits number ops old new s after
 
 -- It has left.
 pub record Leaves (number : ℕ) (old new : AppState) (s after : State) : Type 0 where
-  pub answer : Reply
-  pub bytes : List ℕ
-  pub call : IsAnswered s after (App number) leave answer bytes
-  pub app : new ≡ app_left old (exchange_of leave answer bytes)
+  pub outcome : Outcome
+  pub call : IsAnswered s after (App number) leave outcome
+  pub app : new ≡ app_left old (exchange_of leave outcome)
 
 -- ---- the device
 
@@ -92,10 +91,9 @@ side_with side event t = record side { pending = None; events = side.events ++ e
 
 -- the event's call was made
 pub record EventMade (event : DeviceEvent) (old new : SideState) (s after : State) : Type 0 where
-  pub answer : Reply
-  pub bytes : List ℕ
-  pub call : IsAnswered s after Device (device event) answer bytes
-  pub side : new ≡ side_with old event (exchange_of (device event) answer bytes)
+  pub outcome : Outcome
+  pub call : IsAnswered s after Device (device event) outcome
+  pub side : new ≡ side_with old event (exchange_of (device event) outcome)
 
 -- it has to wait, and all is as it was
 pub record EventWaits (event : DeviceEvent) (old new : SideState) (s after : State) : Type 0 where
@@ -109,7 +107,23 @@ EventTurn event old new s after false = EventWaits event old new s after
 
 -- ---- the compositor
 
--- it was told the end, or has to wait
-abbrev pub EndTurn : Option Reply → State → State → Bool → Type 0
-EndTurn ended s after true = (answer : Reply) × IsAnswered s after Compositor next_frame answer [] × (ended ≡ Some answer)
-EndTurn ended s after false = (ready s (asked Compositor next_frame) ≡ false) × (after ≡ s) × (ended ≡ None)
+-- once its call was answered so: it was shown a frame, or told the end
+abbrev pub compositor_with : CompositorState → Reply → Option ShownFrame → CompositorState
+compositor_with c reply None = record c { ended = Some reply }
+compositor_with c reply (Some frame) = record c { frames = c.frames ++ frame ∷ []; replies = c.replies ++ reply ∷ [] }
+
+-- its call was made
+pub record FrameMade (old new : CompositorState) (s after : State) : Type 0 where
+  pub outcome : Outcome
+  pub call : IsAnswered s after Compositor next_frame outcome
+  pub compositor : new ≡ compositor_with old outcome.reply outcome.shown
+
+-- it has to wait, and all is as it was
+pub record FrameWaits (old new : CompositorState) (s after : State) : Type 0 where
+  pub waits : ready s (asked Compositor next_frame) ≡ false
+  pub same : after ≡ s
+  pub compositor : new ≡ old
+
+abbrev pub FrameTurn : CompositorState → CompositorState → State → State → Bool → Type 0
+FrameTurn old new s after true = FrameMade old new s after
+FrameTurn old new s after false = FrameWaits old new s after

@@ -35,7 +35,7 @@ compositor_part (Some ended) = []
 
 -- all actors in the order of a round
 abbrev pub parts_of : Scenario → RunState → List ℤ → List DeviceEvent → List (List Agenda)
-parts_of scenario run clocks rest = script_parts 1 scenario.scripts run.apps clocks ++ device_part run.side.pending rest ∷ compositor_part run.ended ∷ []
+parts_of scenario run clocks rest = script_parts 1 scenario.scripts run.apps clocks ++ device_part run.side.pending rest ∷ compositor_part run.compositor.ended ∷ []
 
 -- ---- turns
 

@@ -1,13 +1,12 @@
 -- The calls that are this project's own and no statement about the standard.
 use Rattle.std.specs.Prelude.{ℕ, List, Bool, ◌-◌, slice_set, not, true, false}
-use Rattle.std.specs.List.{list_all}
 use Rattle.xr_types.specs.declared.calls.Actor.{Actor}
 use Rattle.xr_types.specs.declared.calls.Actor.TheVariants.{App, Compositor, Device}
-use Rattle.xr_types.specs.declared.calls.Gives.TheVariants.{Nothing, Number, Ended}
+use Rattle.xr_types.specs.declared.calls.Gives.TheVariants.{Nothing, Number}
 use Rattle.xr_types.specs.Device.{is_mark}
 use Rattle.xr_model.specs.machine.Marks.{is_set, with_mark, value_of_mark}
 use Rattle.xr_model.specs.machine.State.{CoreState}
-use Rattle.xr_model.specs.machine.Rule.{Rule, compositor, ordinary, done}
+use Rattle.xr_model.specs.machine.Rule.{Rule, ordinary, done}
 
 -- an application is gone; nobody else leaves
 abbrev pub left_with : List Bool → Actor → List Bool
@@ -29,10 +28,6 @@ mark_rule s number value = record (ordinary s) { in_range = is_mark number; effe
 -- an application waits for a mark
 abbrev pub await_mark_rule : CoreState → ℕ → Rule
 await_mark_rule s number = record (ordinary s) { in_range = is_mark number; waits = not (is_set s.marks number); effect = done s (Number (value_of_mark s.marks number)) }
-
--- the compositor asks for a frame; there are none, so it is told the end, once every application has left
-abbrev pub next_frame_rule : CoreState → Rule
-next_frame_rule s = record (ordinary s) { caller = compositor; waits = not (list_all (λ has_left. has_left) s.left); effect = done s Ended }
 
 -- a call that has no rule yet: no entry with it is allowed
 abbrev pub no_rule : CoreState → Rule

@@ -5,6 +5,7 @@ use Rattle.xr_types.specs.declared.calls.Gives.TheVariants.{Nothing, Handle}
 use Rattle.xr_types.specs.declared.handles.Kind.TheVariants.{Instance, Session}
 use Rattle.xr_types.specs.declared.session.ViewConfig.{ViewConfig}
 use Rattle.xr_model.specs.machine.Events.{Queue}
+use Rattle.xr_model.specs.machine.Frames.{FrameLoop, new_loop, reset_loop}
 use Rattle.xr_model.specs.machine.Handles.{no_handle, no_room, with_handle, destroyed_by}
 use Rattle.xr_model.specs.machine.Refusals.{Refusal, when}
 use Rattle.xr_model.specs.machine.SessionLife.{Life, Changed, unchanged, started_session, begin_checks, begun_session, end_checks, ended_session, exit_checks, exiting_session}
@@ -21,11 +22,12 @@ use Rattle.xr_model.specs.machine.Rules.Instance.{the_system}
 abbrev pub new_session : CoreState → ℕ → Life → sessions.Session
 new_session s given life = record { handle = given; ordinal = s.created + 1; life = life; attached = None }
 
--- a new session stands behind the others with no sets attached, and its first states are told
+-- a new session stands behind the others with no sets attached and a new loop of frames, and its first states are told
 abbrev pub with_session : CoreState → ℕ → ℕ → Changed → CoreState
 with_session s instance given c = record s {
   handles = with_handle s.handles Session instance given;
   sessions = s.sessions ++ new_session s given c.life ∷ [];
+  frames = record s.frames { frame_loop = new_loop };
   events = told_states s.events (s.created + 1) given c.through;
   created = s.created + 1;
 }
@@ -62,6 +64,10 @@ told_of (Some x) f q = told_states q x.ordinal x.handle (f x.life).through
 abbrev pub with_change : CoreState → Option sessions.Session → (Life → Changed) → CoreState
 with_change s o f = record s { sessions = changed_in o f s.sessions; events = told_of o f s.events }
 
+-- the loop of frames stands so
+abbrev pub with_loop : CoreState → FrameLoop → CoreState
+with_loop s l = record s { frames = record s.frames { frame_loop = l } }
+
 abbrev pub life_of : CoreState → ℕ → Life
 life_of s session = life_in (session_at s.sessions session)
 
@@ -74,13 +80,19 @@ changing_rule s session checks f = record (ordinary s) {
   effect = done (with_change s (session_at s.sessions session) f) Nothing;
 }
 
+-- the same of a call by which a running period begins or ends: no frame is waited for or begun then
+abbrev pub period_rule : CoreState → ℕ → List Refusal → (Life → Changed) → Rule
+period_rule s session checks f = record (changing_rule s session checks f) {
+  effect = done (with_change (with_loop s (reset_loop s.frames.frame_loop)) (session_at s.sessions session) f) Nothing;
+}
+
 -- xrBeginSession
 abbrev pub begin_session_rule : CoreState → ℕ → ViewConfig → Rule
-begin_session_rule s session view = changing_rule s session (begin_checks (life_of s session) view) (λ life. unchanged (begun_session life))
+begin_session_rule s session view = period_rule s session (begin_checks (life_of s session) view) (λ life. unchanged (begun_session life))
 
 -- xrEndSession
 abbrev pub end_session_rule : CoreState → ℕ → Rule
-end_session_rule s session = changing_rule s session (end_checks (life_of s session)) (ended_session s.device.wish)
+end_session_rule s session = period_rule s session (end_checks (life_of s session)) (ended_session s.device.wish)
 
 -- xrRequestExitSession
 abbrev pub request_exit_session_rule : CoreState → ℕ → Rule

@@ -18,5 +18,5 @@ pub returns-in-Ok : goal.returns-in-Ok
 returns-in-Ok c =
     let lent : length c.apply.new.text ≡ lent_size (request_of c.args.call.now) = search rules in
     let size : c.written_size-written.result ≡ written_size c.in-Done.reply.gives (lent_size (request_of c.args.call.now)) = c.written_size-written.ensures.written ∙ ap (written_size c.in-Done.reply.gives) lent in
-    made_of c.args.core.now c.apply.new.self c.args.who (request_of c.args.call.now) c.in-Done.reply c.args.buffer.now c.apply.new.text c.in-Ok.text c.written_size-written.result
+    made_of c.args.core.now c.apply.new.self c.args.who (request_of c.args.call.now) c.in-Done.reply (record { text = c.args.buffer.now; frame = c.args.shown.now }) (record { text = c.apply.new.text; frame = c.apply.new.shown }) c.in-Ok.text c.written_size-written.result
     c.in-Done.ensures size c.in-Ok.ensures

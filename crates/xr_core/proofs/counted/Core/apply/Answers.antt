@@ -1,7 +1,9 @@
-use Rattle.std.proofs.Common.{sym, ap, subst, ◌∙◌, arith, true, []}
+use Rattle.std.proofs.Common.{ℕ, List, sym, ap, subst, ◌∙◌, arith, true, []}
 use Rattle.std.specs.Prelude.{Result, Ok, Err}
 use Rattle.xr_types.specs.declared.calls.Reply.{Reply}
 use Rattle.xr_model.specs.machine.Request.{request_of}
+use Rattle.xr_types.specs.Frames.{ShownFrame}
+use Rattle.xr_model.specs.machine.CoreCalls.{Lent}
 use Rattle.xr_model.specs.machine.Machine.{IsPresent}
 use Rattle.xr_model.specs.machine.State.{CoreState}
 use Rattle.xr_core.specs.inside.Deciding.{DecidesOver}
@@ -10,27 +12,32 @@ use Rattle.xr_core.proofs.Counting.{made_answers, grown, waits_so}
 use Rattle.xr_core.proofs.counted.Core.apply.Goals.{in-Ok, in-Err-Refused}
 use Rattle.xr_core.proofs.counted.Core.apply.Goals as goal
 
+abbrev was : List ℕ → ShownFrame → Lent
+was text frame = record { text = text; frame = frame }
+
 -- what the parts decided comes to the reply that is counted
-comes : (c : goal.After-counted) → DecidesOver c.args.who c.self.inside.parts (request_of c.args.call.now) c.decide.new.self (Ok c.match-decide.reply) c.args.text.now c.decide.new.text
+comes : (c : goal.After-counted) → DecidesOver c.args.who c.self.inside.parts (request_of c.args.call.now) c.decide.new.self (Ok c.match-decide.reply) (was c.args.text.now c.args.shown.now) (was c.decide.new.text c.decide.new.shown)
 comes c = elim c.match-decide.branch [
   | in-Ok w ↦ rw w.reply-is (w.in-Ok.ensures)
-  | in-Err-Refused w ↦ rw (w.reply-is, w.refusal-reply.ensures) (subst (λ (r : Result Reply Halt). DecidesOver c.args.who c.self.inside.parts (request_of c.args.call.now) c.decide.new.self r c.args.text.now c.decide.new.text) (w.in-Err-Refused.is ∙ ap Err w.in-Err-Refused.field-0-is) c.decide.ensures)
+  | in-Err-Refused w ↦ rw (w.reply-is, w.refusal-reply.ensures) (subst (λ (r : Result Reply Halt). DecidesOver c.args.who c.self.inside.parts (request_of c.args.call.now) c.decide.new.self r (was c.args.text.now c.args.shown.now) (was c.decide.new.text c.decide.new.shown)) (w.in-Err-Refused.is ∙ ap Err w.in-Err-Refused.field-0-is) c.decide.ensures)
 ]
 
 pub invariant_of-self-2 : goal.invariant_of-self-2
 invariant_of-self-2 c =
     let present = subst (λ (s : CoreState). IsPresent s c.args.who) (sym c.self.view_is) c.requires.may.present in
-    let grows = grown c.self.inside.parts c.decide.new.self c.self.inside.calls c.args.who (request_of c.args.call.now) c.args.text.now c.decide.new.text c.requires.may.asks.built c.match-decide.reply.code c.match-decide.reply.gives present (comes c) in
+    let grows = grown c.self.inside.parts c.decide.new.self c.self.inside.calls c.args.who (request_of c.args.call.now) (was c.args.text.now c.args.shown.now) (was c.decide.new.text c.decide.new.shown) c.requires.may.asks.built c.match-decide.reply.code c.match-decide.reply.gives present (comes c) in
     let given = grows.given in
     let created = grows.created in
     let count = c.counted.ensures.count in
     let handles = c.self.invariant.0 in
     let sessions = c.self.invariant.1 in
-    (omega (arith, given, count, handles), omega (arith, created, count, sessions))
+    let ended = grows.ended in
+    let frames = c.self.invariant.2 in
+    (omega (arith, given, count, handles), omega (arith, created, count, sessions), omega (arith, ended, count, frames))
 
 pub invariant_of-self : goal.invariant_of-self
 invariant_of-self c =
-    let waits = subst (λ (r : Result Reply Halt). DecidesOver c.args.who c.self.inside.parts (request_of c.args.call.now) c.decide.new.self r c.args.text.now c.decide.new.text) (c.in-Err-NotReady.is ∙ ap Err c.in-Err-NotReady.field-0-is) c.decide.ensures in
+    let waits = subst (λ (r : Result Reply Halt). DecidesOver c.args.who c.self.inside.parts (request_of c.args.call.now) c.decide.new.self r (was c.args.text.now c.args.shown.now) (was c.decide.new.text c.decide.new.shown)) (c.in-Err-NotReady.is ∙ ap Err c.in-Err-NotReady.field-0-is) c.decide.ensures in
     let same = (waits (record { unused = true; stamps = []; held = [] })).same in
     rw same c.self.invariant
 
@@ -38,9 +45,9 @@ pub returns : goal.returns
 returns c reads =
     let present = subst (λ (s : CoreState). IsPresent s c.args.who) (sym c.self.view_is) c.requires.may.present in
     rw (c.counted.ensures.reply, c.counted.ensures.count, ← c.self.view_is)
-    (made_answers c.self.inside.parts c.decide.new.self c.self.inside.calls c.args.who (request_of c.args.call.now) c.args.text.now c.decide.new.text c.requires.may.asks.built c.match-decide.reply.code c.match-decide.reply.gives present (comes c) reads)
+    (made_answers c.self.inside.parts c.decide.new.self c.self.inside.calls c.args.who (request_of c.args.call.now) (was c.args.text.now c.args.shown.now) (was c.decide.new.text c.decide.new.shown) c.requires.may.asks.built c.match-decide.reply.code c.match-decide.reply.gives present (comes c) reads)
 
 pub returns-in-Err-NotReady : goal.returns-in-Err-NotReady
 returns-in-Err-NotReady c reads given short =
-    let waits = subst (λ (r : Result Reply Halt). DecidesOver c.args.who c.self.inside.parts (request_of c.args.call.now) c.decide.new.self r c.args.text.now c.decide.new.text) (c.in-Err-NotReady.is ∙ ap Err c.in-Err-NotReady.field-0-is) c.decide.ensures in
-    rw (← c.self.view_is) (waits_so c.self.inside.parts c.decide.new.self c.self.inside.calls c.args.who (request_of c.args.call.now) c.args.text.now c.decide.new.text c.requires.may.asks.built reads (waits reads) given short)
+    let waits = subst (λ (r : Result Reply Halt). DecidesOver c.args.who c.self.inside.parts (request_of c.args.call.now) c.decide.new.self r (was c.args.text.now c.args.shown.now) (was c.decide.new.text c.decide.new.shown)) (c.in-Err-NotReady.is ∙ ap Err c.in-Err-NotReady.field-0-is) c.decide.ensures in
+    rw (← c.self.view_is) (waits_so c.self.inside.parts c.decide.new.self c.self.inside.calls c.args.who (request_of c.args.call.now) (was c.args.text.now c.args.shown.now) (was c.decide.new.text c.decide.new.shown) c.requires.may.asks.built reads (waits reads) given short)

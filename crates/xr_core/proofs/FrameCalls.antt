@@ -1,0 +1,99 @@
+-- How the calls on frames are decided, by what their checks and the loop say.
+use Rattle.std.proofs.Common.{◌≡◌, ℕ, ℤ, Bool, true, false, not, List, [], ◌∷◌, Option, Some, None, refl, ◌∙◌}
+use Rattle.std.specs.Prelude.{Result, Ok, Err, is_ok, is_none, if◌then◌else◌}
+use Rattle.xr_types.specs.Code.{is_out_of_memory}
+use Rattle.xr_types.specs.declared.calls.Gives.TheVariants.{Nothing}
+use Rattle.xr_types.specs.declared.code.Code.{Code}
+use Rattle.xr_types.specs.declared.code.Code.TheVariants.{Success, CallOrderInvalid, FrameDiscarded}
+use Rattle.xr_types.specs.declared.frames.Blend.{Blend}
+use Rattle.xr_types.specs.declared.frames.Layer.{Layer}
+use Rattle.xr_model.specs.machine.Frames.{begun_loop}
+use Rattle.xr_model.specs.machine.Refusals.{Refusal, when, first_of}
+use Rattle.xr_model.specs.machine.Request.{begin_frame, end_frame}
+use Rattle.xr_model.specs.machine.Rule.{ahead, refusals, nothing_done}
+use Rattle.xr_model.specs.machine.SessionRule.{Loss, loss_of, code_on}
+use Rattle.xr_model.specs.machine.Rules.Frames.{wait_frame_rule, begin_frame_rule, end_frame_rule, frame_checks, new_frame, with_frame}
+use Rattle.xr_model.specs.machine.Rules.Session.{life_of, with_loop}
+use Rattle.xr_model.specs.machine.State.{CoreState}
+use Rattle.xr_core.specs.declared.halt.Halt.TheVariants.{Refused}
+use Rattle.xr_core.specs.inside.Deciding.{Decides}
+use Rattle.xr_core.specs.inside.Refusing.{or_refused}
+use Rattle.xr_core.proofs.Deciding.{err_decides, effect_decides, ok_none, success_found, then_err, then_ok, none_second}
+
+-- a check that refuses nothing
+pub ok_where : {T : Type 0} (o : Option Refusal) (x : T) → is_ok (or_refused o x) ≡ is_none o
+ok_where None x = refl
+ok_where (Some r) x = refl
+
+module _ (s : CoreState) (session : ℕ) where
+  abbrev loss : Loss
+  loss = loss_of (life_of s session)
+
+  abbrev success : Code
+  success = code_on loss Success
+
+  abbrev front : List Refusal
+  front = ahead (wait_frame_rule s session)
+
+  abbrev order : List Refusal
+  order = when (not s.frames.frame_loop.has_waited) CallOrderInvalid ∷ []
+
+  -- a begin that is refused ahead of the call order
+  pub begin_refused : (code : Code) → or_refused (first_of front) success ≡ Err code → Decides s (begin_frame session) s (Err (Refused code))
+  begin_refused code told = err_decides s (begin_frame session) (begin_frame_rule s session) success refl (λ who reads. refl) code (then_err front order success success code told)
+
+  -- one that comes to the order is refused where no frame is waited for
+  pub begin_disordered : (code : Code) (kept : CoreState) → or_refused (first_of front) success ≡ Ok success
+      → Err code ≡ (if s.frames.frame_loop.has_waited then Ok (if s.frames.frame_loop.has_begun then FrameDiscarded else success) else Err CallOrderInvalid)
+      → kept ≡ (if s.frames.frame_loop.has_waited then with_loop s (begun_loop s.frames.frame_loop) else s) → Decides s (begin_frame session) kept (Err (Refused code))
+  begin_disordered code kept passed told stays = by s.frames.frame_loop.has_waited refl told stays
+    where
+      by : (b : Bool) → s.frames.frame_loop.has_waited ≡ b → Err code ≡ (if b then Ok (if s.frames.frame_loop.has_begun then FrameDiscarded else success) else Err CallOrderInvalid) → kept ≡ (if b then with_loop s (begun_loop s.frames.frame_loop) else s)
+          → Decides s (begin_frame session) kept (Err (Refused code))
+      by true e told stays = cc
+      by false e told stays =
+          let is : code ≡ CallOrderInvalid = cc in
+          rw (stays, is) (err_decides s (begin_frame session) (begin_frame_rule s session) success refl (λ who reads. refl) CallOrderInvalid (then_ok front order success success success passed ∙ rw e refl))
+
+  -- and else begins the frame
+  pub begin_done : (code : Code) (kept : CoreState) → or_refused (first_of front) success ≡ Ok success
+      → Ok code ≡ (if s.frames.frame_loop.has_waited then Ok (if s.frames.frame_loop.has_begun then FrameDiscarded else success) else Err CallOrderInvalid)
+      → kept ≡ (if s.frames.frame_loop.has_waited then with_loop s (begun_loop s.frames.frame_loop) else s) → Decides s (begin_frame session) kept (Ok (record { code = code; gives = Nothing; place = 0 }))
+  begin_done code kept passed told stays = by s.frames.frame_loop.has_waited refl told stays
+    where
+      none : s.frames.frame_loop.has_waited ≡ true → first_of (refusals (begin_frame_rule s session)) ≡ None
+      none e = (ok_none (first_of (refusals (begin_frame_rule s session))) success success (then_ok front order success success success passed ∙ rw e refl)).0
+
+      begins : (begun : Bool) → code_on loss (if begun then FrameDiscarded else Success) ≡ (if begun then FrameDiscarded else success)
+      begins true = refl
+      begins false = refl
+
+      found : (begun : Bool) → is_out_of_memory (if begun then FrameDiscarded else success) ≡ false
+      found true = refl
+      found false = success_found loss
+
+      by : (b : Bool) → s.frames.frame_loop.has_waited ≡ b → Ok code ≡ (if b then Ok (if s.frames.frame_loop.has_begun then FrameDiscarded else success) else Err CallOrderInvalid) → kept ≡ (if b then with_loop s (begun_loop s.frames.frame_loop) else s)
+          → Decides s (begin_frame session) kept (Ok (record { code = code; gives = Nothing; place = 0 }))
+      by false e told stays = cc
+      by true e told stays =
+          let is : code ≡ (if s.frames.frame_loop.has_begun then FrameDiscarded else success) = cc in
+          rw (stays, is)
+          (effect_decides s (begin_frame session) (λ given. begin_frame_rule s session) (with_loop s (begun_loop s.frames.frame_loop)) (if s.frames.frame_loop.has_begun then FrameDiscarded else success) Nothing nothing_done
+          (λ who reads. refl) (none e) refl (rw (begins s.frames.frame_loop.has_begun) refl) refl (found s.frames.frame_loop.has_begun))
+
+  module _ (time : ℤ) (blend : Blend) (layers : List Layer) where
+    pub end_refused : (code : Code) → or_refused (first_of (refusals (end_frame_rule s session time blend []))) success ≡ Err code → Decides s (end_frame session time blend layers) s (Err (Refused code))
+    end_refused code told = err_decides s (end_frame session time blend layers) (end_frame_rule s session time blend []) success refl (λ who reads. refl) code told
+
+    pub end_done : first_of (refusals (end_frame_rule s session time blend [])) ≡ None → Decides s (end_frame session time blend layers) (with_frame s session (new_frame s time)) (Ok (record { code = success; gives = Nothing; place = 0 }))
+    end_done none =
+        effect_decides s (end_frame session time blend layers) (λ given. end_frame_rule s session time blend layers) (with_frame s session (new_frame s time)) success Nothing nothing_done
+        (λ who reads. refl) none refl refl refl (success_found loss)
+
+  -- where nothing refuses the end of a frame, one is begun
+  pub begun_where : (time : ℤ) (blend : Blend) → first_of (refusals (end_frame_rule s session time blend [])) ≡ None → s.frames.frame_loop.has_begun ≡ true
+  begun_where time blend none = by s.frames.frame_loop.has_begun refl (none_second front (when (not s.frames.frame_loop.has_begun) CallOrderInvalid ∷ frame_checks time blend) none)
+    where
+      by : (b : Bool) → s.frames.frame_loop.has_begun ≡ b → first_of (when (not s.frames.frame_loop.has_begun) CallOrderInvalid ∷ frame_checks time blend) ≡ None → s.frames.frame_loop.has_begun ≡ true
+      by true e none = e
+      by false e none = cc

@@ -1,0 +1,72 @@
+// The compositor's side of a run: the frames that it was shown.
+ghost use Rattle.std.specs.Prelude.{◌≡◌, ◌<◌, ◌^◌, [], None, IfOk, OnOk};
+ghost use Rattle.xr_model.specs.machine.Request.{next_frame};
+ghost use Rattle.xr_serial.specs.inside.Made.{frame_shown};
+ghost use Rattle.xr_serial.specs.inside.Sides.{compositor_with, FrameTurn};
+
+use crate::machine::Machine;
+use std::alloc::Global;
+use std::marker::Model;
+use xr_types::{Gives, NoMemory, Reply, Shown};
+
+/// A compositor on its way: the frames that it was shown with the replies of these calls, and the reply that told it the end.
+#[derive(Drop)]
+pub(crate) struct CompositorSide {
+    pub(crate) frames: Vec<Shown>,
+    pub(crate) replies: Vec<Reply>,
+    pub(crate) ended: Option<Reply>,
+}
+
+impl Model for CompositorSide {
+    ghost use Rattle.xr_serial.specs.inside.RunState.{CompositorState};
+
+    ghost Value = { CompositorState };
+
+    ghost view = { λ c. record { frames = c.frames.items; replies = c.replies.items; ended = c.ended } };
+}
+
+impl CompositorSide {
+    /// A compositor before its first frame. Takes no memory.
+    pub(crate) fn new(alloc: Global) -> CompositorSide
+        ensures { result ≡ record { frames = []; replies = []; ended = None } }
+    {
+        CompositorSide {
+            frames: Vec::new(alloc),
+            replies: Vec::new(alloc),
+            ended: None,
+        }
+    }
+
+    /// Keeps what its call came to: a frame, or the end.
+    fn keep(&mut self, reply: Reply, shown: Shown) -> Result<(), NoMemory>
+        ensures { OnOk result (self.new ≡ compositor_with self.old reply (frame_shown next_frame reply.gives shown)) }
+    {
+        if !matches!(reply.gives, Gives::Shown) {
+            self.ended = Some(reply);
+            return Ok(());
+        }
+        let Ok(()) = self.frames.push(shown) else {
+            return Err(NoMemory);
+        };
+        let Ok(()) = self.replies.push(reply) else {
+            return Err(NoMemory);
+        };
+        Ok(())
+    }
+
+    /// Asks for a frame, unless that has to wait: it is shown one, or told the end; whether it was.
+    pub(crate) fn take(&mut self, alloc: Global, machine: &mut Machine) -> Result<bool, NoMemory>
+        requires calls { machine.old.core.locked < 2 ^ 44 }
+        ensures { IfOk result (λ went. FrameTurn self.old self.new machine.old machine.new went) }
+    {
+        if machine.next_frame_waits() {
+            return Ok(false);
+        }
+        let mut shown = Shown::default();
+        let Some(answered) = machine.next_frame(alloc, &mut shown)? else {
+            return Ok(false);
+        };
+        self.keep(answered.reply, shown)?;
+        Ok(true)
+    }
+}

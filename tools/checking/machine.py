@@ -1,0 +1,182 @@
+"""The machine of docs/MACHINE.md, as far as it decides who waits: marks, an instance and its session, and frames.
+
+A handle is a number from 1 here, in the order of their creation. Handles of other kinds decide nothing, and are 0.
+"""
+from __future__ import annotations
+
+from typing import Any
+
+from states import LAST, MOST_FRAMES, next_state
+
+MOST_TIME = 2**63 - 1
+Fields = dict[str, Any]
+
+
+class Session:
+    """A live session and its frame loop."""
+
+    def __init__(self, handle: int) -> None:
+        self.handle = handle
+        self.state = "IDLE"
+        self.is_running = self.is_asked_to_exit = self.is_lost = False
+        self.has_waited = self.has_begun = False
+        self.predicted = 0
+
+    def settle(self, wish: str) -> None:
+        """Goes on by the table, until no row fits."""
+        following: str | None = self.state
+        while following:
+            self.state = following
+            following = next_state(self.state, wish, self.is_asked_to_exit)
+
+    def set_running(self, is_running: bool) -> None:
+        self.is_running = is_running
+        self.has_waited = self.has_begun = False
+
+
+class Machine:
+    """What is kept. A method of the name of a call makes it, and gives the value that a name then stands for."""
+
+    def __init__(self) -> None:
+        self.handles = 0
+        self.instance = 0
+        self.session: Session | None = None
+        self.marks: dict[int, int] = {}
+        self.wish = "rest"
+        self.clock, self.base, self.period = 0, 0, 11_111_111
+        self.pending = 0
+
+    # ---- calls of applications, by the values of their fields
+
+    def is_held_back(self, op: str, fields: Fields) -> bool:
+        """Whether a call has to wait. One that would be refused doesn't."""
+        if op == "await":
+            return fields["mark"] not in self.marks
+        if op != "wait_frame":
+            return False
+        session = self.running(fields)
+        return session is not None and (session.has_waited or self.pending + session.has_begun > MOST_FRAMES)
+
+    def make(self, op: str, fields: Fields) -> int:
+        """Makes a call. Those that decide nothing give 0."""
+        made = getattr(self, f"make_{op}", None)
+        return made(fields) if made else 0
+
+    def give(self) -> int:
+        self.handles += 1
+        return self.handles
+
+    def usable(self, fields: Fields) -> Session | None:
+        """The session of a call, where it is live and not lost."""
+        session = self.session
+        return session if session and session.handle == fields["session"] and not session.is_lost else None
+
+    def running(self, fields: Fields) -> Session | None:
+        """The same where it runs as well."""
+        session = self.usable(fields)
+        return session if session and session.is_running else None
+
+    def make_create_instance(self, fields: Fields) -> int:
+        if (fields["major"], fields["minor"]) != (1, 0) or self.instance:
+            return 0
+        self.instance = self.give()
+        return self.instance
+
+    def make_destroy_instance(self, fields: Fields) -> int:
+        if self.instance and fields["instance"] == self.instance:
+            self.instance, self.session = 0, None
+        return 0
+
+    def make_get_system(self, fields: Fields) -> int:
+        return int(fields["form"] == "head" and self.instance != 0 and fields["instance"] == self.instance)
+
+    def make_create_session(self, fields: Fields) -> int:
+        if not self.instance or fields["instance"] != self.instance or fields["system"] != 1 or self.session:
+            return 0
+        self.session = Session(self.give())
+        self.session.settle(self.wish)
+        return self.session.handle
+
+    def make_destroy_session(self, fields: Fields) -> int:
+        if self.session and fields["session"] == self.session.handle:
+            self.session = None
+        return 0
+
+    def make_begin_session(self, fields: Fields) -> int:
+        session = self.usable(fields)
+        if session and not session.is_running and session.state == "READY" and fields["view"] == "stereo":
+            session.set_running(True)
+        return 0
+
+    def make_end_session(self, fields: Fields) -> int:
+        session = self.running(fields)
+        if session and session.state == "STOPPING":
+            session.set_running(False)
+            session.state = "IDLE"
+            session.settle(self.wish)
+        return 0
+
+    def make_request_exit_session(self, fields: Fields) -> int:
+        session = self.running(fields)
+        if session:
+            session.is_asked_to_exit = True
+            session.settle(self.wish)
+        return 0
+
+    def make_wait_frame(self, fields: Fields) -> int:
+        session = self.running(fields)
+        if not session:
+            return 0
+        last = max(session.predicted, self.clock)
+        time = self.base if last < self.base else last + self.period - (last - self.base) % self.period
+        session.predicted = min(time, MOST_TIME)
+        session.has_waited = True
+        return session.predicted
+
+    def make_begin_frame(self, fields: Fields) -> int:
+        session = self.running(fields)
+        if session and session.has_waited:
+            session.has_waited, session.has_begun = False, True
+        return 0
+
+    def make_end_frame(self, fields: Fields) -> int:
+        session = self.running(fields)
+        if session and session.has_begun and fields["time"] > 0 and fields["blend"] == "opaque":
+            session.has_begun = False
+            self.pending += 1
+            if session.state == "READY":
+                session.state = "SYNCHRONIZED"
+                session.settle(self.wish)
+        return 0
+
+    def make_mark(self, fields: Fields) -> int:
+        self.marks[fields["mark"]] = fields.get("value", 0)
+        return 0
+
+    def make_await(self, fields: Fields) -> int:
+        return self.marks[fields["mark"]]
+
+    # ---- the device and the compositor
+
+    def tell(self, name: str, words: str) -> None:
+        """What an event of the device does, by its name and the words behind it."""
+        if name == "mark":
+            self.marks[int(words)] = 0
+        elif name == "clock":
+            self.clock = max(self.clock, int(words))
+        elif name == "grid":
+            self.base, self.period = map(int, words.split(" "))
+        elif name == "wish":
+            self.wish = words
+        if self.session and name == "lost":
+            self.session.is_lost = True
+        elif self.session and name == "loss" and self.session.state not in LAST:
+            self.session.state = "LOSS_PENDING"
+        elif self.session and name == "wish":
+            self.session.settle(self.wish)
+
+    def take_frame(self) -> bool:
+        """The compositor takes the oldest frame that is pending, if there is one."""
+        is_pending = self.pending > 0
+        self.pending -= is_pending
+        return is_pending
