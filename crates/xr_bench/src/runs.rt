@@ -75,26 +75,6 @@ pub(crate) fn text_of_waits(alloc: Global) -> Result<Vec<u8>, AllocError> {
     Ok(text)
 }
 
-/// A script that waits for a frame and then sets marks, beside seven that wait for the next frame of its session, which never
-/// comes: in the end the session goes, and they are refused.
-pub(crate) fn text_of_frame_waits(alloc: Global) -> Result<Vec<u8>, AllocError> {
-    let mut text = Vec::new(alloc);
-    text.extend_from_slice(
-        b"{\"version\":1,\"scripts\":[[{\"op\":\"create_instance\",\"major\":1,\"minor\":0,\"as\":\"i\"},{\"op\":\"get_system\",\"instance\":\"i\",\"form\":\"head\",\"as\":\"y\"},{\"op\":\"create_session\",\"instance\":\"i\",\"system\":\"y\",\"as\":\"s\"},{\"op\":\"begin_session\",\"session\":\"s\",\"view\":\"stereo\"},{\"op\":\"wait_frame\",\"session\":\"s\"},{\"op\":\"mark\",\"mark\":1,\"value\":\"s\"},",
-    )?;
-    for _ in 0..MARKS {
-        text.extend_from_slice(b"{\"op\":\"mark\",\"mark\":64,\"value\":0},")?;
-    }
-    text.extend_from_slice(b"{\"op\":\"destroy_session\",\"session\":\"s\"}]")?;
-    for _ in 0..7 {
-        text.extend_from_slice(
-            b",[{\"op\":\"await\",\"mark\":1,\"as\":\"s\"},{\"op\":\"wait_frame\",\"session\":\"s\"}]",
-        )?;
-    }
-    text.extend_from_slice(b"]}")?;
-    Ok(text)
-}
-
 /// How many calls the scripts made.
 fn calls_in(lists: &Lists) -> u64 {
     let mut calls: u64 = 0;
