@@ -1,8 +1,10 @@
 //! `xr_bench` measures how many calls a second the core answers, beside how many ops a second `serde_json`
-//! reads of the same calls as a scenario, how often a second a space is located, how many bindings a second are suggested, how
-//! many lines a second a device text is read, and how many calls and turns a second a run of eight scripts makes. A measure and no test. It touches the clock and standard output.
+//! reads of the same calls as a scenario, how often a second a space is located, how many frames a second go round, how many
+//! bindings a second are suggested, how many lines a second a device text is read, and how many calls and turns a second a
+//! run of eight scripts makes. A measure and no test. It touches the clock and standard output.
 #![tactic(auto)]
 
+mod frames;
 mod lines;
 mod locates;
 mod round;
@@ -10,10 +12,11 @@ mod runs;
 mod suggests;
 mod texts;
 
+use frames::{ask_five_often, frame_often, set_running};
 use lines::{read_lines, text_of_lines};
 use locates::{locate_often, set_out};
 use round::{CALLS, TEXT, round};
-use runs::{TURNS, text_of_passes, text_of_waits, time_runs};
+use runs::{TURNS, text_of_frame_waits, text_of_passes, text_of_waits, time_runs};
 use serde_json::Value;
 use std::alloc::Global;
 use std::io::Print;
@@ -29,13 +32,15 @@ const HELP: &str = "\
 xr_bench ROUNDS
 Makes ROUNDS rounds of calls, 1 to 100000000, on a core of one application, and prints how many calls a
 second it answers. It locates a head in a room as often as there are rounds, and prints how often a
-second. It suggests as many bindings, 512 at once, and prints how many a second are taken. Then it reads
-the calls of a round as a scenario with serde_json, a tenth as often and at most 100000 times, and prints
-how many ops a second are read; and then a device text of 16777208 bytes, and prints how many lines a
-second are read. Last it runs eight scripts that pass marks round, 20 times, and prints how many calls a
-second these make; and seven scripts that wait for an eighth, and prints how many turns a second there
-are. It reads three scenarios of 16001 ops, 10 times each, and prints how long that took, beside how long
-their JSON alone took to be read: of polls, of marks, and of names that differ at their ends alone.
+second. It sends as many frames round, each waited for, begun, ended and taken, and prints how many a
+second, beside how often a second the system is asked for five times. It suggests as many bindings, 512
+at once, and prints how many a second are taken. Then it reads the calls of a round as a scenario with
+serde_json, a tenth as often and at most 100000 times, and prints how many ops a second are read; and then
+a device text of 16777208 bytes, and prints how many lines a second are read. Last it runs eight scripts
+that pass marks round, 20 times, and prints how many calls a second these make; and seven scripts that wait
+for an eighth, once for a mark and once for a frame, and prints how many turns a second there are. It reads
+three scenarios of 16001 ops, 10 times each, and prints how long that took, beside how long their JSON
+alone took to be read: of polls, of marks, and of names that differ at their ends alone.
 ";
 
 /// So many things in so many microseconds, a second.
@@ -89,6 +94,29 @@ fn measure_locating<R: Clock + Print>(rt: &R, alloc: Global, rounds: u64) -> io:
     println!(rt;
         "locating: {found} spaces in {spent} microseconds, {} a second",
         rate(found, spent)
+    )?;
+    Ok(true)
+}
+
+/// Measures frames, beside as many times five calls that ask for the system.
+fn measure_frames<R: Clock + Print>(rt: &R, alloc: Global, rounds: u64) -> io::Result<bool> {
+    let Ok(mut core) = Core::start(alloc, 1) else {
+        return Ok(false);
+    };
+    let running = set_running(&mut core);
+    let start = Instant::now(rt)?;
+    let frames = frame_often(&mut core, running, rounds);
+    let spent = start.elapsed(rt)?.as_micros();
+    println!(rt;
+        "frames: {frames} of four calls in {spent} microseconds, {} a second",
+        rate(frames, spent)
+    )?;
+    let start = Instant::now(rt)?;
+    let fives = ask_five_often(&mut core, running.instance, rounds);
+    let spent = start.elapsed(rt)?.as_micros();
+    println!(rt;
+        "get_system: {fives} times five calls in {spent} microseconds, {} fives a second",
+        rate(fives, spent)
     )?;
     Ok(true)
 }
@@ -165,6 +193,22 @@ fn measure_runs<R: Clock + Print>(rt: &R, alloc: Global) -> io::Result<bool> {
     Ok(true)
 }
 
+/// Measures a run in which seven scripts wait for a frame.
+fn measure_frame_waits<R: Clock + Print>(rt: &R, alloc: Global) -> io::Result<bool> {
+    let Ok(text) = text_of_frame_waits(alloc) else {
+        return Ok(false);
+    };
+    let Some(waiting) = time_runs(rt, alloc, text.as_slice())? else {
+        return Ok(false);
+    };
+    println!(rt;
+        "seven wait for a frame: {TURNS} turns in {} microseconds, {} a second",
+        waiting.micros,
+        rate(TURNS, waiting.micros)
+    )?;
+    Ok(true)
+}
+
 /// Measures how a text is read.
 fn measure_text<R: Clock + Print>(
     rt: &R,
@@ -200,17 +244,19 @@ fn measure_texts<R: Clock + Print>(rt: &R, alloc: Global) -> io::Result<bool> {
     Ok(polls && marks && names)
 }
 
-/// Measures all seven; whether memory was found.
+/// Measures all of these; whether memory was found.
 fn measure<R: Clock + Print>(rt: &R, alloc: Global, rounds: u64) -> io::Result<bool> {
     let readings = (rounds / 10).min(100_000);
     let core = measure_core(rt, alloc, rounds)?;
     let locating = measure_locating(rt, alloc, rounds)?;
+    let frames = measure_frames(rt, alloc, rounds)?;
     let suggesting = measure_suggesting(rt, alloc, rounds)?;
     let reading = measure_reading(rt, alloc, readings)?;
     let lines = measure_lines(rt, alloc)?;
     let runs = measure_runs(rt, alloc)?;
+    let waits = measure_frame_waits(rt, alloc)?;
     let texts = measure_texts(rt, alloc)?;
-    Ok(core && locating && suggesting && reading && lines && runs && texts)
+    Ok(core && locating && frames && suggesting && reading && lines && runs && waits && texts)
 }
 
 /// The rounds that the words ask for.

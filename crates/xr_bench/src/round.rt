@@ -18,22 +18,26 @@ pub(crate) const TEXT: &str =
 fn is_own(call: &Call<'_>) -> bool
     ensures { IsTrue result → MayAsk (App 1) (request_of call.now) 0 }
 {
-    matches!(
-        call,
+    match call {
         Call::CreateInstance { .. }
-            | Call::DestroyInstance { .. }
-            | Call::GetSystem { .. }
-            | Call::StringToPath { .. }
-            | Call::PathToString { capacity: 0, .. }
-            | Call::PollEvent { .. }
-            | Call::CreateSession { .. }
-            | Call::DestroySession { .. }
-            | Call::CreateReferenceSpace { .. }
-            | Call::LocateSpace { .. }
-            | Call::CreateActionSet { .. }
-            | Call::CreateAction { .. }
-            | Call::SuggestBindings { .. }
-    )
+        | Call::DestroyInstance { .. }
+        | Call::GetSystem { .. }
+        | Call::StringToPath { .. }
+        | Call::PathToString { capacity: 0, .. }
+        | Call::PollEvent { .. }
+        | Call::CreateSession { .. }
+        | Call::DestroySession { .. }
+        | Call::BeginSession { .. }
+        | Call::CreateReferenceSpace { .. }
+        | Call::LocateSpace { .. }
+        | Call::CreateActionSet { .. }
+        | Call::CreateAction { .. }
+        | Call::SuggestBindings { .. }
+        | Call::WaitFrame { .. }
+        | Call::BeginFrame { .. } => true,
+        Call::EndFrame { layers, .. } => layers.is_empty(),
+        _ => false,
+    }
 }
 
 /// Whether the core may be asked once more.

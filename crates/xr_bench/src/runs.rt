@@ -12,7 +12,7 @@ use xr_device::ListDevice;
 use xr_drive::are_built;
 use xr_scenario::read;
 use xr_serial::run;
-use xr_types::{Lists, NoMemory, Scenario};
+use xr_types::{DeviceEvent, Lists, NoMemory, Scenario, Wish};
 
 /// How often each of eight scripts waits for the one before it.
 const PASSES: usize = 1_600;
@@ -75,6 +75,36 @@ pub(crate) fn text_of_waits(alloc: Global) -> Result<Vec<u8>, AllocError> {
     Ok(text)
 }
 
+/// How a session is begun, and a frame of it waited for.
+const BEGUN: [&str; 6] = [
+    r#"{"op":"create_instance","major":1,"minor":0,"as":"i"},"#,
+    r#"{"op":"get_system","instance":"i","form":"head","as":"y"},"#,
+    r#"{"op":"create_session","instance":"i","system":"y","as":"s"},"#,
+    r#"{"op":"begin_session","session":"s","view":"stereo"},"#,
+    r#"{"op":"wait_frame","session":"s"},"#,
+    r#"{"op":"mark","mark":1,"value":"s"},"#,
+];
+
+/// A script that waits for a frame and then sets marks, beside seven that wait for the next frame of its session, which never
+/// comes: in the end the session goes, and they are refused.
+pub(crate) fn text_of_frame_waits(alloc: Global) -> Result<Vec<u8>, AllocError> {
+    let mut text = Vec::new(alloc);
+    text.extend_from_slice(b"{\"version\":1,\"scripts\":[[")?;
+    for op in BEGUN {
+        text.extend_from_slice(op.as_bytes())?;
+    }
+    for _ in 0..MARKS {
+        text.extend_from_slice(b"{\"op\":\"mark\",\"mark\":64,\"value\":0},")?;
+    }
+    text.extend_from_slice(b"{\"op\":\"destroy_session\",\"session\":\"s\"}]")?;
+    for _ in 0..7 {
+        text.extend_from_slice(b",[{\"op\":\"await\",\"mark\":1,\"as\":\"s\"},")?;
+        text.extend_from_slice(b"{\"op\":\"wait_frame\",\"session\":\"s\"}]")?;
+    }
+    text.extend_from_slice(b"]}")?;
+    Ok(text)
+}
+
 /// How many calls the scripts made.
 fn calls_in(lists: &Lists) -> u64 {
     let mut calls: u64 = 0;
@@ -84,7 +114,7 @@ fn calls_in(lists: &Lists) -> u64 {
     calls
 }
 
-/// Runs a scenario beside a device of no events, again and again, and says how many calls its scripts made.
+/// Runs a scenario beside a device that wishes sessions ready, again and again, and says how many calls its scripts made.
 fn run_again(alloc: Global, scenario: &Scenario) -> Result<u64, NoMemory>
     requires some { 1 ≤ length scenario.now.scripts }
     requires most { length scenario.now.scripts ≤ MOST_SCRIPTS }
@@ -94,7 +124,11 @@ fn run_again(alloc: Global, scenario: &Scenario) -> Result<u64, NoMemory>
 {
     let mut calls: u64 = 0;
     for _ in 0..TIMES {
-        let mut device = ListDevice::new(Vec::new(alloc));
+        let mut events = Vec::new(alloc);
+        let Ok(()) = events.push(DeviceEvent::Wish(Wish::Ready)) else {
+            return Err(NoMemory);
+        };
+        let mut device = ListDevice::new(events);
         let lists = run(alloc, scenario, &mut device)?;
         calls = calls.saturating_add(calls_in(&lists));
     }

@@ -16,11 +16,11 @@ use Rattle.xr_core.proofs.Uncounted.{counting, SameRule, same_rule, Grows, grows
 
 module _ (s new : CoreState) (n : ℕ) (who : Actor) (what : Request) (before after : Lent) (built : is_built what ≡ true) where
   -- a call that is made
-  module _ (code : Code) (gives : Gives) (present : IsPresent s who) (comes : (reads : CellReads) → Comes s (λ given. rule_of s reads who given what) new code gives before after) where
+  module _ (code : Code) (gives : Gives) (present : IsPresent s who) (comes : (reads : CellReads) → reads.held ≡ [] → Comes s (λ given. rule_of s reads who given what) new code gives before after) where
     answer : Reply
     answer = record { code = code; gives = gives; place = n + 1 }
 
-    module _ (reads : CellReads) where
+    module _ (reads : CellReads) (unheld : reads.held ≡ []) where
       same : SameRule s n (is_out_of_memory code) (rule_of s reads who (given_by gives) what) (rule_of (counting s n) reads who (given_by gives) what)
       same = same_rule s n (is_out_of_memory code) reads who (given_by gives) what
 
@@ -29,7 +29,7 @@ module _ (s new : CoreState) (n : ℕ) (who : Actor) (what : Request) (before af
 
       pub made_answers : CoreAnswers reads (counting s n) (entry_of who what (record { code = code; gives = gives; place = n + 1 })) (counting new (n + 1)) (record { code = code; gives = gives; place = n + 1 }) before after
       made_answers =
-          let m = comes reads in
+          let m = comes reads unheld in
           let effect = same.effect in
           let locked = built_is_locked what built in
           let is = sym (ap (λ (e : Effect). e.code) effect) in
@@ -50,7 +50,7 @@ module _ (s new : CoreState) (n : ℕ) (who : Actor) (what : Request) (before af
     pub grown : Grows s new
     grown =
         let reads : CellReads = record { unused = true; stamps = []; held = [] } in
-        let m = comes reads in
+        let m = comes reads refl in
         subst (λ (t : CoreState). Grows s t) (sym m.keeps) (grows s (is_out_of_memory code) reads who (given_by gives) what)
 
   -- a call that has to wait

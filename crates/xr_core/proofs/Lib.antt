@@ -1,6 +1,7 @@
 pub mod Start
 pub mod Plain
 pub mod Deciding
+pub mod Bareness
 pub mod FrameCalls
 pub mod PathCalls
 pub mod SetCalls

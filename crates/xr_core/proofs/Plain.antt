@@ -12,7 +12,12 @@ use Rattle.xr_types.specs.declared.input.Profile.{Profile}
 use Rattle.xr_types.specs.declared.handles.Kind.TheVariants.{ActionSet, Action}
 use Rattle.xr_types.specs.Code.{is_out_of_memory, is_success}
 use Rattle.xr_model.specs.machine.Handles.{Handles, no_handle, no_room}
-use Rattle.xr_model.specs.machine.Request.{Request, path_to_string, create_action, suggest_bindings, attach_sets, create_instance}
+use Rattle.xr_model.specs.machine.Request.{Request, path_to_string, create_action, suggest_bindings, attach_sets, create_instance, end_frame}
+use Rattle.xr_types.specs.declared.frames.Layer.{Layer}
+use Rattle.xr_types.specs.declared.frames.Layer.TheVariants.{Projection, Quad}
+use Rattle.xr_model.specs.machine.Layers.{Look, layer_checks}
+use Rattle.xr_model.specs.machine.Rules.Frames.{look_of}
+use Rattle.std.specs.Prelude.{flat_map}
 use Rattle.xr_model.specs.machine.Refusals.{Refusal, first_of}
 use Rattle.xr_model.specs.machine.Rule.{refusals}
 use Rattle.xr_model.specs.machine.Rules.Bindings.{profile_at, bindings_checks}
@@ -83,6 +88,11 @@ plain_bindings s None list = refl
 plain_bindings s (Some which) [] = refl
 plain_bindings s (Some which) (b ∷ list) = plain_bindings s (Some which) list
 
+pub plain_layers : (look : Look) (layers : List Layer) → are_plain (flat_map (layer_checks look) layers) ≡ true
+plain_layers look [] = refl
+plain_layers look (Projection space count views ∷ layers) = plain_layers look layers
+plain_layers look (Quad space image pose ∷ layers) = plain_layers look layers
+
 -- ---- all rules
 
 -- the call whose refusal may give a size
@@ -99,5 +109,6 @@ plain_rule s reads who given = by
         plain_more (sub_checks s.atoms no_users subs) (action_label_checks s.sets set localized ++ no_room s.handles Action ∷ []) (plain_subs s.atoms no_users subs) refl
     by (suggest_bindings instance profile list) sized = plain_bindings s (profile_at s.atoms profile) list
     by (attach_sets session handles) sized = plain_handles s.handles ActionSet handles
+    by (end_frame session time blend layers) sized = plain_layers (look_of s) layers
     by (create_instance major minor) sized = refl
     by _ sized = refl

@@ -13,7 +13,7 @@ use Rattle.xr_model.specs.machine.Rule.{refusals}
 use Rattle.xr_model.specs.machine.Rules.Sets.{sub_checks, create_action_rule}
 use Rattle.xr_model.specs.machine.Sets.{no_users, action_checks, action_label_checks}
 use Rattle.xr_model.specs.machine.State.{CoreState}
-use Rattle.xr_core.specs.inside.Refusing.{or_refused}
+use Rattle.xr_model.specs.machine.PartAnswers.{or_refused}
 use Rattle.xr_core.proofs.Deciding.{then_err, then_ok, none_first, none_second, room_last}
 
 pub all_live : (h : Handles) (kind : Kind) (handles : List ℕ) → list_all (λ handle. is_live h kind handle) handles ≡ true → first_of (map (no_handle h kind) handles) ≡ None

@@ -25,7 +25,8 @@ use Rattle.xr_model.specs.machine.Sets.{is_in_sealed_set}
 use Rattle.xr_model.specs.machine.State.{CoreState}
 use Rattle.xr_model.proofs.SessionAnswers.{first_stays, first_skips}
 use Rattle.xr_core.specs.inside.Deciding.{Decides}
-use Rattle.xr_core.specs.inside.Refusing.{or_refused, some_or_refused}
+use Rattle.xr_model.specs.machine.PartAnswers.{or_refused}
+use Rattle.xr_core.specs.inside.Refusing.{some_or_refused}
 use Rattle.xr_core.specs.declared.halt.Halt.TheVariants.{Refused}
 use Rattle.xr_core.proofs.Deciding.{effect_decides, ok_none, then_err, then_ok}
 
@@ -162,7 +163,7 @@ module _ (s : CoreState) (instance profile : ℕ) (list : List Binding) (live : 
             where
               by : (short : Bool) → is_out_of_memory code ≡ short → kept ≡ record s { suggestions = unless (first_of (when short OutOfMemory ∷ [])) s.suggestions (with_suggestions s.suggestions which bound) } → code ≡ code_by (first_of (when short OutOfMemory ∷ []))
                   → Decides s (suggest_bindings instance profile list) kept (Err (Refused code))
-              by true eb leads told = rw (leads, told) (λ who lent reads. record {
+              by true eb leads told = rw (leads, told) (λ who lent reads unheld. record {
                 ready = refl;
                 handle = refl;
                 memory = λ short. (refl, nothing_refuses);

@@ -3,7 +3,7 @@ use Rattle.std.proofs.Common.{◌≡◌, ◌≤◌, ◌+◌, ℕ, Bool, true, Li
 use Rattle.xr_types.specs.declared.calls.Actor.{Actor}
 use Rattle.xr_types.specs.declared.device.DeviceEvent.{DeviceEvent}
 use Rattle.xr_types.specs.declared.device.DeviceEvent.TheVariants as event
-use Rattle.xr_model.specs.machine.Request.{Request, create_instance, create_session, create_reference_space, create_action_set, create_action, wait_frame, begin_frame, end_frame, get_boolean, get_float, get_vector, get_pose_active, device, image_done, is_locked}
+use Rattle.xr_model.specs.machine.Request.{Request, create_instance, create_session, create_reference_space, create_action_set, create_action, create_swapchain, create_action_space, sync_actions, end_frame, get_boolean, get_float, get_vector, get_pose_active, device, image_done, is_locked}
 use Rattle.xr_model.specs.machine.Refusals.{Refusal}
 use Rattle.xr_model.specs.machine.State.{CoreState, CellReads}
 use Rattle.xr_model.specs.machine.Rule.{Rule, Effect, refusals, refusal, told_on, unless_refused, carried_out}
@@ -85,6 +85,9 @@ module _ (s : CoreState) (short : Bool) (reads : CellReads) (who : Actor) (given
   grows (create_reference_space session what offset) =
       let r = rule_of s reads who given (create_reference_space session what offset) in
       unless_grows s (refusal short r) (told_on r.on r.effect) (record { apps = refl; given = add_one given s.handles.given; created = one_more s.created; ended = one_more s.ended })
+  grows (create_swapchain session format width height fixed) =
+      let r = rule_of s reads who given (create_swapchain session format width height fixed) in
+      unless_grows s (refusal short r) (told_on r.on r.effect) (record { apps = refl; given = add_one given s.handles.given; created = one_more s.created; ended = one_more s.ended })
   grows (create_action_set instance name localized priority) =
       let r = rule_of s reads who given (create_action_set instance name localized priority) in
       unless_grows s (refusal short r) (told_on r.on r.effect) (record { apps = refl; given = add_one given s.handles.given; created = one_more s.created; ended = one_more s.ended })
@@ -104,12 +107,14 @@ pub built_is_there : (s : CoreState) (reads : CellReads) (who : Actor) (given : 
 built_is_there s reads who given = by
   where
     by : (r : Request) → is_built r ≡ true → (rule_of s reads who given r).is_there ≡ true
+    by (create_action_space session action sub offset) built = built
+    by (sync_actions session active) built = built
+    by (get_boolean session action sub) built = built
+    by (get_float session action sub) built = built
+    by (get_vector session action sub) built = built
+    by (get_pose_active session action sub) built = built
     by (device what) built = built
-    by (create_instance major minor) built = refl
-    by (wait_frame session) built = refl
-    by (begin_frame session) built = refl
-    by (end_frame session time blend layers) built = built
-    by _ built = built
+    by _ built = refl
 
 pub built_is_locked : (what : Request) → is_built what ≡ true → is_locked what ≡ true
 built_is_locked = by

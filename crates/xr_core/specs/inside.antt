@@ -1,4 +1,5 @@
 -- What only proofs and private functions need.
+pub mod Bare
 pub mod Changes
 pub mod Deciding
 pub mod Groups

@@ -4,7 +4,8 @@ ghost use Rattle.std.specs.Result.{result_map_both};
 ghost use Rattle.xr_types.specs.declared.limits.TheConstants.{MOST_SUGGESTED};
 ghost use Rattle.xr_model.specs.machine.Refusals.{first_of};
 ghost use Rattle.xr_model.specs.machine.Rules.Bindings.{profile_at, profile_checks, pick_of, binding_checks, bound_of};
-ghost use Rattle.xr_core.specs.inside.Refusing.{or_refused, some_or_refused};
+ghost use Rattle.xr_model.specs.machine.PartAnswers.{or_refused};
+ghost use Rattle.xr_core.specs.inside.Refusing.{some_or_refused};
 
 use crate::parts::Parts;
 use arrayvec::ArrayVec;

@@ -1,5 +1,5 @@
 // A core: its parts decide each call, and here alone it is counted.
-ghost use Rattle.std.specs.Prelude.{◌≡◌, ◌≤◌, ◌<◌, ◌^◌, ◌+◌, ◌↔◌, ◌&&◌, is_none, IfOk, IsTrue, length, not};
+ghost use Rattle.std.specs.Prelude.{◌≡◌, ◌≤◌, [], ◌<◌, ◌^◌, ◌+◌, ◌↔◌, ◌&&◌, is_none, IfOk, IsTrue, length, not};
 ghost use Rattle.xr_types.specs.declared.limits.TheConstants.{MOST_SCRIPTS};
 ghost use Rattle.xr_model.specs.machine.Request.{request_of};
 ghost use Rattle.xr_model.specs.machine.Marks.{is_set};
@@ -7,7 +7,7 @@ ghost use Rattle.xr_model.specs.machine.State.{CellReads, with_apps, opening_cor
 ghost use Rattle.xr_model.specs.machine.Machine.{IsPresent};
 ghost use Rattle.xr_model.specs.machine.Refusals.{first_of};
 ghost use Rattle.xr_model.specs.machine.Rule.{refusals};
-ghost use Rattle.xr_model.specs.machine.Rules.Frames.{wait_frame_rule, next_frame_rule};
+ghost use Rattle.xr_model.specs.machine.Rules.Frames.{wait_frame_rule, is_frame_awaited};
 ghost use Rattle.xr_model.specs.machine.CoreCalls.{MayMake, CoreApplies};
 
 use crate::halt::{Halt, refusal};
@@ -26,14 +26,15 @@ pub struct Core {
 }
 
 impl Model for Core {
-    ghost use Rattle.std.specs.Prelude.{◌≤◌, length};
+    ghost use Rattle.std.specs.Prelude.{◌≡◌, ◌≤◌, true, length};
     ghost use Rattle.xr_model.specs.machine.State.{CoreState};
+    ghost use Rattle.xr_core.specs.inside.Bare.{are_bare};
 
     ghost Value = { CoreState };
 
     ghost view = { λ c. record c.parts { locked = c.calls } };
 
-    ghost invariant = { λ c. (length c.parts.handles.given ≤ c.calls) × (c.parts.created ≤ c.calls) × (c.parts.ended ≤ c.calls) };
+    ghost invariant = { λ c. (length c.parts.handles.given ≤ c.calls) × (c.parts.created ≤ c.calls) × (c.parts.ended ≤ c.calls) × (are_bare c.parts.frames.pending ≡ true) };
 }
 
 /// Counts a call that is made, and answers it.
@@ -98,9 +99,10 @@ impl Core {
         self.parts.wait_frame_waits(session)
     }
 
-    /// Whether the compositor's `NextFrame` has to wait: no frame is pending, and some application hasn't left.
+    /// Whether the compositor's `NextFrame` has to wait where it holds no image: no frame is pending, and some application
+    /// hasn't left.
     pub fn next_frame_waits(&self) -> bool
-        ensures { result ≡ (next_frame_rule self.now).waits }
+        ensures { result ≡ is_frame_awaited self.now }
     {
         self.parts.next_frame_waits()
     }
@@ -108,13 +110,13 @@ impl Core {
     /// Makes a call that is built, or says that it has to wait and leaves all as it was. `text` is the buffer that
     /// `path_to_string` is lent, of the call's `capacity`; for other calls it may have any size and stays. `shown` is the place
     /// for the frame that `NextFrame` shows; it stays where none is.
-    /// Whatever the cells tell, the reply is the machine's to an allowed entry: it gives a handle exactly where a creation
-    /// succeeds, and `OutOfMemory` comes only to a new path text that would else be interned, and to suggestions that would
-    /// else be taken.
+    /// Whatever the cells tell, as long as no image is held, the reply is the machine's to an allowed entry: it gives a handle
+    /// exactly where a creation succeeds, and `OutOfMemory` comes only to a new path text that would else be interned, and to
+    /// suggestions that would else be taken.
     pub fn apply(&mut self, who: Actor, call: &Call<'_>, text: &mut [u8], shown: &mut Shown) -> Step
         requires calls { self.old.locked < 2 ^ 44 }
         requires may { MayMake self.old who (request_of call.now) (length text.old) }
-        ensures { (reads : CellReads) → CoreApplies reads self.old self.new who call.now (record { text = text.old; frame = shown.old }) (record { text = text.new; frame = shown.new }) result }
+        ensures { (reads : CellReads) → reads.held ≡ [] → CoreApplies reads self.old self.new who call.now (record { text = text.old; frame = shown.old }) (record { text = text.new; frame = shown.new }) result }
     {
         let reply = match self.parts.decide(self.alloc, who, call, text, shown) {
             Ok(reply) => reply,

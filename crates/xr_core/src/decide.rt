@@ -4,6 +4,7 @@ ghost use Rattle.xr_model.specs.machine.Request.{request_of};
 ghost use Rattle.xr_model.specs.machine.CoreCalls.{Fits, asked, is_built};
 ghost use Rattle.xr_model.specs.machine.Rule.{is_by};
 ghost use Rattle.xr_model.specs.machine.Machine.{IsPresent};
+ghost use Rattle.xr_core.specs.inside.Bare.{are_bare};
 ghost use Rattle.xr_core.specs.inside.Deciding.{DecidesOver};
 
 use crate::halt::Halt;
@@ -26,6 +27,7 @@ impl Parts {
         requires given { length self.old.handles.given < 2 ^ 44 }
         requires created { self.old.created < 2 ^ 44 }
         requires ended { self.old.ended < 2 ^ 44 }
+        requires bare { are_bare self.old.frames.pending ≡ true }
         requires present { IsPresent self.old who }
         requires built { is_built (request_of call.now) ≡ true }
         requires caller { is_by (asked who (request_of call.now)).caller who ≡ true }

@@ -9,11 +9,10 @@ mod decide;
 mod device_values;
 mod halt;
 mod parts;
-mod plain_cells;
 mod plain_core;
 mod sessions;
 mod subactions;
 
 pub use counted::Core;
-pub use plain_cells::PlainCells;
 pub use plain_core::PlainCore;
+pub use xr_chains::PlainCells;

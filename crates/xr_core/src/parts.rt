@@ -15,7 +15,7 @@ ghost use Rattle.xr_model.specs.machine.Rules.Session.{life_of};
 ghost use Rattle.xr_model.specs.machine.State.{with_apps, opening_core};
 ghost use Rattle.xr_model.specs.machine.Machine.{IsPresent};
 ghost use Rattle.xr_core.specs.inside.Changes.{change_by};
-ghost use Rattle.xr_core.specs.inside.Refusing.{or_refused};
+ghost use Rattle.xr_model.specs.machine.PartAnswers.{or_refused};
 
 use crate::device_values::DeviceValues;
 use crate::sessions::{Change, Session, change_each, forget_attached, session_at};
@@ -53,7 +53,7 @@ const NO_STATES: States = States {
 };
 
 /// All parts of a core, and what decides its calls: the inside of a core. Contracts see what the core keeps, with no call
-/// counted.
+/// counted. There are no swapchains yet.
 #[derive(Drop)]
 pub(crate) struct Parts {
     pub(crate) handles: Handles,
@@ -84,9 +84,10 @@ pub(crate) struct Parts {
 }
 
 impl Model for Parts {
-    ghost use Rattle.std.specs.Prelude.{◌≡◌, ◌≤◌, take, length};
+    ghost use Rattle.std.specs.Prelude.{◌≡◌, ◌≤◌, [], take, length};
     ghost use Rattle.xr_types.specs.declared.limits.TheConstants.{MOST_SCRIPTS};
     ghost use Rattle.xr_model.specs.laws.SessionLaws.{AreListed};
+    ghost use Rattle.xr_model.specs.machine.Chains.{no_chains};
     ghost use Rattle.xr_model.specs.machine.Spaces.{no_states};
     ghost use Rattle.xr_core.specs.inside.Housed.{KeepsLive};
     ghost use Rattle.xr_model.specs.machine.State.{CoreState};
@@ -104,6 +105,8 @@ impl Model for Parts {
       spaces = c.spaces;
       frames = c.frames;
       ended = c.ended;
+      chains = no_chains;
+      shown_images = [];
       device = c.device;
       marks = c.marks;
       apps = c.apps;

@@ -1,21 +1,24 @@
 // A core and plain cells as one value, seen as the whole state. It knows no call.
-ghost use Rattle.std.specs.Prelude.{◌≡◌, ◌≤◌, ◌<◌, ◌^◌, ◌↔◌, ◌&&◌, is_none, IfOk, IsTrue, length, not};
+ghost use Rattle.std.specs.Prelude.{◌≡◌, ◌≤◌, ◌<◌, ◌^◌, ◌↔◌, ◌&&◌, [], is_none, IfOk, IsTrue, length, not};
 ghost use Rattle.xr_types.specs.declared.limits.TheConstants.{MOST_SCRIPTS};
 ghost use Rattle.xr_model.specs.machine.Request.{request_of};
 ghost use Rattle.xr_model.specs.machine.Marks.{is_set};
 ghost use Rattle.xr_model.specs.machine.State.{with_apps, opening};
+ghost use Rattle.xr_model.specs.machine.Frames.{is_empty};
 ghost use Rattle.xr_model.specs.machine.Machine.{IsPresent};
 ghost use Rattle.xr_model.specs.machine.Refusals.{first_of};
 ghost use Rattle.xr_model.specs.machine.Rule.{refusals};
-ghost use Rattle.xr_model.specs.machine.Rules.Frames.{wait_frame_rule, next_frame_rule};
+ghost use Rattle.xr_model.specs.machine.Rules.Frames.{wait_frame_rule, is_frame_awaited};
 ghost use Rattle.xr_model.specs.machine.CoreCalls.{MayMake, Applies};
 
-use crate::{Core, PlainCells};
+use crate::Core;
 use std::alloc::Global;
 use std::marker::Model;
+use xr_chains::PlainCells;
 use xr_types::{Actor, Call, NoMemory, Shown, Step};
 
-/// The machine of one thread: a core over plain cells, seen by contracts as its state.
+/// The machine of one thread: a core over plain cells, seen by contracts as its state. No image is held yet, since no call that
+/// is built gives a frame one.
 #[derive(Drop)]
 pub struct PlainCore {
     pub(crate) core: Core,
@@ -23,11 +26,15 @@ pub struct PlainCore {
 }
 
 impl Model for PlainCore {
+    ghost use Rattle.std.specs.Prelude.{◌≡◌, [], true};
     ghost use Rattle.xr_model.specs.machine.State.{State};
+    ghost use Rattle.xr_core.specs.inside.Bare.{are_bare};
 
     ghost Value = { State };
 
-    ghost view = { λ p. record { core = p.core; cells = p.cells } };
+    ghost view = { λ p. record { core = p.core; cells = record { stamps = p.cells.stamps; held = [] } } };
+
+    ghost invariant = { λ p. are_bare p.core.frames.pending ≡ true };
 }
 
 impl PlainCore {
@@ -80,9 +87,10 @@ impl PlainCore {
         self.core.wait_frame_waits(session)
     }
 
-    /// Whether the compositor's `NextFrame` has to wait: no frame is pending, and some application hasn't left.
+    /// Whether the compositor's `NextFrame` has to wait: no frame is pending, some application hasn't left, and no image is held,
+    /// for which the call would be refused.
     pub fn next_frame_waits(&self) -> bool
-        ensures { result ≡ (next_frame_rule self.now.core).waits }
+        ensures { result ≡ (is_frame_awaited self.now.core && is_empty self.now.cells.held) }
     {
         self.core.next_frame_waits()
     }
@@ -92,10 +100,12 @@ impl PlainCore {
     /// for the frame that `NextFrame` shows; it stays where none is.
     /// The reply is the machine's to an allowed entry: it gives a handle exactly where a creation succeeds, and
     /// `OutOfMemory` comes only to a new path text that would else be interned, and to suggestions that would else be taken.
+    /// No image is held before it, so `NextFrame` is never refused.
     pub fn apply(&mut self, who: Actor, call: &Call<'_>, text: &mut [u8], shown: &mut Shown) -> Step
         requires calls { self.old.core.locked < 2 ^ 44 }
         requires may { MayMake self.old.core who (request_of call.now) (length text.old) }
-        ensures { Applies self.old self.new who call.now (record { text = text.old; frame = shown.old }) (record { text = text.new; frame = shown.new }) result }
+        ensures unheld { self.old.cells.held ≡ [] }
+        ensures applies { Applies self.old self.new who call.now (record { text = text.old; frame = shown.old }) (record { text = text.new; frame = shown.new }) result }
     {
         self.core.apply(who, call, text, shown)
     }

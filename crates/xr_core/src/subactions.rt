@@ -3,7 +3,7 @@ ghost use Rattle.std.specs.Prelude.{◌≡◌};
 ghost use Rattle.xr_model.specs.machine.Refusals.{first_of};
 ghost use Rattle.xr_model.specs.machine.Sets.{no_users};
 ghost use Rattle.xr_model.specs.machine.Rules.Sets.{sub_checks, declared_by};
-ghost use Rattle.xr_core.specs.inside.Refusing.{or_refused};
+ghost use Rattle.xr_model.specs.machine.PartAnswers.{or_refused};
 
 use xr_paths::Paths;
 use xr_profiles::user_of;

@@ -1,14 +1,23 @@
 // The loop of a session and the frames that are pending, and the calls on them.
 ghost use Rattle.std.specs.Prelude.{◌≡◌, ◌≤ℤ◌, ◌++◌, ◌∷◌, [], IfSome, pos, None, true, not, false, drop, slice_get, if◌then◌else◌};
+ghost use Rattle.std.specs.List.{list_any};
+ghost use Rattle.xr_model.specs.machine.Chains.{has_place};
 ghost use Rattle.xr_model.specs.machine.Frames.{no_frames, new_loop, reset_loop, waited_loop, begun_loop, ended_loop, predicted_time, is_frame_held_back, begun_code, is_empty};
 
 use crate::times::predicted_time;
 use arrayvec::ArrayVec;
 use std::marker::Model;
-use xr_types::{Code, Frame, FrameState};
+use xr_types::{Code, Frame, FrameState, Image};
 
 /// How many frames are pending at most.
 const MOST_PENDING: usize = 3;
+
+/// Whether an image of this place is among these.
+fn has_place(images: &[Image], place: u8) -> bool
+    ensures { result ≡ has_place place images.now }
+{
+    images.iter().any(|image| image.place == place)
+}
 
 /// The loop of the live session: the time that was predicted last, whether a frame is waited for and not begun, and whether
 /// one is begun and not ended; and the frames that were ended and not taken, the oldest first. Seen by contracts as the
@@ -137,6 +146,16 @@ impl Frames {
         ensures { result ≡ not (is_empty self.now.pending) }
     {
         !self.pending.is_empty()
+    }
+
+    /// Whether a pending frame uses an image of this place of a swapchain.
+    pub fn uses(&self, place: u8) -> bool
+        ensures { result ≡ list_any (λ f. has_place place f.images) self.now.pending }
+    {
+        self.pending
+            .as_slice()
+            .iter()
+            .any(|frame| has_place(frame.images.as_slice(), place))
     }
 
     /// Takes the frame that is pending longest, where one is.

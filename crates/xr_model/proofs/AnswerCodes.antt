@@ -2,7 +2,11 @@
 use Rattle.std.proofs.Common.{◌≡◌, ◌&&◌, ◌⊎◌, inl, inr, zero, suc, ℕ, Bool, true, false, List, [], ◌∷◌, ◌++◌, length, map, Option, Some, None, refl, sym, ap, subst, ◌∙◌, append_assoc, true≢false}
 use Rattle.std.specs.Prelude.{if◌then◌else◌, flat_map, is_some}
 use Rattle.xr_types.specs.declared.code.Code.{Code}
-use Rattle.xr_types.specs.declared.code.Code.TheVariants.{Success, SessionLossPending, FrameDiscarded, OutOfMemory, CallOrderInvalid, HandleInvalid, SessionLost, NameInvalid, NameDuplicated, PathFormatInvalid, ValidationFailure, PathInvalid, PathUnsupported, ActionsetsAlreadyAttached, LimitReached}
+use Rattle.xr_types.specs.declared.code.Code.TheVariants.{Success, SessionLossPending, FrameDiscarded, OutOfMemory, CallOrderInvalid, HandleInvalid, SessionLost, NameInvalid, NameDuplicated, PathFormatInvalid, ValidationFailure, PathInvalid, PathUnsupported, ActionsetsAlreadyAttached, LimitReached, SessionNotRunning, TimeInvalid, EnvironmentBlendModeUnsupported, LayerLimitExceeded, SwapchainRectInvalid, LayerInvalid, PoseInvalid}
+use Rattle.xr_types.specs.declared.frames.Layer.{Layer}
+use Rattle.xr_types.specs.declared.frames.Layer.TheVariants.{Projection, Quad}
+use Rattle.xr_model.specs.machine.Layers.{Look, layer_checks}
+use Rattle.xr_model.specs.machine.Rules.Frames.{look_of}
 use Rattle.xr_types.specs.declared.handles.Kind.{Kind}
 use Rattle.xr_types.specs.declared.handles.Kind.TheVariants as kind
 use Rattle.xr_types.specs.declared.input.Binding.{Binding}
@@ -21,7 +25,7 @@ use Rattle.xr_model.specs.machine.Rules.Bindings.{profile_at, bindings_checks}
 use Rattle.xr_model.specs.machine.Rules.Sets.{sub_checks, with_user, user_at}
 use Rattle.xr_model.specs.machine.State.{CoreState}
 use Rattle.xr_model.specs.machine.Machine.{rule, reads_of}
-use Rattle.xr_model.specs.laws.AnswerTable.{Row, Refuses, one, each, answers_of, repeated, spelt_out, all_codes, codes_in, is_ordered}
+use Rattle.xr_model.specs.laws.AnswerTable.{Row, Refuses, one, each, layer_refuses, answers_of, repeated, spelt_out, all_codes, codes_in, is_ordered}
 use Rattle.xr_model.specs.laws.AnswerTableLaws.{IsOneOf, codes_of, codes_asked, items_of, IsOfRow, RefusalsAreTheTable, AnswersAreTheTable}
 
 -- ---- the refusals of lists
@@ -39,6 +43,13 @@ bindings_codes : (s : CoreState) (o : Option Profile) (list : List Binding)
 bindings_codes s None list = refl
 bindings_codes s (Some which) [] = refl
 bindings_codes s (Some which) (b ∷ list) = ap (λ (cs : List Code). HandleInvalid ∷ ActionsetsAlreadyAttached ∷ PathInvalid ∷ PathUnsupported ∷ cs) (bindings_codes s (Some which) list)
+
+layers_codes : (look : Look) (layers : List Layer) → codes_of (flat_map (layer_checks look) layers) ≡ spelt_out (flat_map layer_refuses layers) []
+layers_codes look [] = refl
+layers_codes look (Projection space count views ∷ layers) =
+    ap (λ (cs : List Code). HandleInvalid ∷ ValidationFailure ∷ HandleInvalid ∷ SwapchainRectInvalid ∷ LayerInvalid ∷ HandleInvalid ∷ SwapchainRectInvalid ∷ LayerInvalid ∷ cs) (layers_codes look layers)
+layers_codes look (Quad space image pose ∷ layers) =
+    ap (λ (cs : List Code). HandleInvalid ∷ HandleInvalid ∷ SwapchainRectInvalid ∷ LayerInvalid ∷ PoseInvalid ∷ cs) (layers_codes look layers)
 
 -- a call that has a rule succeeds plainly, or on a session tells of a pending loss
 abbrev succeeds_on : Option Loss → List Code
@@ -95,7 +106,7 @@ refusals_are_the_table s reads e = by e.request
       success = begun_success (loss_of (life_of s session)) s.frames.frame_loop;
     }
     by (end_frame session time blend layers) there = record {
-      refusals = refl;
+      refusals = ap (λ (cs : List Code). HandleInvalid ∷ SessionLost ∷ SessionNotRunning ∷ CallOrderInvalid ∷ TimeInvalid ∷ EnvironmentBlendModeUnsupported ∷ LayerLimitExceeded ∷ cs) (layers_codes (look_of s) layers);
       order = λ none. cc;
       memory = λ none. refl;
       success = on_success (Some (loss_of (life_of s session))) (rule s reads (record e { request = end_frame session time blend layers })).effect true refl refl;

@@ -73,6 +73,7 @@ attached_step s e once kept each = kept_by_step AttachLive s.core (reads_of s e.
   set = λ d c instance. all_weaker (attaches_live s.core.handles) (attaches_live (with_handle s.core.handles kind.ActionSet instance e.given)) (λ x live. all_weaker (is_live s.core.handles kind.ActionSet) (is_live (with_handle s.core.handles kind.ActionSet instance e.given) kind.ActionSet) (λ k there. still instance k there) (unwrap_or x.attached []) live) s.core.sessions each;
   action = λ d c set. each;
   space = λ d c session. each;
+  chain = λ d c session. each;
   without = λ d c handle.
       all_map (attaches_live s.core.handles) (attaches_live (without s.core.handles handle)) (without_sets (destroyed_by s.core.handles handle)) (left_live s.core.handles handle once) (still_live (without s.core.handles handle) s.core.sessions)
       (all_left (attaches_live s.core.handles) (attaches_live s.core.handles) (λ x. is_live (without s.core.handles handle) kind.Session x.handle) (λ x live stays. live) s.core.sessions each);

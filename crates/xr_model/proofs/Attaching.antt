@@ -80,6 +80,7 @@ module _ (s : State) (e : Entry) (allowed : IsAllowed s e) (session : ℕ) (has_
   has_step = kept_by_step (Has session) s.core (reads_of s e.request) e (record {
     same = λ d c. has_some;
     instance = λ d c. record { given = more e.given; attached = has_some.attached };
+    chain = λ d c above. record { given = more e.given; attached = has_some.attached };
     session = λ d c good room instance. record { given = more e.given; attached = λ x found. added (new_session_given s e allowed c good).1 x (which_more (λ (y : Session). y.handle) s.core.sessions _ session x found) };
     set = λ d c instance. record { given = more e.given; attached = has_some.attached };
     action = λ d c set. record { given = more e.given; attached = has_some.attached };
@@ -230,6 +231,7 @@ new_sessions_are_bare settings es e legal allowed creates good = bare (after (op
           set = λ d c. absurd (true≢false (sym creates ∙ c));
           action = λ d c. absurd (true≢false (sym creates ∙ c));
           space = λ d c. absurd (true≢false (sym creates ∙ c));
+          chain = λ d c. absurd (true≢false (sym creates ∙ c));
           without = λ d c. absurd (true≢false (sym creates ∙ c));
           alone = λ d c. absurd (true≢false (sym creates ∙ c));
           lives = λ d c. absurd (true≢false (sym creates ∙ c));

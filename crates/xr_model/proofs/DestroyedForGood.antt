@@ -1,9 +1,9 @@
 -- A handle that was destroyed is never live again.
 use Rattle.std.proofs.Common.{arith, ◌≤◌, ◌+◌, ◌≡◌, ℕ, ℤ, ◌==◌, not, true, false, List, [], ◌∷◌, ◌++◌, refl, sym, ap, ◌∙◌, subst, true≢false}
 use Rattle.xr_types.specs.Code.{is_success}
-use Rattle.xr_types.specs.declared.handles.Kind.TheVariants.{Instance, Session, ActionSet, Action, Space}
+use Rattle.xr_types.specs.declared.handles.Kind.TheVariants.{Instance, Session, ActionSet, Action, Space, Swapchain}
 use Rattle.xr_types.specs.declared.handles.Slot.{Slot}
-use Rattle.xr_model.specs.machine.Request.{Entry, Request, destroy_instance, destroy_session, destroy_space, destroy_action_set, destroy_action}
+use Rattle.xr_model.specs.machine.Request.{Entry, Request, destroy_instance, destroy_session, destroy_space, destroy_action_set, destroy_action, destroy_swapchain}
 use Rattle.xr_model.specs.machine.Handles.{Handles, has, is_live, without, without_alone}
 use Rattle.xr_model.specs.machine.HandlePlaces.{kind_of}
 use Rattle.xr_model.specs.machine.State.{State, opening}
@@ -63,6 +63,10 @@ over_destroyed s e handle known once = by e.request
         destroyed (IsOver handle) s.core (is_live s.core.handles Action action) (rule s.core (reads_of s (destroy_action action)) (record e { request = destroy_action action })).effect good
         (λ live. subst (λ (n : ℕ). IsOver n (without s.core.handles action)) (same_key action handle names)
         (over_without s.core.handles Action action known live (λ a. rw a.actions (and_false (not (action == 0))))))
+    by (destroy_swapchain chain) names good =
+        destroyed (IsOver handle) s.core (is_live s.core.handles Swapchain chain) (rule s.core (reads_of s (destroy_swapchain chain)) (record e { request = destroy_swapchain chain })).effect good
+        (λ live. subst (λ (n : ℕ). IsOver n (without s.core.handles chain)) (same_key chain handle names)
+        (over_without s.core.handles Swapchain chain known live (λ a. rw a.chains (and_false (not (chain == 0))))))
     by _ names good = absurd (true≢false (sym names))
 
 -- ---- the law

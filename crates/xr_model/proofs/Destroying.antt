@@ -3,7 +3,7 @@ use Rattle.std.proofs.Common.{◌≡◌, ℕ, ℤ, ◌==◌, ◌&&◌, ◌||◌,
 use Rattle.xr_types.specs.Code.{is_success}
 use Rattle.xr_types.specs.declared.code.Code.TheVariants.{HandleInvalid}
 use Rattle.xr_types.specs.declared.handles.Kind.{Kind}
-use Rattle.xr_types.specs.declared.handles.Kind.TheVariants.{Instance, Session, ActionSet, Action, Space}
+use Rattle.xr_types.specs.declared.handles.Kind.TheVariants.{Instance, Session, ActionSet, Action, Space, Swapchain}
 use Rattle.xr_types.specs.declared.handles.Slot.{Slot}
 use Rattle.xr_types.specs.declared.handles.TheConstants.{INSTANCES, SESSIONS, ACTION_SETS, ACTIONS, SPACES, SWAPCHAINS}
 use Rattle.xr_model.specs.machine.Request.{Entry}
@@ -91,6 +91,10 @@ module _ (h : Handles) (parent given handle : ℕ) (other : (given == handle) �
   unfolding slot
   absent_space = record { instances = a.instances; sessions = a.sessions; sets = a.sets; actions = a.actions; spaces = hasnt_put slot h.spaces handle a.spaces other; chains = a.chains }
 
+  absent_chain : IsAbsent (with_handle h Swapchain parent given) handle
+  unfolding slot
+  absent_chain = record { instances = a.instances; sessions = a.sessions; sets = a.sets; actions = a.actions; spaces = a.spaces; chains = hasnt_put slot h.chains handle a.chains other }
+
 -- ---- each live handle was given
 
 abbrev pub AreKnown : Handles → Type 0
@@ -104,6 +108,7 @@ known_step s e known = kept_by_step AreKnown s.core (reads_of s e.request) e (re
   set = λ gives instance live handle nz new. let two = neither_of (e.given == handle) (was_given s.core.handles handle) new in absent_set s.core.handles instance e.given handle two.0 (known handle nz two.1);
   action = λ gives set live handle nz new. let two = neither_of (e.given == handle) (was_given s.core.handles handle) new in absent_action s.core.handles set e.given handle two.0 (known handle nz two.1);
   space = λ gives session live handle nz new. let two = neither_of (e.given == handle) (was_given s.core.handles handle) new in absent_space s.core.handles session e.given handle two.0 (known handle nz two.1);
+  chain = λ is gives session live handle nz new. let two = neither_of (e.given == handle) (was_given s.core.handles handle) new in absent_chain s.core.handles session e.given handle two.0 (known handle nz two.1);
   without = λ gone handle nz new. absent_without s.core.handles gone handle nz (known handle nz new);
   alone = λ gone handle nz new. absent_alone s.core.handles gone handle nz (known handle nz new);
 })
@@ -155,6 +160,8 @@ over_step s e handle allowed over = kept_by_step (IsOver handle) s.core (reads_o
       record { some = over.some; given = or_given (e.given == handle) (was_given s.core.handles handle) over.given; absent = absent_action s.core.handles set e.given handle other over.absent };
   space = λ gives session live. let other = is_other s.core.handles handle e.given (gives_handle s.core (reads_of s e.request) e) over allowed.handle gives in
       record { some = over.some; given = or_given (e.given == handle) (was_given s.core.handles handle) over.given; absent = absent_space s.core.handles session e.given handle other over.absent };
+  chain = λ is gives session live. let other = is_other s.core.handles handle e.given (gives_handle s.core (reads_of s e.request) e) over allowed.handle gives in
+      record { some = over.some; given = or_given (e.given == handle) (was_given s.core.handles handle) over.given; absent = absent_chain s.core.handles session e.given handle other over.absent };
   without = λ gone. record { some = over.some; given = over.given; absent = absent_without s.core.handles gone handle over.some over.absent };
   alone = λ gone. record { some = over.some; given = over.given; absent = absent_alone s.core.handles gone handle over.some over.absent };
 })

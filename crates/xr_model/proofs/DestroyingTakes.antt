@@ -6,7 +6,7 @@ use Rattle.xr_types.specs.Code.{is_success}
 use Rattle.xr_types.specs.declared.handles.Kind.{Kind}
 use Rattle.xr_types.specs.declared.handles.Kind.TheVariants.{Instance, Session, ActionSet, Action, Space, Swapchain}
 use Rattle.xr_types.specs.declared.handles.Slot.{Slot}
-use Rattle.xr_model.specs.machine.Request.{Entry, Request, destroy_instance, destroy_session, destroy_space, destroy_action_set, destroy_action}
+use Rattle.xr_model.specs.machine.Request.{Entry, Request, destroy_instance, destroy_session, destroy_space, destroy_action_set, destroy_action, destroy_swapchain}
 use Rattle.xr_model.specs.machine.Handles.{Handles, free, has, is_live, row_of, put_in, first_free, goes, going, cleared, destroyed_instances, destroyed_parents, without}
 use Rattle.xr_model.specs.machine.HandlePlaces.{slot_in, parent_of}
 use Rattle.xr_model.specs.laws.HandleLaws.{count_in, places_with, is_under, AreUnder, StandOnce, is_within, destroys, DestroyingTakes}
@@ -160,6 +160,7 @@ roots_step s e roots = kept_by_step (λ h. list_all (λ s. s.parent == 0) h.inst
   set = λ gives instance live. roots;
   action = λ gives set live. roots;
   space = λ gives session live. roots;
+  chain = λ is gives session live. roots;
   without = λ handle. roots_cleared handle [] s.core.handles.instances roots;
   alone = λ space. roots;
 })
@@ -329,6 +330,9 @@ takes_step s e handle once under roots = by e.request
     by (destroy_action action) names good =
         destroyed (λ new. Takes s.core.handles handle new) s.core (is_live s.core.handles Action action) (rule s.core (reads_of s (destroy_action action)) (record e { request = destroy_action action })).effect good
         (λ live. taken Action action names live)
+    by (destroy_swapchain chain) names good =
+        destroyed (λ new. Takes s.core.handles handle new) s.core (is_live s.core.handles Swapchain chain) (rule s.core (reads_of s (destroy_swapchain chain)) (record e { request = destroy_swapchain chain })).effect good
+        (λ live. taken Swapchain chain names live)
     by _ names good = absurd (true≢false (sym names))
 
 pub destroying_takes : DestroyingTakes
@@ -336,7 +340,7 @@ destroying_takes settings es e handle legal names good =
     let s = after (opening settings) es in
     takes_step (after (opening settings) es) e handle (handles_stand_once settings es legal) (no_orphans settings es) (roots_after (opening settings) es refl) names good
 
--- ---- the parent of a space
+-- ---- the parent of a space and of a chain
 
 some_same : (a b : ℕ) → Some a ≡ Some b → a ≡ b
 some_same a b e = cc
@@ -348,4 +352,12 @@ live_parent h once under roots space session live is =
     let nz = not_true (space == 0) parts.0 in
     let parent = under_parent h.sessions h.spaces space nz under.spaces parts.1 in
     let same = some_same (parent_in h.spaces space) session (sym (space_parent h 1 refl once under roots space nz parts.1) ∙ is) in
+    subst (λ (n : ℕ). is_live h Session n ≡ true) same (rw (parent.0, parent.1) refl)
+
+pub live_chain_parent : (h : Handles) → StandOnce h → AreUnder h → AreRoots h → (chain session : ℕ) → is_live h Swapchain chain ≡ true → parent_of h chain ≡ Some session → is_live h Session session ≡ true
+live_chain_parent h once under roots chain session live is =
+    let parts = both_of (not (chain == 0)) (has h.chains chain) live in
+    let nz = not_true (chain == 0) parts.0 in
+    let parent = under_parent h.sessions h.chains chain nz under.chains parts.1 in
+    let same = some_same (parent_in h.chains chain) session (sym (chain_parent h 1 refl once under roots chain nz parts.1) ∙ is) in
     subst (λ (n : ℕ). is_live h Session n ≡ true) same (rw (parent.0, parent.1) refl)

@@ -4,9 +4,9 @@ use Rattle.std.specs.Prelude.{is_some, option_map, unwrap_or}
 use Rattle.std.specs.List.{find, filter, list_all}
 use Rattle.xr_types.specs.Code.{is_success}
 use Rattle.xr_types.specs.declared.handles.Kind.{Kind}
-use Rattle.xr_types.specs.declared.handles.Kind.TheVariants.{Instance, Session, ActionSet, Action, Space}
+use Rattle.xr_types.specs.declared.handles.Kind.TheVariants.{Instance, Session, ActionSet, Action, Space, Swapchain}
 use Rattle.xr_types.specs.declared.input.Bound.{Bound}
-use Rattle.xr_model.specs.machine.Request.{Entry, Request, destroy_instance, destroy_session, destroy_space, destroy_action_set, destroy_action}
+use Rattle.xr_model.specs.machine.Request.{Entry, Request, destroy_instance, destroy_session, destroy_space, destroy_action_set, destroy_action, destroy_swapchain}
 use Rattle.xr_model.specs.machine.Handles.{Handles, has, is_live, is_among, destroyed_by, without, without_alone}
 use Rattle.xr_model.specs.machine.LiveSessions as sessions
 use Rattle.xr_model.specs.machine.LiveSessions.{without_sets, still_live}
@@ -178,6 +178,8 @@ filtered s e handle listed kept attached once under roots names good =
         done_so (λ t. AreFiltered s.core t (λ k. is_within 2 s.core.handles k handle)) s.core (is_live s.core.handles ActionSet set) (rule s.core (reads_of s (destroy_action_set set)) (record e { request = destroy_action_set set })).effect good (below ActionSet set names)
     by (destroy_action action) names good =
         done_so (λ t. AreFiltered s.core t (λ k. is_within 2 s.core.handles k handle)) s.core (is_live s.core.handles Action action) (rule s.core (reads_of s (destroy_action action)) (record e { request = destroy_action action })).effect good (below Action action names)
+    by (destroy_swapchain chain) names good =
+        done_so (λ t. AreFiltered s.core t (λ k. is_within 2 s.core.handles k handle)) s.core (is_live s.core.handles Swapchain chain) (rule s.core (reads_of s (destroy_swapchain chain)) (record e { request = destroy_swapchain chain })).effect good (below Swapchain chain names)
     by _ names good = absurd (true≢false (sym names))
 
 pub destroying_filters : DestroyingFilters

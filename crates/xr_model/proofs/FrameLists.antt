@@ -1,6 +1,6 @@
--- How many frames are pending, and that they are shown as they were submitted.
-use Rattle.std.proofs.Common.{◌≡◌, ◌+◌, ◌≤◌, ◌++◌, ℕ, ℤ, Bool, true, false, not, List, [], ◌∷◌, map, drop, length, Option, Some, None, refl, sym, ap, subst, ◌∙◌, append_assoc, append-nil, arith, true≢false}
-use Rattle.std.specs.Prelude.{nat_lt, if◌then◌else◌}
+-- How many frames are pending, what an entry takes and adds, and how frames are numbered.
+use Rattle.std.proofs.Common.{◌≡◌, ◌+◌, ◌≤◌, ◌++◌, ℕ, ℤ, Bool, true, false, not, List, [], ◌∷◌, drop, length, Option, Some, None, refl, sym, subst, ◌∙◌, append-nil, arith, true≢false}
+use Rattle.std.specs.Prelude.{nat_lt, take, if◌then◌else◌}
 use Rattle.std.proofs.lemmas.Bool.Decides.{nat_tests}
 use Rattle.xr_types.specs.Code.{is_success}
 use Rattle.xr_types.specs.declared.device.DeviceEvent.{DeviceEvent}
@@ -14,19 +14,20 @@ use Rattle.xr_model.specs.machine.State.{CoreState, CellReads, State, opening}
 use Rattle.xr_model.specs.machine.Rule.{Rule, Effect, refusal, told_on, unless_refused}
 use Rattle.xr_model.specs.machine.Rules.Session.{life_of}
 use Rattle.xr_model.specs.machine.Rules.Device.{behind_event}
-use Rattle.xr_model.specs.machine.Rules.Frames.{oldest_shown, shown_of}
+use Rattle.xr_model.specs.machine.Rules.Frames.{look_of, new_frame, oldest_shown}
 use Rattle.xr_model.specs.machine.Machine.{core_step, core_ready, effect, rule, step, reads_of}
-use Rattle.xr_model.specs.machine.History.{after, opening_clocks, clocks_after, IsLegalFrom, shown_if}
-use Rattle.xr_model.specs.laws.FrameLaws.{times_if, times_by, times_from, shown_from, numbered, is_frame_end, FramesAsSubmitted, AtMostThree}
+use Rattle.xr_model.specs.machine.History.{after, opening_clocks, clocks_after, IsLegalFrom}
+use Rattle.xr_model.specs.laws.FrameLaws.{submitted_if, submitted_from, AreNumbered, FramesAreNumbered, AtMostThree}
 use Rattle.xr_model.proofs.Successes.{success_succeeds}
+use Rattle.xr_model.proofs.LayerCodes.{layers_fail}
 use Rattle.xr_model.proofs.FrameOrder.{by_rule, is_ready_to, not_false, clear}
 
 -- ---- what a call leaves of the frames that are pending
 
-record Same (s : CoreState) (x : Effect) : Type 0 where
-  pending : x.state.frames.pending ≡ s.frames.pending
-  ended : x.state.ended ≡ s.ended
-  shown : x.shown ≡ None
+pub record Same (s : CoreState) (x : Effect) : Type 0 where
+  pub pending : x.state.frames.pending ≡ s.frames.pending
+  pub ended : x.state.ended ≡ s.ended
+  pub shown : x.shown ≡ None
 
 same_refused : (s : CoreState) (o : Option Refusal) (x : Effect) → Same s x → Same s (unless_refused s o x)
 same_refused s None x same = same
@@ -41,12 +42,12 @@ event_same s (event.Clock time) = (refl, refl)
 event_same s _ = (refl, refl)
 
 -- the calls that submit and show frames
-abbrev is_frame_move : Request → Bool
+abbrev pub is_frame_move : Request → Bool
 is_frame_move (end_frame session time blend layers) = true
 is_frame_move next_frame = true
 is_frame_move _ = false
 
-frames_stay : (s : CoreState) (reads : CellReads) (e : Entry) → is_frame_move e.request ≡ false → Same s (effect s reads e)
+pub frames_stay : (s : CoreState) (reads : CellReads) (e : Entry) → is_frame_move e.request ≡ false → Same s (effect s reads e)
 frames_stay s reads e aside = by e.request aside
   where
     by : (r : Request) → is_frame_move r ≡ false → Same s (effect s reads (record e { request = r }))
@@ -55,74 +56,85 @@ frames_stay s reads e aside = by e.request aside
     by (device what) aside = let c = event_same s what in record { pending = c.0; ended = c.1; shown = refl }
     by r aside = let f = rule s reads (record e { request = r }) in same_refused s (refusal e.short f) (told_on f.on f.effect) (record { pending = refl; ended = refl; shown = refl })
 
--- ---- frames are shown as they were submitted
+-- ---- what an entry takes and adds
 
--- what an entry takes and adds
-pub record Moves (s : CoreState) (x : Effect) (times : List ℤ) : Type 0 where
-  pub pending : map shown_of s.frames.pending ++ numbered (s.ended + 1) times ≡ shown_if x.shown ++ map shown_of x.state.frames.pending
-  pub ended : x.state.ended ≡ s.ended + length times
+-- the frame that is pending behind a call where it succeeds, if it submits one
+abbrev pub frame_if : Bool → CoreState → Request → List PendingFrame
+frame_if true s (end_frame session time blend layers) = new_frame s time layers ∷ []
+frame_if _ s _ = []
+
+-- the frames that a call takes where it shows one: the oldest of these
+abbrev pub taken_if : Option ShownFrame → List PendingFrame → List PendingFrame
+taken_if None frames = []
+taken_if (Some f) frames = take 1 frames
+
+pub record Moves (s : CoreState) (x : Effect) (added : List PendingFrame) : Type 0 where
+  pub pending : s.frames.pending ++ added ≡ taken_if x.shown s.frames.pending ++ x.state.frames.pending
+  pub ended : x.state.ended ≡ s.ended + length added
 
 moves_same : (s : CoreState) (x : Effect) → Same s x → Moves s x []
 moves_same s x same = record {
-  pending = append-nil (map shown_of s.frames.pending) ∙ sym (rw (same.shown, same.pending) refl);
+  pending = append-nil s.frames.pending ∙ sym (rw (same.shown, same.pending) refl);
   ended = same.ended ∙ omega arith;
 }
 
-map_more : (fs : List PendingFrame) (f : PendingFrame) → map shown_of (fs ++ f ∷ []) ≡ map shown_of fs ++ shown_of f ∷ []
-map_more [] f = refl
-map_more (x ∷ fs) f = ap (λ (l : List ShownFrame). shown_of x ∷ l) (map_more fs f)
-
 -- the oldest frame is taken and shown
-takes : (fs : List PendingFrame) → map shown_of fs ++ [] ≡ shown_if (oldest_shown fs) ++ map shown_of (drop 1 fs)
-takes [] = refl
-takes (f ∷ fs) = append-nil (map shown_of (f ∷ fs))
+takes : (fs : List PendingFrame) (stamps : List ℕ) → fs ++ [] ≡ taken_if (oldest_shown fs stamps) fs ++ drop 1 fs
+takes [] stamps = refl
+takes (f ∷ fs) stamps = append-nil (f ∷ fs)
 
-pub moves : (s : CoreState) (reads : CellReads) (e : Entry) → Moves s (effect s reads e) (times_if (is_success (effect s reads e).code) (is_frame_end e.request))
+moves_refused : (s : CoreState) (o : Option Refusal) (x : Effect) → Moves s x [] → Moves s (unless_refused s o x) []
+moves_refused s None x m = m
+moves_refused s (Some r) x m = moves_same s (unless_refused s (Some r) x) (record { pending = refl; ended = refl; shown = refl })
+
+pub moves : (s : CoreState) (reads : CellReads) (e : Entry) → Moves s (effect s reads e) (frame_if (is_success (effect s reads e).code) s e.request)
 moves s reads e = by e.request
   where
-    none_if : (b : Bool) → times_if b None ≡ []
-    none_if true = refl
-    none_if false = refl
+    still : (r : Request) (b : Bool) → is_frame_move r ≡ false → frame_if b s r ≡ [] → Moves s (effect s reads (record e { request = r })) (frame_if b s r)
+    still r b aside none = rw none (moves_same s (effect s reads (record e { request = r })) (frames_stay s reads (record e { request = r }) aside))
 
-    still : (r : Request) → is_frame_move r ≡ false → is_frame_end r ≡ None → Moves s (effect s reads (record e { request = r })) (times_if (is_success (effect s reads (record e { request = r })).code) (is_frame_end r))
-    still r aside none = rw (none, none_if (is_success (effect s reads (record e { request = r })).code)) (moves_same s (effect s reads (record e { request = r })) (frames_stay s reads (record e { request = r }) aside))
+    none_if : (b : Bool) (r : Request) → is_frame_move r ≡ false → frame_if b s r ≡ []
+    none_if false r aside = refl
+    none_if true (end_frame session time blend layers) aside = absurd (true≢false aside)
+    none_if true _ aside = refl
 
-    by : (r : Request) → Moves s (effect s reads (record e { request = r })) (times_if (is_success (effect s reads (record e { request = r })).code) (is_frame_end r))
-    by next_frame = record { pending = takes s.frames.pending; ended = omega arith }
-    by (end_frame session time blend layers) = by_rule (λ x. Moves s x (times_if (is_success x.code) (Some time))) s f e.short refl refused ended
+    by : (r : Request) → Moves s (effect s reads (record e { request = r })) (frame_if (is_success (effect s reads (record e { request = r })).code) s r)
+    by next_frame =
+        let f = rule s reads (record e { request = next_frame }) in
+        rw (none_next (is_success (effect s reads (record e { request = next_frame })).code)) (moves_refused s (refusal e.short f) f.effect (record { pending = takes s.frames.pending reads.stamps; ended = omega arith }))
+      where
+        none_next : (b : Bool) → frame_if b s next_frame ≡ []
+        none_next true = refl
+        none_next false = refl
+    by (end_frame session time blend layers) = by_rule (λ x. Moves s x (frame_if (is_success x.code) s (end_frame session time blend layers))) s f e.short (layers_fail (look_of s) layers) refused ended
       where
         f : Rule
         f = rule s reads (record e { request = end_frame session time blend layers })
 
-        refused : (x : Refusal) → is_success x.code ≡ false → Moves s (unless_refused s (Some x) (told_on f.on f.effect)) (times_if (is_success x.code) (Some time))
+        refused : (x : Refusal) → is_success x.code ≡ false → Moves s (unless_refused s (Some x) (told_on f.on f.effect)) (frame_if (is_success x.code) s (end_frame session time blend layers))
         refused x failed = rw failed (moves_same s (unless_refused s (Some x) f.effect) (record { pending = refl; ended = refl; shown = refl }))
 
-        ended : refusal e.short f ≡ None → Moves s (told_on f.on f.effect) (times_if (is_success (told_on f.on f.effect).code) (Some time))
-        ended none = rw (success_succeeds (loss_of (life_of s session))) (record { pending = sym (map_more s.frames.pending _); ended = refl })
-    by r = still r refl refl
+        ended : refusal e.short f ≡ None → Moves s (told_on f.on f.effect) (frame_if (is_success (told_on f.on f.effect).code) s (end_frame session time blend layers))
+        ended none = rw (success_succeeds (loss_of (life_of s session))) (record { pending = refl; ended = refl })
+    by r = still r (is_success (effect s reads (record e { request = r })).code) refl (none_if (is_success (effect s reads (record e { request = r })).code) r refl)
 
-numbered_more : (n : ℕ) (xs ys : List ℤ) → numbered n (xs ++ ys) ≡ numbered n xs ++ numbered (n + length xs) ys
-numbered_more n [] ys = ap (λ k. numbered k ys) (omega arith)
-numbered_more n (x ∷ xs) ys = ap (λ (l : List ShownFrame). record { number = n; time = x; layers = [] } ∷ l) (numbered_more (n + 1) xs ys ∙ ap (λ k. numbered (n + 1) xs ++ numbered k ys) (omega arith))
+-- ---- frames are numbered
 
-as_submitted : (s : State) (es : List Entry) → shown_from s es ++ map shown_of (after s es).core.frames.pending ≡ map shown_of s.core.frames.pending ++ numbered (s.core.ended + 1) (times_from s es)
-as_submitted s [] = sym (append-nil (map shown_of s.core.frames.pending))
-as_submitted s (e ∷ es) =
-    let m = moves s.core (reads_of s e.request) e in
-    let rest = as_submitted (step s e).0 es in
-    let now : List ShownFrame = shown_if (step s e).1.shown in
-    let later : ℕ → List ShownFrame = λ k. numbered k (times_from (step s e).0 es) in
-    let ended = m.ended in
-    append_assoc now (shown_from (step s e).0 es) (map shown_of (after (step s e).0 es).core.frames.pending)
-    ∙ ap (λ (l : List ShownFrame). now ++ l) rest
-    ∙ sym (append_assoc now (map shown_of (step s e).0.core.frames.pending) (later ((step s e).0.core.ended + 1)))
-    ∙ ap (λ (l : List ShownFrame). l ++ later ((step s e).0.core.ended + 1)) (sym m.pending)
-    ∙ append_assoc (map shown_of s.core.frames.pending) (numbered (s.core.ended + 1) (times_by s e)) (later ((step s e).0.core.ended + 1))
-    ∙ ap (λ k. map shown_of s.core.frames.pending ++ (numbered (s.core.ended + 1) (times_by s e) ++ later k)) (omega (arith, ended))
-    ∙ ap (λ (l : List ShownFrame). map shown_of s.core.frames.pending ++ l) (sym (numbered_more (s.core.ended + 1) (times_by s e) (times_from (step s e).0 es)))
+numbered_by : (n : ℕ) (s : State) (b : Bool) (r : Request) → n ≡ s.core.ended + 1 → (rest : List ShownFrame) → AreNumbered (n + length (frame_if b s.core r)) rest → AreNumbered n (submitted_if b s r ++ rest)
+numbered_by n s false r is rest more = subst (λ (k : ℕ). AreNumbered k rest) (omega arith) more
+numbered_by n s true (end_frame session time blend layers) is rest more = (sym is, more)
+numbered_by n s true _ is rest more = subst (λ (k : ℕ). AreNumbered k rest) (omega arith) more
 
-pub frames_as_submitted : FramesAsSubmitted
-frames_as_submitted settings es = as_submitted (opening settings) es
+numbered_from : (s : State) (es : List Entry) → AreNumbered (s.core.ended + 1) (submitted_from s es)
+numbered_from s [] = tt
+numbered_from s (e ∷ es) =
+    let m = (moves s.core (reads_of s e.request) e).ended in
+    let here : (step s e).0.core.ended + 1 ≡ (s.core.ended + 1) + length (frame_if (is_success (step s e).1.reply.code) s.core e.request) = omega (arith, m) in
+    numbered_by (s.core.ended + 1) s (is_success (step s e).1.reply.code) e.request refl (submitted_from (step s e).0 es)
+    (subst (λ (k : ℕ). AreNumbered k (submitted_from (step s e).0 es)) here (numbered_from (step s e).0 es))
+
+pub frames_are_numbered : FramesAreNumbered
+frames_are_numbered settings es = numbered_from (opening settings) es
 
 -- ---- at most three frames are pending
 
@@ -183,7 +195,9 @@ bound_step s reads e is_ready bound = by e.request is_ready
     by (end_frame session time blend layers) is_ready =
         let f = rule s reads (record e { request = end_frame session time blend layers }) in
         bound_refused s (refusal e.short f) (told_on f.on f.effect) bound (λ none. bound_ended s.frames _ (not_false s.frames.frame_loop.has_begun (clear f e.short none).order) bound)
-    by next_frame is_ready = bound_taken s.frames.pending (one_if s.frames.frame_loop.has_waited) (one_if s.frames.frame_loop.has_begun) bound
+    by next_frame is_ready =
+        let f = rule s reads (record e { request = next_frame }) in
+        bound_refused s (refusal e.short f) (told_on f.on f.effect) bound (λ none. bound_taken s.frames.pending (one_if s.frames.frame_loop.has_waited) (one_if s.frames.frame_loop.has_begun) bound)
     by (device what) is_ready = subst IsBound (sym (event_frames s what)) bound
     by r is_ready = let f = rule s reads (record e { request = r }) in bound_refused s (refusal e.short f) (told_on f.on f.effect) bound (λ none. bound)
 

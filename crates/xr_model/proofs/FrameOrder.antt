@@ -15,9 +15,10 @@ use Rattle.xr_types.specs.declared.device.DeviceEvent.{DeviceEvent}
 use Rattle.xr_types.specs.declared.device.DeviceEvent.TheVariants as event
 use Rattle.xr_model.specs.machine.Request.{Entry, Request, create_session, begin_session, end_session, wait_frame, begin_frame, end_frame, device}
 use Rattle.xr_model.specs.machine.State.{CoreState, CellReads, Settings, State, opening}
-use Rattle.xr_model.specs.machine.Rule.{Rule, Effect, refusals, refusal, or_short, told_on, unless_refused, carried_out}
+use Rattle.xr_model.specs.machine.Rule.{Rule, Effect, Did, nothing_done, refusals, refusal, or_short, told_on, unless_refused, carried_out}
 use Rattle.xr_model.specs.machine.Rules.Device.{behind_event}
-use Rattle.xr_model.specs.machine.Rules.Frames.{next_time}
+use Rattle.xr_model.proofs.LayerCodes.{layers_fail}
+use Rattle.xr_model.specs.machine.Rules.Frames.{look_of, next_time}
 use Rattle.xr_model.specs.machine.Machine.{core_step, rule, step, reads_of, ready, core_ready, IsAllowed}
 use Rattle.xr_model.specs.machine.History.{after, opening_clocks, clocks_after, IsLegalFrom}
 use Rattle.xr_model.specs.laws.SessionLaws.{is_session_creation}
@@ -85,24 +86,24 @@ loop_fresh q (t ∷ past) none = by (touches q t) refl none (loop_fresh q past)
 
 -- ---- what each call does to the counts of its session
 
-module _ (h : ℕ) (l : FrameLoop) (past : List Decided) (g : ℕ) where
-  begins_period : (view : ViewConfig) → LoopFits h (reset_loop l) (record { request = begin_session h view; is_done = true; given = g } ∷ past)
+module _ (h : ℕ) (l : FrameLoop) (past : List Decided) (g : ℕ) (d : Did) where
+  begins_period : (view : ViewConfig) → LoopFits h (reset_loop l) (record { request = begin_session h view; is_done = true; given = g; did = d } ∷ past)
   begins_period view = record { frames = rw (itself h) refl; begun = rw (itself h) refl }
 
-  ends_period : LoopFits h (reset_loop l) (record { request = end_session h; is_done = true; given = g } ∷ past)
+  ends_period : LoopFits h (reset_loop l) (record { request = end_session h; is_done = true; given = g; did = d } ∷ past)
   ends_period = record { frames = rw (itself h) refl; begun = rw (itself h) refl }
 
-  waits_frame : (time : ℤ) → l.has_waited ≡ false → LoopFits h l past → LoopFits h (waited_loop l time) (record { request = wait_frame h; is_done = true; given = g } ∷ past)
+  waits_frame : (time : ℤ) → l.has_waited ≡ false → LoopFits h l past → LoopFits h (waited_loop l time) (record { request = wait_frame h; is_done = true; given = g; did = d } ∷ past)
   waits_frame time none fits =
       let frames : waits h past ≡ begins h past + 0 = rw none at fits.frames in
       record { frames = rw (itself h) (omega (arith, frames)); begun = fits.begun }
 
-  begins_frame : l.has_waited ≡ true → LoopFits h l past → LoopFits h (begun_loop l) (record { request = begin_frame h; is_done = true; given = g } ∷ past)
+  begins_frame : l.has_waited ≡ true → LoopFits h l past → LoopFits h (begun_loop l) (record { request = begin_frame h; is_done = true; given = g; did = d } ∷ past)
   begins_frame some fits =
       let frames : waits h past ≡ begins h past + 1 = rw some at fits.frames in
       record { frames = rw (itself h) (omega (arith, frames)); begun = rw (itself h) refl }
 
-  ends_frame : (time : ℤ) (blend : Blend) (layers : List Layer) → LoopFits h l past → LoopFits h (ended_loop l) (record { request = end_frame h time blend layers; is_done = true; given = g } ∷ past)
+  ends_frame : (time : ℤ) (blend : Blend) (layers : List Layer) → LoopFits h l past → LoopFits h (ended_loop l) (record { request = end_frame h time blend layers; is_done = true; given = g; did = d } ∷ past)
   ends_frame time blend layers fits = record { frames = fits.frames; begun = rw (itself h) refl }
 
 -- ---- the handles, the loop and the counts
@@ -217,6 +218,7 @@ module _ (s : CoreState) (reads : CellReads) (e : Entry) (other : is_session_cre
     set = λ d c instance. record { row = refl; live = λ q live. live; given = given_before };
     action = λ d c set. record { row = refl; live = λ q live. live; given = given_before };
     space = λ d c session. record { row = refl; live = λ q live. live; given = given_before };
+    chain = λ d c session. record { row = refl; live = λ q live. live; given = given_before };
     without = λ d c handle. fewer_without s.handles handle;
     alone = λ d c space. record { row = refl; live = λ q live. live; given = λ q new. new };
     lives = λ d c session f named same has. fewer_same s.handles;
@@ -258,7 +260,7 @@ loop_stays s reads e aside = by e.request aside
 
 -- ---- refusals
 
-abbrev all_fail : List Refusal → Bool
+abbrev pub all_fail : List Refusal → Bool
 all_fail rs = list_all (λ r. not (is_success r.code)) rs
 
 pub first_fails : (rs : List Refusal) (r : Refusal) → all_fail rs ≡ true → first_of rs ≡ Some r → is_success r.code ≡ false
@@ -321,11 +323,11 @@ clear f short none =
 -- ---- an entry keeps the fit
 
 abbrev Fits : List Decided → Request → ℕ → Effect → Type 0
-Fits past r g x = FramesFit x.state.handles x.state.frames.frame_loop (record { request = r; is_done = is_success x.code; given = g } ∷ past)
+Fits past r g x = FramesFit x.state.handles x.state.frames.frame_loop (record { request = r; is_done = is_success x.code; given = g; did = x.did } ∷ past)
 
 -- what didn't succeed changes nothing
-fits_quiet : (h : Handles) (l : FrameLoop) (r : Request) (g : ℕ) (past : List Decided) → FramesFit h l past → FramesFit h l (record { request = r; is_done = false; given = g } ∷ past)
-fits_quiet h l r g past fits = fits_aside h h l _ past (λ q. and_false (is_counted r)) (fewer_same h) fits.known fits
+fits_quiet : (h : Handles) (l : FrameLoop) (r : Request) (g : ℕ) (d : Did) (past : List Decided) → FramesFit h l past → FramesFit h l (record { request = r; is_done = false; given = g; did = d } ∷ past)
+fits_quiet h l r g d past fits = fits_aside h h l _ past (λ q. and_false (is_counted r)) (fewer_same h) fits.known fits
 
 -- a handle that refuses nothing is live
 pub is_live_by : (live : Bool) → first_of (when (not live) HandleInvalid ∷ []) ≡ None → live ≡ true
@@ -349,19 +351,19 @@ by_rule P s f short fails refuse go = by (refusal short f) refl
 
 module _ (s : CoreState) (past : List Decided) (fits : FramesFit s.handles s.frames.frame_loop past) (r : Request) (g : ℕ) where
   refuse : (f : Effect) (x : Refusal) → is_success x.code ≡ false → Fits past r g (unless_refused s (Some x) f)
-  refuse f x failed = rw failed (fits_quiet s.handles s.frames.frame_loop r g past fits)
+  refuse f x failed = rw failed (fits_quiet s.handles s.frames.frame_loop r g nothing_done past fits)
 
   -- a success on a live session
   succeed : (x : Effect) (session : ℕ) (l2 : FrameLoop) → is_success x.code ≡ true → is_counted r ≡ true → period_session r ≡ session → is_live s.handles kind.Session session ≡ true
       → x.state.handles ≡ s.handles → x.state.frames.frame_loop ≡ l2
-      → (LoopFits session s.frames.frame_loop past → LoopFits session l2 (record { request = r; is_done = true; given = g } ∷ past)) → Fits past r g x
+      → (LoopFits session s.frames.frame_loop past → LoopFits session l2 (record { request = r; is_done = true; given = g; did = x.did } ∷ past)) → Fits past r g x
   succeed x session l2 good counts on live handles loop change =
       rw (good, handles, loop) (fits_call s.handles s.frames.frame_loop l2 _ past session refl counts on live change fits)
 
   -- a counted call: it is refused, or changes the loop of its session so
   by_call : (f : Rule) (short : Bool) (session : ℕ) (l2 : FrameLoop) → all_fail (refusals f) ≡ true → is_success f.effect.code ≡ true → is_counted r ≡ true → period_session r ≡ session
       → f.handles ≡ no_handle s.handles kind.Session session ∷ [] → f.effect.state.handles ≡ s.handles → f.effect.state.frames.frame_loop ≡ l2
-      → (IsClear f → LoopFits session s.frames.frame_loop past → LoopFits session l2 (record { request = r; is_done = true; given = g } ∷ past)) → Fits past r g (carried_out s short f)
+      → (IsClear f → LoopFits session s.frames.frame_loop past → LoopFits session l2 (record { request = r; is_done = true; given = g; did = f.effect.did } ∷ past)) → Fits past r g (carried_out s short f)
   by_call f short session l2 fails good counts on named handles loop change = by_rule (Fits past r g) s f short fails (refuse (told_on f.on f.effect)) (λ none. done f.on (clear f short none))
     where
       live : IsClear f → is_live s.handles kind.Session session ≡ true
@@ -429,7 +431,7 @@ module _ (s : State) (e : Entry) (past : List Decided) (allowed : IsAllowed s e)
       (fits_aside s.core.handles (step s e).0.core.handles s.core.frames.frame_loop (decided s e) past (λ q. rw uncounted refl) (fewer_step s.core (reads_of s e.request) e none) (known_step s e fits.known) fits)
 
 -- the effect of what nothing refuses
-goes : (s : CoreState) (o : Option Refusal) (x : Effect) → o ≡ None → unless_refused s o x ≡ x
+pub goes : (s : CoreState) (o : Option Refusal) (x : Effect) → o ≡ None → unless_refused s o x ≡ x
 goes s None x none = refl
 goes s (Some r) x none = cc
 
@@ -464,19 +466,19 @@ fits_step s e past allowed is_ready fits = by e.request allowed is_ready
             (subst (λ (y : Effect). AreKnown y.state.handles) done_is (known_step s x fits.known)) fits
     by (begin_session session view) allowed ready_is =
         by_call s.core past fits (begin_session session view) e.given (rule s.core (reads_of s (begin_session session view)) (record e { request = begin_session session view })) e.short session (reset_loop s.core.frames.frame_loop) refl refl refl refl refl refl refl
-        (λ free fit. begins_period session s.core.frames.frame_loop past e.given view)
+        (λ free fit. begins_period session s.core.frames.frame_loop past e.given _ view)
     by (end_session session) allowed ready_is =
         by_call s.core past fits (end_session session) e.given (rule s.core (reads_of s (end_session session)) (record e { request = end_session session })) e.short session (reset_loop s.core.frames.frame_loop) refl refl refl refl refl refl refl
-        (λ free fit. ends_period session s.core.frames.frame_loop past e.given)
+        (λ free fit. ends_period session s.core.frames.frame_loop past e.given _)
     by (wait_frame session) allowed ready_is =
         by_call s.core past fits (wait_frame session) e.given (rule s.core (reads_of s (wait_frame session)) (record e { request = wait_frame session })) e.short session (waited_loop s.core.frames.frame_loop (next_time s.core)) refl refl refl refl refl refl refl
-        (λ free. waits_frame session s.core.frames.frame_loop past e.given (next_time s.core) (not_waited s.core.frames (is_ready_to s.core (reads_of s (wait_frame session)) (record e { request = wait_frame session }) ready_is free.whole)))
+        (λ free. waits_frame session s.core.frames.frame_loop past e.given _ (next_time s.core) (not_waited s.core.frames (is_ready_to s.core (reads_of s (wait_frame session)) (record e { request = wait_frame session }) ready_is free.whole)))
     by (begin_frame session) allowed ready_is =
         by_call s.core past fits (begin_frame session) e.given (rule s.core (reads_of s (begin_frame session)) (record e { request = begin_frame session })) e.short session (begun_loop s.core.frames.frame_loop) refl (begun_succeeds s.core.frames.frame_loop) refl refl refl refl refl
-        (λ free. begins_frame session s.core.frames.frame_loop past e.given (not_false s.core.frames.frame_loop.has_waited free.order))
+        (λ free. begins_frame session s.core.frames.frame_loop past e.given _ (not_false s.core.frames.frame_loop.has_waited free.order))
     by (end_frame session time blend layers) allowed ready_is =
-        by_call s.core past fits (end_frame session time blend layers) e.given (rule s.core (reads_of s (end_frame session time blend layers)) (record e { request = end_frame session time blend layers })) e.short session (ended_loop s.core.frames.frame_loop) refl refl refl refl refl refl refl
-        (λ free. ends_frame session s.core.frames.frame_loop past e.given time blend layers)
+        by_call s.core past fits (end_frame session time blend layers) e.given (rule s.core (reads_of s (end_frame session time blend layers)) (record e { request = end_frame session time blend layers })) e.short session (ended_loop s.core.frames.frame_loop) (layers_fail (look_of s.core) layers) refl refl refl refl refl refl
+        (λ free. ends_frame session s.core.frames.frame_loop past e.given _ time blend layers)
     by r allowed ready_is = fits_other s (record e { request = r }) past allowed ready_is fits refl refl refl
 
 pub fits_after : (s : State) (clocks : List ℤ) (past : List Decided) (es : List Entry) → IsLegalFrom s clocks es → FramesFit s.core.handles s.core.frames.frame_loop past

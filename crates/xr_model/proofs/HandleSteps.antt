@@ -5,7 +5,7 @@ use Rattle.xr_types.specs.Code.{is_success}
 use Rattle.xr_types.specs.declared.code.Code.{Code}
 use Rattle.xr_types.specs.declared.code.Code.TheVariants.{HandleInvalid, CallOrderInvalid}
 use Rattle.xr_types.specs.declared.handles.Kind.TheVariants as kind
-use Rattle.xr_model.specs.machine.Request.{Entry, Request, create_instance, destroy_instance, create_session, destroy_session, create_reference_space, destroy_space, create_action_set, destroy_action_set, create_action, destroy_action, device}
+use Rattle.xr_model.specs.machine.Request.{Entry, Request, create_instance, destroy_instance, create_session, destroy_session, create_reference_space, destroy_space, create_action_set, destroy_action_set, create_action, destroy_action, create_swapchain, destroy_swapchain, device}
 use Rattle.xr_model.specs.machine.Handles.{Handles, is_live, with_handle, without, without_alone}
 use Rattle.xr_model.specs.machine.Refusals.{Refusal, when, first_of}
 use Rattle.xr_model.specs.machine.State.{CoreState, CellReads}
@@ -19,6 +19,10 @@ use Rattle.xr_model.proofs.Successes.{success_succeeds}
 use Rattle.xr_model.specs.machine.Rules.Device.{behind_event}
 use Rattle.xr_model.specs.machine.Machine.{core_step, rule}
 
+abbrev pub is_chain_creation : Request → Bool
+is_chain_creation (create_swapchain session format width height fixed) = true
+is_chain_creation _ = false
+
 -- the entry gives a new handle
 abbrev pub gives_handle : CoreState → CellReads → Entry → Bool
 gives_handle s reads e = is_some (rule s reads e).creates && is_success (core_step s reads e).1.reply.code
@@ -31,6 +35,7 @@ pub record Keeps (P : Handles → Type 0) (s : CoreState) (reads : CellReads) (e
   pub set : gives_handle s reads e ≡ true → (instance : ℕ) → is_live s.handles kind.Instance instance ≡ true → P (with_handle s.handles kind.ActionSet instance e.given)
   pub action : gives_handle s reads e ≡ true → (set : ℕ) → is_live s.handles kind.ActionSet set ≡ true → P (with_handle s.handles kind.Action set e.given)
   pub space : gives_handle s reads e ≡ true → (session : ℕ) → is_live s.handles kind.Session session ≡ true → P (with_handle s.handles kind.Space session e.given)
+  pub chain : is_chain_creation e.request ≡ true → gives_handle s reads e ≡ true → (session : ℕ) → is_live s.handles kind.Session session ≡ true → P (with_handle s.handles kind.Swapchain session e.given)
   pub without : (handle : ℕ) → P (without s.handles handle)
   pub alone : (space : ℕ) → P (without_alone s.handles kind.Space space)
 
@@ -76,6 +81,14 @@ kept_by_step P s reads e = by e.request
         kept P s (refusal e.short f) (told_on f.on f.effect) k.same
         (λ none. k.space (succeeds s (refusal e.short f) (told_on f.on f.effect) (success_succeeds (loss_of (life_of s session))) none) session
         (first_fails (is_live s.handles kind.Session session) HandleInvalid (is_lost (life_of s session) ∷ when f.disorder CallOrderInvalid ∷ f.behind) none))
+    by (create_swapchain session format width height fixed) k =
+        let f = rule s reads (record e { request = create_swapchain session format width height fixed }) in
+        kept P s (refusal e.short f) (told_on f.on f.effect) k.same
+        (λ none. k.chain refl (succeeds s (refusal e.short f) (told_on f.on f.effect) (success_succeeds (loss_of (life_of s session))) none) session
+        (first_fails (is_live s.handles kind.Session session) HandleInvalid (is_lost (life_of s session) ∷ when f.disorder CallOrderInvalid ∷ f.behind) none))
+    by (destroy_swapchain chain) k =
+        let f = rule s reads (record e { request = destroy_swapchain chain }) in
+        kept P s (refusal e.short f) (told_on f.on f.effect) k.same (λ none. k.without chain)
     by (destroy_space space) k =
         let f = rule s reads (record e { request = destroy_space space }) in
         kept P s (refusal e.short f) (told_on f.on f.effect) k.same (λ none. k.alone space)

@@ -1,6 +1,6 @@
 -- Laws of histories, by induction over their entries.
 use Rattle.std.specs.Prelude.{if◌then◌else◌, cond, take}
-use Rattle.std.proofs.Common.{◌≡◌, ◌+◌, ℕ, List, Bool, zero, suc, true, false, [], ◌∷◌, Option, Some, None, refl, sym, ap, ◌∙◌, arith, true≢false}
+use Rattle.std.proofs.Common.{◌≡◌, ◌+◌, ℕ, List, Bool, zero, suc, true, false, [], ◌∷◌, Option, Some, None, refl, sym, ◌∙◌, arith, true≢false}
 use Rattle.xr_types.specs.Code.{is_success}
 use Rattle.xr_types.specs.declared.code.Code.{Code}
 use Rattle.xr_types.specs.declared.code.Code.TheVariants.{Success, SessionLossPending, FrameDiscarded}
@@ -9,8 +9,8 @@ use Rattle.xr_model.proofs.Successes.{success_still, begun_succeeds}
 use Rattle.xr_model.specs.machine.Request.{Entry, Outcome, is_locked, Request, begin_frame, leave}
 use Rattle.xr_model.specs.machine.Refusals.{Refusal}
 use Rattle.xr_model.specs.machine.State.{CoreState, CellReads, State}
-use Rattle.xr_model.specs.machine.Rule.{Effect, refusal, told_on, unless_refused, locked_after}
-use Rattle.xr_model.specs.machine.Machine.{step, rule, reads_of}
+use Rattle.xr_model.specs.machine.Rule.{Effect, refusal, told_on, unless_refused, nothing_done, locked_after}
+use Rattle.xr_model.specs.machine.Machine.{step, effect, rule, reads_of, cells_after}
 use Rattle.xr_model.specs.machine.History.{clocks_after}
 use Rattle.xr_model.specs.machine.Positions.{outcome_from}
 use Rattle.xr_model.specs.laws.Laws.{is_without_effect, RefusalsChangeNothing, AfterIsInTurn, count_locked, EntriesAreCounted, PlacesCount, FrontsAreLegal, HasPlace}
@@ -22,10 +22,10 @@ success_has_effect SessionLossPending good bad = true≢false (sym bad)
 success_has_effect FrameDiscarded good bad = true≢false (sym bad)
 success_has_effect _ good bad = true≢false (sym good)
 
--- what is left where an effect is a success and the call was answered without an effect is the old state
-refused_or_done : (s : CoreState) (o : Option Refusal) (e : Effect) → is_success e.code ≡ true → is_without_effect (unless_refused s o e).code ≡ true → (unless_refused s o e).state ≡ s
+-- what is left where an effect is a success and the call was answered without an effect is the old state, and nothing was done
+refused_or_done : (s : CoreState) (o : Option Refusal) (e : Effect) → is_success e.code ≡ true → is_without_effect (unless_refused s o e).code ≡ true → ((unless_refused s o e).state ≡ s) × ((unless_refused s o e).did ≡ nothing_done)
 refused_or_done s None e good bad = absurd (success_has_effect e.code good bad)
-refused_or_done s (Some r) e good bad = refl
+refused_or_done s (Some r) e good bad = (refl, refl)
 
 -- the effect of every rule is a success
 effects_succeed : (s : CoreState) (reads : CellReads) (e : Entry) → is_success (rule s reads e).effect.code ≡ true
@@ -40,11 +40,16 @@ told_succeeds : (on : Option Loss) (x : Effect) → is_success x.code ≡ true �
 told_succeeds None x good = good
 told_succeeds (Some loss) x good = success_still loss x.code good
 
+-- what an effect that did nothing leaves of the whole state
+left_whole : (s : State) (e : Entry) (x : Effect) → x.state ≡ s.core → x.did ≡ nothing_done
+    → record { core = record x.state { apps = s.core.apps; locked = locked_after s.core e.request }; cells = cells_after s.cells x.did } ≡ record s { core = record s.core { locked = locked_after s.core e.request } }
+left_whole s e x state did = rw (state, did) refl
+
 pub refusals_change_nothing : RefusalsChangeNothing
 refusals_change_nothing s e bad =
     let f = rule s.core (reads_of s e.request) e in
-    ap (λ (t : CoreState). record s { core = record t { apps = s.core.apps; locked = locked_after s.core e.request } })
-    (refused_or_done s.core (refusal e.short f) (told_on f.on f.effect) (told_succeeds f.on f.effect (effects_succeed s.core (reads_of s e.request) e)) bad)
+    let both = refused_or_done s.core (refusal e.short f) (told_on f.on f.effect) (told_succeeds f.on f.effect (effects_succeed s.core (reads_of s e.request) e)) bad in
+    left_whole s e (effect s.core (reads_of s e.request) e) both.0 both.1
 
 pub after_is_in_turn : AfterIsInTurn
 after_is_in_turn s [] fs = refl

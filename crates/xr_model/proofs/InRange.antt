@@ -14,7 +14,7 @@ use Rattle.xr_types.specs.declared.scenario.Use.{Use}
 use Rattle.xr_types.specs.declared.scenario.Use.TheVariants.{Number, Of}
 use Rattle.xr_model.specs.scenario.InRange.{IsUse, IsValueBy, IsHandlePart, IsAtomPart, IsBinding, IsActiveSet, IsSubImage, IsLayer, Each, AreAtMost, IsFormed}
 
-each-weaker : {T : Type 0} (P Q : T → Type 0) → ((x : T) → P x → Q x) → (xs : List T) → Each P xs → Each Q xs
+pub each-weaker : {T : Type 0} (P Q : T → Type 0) → ((x : T) → P x → Q x) → (xs : List T) → Each P xs → Each Q xs
 each-weaker P Q f [] h = tt
 each-weaker P Q f (x ∷ xs) h = (f x h.0, each-weaker P Q f xs h.1)
 

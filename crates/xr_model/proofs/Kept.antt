@@ -94,6 +94,7 @@ sealed_stays s e set is =
       set = λ gives room instance name localized priority. record { found = λ x found. sealed_there (set_at s.core.sets set) is x (front_first (λ (y : Set). y.handle) s.core.sets.sets _ set x (there_is (set_at s.core.sets set) is) found); joins = λ handle x found of. found };
       action = λ gives room x named live free. record { found = sealed_there (set_at s.core.sets set) is; joins = λ handle y found of. joined x free y of (which_more (λ (z : Action). z.handle) s.core.sets.actions x handle y found) };
       space = λ gives room session root offset. same;
+      chain = λ gives session. same;
       gone = λ handle. left (destroyed_by s.core.handles handle);
       alone = λ space. same;
       suggest = λ o list none. same;

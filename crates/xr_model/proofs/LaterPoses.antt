@@ -28,6 +28,7 @@ rows_step s e rows = kept_by_step (λ h sp st su. length sp.samples ≡ ORIGINS)
   set = λ gives room instance name localized priority. rows;
   action = λ gives room x named live free. rows;
   space = λ gives room session root offset. rows;
+  chain = λ gives session. rows;
   gone = λ handle. rows;
   alone = λ space. rows;
   suggest = λ o list none. rows;

@@ -26,6 +26,7 @@ pub mod DeviceLines
 pub mod StandOnce
 pub mod DestroyingTakes
 pub mod SessionAnswers
+pub mod LayerCodes
 pub mod RunEnds
 pub mod MarkValues
 pub mod Turns
@@ -53,6 +54,18 @@ pub mod LaterPoses
 pub mod PredictedTimes
 pub mod OrderCodes
 pub mod FrameOrder
+pub mod HeldFits
+pub mod ChainOrder
 pub mod CallOrders
 pub mod FrameLists
 pub mod TakenFrames
+pub mod GivingBack
+pub mod ChainPlaces
+pub mod SoundPlaces
+pub mod FrameImages
+pub mod SoundImages
+pub mod UntouchedChains
+pub mod ImageSteps
+pub mod ImageOwners
+pub mod ImageStamps
+pub mod ShownFrames

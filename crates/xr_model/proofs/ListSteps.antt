@@ -11,7 +11,7 @@ use Rattle.xr_types.specs.declared.input.Bound.{Bound}
 use Rattle.xr_types.specs.declared.input.Profile.{Profile}
 use Rattle.xr_types.specs.declared.spaces.Origin.{Origin}
 use Rattle.xr_types.specs.declared.spaces.Root.{Root}
-use Rattle.xr_model.specs.machine.Request.{Entry, Request, create_instance, destroy_instance, create_session, destroy_session, create_reference_space, destroy_space, create_action_set, destroy_action_set, create_action, destroy_action, suggest_bindings, attach_sets, device}
+use Rattle.xr_model.specs.machine.Request.{Entry, Request, create_instance, destroy_instance, create_session, destroy_session, create_reference_space, destroy_space, create_action_set, destroy_action_set, create_action, destroy_action, suggest_bindings, attach_sets, device, create_swapchain, destroy_swapchain}
 use Rattle.xr_model.specs.machine.Handles.{Handles, is_live, has_room, no_handle, no_room, with_handle, without, without_alone, destroyed_by}
 use Rattle.xr_model.specs.machine.Bindings.{without_suggestions, number_checks}
 use Rattle.xr_model.specs.machine.Refusals.{Refusal, when, first_of}
@@ -72,6 +72,7 @@ pub record Keeps (P : Handles → Spaces → Sets → List (List Bound) → Type
       → P (with_handle s.handles kind.Action x.set e.given) s.spaces (with_action s.sets x) s.suggestions
   pub space : gives_handle s reads e ≡ true → has_room s.handles kind.Space ≡ true → (session : ℕ) (root : Root) (offset : ℕ)
       → P (with_handle s.handles kind.Space session e.given) (with_space s.spaces e.given root offset) s.sets s.suggestions
+  pub chain : gives_handle s reads e ≡ true → (session : ℕ) → P (with_handle s.handles kind.Swapchain session e.given) s.spaces s.sets s.suggestions
   pub gone : (handle : ℕ) → P (without s.handles handle) (without_spaces s.spaces (destroyed_by s.handles handle)) (without_inputs s.sets (destroyed_by s.handles handle)) (without_suggestions s.suggestions (destroyed_by s.handles handle))
   pub alone : (space : ℕ) → P (without_alone s.handles kind.Space space) (without_space s.spaces space) s.sets s.suggestions
   pub suggest : (o : Option Profile) (list : List Binding) → first_of (bindings_checks s o list) ≡ None → P s.handles s.spaces s.sets (suggested s o list)
@@ -125,6 +126,12 @@ kept_by_step P s reads e = by e.request
         kept P s (refusal e.short f) (told_on f.on f.effect) k.same
         (λ none. k.space (succeeds s (refusal e.short f) (told_on f.on f.effect) (success_succeeds (loss_of (life_of s session))) none)
         (has_place s.handles kind.Space (none_behind (front ++ reference_checks what offset s.device.stage) (no_room s.handles kind.Space ∷ []) none)) session _ offset)
+    by (create_swapchain session format width height fixed) k =
+        let f = rule s reads (record e { request = create_swapchain session format width height fixed }) in
+        kept P s (refusal e.short f) (told_on f.on f.effect) k.same (λ none. k.chain (succeeds s (refusal e.short f) (told_on f.on f.effect) (success_succeeds (loss_of (life_of s session))) none) session)
+    by (destroy_swapchain chain) k =
+        let f = rule s reads (record e { request = destroy_swapchain chain }) in
+        kept P s (refusal e.short f) (told_on f.on f.effect) k.same (λ none. k.gone chain)
     by (destroy_instance instance) k =
         let f = rule s reads (record e { request = destroy_instance instance }) in
         kept P s (refusal e.short f) (told_on f.on f.effect) k.same (λ none. k.gone instance)

@@ -297,6 +297,7 @@ kept_step s e allowed known once kept = kept_by_step Kept s.core (reads_of s e.r
     above = kept.above;
     suggested = kept.suggested;
   };
+  chain = λ gives session. record { spaces = kept.spaces; sets = kept.sets; actions = kept.actions; above = kept.above; suggested = kept.suggested };
   gone = λ handle. kept_gone s.core.handles s.core.spaces s.core.sets s.core.suggestions kept handle once;
   alone = λ space. kept_alone s.core.handles s.core.spaces s.core.sets s.core.suggestions kept space once;
   suggest = λ o list none. record { spaces = kept.spaces; sets = kept.sets; actions = kept.actions; above = kept.above; suggested = suggested_for s.core o list none kept.suggested };

@@ -59,6 +59,7 @@ listed_step s e allowed listed = kept_by_step (λ h xs. AreListed h xs) s.core (
   set = λ d c instance. listed;
   action = λ d c set. listed;
   space = λ d c session. listed;
+  chain = λ d c session. listed;
   without = λ d c handle. listed_left s.core.handles handle s.core.sessions listed;
   alone = λ d c space. listed;
   lives = λ d c session f named same keeps. listed_lives s.core.handles s.core.sessions session f named listed;
@@ -210,6 +211,7 @@ module _ (s : State) (e : Entry) (allowed : IsAllowed s e) (known : AreKnown s.c
     session = λ d c good room instance session x found. created d c good session x (found_more s.core.sessions _ session x found);
     set = λ d c above session x found. lost_before session x found ∙ as_before session d (uncreated session c);
     action = λ d c above session x found. lost_before session x found ∙ as_before session d (uncreated session c);
+    chain = λ d c above session x found. lost_before session x found ∙ as_before session d (uncreated session c);
     space = λ d c above session x found. lost_before session x found ∙ as_before session d (uncreated session c);
     without = λ d c handle session x found.
         let one = which_map (λ (y : Session). y.handle) (without_sets (destroyed_by s.core.handles handle)) (λ y. refl) (still_live (without s.core.handles handle) s.core.sessions) session x found in

@@ -1,6 +1,6 @@
 -- No live handle is without its parent after any history.
 use Rattle.std.proofs.Common.{◌≡◌, ℕ, ◌==◌, not, true, List, [], ◌∷◌, refl}
-use Rattle.xr_types.specs.declared.handles.Kind.TheVariants.{Instance, Session, ActionSet, Action, Space}
+use Rattle.xr_types.specs.declared.handles.Kind.TheVariants.{Instance, Session, ActionSet, Action, Space, Swapchain}
 use Rattle.xr_types.specs.declared.handles.Slot.{Slot}
 use Rattle.xr_model.specs.machine.Request.{Entry}
 use Rattle.xr_model.specs.machine.Handles.{Handles, is_live, has, with_handle, going, destroyed_instances, destroyed_parents, without, without_alone}
@@ -110,7 +110,19 @@ space_under h session given live u =
       chains = u.chains;
     }
 
-under_step : (s : State) (e : Entry) → AreUnder s.core.handles → AreUnder (step s e).0.core.handles
+-- with a swapchain more, of a live session
+chain_under : (h : Handles) (session given : ℕ) → is_live h Session session ≡ true → AreUnder h → AreUnder (with_handle h Swapchain session given)
+chain_under h session given live u =
+    let parts = both_of (not (session == 0)) (has h.sessions session) live in
+    record {
+      sessions = u.sessions;
+      sets = u.sets;
+      actions = u.actions;
+      spaces = u.spaces;
+      chains = under_put (record { handle = given; parent = session }) h.chains h.sessions u.chains (rw (parts.0, parts.1) (or_true (given == 0)));
+    }
+
+pub under_step : (s : State) (e : Entry) → AreUnder s.core.handles → AreUnder (step s e).0.core.handles
 under_step s e u = kept_by_step (λ h. AreUnder h) s.core (reads_of s e.request) e (record {
   same = u;
   instance = λ gives. instance_under s.core.handles e.given u;
@@ -118,6 +130,7 @@ under_step s e u = kept_by_step (λ h. AreUnder h) s.core (reads_of s e.request)
   set = λ gives instance live. set_under s.core.handles instance e.given live u;
   action = λ gives set live. action_under s.core.handles set e.given live u;
   space = λ gives session live. space_under s.core.handles session e.given live u;
+  chain = λ is gives session live. chain_under s.core.handles session e.given live u;
   without = λ handle. without_under s.core.handles handle u;
   alone = λ space. alone_under s.core.handles space u;
 })

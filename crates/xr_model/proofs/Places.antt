@@ -6,7 +6,7 @@ use Rattle.xr_types.specs.Code.{is_success}
 use Rattle.xr_types.specs.declared.handles.Kind.{Kind}
 use Rattle.xr_types.specs.declared.handles.Kind.TheVariants.{Instance, Session, ActionSet, Action, Space, Swapchain}
 use Rattle.xr_types.specs.declared.handles.Slot.{Slot}
-use Rattle.xr_model.specs.machine.Request.{Entry, Request, create_instance, create_session, create_reference_space, create_action_set, create_action, destroy_instance, destroy_session, destroy_space, destroy_action_set, destroy_action}
+use Rattle.xr_model.specs.machine.Request.{Entry, Request, create_instance, create_session, create_reference_space, create_action_set, create_action, destroy_instance, destroy_session, destroy_space, destroy_action_set, destroy_action, create_swapchain, destroy_swapchain}
 use Rattle.xr_model.specs.machine.Handles.{Handles, free, has, is_live, row_of, put_in, first_free, goes, cleared, destroyed_instances, destroyed_parents, with_handle, without, without_alone}
 use Rattle.xr_model.specs.machine.HandlePlaces.{kind_of, place_in, slot_in, place_of_kind, parent_of_kind}
 use Rattle.xr_model.specs.machine.Refusals.{Refusal}
@@ -128,6 +128,14 @@ module _ (h : Handles) (parent given p : ℕ) (nz : (p == 0) ≡ false) (apart :
   space_rows Action = (refl, refl)
   space_rows Swapchain = (refl, refl)
 
+  chain_rows : (kind : Kind) → RowSame p (row_of (with_handle h Swapchain parent given) kind) (row_of h kind)
+  chain_rows Swapchain = row_put (record { handle = given; parent = parent }) h.chains p nz apart
+  chain_rows Instance = (refl, refl)
+  chain_rows Session = (refl, refl)
+  chain_rows ActionSet = (refl, refl)
+  chain_rows Action = (refl, refl)
+  chain_rows Space = (refl, refl)
+
 refused_rows : (s : CoreState) (o : Option Refusal) (x : Effect) (p : ℕ) → ((kind : Kind) → RowSame p (row_of x.state.handles kind) (row_of s.handles kind)) → (kind : Kind) → RowSame p (row_of (unless_refused s o x).state.handles kind) (row_of s.handles kind)
 refused_rows s None x p rows = rows
 refused_rows s (Some r) x p rows = λ kind. (refl, refl)
@@ -139,6 +147,7 @@ rows_created s e p nz apart = by e.request
     by (create_instance major minor) is = let f = rule s.core (reads_of s (create_instance major minor)) (record e { request = create_instance major minor }) in refused_rows s.core (refusal e.short f) (told_on f.on f.effect) p (instance_rows s.core.handles 0 e.given p nz apart)
     by (create_session instance system) is = let f = rule s.core (reads_of s (create_session instance system)) (record e { request = create_session instance system }) in refused_rows s.core (refusal e.short f) (told_on f.on f.effect) p (session_rows s.core.handles instance e.given p nz apart)
     by (create_reference_space session what offset) is = let f = rule s.core (reads_of s (create_reference_space session what offset)) (record e { request = create_reference_space session what offset }) in refused_rows s.core (refusal e.short f) (told_on f.on f.effect) p (space_rows s.core.handles session e.given p nz apart)
+    by (create_swapchain session format width height fixed) is = let f = rule s.core (reads_of s (create_swapchain session format width height fixed)) (record e { request = create_swapchain session format width height fixed }) in refused_rows s.core (refusal e.short f) (told_on f.on f.effect) p (chain_rows s.core.handles session e.given p nz apart)
     by (create_action_set instance name localized priority) is = let f = rule s.core (reads_of s (create_action_set instance name localized priority)) (record e { request = create_action_set instance name localized priority }) in refused_rows s.core (refusal e.short f) (told_on f.on f.effect) p (set_rows s.core.handles instance e.given p nz apart)
     by (create_action set name type subs localized) is = let f = rule s.core (reads_of s (create_action set name type subs localized)) (record e { request = create_action set name type subs localized }) in refused_rows s.core (refusal e.short f) (told_on f.on f.effect) p (action_rows s.core.handles set e.given p nz apart)
     by _ is = absurd (true≢false (sym is))
@@ -217,6 +226,7 @@ rows_destroyed s e handle p once nz = by e.request
     by (destroy_space space) names good = destroyed (Rows s.core.handles p) s.core (is_live s.core.handles Space space) (rule s.core (reads_of s (destroy_space space)) (record e { request = destroy_space space })).effect good (λ live. alone_rows s.core.handles space p once nz)
     by (destroy_action_set set) names good = destroyed (Rows s.core.handles p) s.core (is_live s.core.handles ActionSet set) (rule s.core (reads_of s (destroy_action_set set)) (record e { request = destroy_action_set set })).effect good (λ live. without_rows s.core.handles set p once nz)
     by (destroy_action action) names good = destroyed (Rows s.core.handles p) s.core (is_live s.core.handles Action action) (rule s.core (reads_of s (destroy_action action)) (record e { request = destroy_action action })).effect good (λ live. without_rows s.core.handles action p once nz)
+    by (destroy_swapchain chain) names good = destroyed (Rows s.core.handles p) s.core (is_live s.core.handles Swapchain chain) (rule s.core (reads_of s (destroy_swapchain chain)) (record e { request = destroy_swapchain chain })).effect good (λ live. without_rows s.core.handles chain p once nz)
     by _ names good = absurd (true≢false (sym names))
 
 pub destroying_leaves_places : DestroyingLeavesPlaces

@@ -88,6 +88,7 @@ falls_step s e fall = kept_by_step (λ h sp st su. list_all times_fall sp.sample
   set = λ gives room instance name localized priority. fall;
   action = λ gives room x named live free. fall;
   space = λ gives room session root offset. fall;
+  chain = λ gives session. fall;
   gone = λ handle. fall;
   alone = λ space. fall;
   suggest = λ o list none. fall;

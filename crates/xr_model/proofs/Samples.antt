@@ -45,6 +45,7 @@ few_step s e few = kept_by_step (λ h sp st su. are_few sp.samples ≡ true) s.c
   set = λ gives room instance name localized priority. few;
   action = λ gives room x named live free. few;
   space = λ gives room session root offset. few;
+  chain = λ gives session. few;
   gone = λ handle. few;
   alone = λ space. few;
   suggest = λ o list none. few;

@@ -1,6 +1,6 @@
 -- The answers of calls on sessions: by a loss, and by a pending one.
 use Rattle.std.proofs.Common.{◌≡◌, ◌&&◌, ℕ, Bool, true, false, not, List, [], ◌∷◌, ◌++◌, map, Option, Some, None, refl, sym, ap, subst, ◌∙◌, true≢false}
-use Rattle.std.specs.Prelude.{◌↔◌, unwrap_or, if◌then◌else◌}
+use Rattle.std.specs.Prelude.{flat_map, ◌↔◌, unwrap_or, if◌then◌else◌}
 use Rattle.std.specs.List.{list_all}
 use Rattle.xr_types.specs.declared.handles.Kind.{Kind}
 use Rattle.xr_types.specs.declared.handles.Kind.TheVariants as kind
@@ -8,7 +8,11 @@ use Rattle.xr_types.specs.declared.code.Code.{Code}
 use Rattle.xr_types.specs.declared.code.Code.TheVariants.{Success, SessionLost, SessionLossPending, HandleInvalid, CallOrderInvalid}
 use Rattle.xr_types.specs.declared.input.Binding.{Binding}
 use Rattle.xr_types.specs.declared.input.Profile.{Profile}
-use Rattle.xr_model.specs.machine.Request.{Entry, Request, begin_session, end_session, request_exit_session, create_reference_space, locate_space, attach_sets, wait_frame, begin_frame, end_frame, create_action, suggest_bindings}
+use Rattle.xr_types.specs.declared.frames.Layer.{Layer}
+use Rattle.xr_types.specs.declared.frames.Layer.TheVariants.{Projection, Quad}
+use Rattle.xr_model.specs.machine.Layers.{Look, layer_checks}
+use Rattle.xr_model.specs.machine.Rules.Frames.{look_of}
+use Rattle.xr_model.specs.machine.Request.{Entry, Request, begin_session, end_session, request_exit_session, create_reference_space, locate_space, attach_sets, wait_frame, begin_frame, end_frame, create_action, suggest_bindings, create_swapchain, acquire_image, wait_image, paint, release_image}
 use Rattle.xr_model.specs.machine.Handles.{Handles, is_live, no_handle}
 use Rattle.xr_model.specs.machine.HandlePlaces.{parent_of}
 use Rattle.xr_model.specs.machine.Refusals.{Refusal, when, first_of}
@@ -26,7 +30,7 @@ use Rattle.xr_model.specs.machine.History.{after}
 use Rattle.xr_model.specs.laws.SessionLaws.{session_of, LostSessions, PendingLosses}
 use Rattle.xr_model.proofs.Orphans.{no_orphans}
 use Rattle.xr_model.proofs.StandOnce.{handles_stand_once}
-use Rattle.xr_model.proofs.DestroyingTakes.{live_parent, roots_after}
+use Rattle.xr_model.proofs.DestroyingTakes.{live_parent, live_chain_parent, roots_after}
 use Rattle.xr_model.proofs.LostSessions.{known_loss}
 
 -- ---- the first refusal of two lists
@@ -156,6 +160,11 @@ none_bindings s None list = refl
 none_bindings s (Some which) [] = refl
 none_bindings s (Some which) (b ∷ list) = none_bindings s (Some which) list
 
+none_layers : (look : Look) (layers : List Layer) → none_with is_session (flat_map (layer_checks look) layers) ≡ true
+none_layers look [] = refl
+none_layers look (Projection space count views ∷ layers) = none_layers look layers
+none_layers look (Quad space image pose ∷ layers) = none_layers look layers
+
 begun_sessionless : (l : FrameLoop) → is_session (begun_code l) ≡ false
 begun_sessionless l = by l.has_begun
   where
@@ -171,6 +180,7 @@ sessionless s reads e = by e.request
     by (suggest_bindings instance profile list) = record { handles = refl; before = refl; behind = none_bindings s (profile_at s.atoms profile) list; code = refl }
     by (attach_sets session handles) = record { handles = refl; before = refl; behind = none_handles s.handles kind.ActionSet handles; code = refl }
     by (begin_frame session) = record { handles = refl; before = refl; behind = refl; code = begun_sessionless s.frames.frame_loop }
+    by (end_frame session time blend layers) = record { handles = refl; before = refl; behind = none_layers (look_of s) layers; code = refl }
     by _ = record { handles = refl; before = refl; behind = refl; code = refl }
 
 -- ---- the code of a call on a session
@@ -278,6 +288,11 @@ module _ (s : CoreState) (session : ℕ) where
       by (wait_frame other) named = life_is other (named_is other session named)
       by (begin_frame other) named = life_is other (named_is other session named)
       by (end_frame other time blend layers) named = life_is other (named_is other session named)
+      by (wait_image chain timeout start) named = life_is (session_above s.handles chain) (above_is (is_live s.handles kind.Swapchain chain) chain named)
+      by (acquire_image chain) named = life_is (session_above s.handles chain) (above_is (is_live s.handles kind.Swapchain chain) chain named)
+      by (paint chain stamp) named = life_is (session_above s.handles chain) (above_is (is_live s.handles kind.Swapchain chain) chain named)
+      by (release_image chain) named = life_is (session_above s.handles chain) (above_is (is_live s.handles kind.Swapchain chain) chain named)
+      by (create_swapchain other format width height fixed) named = life_is other (named_is other session named)
       by (locate_space space base time) named = life_is (session_above s.handles space) (above_is (is_live s.handles kind.Space space && is_live s.handles kind.Space base) space named)
       by _ named = cc
 
@@ -305,6 +320,13 @@ lost_sessions settings es e session legal named =
     one : (other : ℕ) → other ≡ session → (first_of (no_handle (after (opening settings) es).core.handles kind.Session other ∷ []) ≡ None) ↔ (is_live (after (opening settings) es).core.handles kind.Session session ≡ true)
     one other same = subst (λ (n : ℕ). (first_of (no_handle (after (opening settings) es).core.handles kind.Session other ∷ []) ≡ None) ↔ (is_live (after (opening settings) es).core.handles kind.Session n ≡ true)) same (live_first (is_live (after (opening settings) es).core.handles kind.Session other))
 
+    above : (chain : ℕ) (a : Bool) → is_live (after (opening settings) es).core.handles kind.Swapchain chain ≡ a → (if a then parent_of (after (opening settings) es).core.handles chain else None) ≡ Some session
+        → (first_of (no_handle (after (opening settings) es).core.handles kind.Swapchain chain ∷ []) ≡ None) ↔ (is_live (after (opening settings) es).core.handles kind.Session session ≡ true)
+    above chain false ea found = cc
+    above chain true ea found =
+        let live = live_chain_parent (after (opening settings) es).core.handles (handles_stand_once settings es legal) (no_orphans settings es) (roots_after (opening settings) es refl) chain session ea found in
+        ((λ none. live), (λ there. rw ea refl))
+
     by_handles : (r : Request) → session_of (after (opening settings) es).core.handles r ≡ Some session → AsLive settings es e session r
     by_handles (begin_session other view) named = one other (named_is other session named)
     by_handles (end_session other) named = one other (named_is other session named)
@@ -314,6 +336,11 @@ lost_sessions settings es e session legal named =
     by_handles (wait_frame other) named = one other (named_is other session named)
     by_handles (begin_frame other) named = one other (named_is other session named)
     by_handles (end_frame other time blend layers) named = one other (named_is other session named)
+    by_handles (create_swapchain other format width height fixed) named = one other (named_is other session named)
+    by_handles (acquire_image chain) named = above chain (is_live (after (opening settings) es).core.handles kind.Swapchain chain) refl named
+    by_handles (wait_image chain timeout start) named = above chain (is_live (after (opening settings) es).core.handles kind.Swapchain chain) refl named
+    by_handles (paint chain stamp) named = above chain (is_live (after (opening settings) es).core.handles kind.Swapchain chain) refl named
+    by_handles (release_image chain) named = above chain (is_live (after (opening settings) es).core.handles kind.Swapchain chain) refl named
     by_handles (locate_space space base time) named = cases (is_live (after (opening settings) es).core.handles kind.Space space) refl (is_live (after (opening settings) es).core.handles kind.Space base) refl named
       where
         cases : (a : Bool) → is_live (after (opening settings) es).core.handles kind.Space space ≡ a → (b : Bool) → is_live (after (opening settings) es).core.handles kind.Space base ≡ b → (if a && b then parent_of (after (opening settings) es).core.handles space else None) ≡ Some session

@@ -7,7 +7,7 @@ use Rattle.xr_types.specs.declared.device.DeviceEvent.{DeviceEvent}
 use Rattle.xr_types.specs.declared.device.DeviceEvent.TheVariants as event
 use Rattle.xr_types.specs.declared.device.Wish.{Wish}
 use Rattle.xr_types.specs.declared.handles.Kind.TheVariants as kind
-use Rattle.xr_model.specs.machine.Request.{Entry, Request, destroy_instance, create_session, destroy_session, begin_session, end_session, request_exit_session, destroy_action_set, destroy_action, attach_sets, end_frame, device}
+use Rattle.xr_model.specs.machine.Request.{Entry, Request, destroy_instance, create_session, destroy_session, begin_session, end_session, request_exit_session, destroy_action_set, destroy_action, attach_sets, end_frame, device, destroy_swapchain}
 use Rattle.xr_model.specs.machine.Handles.{is_live, destroyed_by, without}
 use Rattle.xr_model.specs.machine.Refusals.{Refusal}
 use Rattle.xr_model.specs.machine.State.{CoreState, CellReads}
@@ -23,6 +23,8 @@ use Rattle.xr_model.specs.machine.Machine.{core_step, rule}
 use Rattle.xr_model.proofs.Rows.{same_key}
 use Rattle.xr_model.proofs.Listed.{handle_of}
 use Rattle.xr_model.proofs.Successes.{success_succeeds}
+use Rattle.xr_model.specs.machine.Rules.Frames.{look_of}
+use Rattle.xr_model.proofs.LayerCodes.{layers_fail}
 use Rattle.xr_model.proofs.SessionAnswers.{none_in, first_none}
 
 -- ---- what is found by a handle, once the list has changed
@@ -287,7 +289,7 @@ module _ (s : CoreState) (reads : CellReads) (e : Entry) (handle : ℕ) where
           (follows_changed (exiting_session s.device.wish) false fresh s.sessions session handle)
       by (end_frame session time blend layers) =
           let f = rule s reads (record e { request = end_frame session time blend layers }) in
-          carried (Lives (end_frame session time blend layers)) s (refusal e.short f) (told_on f.on f.effect) (first_none is_success (refusals f) refl)
+          carried (Lives (end_frame session time blend layers)) s (refusal e.short f) (told_on f.on f.effect) (first_none is_success (refusals f) (layers_fail (look_of s) layers))
           (success_succeeds (loss_of (life_of s session))) all_same
           (follows_changed (synced_session s.device.wish) false fresh s.sessions session handle)
       by (attach_sets session sets) =
@@ -311,6 +313,10 @@ module _ (s : CoreState) (reads : CellReads) (e : Entry) (handle : ℕ) where
           let f = rule s reads (record e { request = destroy_action action }) in
           kept (λ xs. Lives (destroy_action action) xs true) s (refusal e.short f) (told_on f.on f.effect) all_same
           (gone (destroy_action action) (λ life. refl) action)
+      by (destroy_swapchain chain) =
+          let f = rule s reads (record e { request = destroy_swapchain chain }) in
+          kept (λ xs. Lives (destroy_swapchain chain) xs true) s (refusal e.short f) (told_on f.on f.effect) all_same
+          (gone (destroy_swapchain chain) (λ life. refl) chain)
       by (device what) = events what
       by r =
           let f = rule s reads (record e { request = r }) in

@@ -5,7 +5,7 @@ use Rattle.xr_types.specs.declared.handles.Kind.{Kind}
 use Rattle.xr_types.specs.declared.handles.Kind.TheVariants.{Instance, Session, ActionSet, Action, Space, Swapchain}
 use Rattle.xr_types.specs.declared.handles.Slot.{Slot}
 use Rattle.xr_types.specs.declared.handles.TheConstants.{INSTANCES, SESSIONS, ACTION_SETS, ACTIONS, SPACES, SWAPCHAINS}
-use Rattle.xr_model.specs.machine.Request.{Entry, Request, create_instance, create_session, create_reference_space, create_action_set, create_action}
+use Rattle.xr_model.specs.machine.Request.{Entry, Request, create_instance, create_session, create_reference_space, create_action_set, create_action, create_swapchain}
 use Rattle.xr_model.specs.machine.Handles.{Handles, free, has, is_live, was_given, first_free, put_in, cleared, goes, destroyed_instances, destroyed_parents, with_handle, without, without_alone, no_handles}
 use Rattle.xr_model.specs.laws.HandleLaws.{count_in, places_with, StandOnce, HandlesStandOnce, CreatingAdds}
 use Rattle.xr_model.specs.machine.Refusals.{Refusal}
@@ -121,6 +121,11 @@ module _ (h : Handles) (given : ℕ) (fresh : was_given h given ≡ false) (nonz
       let more = count_put (record { handle = given; parent = parent }) h.spaces k nz in
       put_once 0 k nz (places_with (with_handle h Space parent given) k) (omega (arith, more))
 
+  chain_once : (parent : ℕ) → StandOnce (with_handle h Swapchain parent given)
+  chain_once parent k nz =
+      let more = count_put (record { handle = given; parent = parent }) h.chains k nz in
+      put_once 0 k nz (places_with (with_handle h Swapchain parent given) k) (omega (arith, more))
+
 without_once : (h : Handles) (top : ℕ) → StandOnce h → StandOnce (without h top)
 without_once h top once k nz =
     let all = once k nz in
@@ -146,6 +151,7 @@ once_step s e allowed known once = kept_by_step StandOnce s.core (reads_of s e.r
   set = λ gives instance live. let new = given_one (gives_handle s.core (reads_of s e.request) e) s.core.handles e.given gives allowed.handle in set_once s.core.handles e.given new.1 new.0 known once instance;
   action = λ gives set live. let new = given_one (gives_handle s.core (reads_of s e.request) e) s.core.handles e.given gives allowed.handle in action_once s.core.handles e.given new.1 new.0 known once set;
   space = λ gives session live. let new = given_one (gives_handle s.core (reads_of s e.request) e) s.core.handles e.given gives allowed.handle in space_once s.core.handles e.given new.1 new.0 known once session;
+  chain = λ is gives session live. let new = given_one (gives_handle s.core (reads_of s e.request) e) s.core.handles e.given gives allowed.handle in chain_once s.core.handles e.given new.1 new.0 known once session;
   without = λ top. without_once s.core.handles top once;
   alone = λ space. alone_once s.core.handles space once;
 })
@@ -223,6 +229,14 @@ space_same h parent given Action other apart = refl
 space_same h parent given Space other apart = same_put (record { handle = given; parent = parent }) h.spaces other apart
 space_same h parent given Swapchain other apart = refl
 
+pub chain_same : (h : Handles) (parent given : ℕ) (kind : Kind) (other : ℕ) → (other == given) ≡ false → is_live (with_handle h Swapchain parent given) kind other ≡ is_live h kind other
+chain_same h parent given Instance other apart = refl
+chain_same h parent given Session other apart = refl
+chain_same h parent given ActionSet other apart = refl
+chain_same h parent given Action other apart = refl
+chain_same h parent given Space other apart = refl
+chain_same h parent given Swapchain other apart = same_put (record { handle = given; parent = parent }) h.chains other apart
+
 refused_same : (s : CoreState) (o : Option Refusal) (x : Effect) (kind : Kind) (other : ℕ) → is_live x.state.handles kind other ≡ is_live s.handles kind other → is_live (unless_refused s o x).state.handles kind other ≡ is_live s.handles kind other
 refused_same s None x kind other same = same
 refused_same s (Some r) x kind other same = refl
@@ -246,4 +260,7 @@ creating_adds s e creates kind other apart = by e.request creates
     by (create_action set name type subs localized) creates =
         let f = rule s.core (reads_of s (create_action set name type subs localized)) (record e { request = create_action set name type subs localized }) in
         refused_same s.core (refusal e.short f) (told_on f.on f.effect) kind other (action_same s.core.handles set e.given kind other apart)
+    by (create_swapchain session format width height fixed) creates =
+        let f = rule s.core (reads_of s (create_swapchain session format width height fixed)) (record e { request = create_swapchain session format width height fixed }) in
+        refused_same s.core (refusal e.short f) (told_on f.on f.effect) kind other (chain_same s.core.handles session e.given kind other apart)
     by _ creates = absurd (true≢false (sym creates))

@@ -11,7 +11,7 @@ use Rattle.xr_types.specs.declared.input.Binding.{Binding}
 use Rattle.xr_types.specs.declared.input.Bound.{Bound}
 use Rattle.xr_types.specs.declared.input.Profile.{Profile}
 use Rattle.xr_types.specs.declared.input.Profile.TheVariants as profile
-use Rattle.xr_model.specs.machine.Request.{Entry, Request, create_instance, destroy_instance, create_session, destroy_session, create_reference_space, destroy_space, create_action_set, destroy_action_set, create_action, destroy_action, suggest_bindings, device}
+use Rattle.xr_model.specs.machine.Request.{Entry, Request, create_instance, destroy_instance, create_session, destroy_session, create_reference_space, destroy_space, create_action_set, destroy_action_set, create_action, destroy_action, suggest_bindings, device, create_swapchain, destroy_swapchain}
 use Rattle.xr_model.specs.machine.Bindings.{profile_place, suggestions_of}
 use Rattle.xr_model.specs.machine.Handles.{Handles, has, is_live, was_given}
 use Rattle.xr_model.specs.machine.Refusals.{Refusal, first_of}
@@ -111,6 +111,7 @@ given_step s e k given = handles.kept_by_step (λ h. was_given h k ≡ true) s.c
   set = λ gives instance live. rw given (or_true (e.given == k));
   action = λ gives set live. rw given (or_true (e.given == k));
   space = λ gives session live. rw given (or_true (e.given == k));
+  chain = λ is gives session live. rw given (or_true (e.given == k));
   without = λ handle. given;
   alone = λ space. given;
 })
@@ -128,6 +129,7 @@ four_step s e four = lists.kept_by_step (λ h sp st su. length su ≡ 4) s.core 
   set = λ gives room instance name localized priority. four;
   action = λ gives room x named live free. four;
   space = λ gives room session root offset. four;
+  chain = λ gives session. four;
   gone = λ handle. length_same _ s.core.suggestions ∙ four;
   alone = λ space. four;
   suggest = λ o list none. suggested_four s.core o list four;
@@ -303,9 +305,12 @@ module _ (settings : Settings) (es : List Entry) (front : IsLegal settings es) (
           calm (record e { request = destroy_action_set handle }) (kept P there.core (refusal e.short f) (told_on f.on f.effect) told.left (λ good. gone (record e { request = destroy_action_set handle }) handle (itself handle) good) refl)
       by (destroy_action handle) legal = let f = rule there.core (reads_of there (destroy_action handle)) (record e { request = destroy_action handle }) in
           calm (record e { request = destroy_action handle }) (kept P there.core (refusal e.short f) (told_on f.on f.effect) told.left (λ good. gone (record e { request = destroy_action handle }) handle (itself handle) good) refl)
+      by (destroy_swapchain handle) legal = let f = rule there.core (reads_of there (destroy_swapchain handle)) (record e { request = destroy_swapchain handle }) in
+          calm (record e { request = destroy_swapchain handle }) (kept P there.core (refusal e.short f) (told_on f.on f.effect) told.left (λ good. gone (record e { request = destroy_swapchain handle }) handle (itself handle) good) refl)
       by (create_instance major minor) legal = creates (create_instance major minor) legal refl refl
       by (create_session instance system) legal = creates (create_session instance system) legal refl refl
       by (create_reference_space session kind offset) legal = creates (create_reference_space session kind offset) legal refl refl
+      by (create_swapchain session format width height fixed) legal = creates (create_swapchain session format width height fixed) legal refl refl
       by (create_action_set instance name localized priority) legal = creates (create_action_set instance name localized priority) legal refl refl
       by (create_action set name kind subs localized) legal = creates (create_action set name kind subs localized) legal refl refl
       by (device what) legal = calm (record e { request = device what }) (events what)

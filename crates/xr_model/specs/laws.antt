@@ -17,3 +17,5 @@ pub mod SpaceLaws
 pub mod FrameLaws
 pub mod Past
 pub mod OrderLaws
+pub mod Owners
+pub mod ImageLaws

@@ -15,6 +15,11 @@ pub mod Profiles
 pub mod Bindings
 pub mod Spaces
 pub mod Frames
+pub mod Chains
+pub mod Images
+pub mod Layers
+pub mod CellCalls
+pub mod PlainImages
 pub mod State
 pub mod Destroyed
 pub mod Rule

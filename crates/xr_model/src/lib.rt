@@ -1,5 +1,6 @@
 //! What must be believed: the machine of one thread, its histories, scenarios and reports, as
-//! definitions in `specs/`. The code here is one empty function for each law that holds of them.
+//! definitions in `specs/`. The code here is one empty function for each law that holds of them, and
+//! the trait of the cells that a core stands beside.
 #![tactic(auto)]
 
 ghost use Rattle.xr_model.specs.laws.AnswerLaws.{AnswersAreAHistory};
@@ -9,7 +10,8 @@ ghost use Rattle.xr_model.specs.laws.Laws.{RefusalsChangeNothing, AfterIsInTurn,
 ghost use Rattle.xr_model.specs.laws.SessionLaws.{SessionsAreListed, LostSessions, PendingLosses};
 ghost use Rattle.xr_model.specs.laws.ListLaws.{ListedWhereLive, DestroyingFilters, AtomsStay, AtomsGo, SealedStays, AttachingSeals, NewSessionsAreBare, AttachesOnce, CreatingLeavesPlaces, DestroyingLeavesPlaces, SamplesAreFew};
 ghost use Rattle.xr_model.specs.laws.OrderLaws.{CallOrder, WaitsAndBegins};
-ghost use Rattle.xr_model.specs.laws.FrameLaws.{AtMostThree, FramesAsSubmitted, TakenAreHalf, TimesArePredicted};
+ghost use Rattle.xr_model.specs.laws.ImageLaws.{NoTwoOwners, WaitedImageIsNobodys, OwnersAreInTheState, ImagesStep, CountsAreFew, StampsStay, ChainsArePlaced, PlacesAreOwn, FreePlacesAreUnused, GivingBackLeavesTheCore, HeldImagesAreAside, GivingBackKeepsReady};
+ghost use Rattle.xr_model.specs.laws.FrameLaws.{AtMostThree, FramesAsSubmitted, FramesAreNumbered, TakenAreHalf, TimesArePredicted};
 ghost use Rattle.xr_model.specs.laws.RunLaws.{UnfinishedHaveTurns, EachHasItsTurn, OneTurnBetween, TurnsMakeReadyCalls, StuckWhereNobodyIsReady, CallsFollowScripts, CallsAreReady, NamesStandForValues, StuckNamesTheUnfinished, DoneExactlyWhereAllIsDone};
 ghost use Rattle.xr_model.specs.laws.MarkLaws.{AwaitGivesTheLastValue, DeviceAwaitsMarks};
 ghost use Rattle.xr_model.specs.laws.AnswerTableLaws.{RefusalsAreTheTable, AnswersAreTheTable};
@@ -18,6 +20,10 @@ ghost use Rattle.xr_model.specs.laws.EventLaws.{EventsAddUp, StatesAreTold, Even
 ghost use Rattle.xr_model.specs.laws.SessionLifeLaws.{ClockNeverFalls, SessionsHaveSettled, LostStaysLost, OnlyItsCallAsksForTheEnd, RunningIsBegunAndNotEnded};
 ghost use Rattle.xr_model.specs.laws.SpaceLaws.{SampleTimesFall, PoseIsTheNewestNotLater, SamplesAreTheirOrigins, OriginsHaveTheirPlaces, LaterPosesAreTaken};
 ghost use Rattle.xr_model.specs.laws.StateLaws.{NoRowFits};
+
+mod cells;
+
+pub use cells::Cells;
 
 /// A refusal, a timeout and the want of an event change nothing but the count of locked calls.
 #[tactic(auto, using(crate::proofs::Histories::refusals_change_nothing))]
@@ -358,10 +364,17 @@ pub fn call_order()
     ensures { CallOrder }
 {}
 
-/// After every history, the frames that were shown and then those that are pending are those that were submitted, in order.
-#[tactic(auto, using(crate::proofs::FrameLists::frames_as_submitted))]
+/// The frames that were shown, and then those that are pending, with the stamps of now, are those that were submitted, with the
+/// stamps of then.
+#[tactic(auto, using(crate::proofs::ShownFrames::frames_as_submitted))]
 pub fn frames_as_submitted()
     ensures { FramesAsSubmitted }
+{}
+
+/// The frames that a history submits are numbered from 1 in their order.
+#[tactic(auto, using(crate::proofs::FrameLists::frames_are_numbered))]
+pub fn frames_are_numbered()
+    ensures { FramesAreNumbered }
 {}
 
 /// After every legal history, at most three frames are pending.
@@ -380,4 +393,74 @@ pub fn taken_are_half()
 #[tactic(auto, using(crate::proofs::PredictedTimes::times_are_predicted))]
 pub fn times_are_predicted()
     ensures { TimesArePredicted }
+{}
+
+/// After every legal history a swapchain has a place exactly where it is live.
+#[tactic(auto, using(crate::proofs::ImageOwners::chains_are_placed))]
+pub fn chains_are_placed()
+    ensures { ChainsArePlaced }
+{}
+
+/// After every legal history, no two live swapchains have the same place.
+#[tactic(auto, using(crate::proofs::ImageOwners::places_are_own))]
+pub fn places_are_own()
+    ensures { PlacesAreOwn }
+{}
+
+/// After every legal history, no pending frame has an image of a free place, and neither has the frame taken last.
+#[tactic(auto, using(crate::proofs::ImageOwners::free_places_are_unused))]
+pub fn free_places_are_unused()
+    ensures { FreePlacesAreUnused }
+{}
+
+/// After every legal history, the state says whether an application owns an image, and how often the image is used.
+pub fn owners_are_in_the_state()
+    ensures { OwnersAreInTheState }
+{}
+
+/// After every legal history, no image is owned by an application and by the compositor at once.
+#[tactic(auto, using(crate::proofs::ImageOwners::no_two_owners))]
+pub fn no_two_owners()
+    ensures { NoTwoOwners }
+{}
+
+/// A wait that succeeds gets an image that nobody owned.
+#[tactic(auto, using(crate::proofs::ImageOwners::waited_image_is_nobodys))]
+pub fn waited_image_is_nobodys()
+    ensures { WaitedImageIsNobodys }
+{}
+
+/// An entry changes an image's count and its owner by what it did, whatever the call.
+pub fn images_step()
+    ensures { ImagesStep }
+{}
+
+/// After every legal history, an image is used at most four times at once.
+#[tactic(auto, using(crate::proofs::ImageOwners::counts_are_few))]
+pub fn counts_are_few()
+    ensures { CountsAreFew }
+{}
+
+/// While the compositor owns an image, its stamp stays.
+#[tactic(auto, using(crate::proofs::ImageStamps::stamps_stay))]
+pub fn stamps_stay()
+    ensures { StampsStay }
+{}
+
+/// An image that is given back changes nothing that a core keeps.
+#[tactic(auto, using(crate::proofs::GivingBack::giving_back_leaves_the_core))]
+pub fn giving_back_leaves_the_core()
+    ensures { GivingBackLeavesTheCore }
+{}
+
+/// What a call answers, and what is kept after it, doesn't depend on which images are held, but for the compositor's calls.
+#[tactic(auto, using(crate::proofs::GivingBack::held_images_are_aside))]
+pub fn held_images_are_aside()
+    ensures { HeldImagesAreAside }
+{}
+
+/// A call that is ready stays ready when an image is given back, but for the one that is refused until all are.
+#[tactic(auto, using(crate::proofs::GivingBack::giving_back_keeps_ready))]
+pub fn giving_back_keeps_ready()
+    ensures { GivingBackKeepsReady }
 {}

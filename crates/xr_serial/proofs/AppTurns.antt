@@ -14,20 +14,21 @@ use Rattle.xr_types.specs.declared.scenario.Scenario.{Scenario}
 use Rattle.xr_model.specs.machine.Request as request
 use Rattle.xr_model.specs.machine.Request.{Request, Outcome, leave}
 use Rattle.xr_model.specs.machine.CoreCalls.{entry_of}
+use Rattle.xr_model.specs.machine.Machine.{ready}
 use Rattle.xr_model.specs.machine.State.{State}
 use Rattle.xr_model.specs.machine.Machine.{IsPresent}
 use Rattle.xr_model.specs.scenario.Built.{is_built_op}
 use Rattle.xr_model.specs.scenario.ScriptForm.{IsInForm, AllInForm}
 use Rattle.xr_model.specs.runs.Scripts.{request_for}
 use Rattle.xr_model.specs.runs.Robin.{Agenda, script, agenda_after, clock_behind}
-use Rattle.xr_serial.specs.inside.Made.{IsAnswered, exchange_of, calls_with}
+use Rattle.xr_serial.specs.inside.Made.{IsAnswered, exchange_of, calls_with, asked}
 use Rattle.xr_serial.specs.inside.RunState.{AppState, RunState}
 use Rattle.xr_device.specs.Prospect.{Prospect}
 use Rattle.xr_serial.specs.inside.Sides.{app_with, app_left, OpMade, OpWaits, OpTurn, Leaves}
 use Rattle.xr_serial.specs.inside.Turns.{script_part, parts_of, actors_of, turn_behind, AreHeldBack}
 use Rattle.xr_serial.specs.inside.Past.{IsRest}
 use Rattle.xr_serial.specs.inside.RunInvariant.{AppKept, app_work, apps_work, events_told, RunKept, RunInvariant}
-use Rattle.xr_serial.proofs.Ops.{ready_started, ruled_unstarted, ruled_locked}
+use Rattle.xr_serial.proofs.Ops.{op_unstarted, built_unstarted, built_locked}
 use Rattle.xr_serial.proofs.OnlyLeaveLeaves.{call_keeps, op_stays}
 use Rattle.xr_serial.proofs.Parts.{AreAll, parts_count, app_at, app_set}
 use Rattle.xr_serial.proofs.Steps.{IsAgendaOf, Goes, AreSo, made_turn, passed_turn, same_parts}
@@ -122,12 +123,12 @@ module _ (scenario : Scenario) (place idle : ℕ) (s after : State) (run : RunSt
       rw m.app
       (goes_on what m.outcome (app_with old m.op t) (script (place + 1) (old.made + 1) (drop old.made ops) old.names clock) (clock_behind clock what after) kept m.call
       (rw stays refl)
-      (record { actor = refl; call = rw m.here (ruled_unstarted clock s e m.call.allowed) })
+      (record { actor = refl; call = rw m.here (built_unstarted clock what m.call.built) })
       (rw (m.here, stays) refl)
       (op_more ops old (kept.calls (App (place + 1))) m.op m.outcome more m.here stays (old_kept kept))
       (rw m.call.leads refl)
       (same_left ∙ kept.kept.apps.left ∙ sym (map-set_same (λ (a : AppState). a.has_left) run.apps place (app_with old m.op t) old (ap (λ (a : AppState). a.has_left) (sym (here old)))))
-      (rw (m.call.leads, ruled_locked s e m.call.allowed) refl)
+      (rw (m.call.leads, built_locked what m.call.built) refl)
       (rw stays (omega (arith, more, pending))))
 
   -- `leave`
@@ -160,7 +161,7 @@ module _ (scenario : Scenario) (place idle : ℕ) (s after : State) (run : RunSt
       λ rest. app_at scenario run kept.clocks rest all place old within ∙ ap (λ (a : AppState). script_part (place + 1) ops a clock) (here old) ∙ rw stays refl in
       rw (m.same, m.app, same_apps run old place here)
       (passes scenario place idle s run start now turn_within few kept
-      (λ rest ok. subst (AreHeldBack s) (sym (part rest)) (rw m.here (ready_started s (place + 1) clock (request_for old.names m.op) ∙ m.waits), tt)))
+      (λ rest ok. subst (AreHeldBack s) (sym (part rest)) (rw m.here (ap (λ (r : Request). ready s (asked (App (place + 1)) r)) (op_unstarted clock old.names m.op m.built) ∙ m.waits), tt)))
 
   -- it has left
   pub has_left : old.has_left ≡ true → RunInvariant scenario place idle s run start now → RunInvariant scenario (turn_behind place (actors_of scenario)) (idle + 1) s (record run { apps = set run.apps place old }) start now

@@ -10,7 +10,9 @@ use Rattle.xr_model.specs.machine.Request as request
 use Rattle.xr_model.specs.machine.Request.{Outcome, next_frame}
 use Rattle.xr_model.specs.machine.CoreCalls.{entry_of}
 use Rattle.xr_model.specs.machine.History.{shown_if}
-use Rattle.xr_model.specs.machine.State.{State}
+use Rattle.xr_types.specs.declared.frames.Image.{Image}
+use Rattle.xr_model.specs.machine.Machine.{reads_of, step}
+use Rattle.xr_model.specs.machine.State.{CoreState, State}
 use Rattle.xr_model.specs.machine.Rules.Frames.{told_frame, oldest_shown}
 use Rattle.xr_model.specs.runs.Robin.{compositor, is_ended}
 use Rattle.xr_model.specs.runs.Lists.{frames_in, reply_if_shown, replies_in}
@@ -28,18 +30,33 @@ use Rattle.xr_serial.proofs.AppTurns.{all_of, are_so, passes}
 
 -- ---- what its calls come to
 
+abbrev whole : CoreState → List ℕ → List Image → State
+whole k stamps held = record { core = k; cells = record { stamps = stamps; held = held } }
+
 -- It was shown the oldest frame, which is pending no more, or was told the end where none is pending.
 pub data Told (s after : State) (o : Outcome) : Type 0 where
   a_frame : (frame : ShownFrame) → o.shown ≡ Some frame → o.reply.gives ≡ Shown → length after.core.frames.pending + 1 ≡ length s.core.frames.pending → Told s after o
   the_end : o.shown ≡ None → o.reply.gives ≡ Ended → length after.core.frames.pending ≡ length s.core.frames.pending → Told s after o
 
+-- where no image is held its call isn't refused
+goes_so : (k : CoreState) (stamps : List ℕ) (reply : Reply) (held : List Image) → held ≡ []
+    → ((step (whole k stamps held) (entry_of Compositor next_frame reply)).1.shown ≡ oldest_shown k.frames.pending (reads_of (whole k stamps held) next_frame).stamps)
+    × ((step (whole k stamps held) (entry_of Compositor next_frame reply)).1.reply.gives ≡ told_frame k.frames.pending)
+    × ((step (whole k stamps held) (entry_of Compositor next_frame reply)).0.core.frames.pending ≡ drop 1 k.frames.pending)
+goes_so k stamps reply [] unheld = (refl, refl, refl)
+goes_so k stamps reply (i ∷ held) unheld = cc
+
 pub told : (s after : State) (o : Outcome) → IsAnswered s after Compositor next_frame o → Told s after o
 told s after o call =
-    by s.core.frames.pending refl (sym (ap (λ (x : Outcome). x.shown) call.comes)) (sym (ap (λ (x : Outcome). x.reply.gives) call.comes)) (ap (λ (t : State). t.core.frames.pending) call.leads)
+    let went = goes_so s.core s.cells.stamps o.reply s.cells.held call.unheld in
+    by s.core.frames.pending refl (sym (ap (λ (x : Outcome). x.shown) call.comes) ∙ went.0) (sym (ap (λ (x : Outcome). x.reply.gives) call.comes) ∙ went.1) (ap (λ (t : State). t.core.frames.pending) call.leads ∙ went.2)
   where
-    by : (fs : List PendingFrame) → s.core.frames.pending ≡ fs → o.shown ≡ oldest_shown s.core.frames.pending → o.reply.gives ≡ told_frame s.core.frames.pending → after.core.frames.pending ≡ drop 1 s.core.frames.pending → Told s after o
-    by [] e shown gives left = the_end (shown ∙ ap oldest_shown e) (gives ∙ ap told_frame e) (rw (left, e) refl)
-    by (f ∷ fs) e shown gives left = a_frame _ (shown ∙ ap oldest_shown e) (gives ∙ ap told_frame e) (rw (left, e) (omega arith))
+    seen : List ℕ
+    seen = (reads_of s next_frame).stamps
+
+    by : (fs : List PendingFrame) → s.core.frames.pending ≡ fs → o.shown ≡ oldest_shown s.core.frames.pending seen → o.reply.gives ≡ told_frame s.core.frames.pending → after.core.frames.pending ≡ drop 1 s.core.frames.pending → Told s after o
+    by [] e shown gives left = the_end (shown ∙ ap (λ (l : List PendingFrame). oldest_shown l seen) e) (gives ∙ ap told_frame e) (rw (left, e) refl)
+    by (f ∷ fs) e shown gives left = a_frame _ (shown ∙ ap (λ (l : List PendingFrame). oldest_shown l seen) e) (gives ∙ ap told_frame e) (rw (left, e) (omega arith))
 
 -- ---- its calls
 

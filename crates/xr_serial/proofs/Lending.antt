@@ -1,14 +1,18 @@
 -- How much of a lent buffer a call has written, by what its reply gives.
 use Rattle.std.proofs.Common.{◌≡◌, ◌&&◌, ℕ, Bool, true, false, nat_lt, nat_le, List, [], ◌∷◌, ◌++◌, map, length, take, drop, Option, Some, None, refl, sym, subst, ◌∙◌, ap, arith, length-append}
-use Rattle.std.specs.Prelude.{if◌then◌else◌}
+use Rattle.std.specs.Prelude.{flat_map, if◌then◌else◌}
 use Rattle.std.proofs.lemmas.Bool.Decides.{nat_tests}
 use Rattle.std.proofs.lemmas.Grind.{common_steps}
 use Rattle.std.proofs.lemmas.Option.{same_Some}
 use Rattle.xr_types.specs.declared.calls.Actor.{Actor}
 use Rattle.xr_types.specs.declared.calls.Gives.TheVariants.{Size}
 use Rattle.xr_types.specs.declared.calls.Reply.{Reply}
-use Rattle.xr_model.specs.machine.Request.{Request, create_instance, destroy_instance, get_system, string_to_path, path_to_string, poll_event, create_session, destroy_session, begin_session, end_session, request_exit_session, create_reference_space, destroy_space, locate_space, create_action_set, destroy_action_set, create_action, destroy_action, suggest_bindings, attach_sets, wait_frame, begin_frame, end_frame, leave, next_frame, Entry, Outcome}
-use Rattle.xr_model.specs.machine.CoreCalls.{entry_of}
+use Rattle.xr_model.specs.machine.Request.{Request, create_instance, destroy_instance, get_system, string_to_path, path_to_string, poll_event, create_session, destroy_session, begin_session, end_session, request_exit_session, create_reference_space, destroy_space, locate_space, create_action_set, destroy_action_set, create_action, destroy_action, suggest_bindings, attach_sets, create_swapchain, destroy_swapchain, acquire_image, wait_image, paint, release_image, wait_frame, begin_frame, end_frame, leave, next_frame, image_done, Entry, Outcome}
+use Rattle.xr_types.specs.declared.frames.Image.{Image}
+use Rattle.xr_types.specs.declared.frames.Layer.{Layer}
+use Rattle.xr_types.specs.declared.frames.Layer.TheVariants.{Projection, Quad}
+use Rattle.xr_model.specs.machine.Layers.{Look, layer_checks}
+use Rattle.xr_model.specs.machine.CoreCalls.{is_built, entry_of}
 use Rattle.xr_types.specs.declared.session.Event.{Event}
 use Rattle.xr_model.specs.machine.Events.{polled}
 use Rattle.xr_model.specs.machine.Rules.Instance.{told_event}
@@ -27,7 +31,7 @@ use Rattle.xr_model.specs.machine.SessionRule.{Loss}
 use Rattle.xr_model.specs.machine.Rule.{Rule, Effect, refusals, or_short, refusal, told_on, unless_refused, carried_out}
 use Rattle.xr_model.specs.machine.CoreCalls.{Lent, written_over, shown_over}
 use Rattle.xr_types.specs.Frames.{PendingFrame, ShownFrame}
-use Rattle.xr_model.specs.machine.Rules.Frames.{told_frame, oldest_shown}
+use Rattle.xr_model.specs.machine.Rules.Frames.{look_of, told_frame, oldest_shown, next_frame_rule}
 use Rattle.xr_model.specs.machine.Machine.{reads_of, step, rule, ready}
 use Rattle.xr_model.specs.machine.CoreCalls.{Answers}
 use Rattle.xr_serial.specs.inside.Lent.{lent_size, written_size}
@@ -103,6 +107,13 @@ bindings_give_none s None list = tt
 bindings_give_none s (Some which) [] = tt
 bindings_give_none s (Some which) (b ∷ bs) = ((λ h. refl), ((λ h. refl), ((λ h. refl), ((λ h. refl), bindings_give_none s (Some which) bs))))
 
+-- nor does any layer
+layers_give_none : (look : Look) (layers : List Layer) → GiveNone 0 (flat_map (layer_checks look) layers)
+layers_give_none look [] = tt
+layers_give_none look (Projection space count views ∷ layers) =
+    ((λ h. refl), ((λ h. refl), ((λ h. refl), ((λ h. refl), ((λ h. refl), ((λ h. refl), ((λ h. refl), ((λ h. refl), layers_give_none look layers))))))))
+layers_give_none look (Quad space image pose ∷ layers) = ((λ h. refl), ((λ h. refl), ((λ h. refl), ((λ h. refl), ((λ h. refl), layers_give_none look layers)))))
+
 -- the bytes that a call writes are as many as its reply says
 pub text_fits : (s : State) (e : Entry) → length (step s e).1.text ≡ written_size (step s e).1.reply.gives (lent_size e.request)
 text_fits s e = by e.request
@@ -135,9 +146,19 @@ text_fits s e = by e.request
     by (attach_sets session handles) = carried_writes s.core 0 e.short (rule_for (attach_sets session handles)) ((λ h. refl), ((λ h. refl), ((λ h. refl), ((λ h. refl), ((λ h. refl), handles_give_none s.core.handles kind.ActionSet handles))))) refl
     by (wait_frame session) = carried_writes s.core 0 e.short (rule_for (wait_frame session)) ((λ h. refl), ((λ h. refl), ((λ h. refl), ((λ h. refl), tt)))) refl
     by (begin_frame session) = carried_writes s.core 0 e.short (rule_for (begin_frame session)) ((λ h. refl), ((λ h. refl), ((λ h. refl), ((λ h. refl), tt)))) refl
-    by (end_frame session time blend layers) = carried_writes s.core 0 e.short (rule_for (end_frame session time blend layers)) ((λ h. refl), ((λ h. refl), ((λ h. refl), ((λ h. refl), ((λ h. refl), ((λ h. refl), tt)))))) refl
+    by (end_frame session time blend layers) =
+        carried_writes s.core 0 e.short (rule_for (end_frame session time blend layers))
+        ((λ h. refl), ((λ h. refl), ((λ h. refl), ((λ h. refl), ((λ h. refl), ((λ h. refl), ((λ h. refl), layers_give_none (look_of s.core) layers))))))) refl
+    by (create_swapchain session format width height fixed) =
+        carried_writes s.core 0 e.short (rule_for (create_swapchain session format width height fixed)) ((λ h. refl), ((λ h. refl), ((λ h. refl), ((λ h. refl), ((λ h. refl), ((λ h. refl), ((λ h. refl), tt))))))) refl
+    by (destroy_swapchain chain) = carried_writes s.core 0 e.short (rule_for (destroy_swapchain chain)) ((λ h. refl), ((λ h. refl), tt)) refl
+    by (acquire_image chain) = carried_writes s.core 0 e.short (rule_for (acquire_image chain)) ((λ h. refl), ((λ h. refl), ((λ h. refl), tt))) refl
+    by (wait_image chain timeout start) = carried_writes s.core 0 e.short (rule_for (wait_image chain timeout start)) ((λ h. refl), ((λ h. refl), ((λ h. refl), ((λ h. refl), tt)))) refl
+    by (paint chain stamp) = carried_writes s.core 0 e.short (rule_for (paint chain stamp)) ((λ h. refl), ((λ h. refl), ((λ h. refl), tt))) refl
+    by (release_image chain) = carried_writes s.core 0 e.short (rule_for (release_image chain)) ((λ h. refl), ((λ h. refl), ((λ h. refl), tt))) refl
     by leave = refl
-    by next_frame = told_writes_nothing s.core.frames.pending
+    by next_frame = carried_writes s.core 0 e.short (rule_for next_frame) ((λ h. refl), tt) (told_writes_nothing s.core.frames.pending)
+    by image_done = carried_writes s.core 0 e.short (rule_for image_done) ((λ h. refl), tt) refl
     by _ = refl
 
 -- whether a call is ready is decided by neither a handle nor want of memory
@@ -175,9 +196,15 @@ shows_none s e hidden = refused_shows s.core (refusal e.short (rule_for e.reques
     by _ hidden = refl
 
 -- which shows the oldest that is pending
-oldest : (frame : ShownFrame) (fs : List PendingFrame) → frame_told (told_frame fs) (shown_over (oldest_shown fs) frame) ≡ oldest_shown fs
-oldest frame [] = refl
-oldest frame (f ∷ fs) = refl
+oldest : (frame : ShownFrame) (stamps : List ℕ) (fs : List PendingFrame) → frame_told (told_frame fs) (shown_over (oldest_shown fs stamps) frame) ≡ oldest_shown fs stamps
+oldest frame stamps [] = refl
+oldest frame stamps (f ∷ fs) = refl
+
+-- or is refused, and shows none
+next_left : (s : CoreState) (short : Bool) (frame : ShownFrame) (unused : Bool) (stamps : List ℕ) (held : List Image)
+    → let x = carried_out s short (next_frame_rule s (record { unused = unused; stamps = stamps; held = held })) in frame_told x.gives (shown_over x.shown frame) ≡ x.shown
+next_left s short frame unused stamps [] = oldest frame stamps s.frames.pending
+next_left s short frame unused stamps (i ∷ held) = refl
 
 -- what is left in the place of a frame is what was shown
 pub frame_left : (s : State) (e : Entry) (frame : ShownFrame) → frame_shown e.request (step s e).1.reply.gives (shown_over (step s e).1.shown frame) ≡ (step s e).1.shown
@@ -187,7 +214,7 @@ frame_left s e frame = by e.request
     entry r = record e { request = r }
 
     by : (r : Request) → frame_shown r (step s (entry r)).1.reply.gives (shown_over (step s (entry r)).1.shown frame) ≡ (step s (entry r)).1.shown
-    by next_frame = oldest frame s.core.frames.pending
+    by next_frame = let reads = reads_of s next_frame in next_left s.core e.short frame reads.unused reads.stamps reads.held
     by (create_instance major minor) = sym (shows_none s (entry (create_instance major minor)) tt)
     by r = sym (shows_none s (entry r) tt)
 
@@ -198,12 +225,12 @@ same_outcome o answer bytes shown e f g = rw (e, f, g) refl
 
 -- It is a call that was made, with the bytes at the front of its buffer and the frame in its place.
 pub made_of : (old new : State) (who : Actor) (what : Request) (answer : Reply) (before written : Lent) (bytes : List ℕ) (n : ℕ) → Answers old (entry_of who what answer) new answer before written
-    → n ≡ written_size answer.gives (lent_size what) → bytes ≡ take n written.text
+    → is_built what ≡ true → old.cells.held ≡ [] → n ≡ written_size answer.gives (lent_size what) → bytes ≡ take n written.text
     → IsAnswered old new who what (record { reply = answer; text = bytes; shown = frame_shown what answer.gives written.frame })
-made_of old new who what answer before written bytes n a size front =
+made_of old new who what answer before written bytes n a built unheld size front =
     let led : Outcome = (step old (entry_of who what answer)).1 in
     let fits : length led.text ≡ n = text_fits old (entry_of who what answer) ∙ ap (λ (r : Reply). written_size r.gives (lent_size what)) (sym a.replies) ∙ sym size in
     let same : bytes ≡ led.text = front ∙ rw a.writes (front_of-written led.text before.text n fits) in
     let shown : frame_shown what answer.gives written.frame ≡ led.shown =
     ap (λ (l : Lent). frame_shown what answer.gives l.frame) a.writes ∙ ap (λ (r : Reply). frame_shown what r.gives (shown_over led.shown before.frame)) a.replies ∙ frame_left old (entry_of who what answer) before.frame in
-    record { allowed = a.allowed; is_ready = a.is_ready; leads = a.leads; comes = same_outcome led answer bytes (frame_shown what answer.gives written.frame) a.replies same shown }
+    record { built = built; unheld = unheld; allowed = a.allowed; is_ready = a.is_ready; leads = a.leads; comes = same_outcome led answer bytes (frame_shown what answer.gives written.frame) a.replies same shown }

@@ -1,7 +1,7 @@
 -- What is known of a script's op and of its call.
 use Rattle.std.proofs.Common.{◌≡◌, ◌<◌, ◌≤◌, ◌+◌, ℕ, ℤ, pos, true, true≢false, sym, List, [], ◌∷◌, length, map, drop, get_or, refl, ◌∙◌, add-one, drop-cons, arith, zero, suc}
 use Rattle.std.specs.Prelude.{◌&&◌, ◌||◌, Bool, Option, Some, None, is_none, is_some, not, false}
-use Rattle.xr_model.specs.machine.Refusals.{Refusal}
+use Rattle.xr_model.specs.machine.Refusals.{Refusal, when, first_of}
 use Rattle.std.proofs.lemmas.Bool.Decides.{nat_tests}
 use Rattle.std.specs.List.{list_all}
 use Rattle.std.proofs.lemmas.Bool.{and_parts}
@@ -13,10 +13,12 @@ use Rattle.xr_model.specs.scenario.Built.{is_built_op}
 use Rattle.xr_model.specs.scenario.InRange.{IsMark}
 use Rattle.xr_model.specs.scenario.ScriptForm.{IsInRange}
 use Rattle.xr_model.specs.runs.Lists.{name_of, mark_of, start_of}
-use Rattle.xr_model.specs.machine.Machine.{ready, rule, reads_of, IsAllowed}
-use Rattle.xr_model.specs.machine.CoreCalls.{MayAsk}
+use Rattle.xr_types.specs.declared.code.Code.TheVariants.{CallOrderInvalid}
+use Rattle.xr_model.specs.machine.Machine.{ready}
+use Rattle.xr_model.specs.machine.CoreCalls.{MayAsk, is_built}
+use Rattle.xr_model.specs.machine.Rules.Frames.{is_frame_awaited}
 use Rattle.xr_model.specs.runs.Scripts.{request_for, unstarted}
-use Rattle.xr_model.specs.machine.Request.{Request, Entry, wait_image, get_boolean, get_float, get_vector, get_pose_active, image_done, is_locked}
+use Rattle.xr_model.specs.machine.Request.{Request, wait_image, get_boolean, get_float, get_vector, get_pose_active, next_frame, image_done, is_locked}
 use Rattle.xr_model.specs.runs.Robin.{with_start}
 use Rattle.xr_model.specs.machine.State.{State}
 use Rattle.xr_model.specs.machine.History.{StartsAt}
@@ -24,7 +26,7 @@ use Rattle.xr_model.specs.machine.Frames.{is_empty}
 use Rattle.xr_model.specs.runs.NameValues.{layer_for}
 use Rattle.xr_serial.proofs.Lending.{IsHidden}
 use Rattle.xr_serial.specs.inside.Made.{asked}
-use Rattle.xr_types.specs.declared.calls.Actor.TheVariants.{App}
+use Rattle.xr_types.specs.declared.calls.Actor.TheVariants.{App, Compositor}
 use Rattle.xr_serial.specs.inside.Lent.{lent_size}
 use Rattle.xr_serial.specs.inside.Sides.{op_mark}
 
@@ -49,6 +51,7 @@ op_asks values number (op.PathToString instance path capacity) built r = record 
 op_asks values number (op.Mark number' value) built r = record { built = refl; caller = refl; numbers = mark_in_range number' r.0; buffer = tt }
 op_asks values number (op.Await number') built r = record { built = refl; caller = refl; numbers = mark_in_range number' r; buffer = tt }
 op_asks values number (op.EndFrame session time blend layers) built r = record { built = empty_map (layer_for values) layers ∙ built; caller = refl; numbers = refl; buffer = tt }
+op_asks values number (op.WaitImage chain timeout) built r = absurd (true≢false (sym built))
 op_asks values number _ built r = record { built = built; caller = refl; numbers = refl; buffer = tt }
 
 -- no op asks for a frame to be shown
@@ -83,39 +86,36 @@ held_back true None e = refl
 held_back true (Some r) e = absurd (true≢false (sym e))
 held_back false found e = absurd (true≢false (sym e))
 
+-- the compositor's call isn't ready where no frame is pending, some application is there, and no image is held
+pub frame_held_back : (s : State) → is_frame_awaited s.core && is_empty s.cells.held ≡ true → ready s (asked Compositor next_frame) ≡ false
+frame_held_back s told = by (is_frame_awaited s.core) (is_empty s.cells.held) told
+  where
+    by : (awaited unheld : Bool) → awaited && unheld ≡ true → not awaited || is_some (first_of (when (not unheld) CallOrderInvalid ∷ [])) ≡ false
+    by true true told = refl
+    by true false told = absurd (true≢false (sym told))
+    by false unheld told = absurd (true≢false (sym told))
+
 -- ---- a call and the clock at which a wait would begin
 
--- whether a call is ready isn't decided by that clock yet
-pub ready_started : (s : State) (number : ℕ) (clock : ℤ) (r : Request) → ready s (asked (App number) (with_start clock r)) ≡ ready s (asked (App number) r)
-ready_started s number clock (wait_image chain timeout start) = refl
-ready_started s number clock _ = refl
+-- no call that is built is a wait for an image
+pub op_unstarted : (clock : ℤ) (values : List ℕ) (o : Op) → is_built_op o ≡ true → with_start clock (request_for values o) ≡ request_for values o
+op_unstarted clock values (op.CreateInstance major minor) built = refl
+op_unstarted clock values (op.WaitImage chain timeout) built = absurd (true≢false (sym built))
+op_unstarted clock values _ built = refl
 
-abbrev HasRule : State → Entry → Request → Type 0
-HasRule s e r = (rule s.core (reads_of s r) (record e { request = r })).is_there ≡ true
+pub built_unstarted : (clock : ℤ) (r : Request) → is_built r ≡ true → with_start clock r ≡ r
+built_unstarted clock (wait_image chain timeout start) built = absurd (true≢false (sym built))
+built_unstarted clock _ built = refl
 
--- no wait for an image has a rule
-pub ruled_unstarted : (clock : ℤ) (s : State) (e : Entry) → IsAllowed s e → with_start clock e.request ≡ e.request
-ruled_unstarted clock s e allowed = by e.request allowed.ruled
-  where
-    by : (r : Request) → HasRule s e r → with_start clock r ≡ r
-    by (wait_image chain timeout start) ruled = absurd (true≢false (sym ruled))
-    by _ ruled = refl
+pub built_starts : (clock : ℤ) (r : Request) → is_built r ≡ true → StartsAt clock r
+built_starts clock (wait_image chain timeout start) built = absurd (true≢false (sym built))
+built_starts clock _ built = tt
 
-pub ruled_starts : (clock : ℤ) (s : State) (e : Entry) → IsAllowed s e → StartsAt clock e.request
-ruled_starts clock s e allowed = by e.request allowed.ruled
-  where
-    by : (r : Request) → HasRule s e r → StartsAt clock r
-    by (wait_image chain timeout start) ruled = absurd (true≢false (sym ruled))
-    by _ ruled = tt
-
--- each call that has a rule is a locked one
-pub ruled_locked : (s : State) (e : Entry) → IsAllowed s e → is_locked e.request ≡ true
-ruled_locked s e allowed = by e.request allowed.ruled
-  where
-    by : (r : Request) → HasRule s e r → is_locked r ≡ true
-    by (get_boolean session action sub) ruled = absurd (true≢false (sym ruled))
-    by (get_float session action sub) ruled = absurd (true≢false (sym ruled))
-    by (get_vector session action sub) ruled = absurd (true≢false (sym ruled))
-    by (get_pose_active session action sub) ruled = absurd (true≢false (sym ruled))
-    by image_done ruled = absurd (true≢false (sym ruled))
-    by _ ruled = refl
+-- each call that is built is a locked one
+pub built_locked : (r : Request) → is_built r ≡ true → is_locked r ≡ true
+built_locked (get_boolean session action sub) built = absurd (true≢false (sym built))
+built_locked (get_float session action sub) built = absurd (true≢false (sym built))
+built_locked (get_vector session action sub) built = absurd (true≢false (sym built))
+built_locked (get_pose_active session action sub) built = absurd (true≢false (sym built))
+built_locked image_done built = absurd (true≢false (sym built))
+built_locked _ built = refl

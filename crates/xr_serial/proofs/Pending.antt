@@ -55,7 +55,7 @@ brings s e is = refused_brings s.core (most_brought e.request) (refusal e.short 
     by : (r : Request) → IsBringing r → Brings s.core (most_brought r) (rule_for r).effect
     by next_frame is = absurd is
     by (device what) is = events_bring s.core what
-    by (end_frame session time blend layers) is = one_brought s.core.frames.pending (new_frame s.core time)
+    by (end_frame session time blend layers) is = one_brought s.core.frames.pending (new_frame s.core time layers)
     by _ is = as_many (length s.core.frames.pending) 0
 
 -- ---- the call of an op

@@ -14,7 +14,7 @@ use Rattle.xr_serial.specs.inside.Made.{IsAnswered, exchange_of, calls_with}
 use Rattle.xr_serial.specs.inside.Turns.{turn_behind, others_of, from_turn, joined, AreHeldBack, IsTurnOrder}
 use Rattle.xr_serial.specs.inside.Past.{IsRest, Past, Standing}
 use Rattle.xr_serial.proofs.Lending.{ready_any}
-use Rattle.xr_serial.proofs.Ops.{ruled_starts}
+use Rattle.xr_serial.proofs.Ops.{built_starts}
 use Rattle.xr_serial.proofs.TurnOrder.{Takes, takes_turn, passed_over, from_turn_is, from_turn_next, count_from, joined-snoc}
 use Rattle.std.proofs.lemmas.List.{set-get_or}
 
@@ -90,7 +90,7 @@ module _ (scenario : Scenario) (turn idle : ℕ) (s after : State) (over : Bool)
       past = p.past ++ e ∷ [];
       clocks = clocks_after p.clocks e after;
       agendas = λ rest. joined (others_of turn (parts rest)) ++ later rest;
-      legal = λ more h. rw (append_assoc p.past (e ∷ []) more) (p.legal (e ∷ more) (goes.made.allowed, ruled_starts (clock_of p.clocks who) s e goes.made.allowed, goes.made.is_ready, subst (λ (n : State). IsLegalFrom n (clocks_after p.clocks e n) more) goes.made.leads h));
+      legal = λ more h. rw (append_assoc p.past (e ∷ []) more) (p.legal (e ∷ more) (goes.made.allowed, built_starts (clock_of p.clocks who) what goes.made.built, goes.made.is_ready, subst (λ (n : State). IsLegalFrom n (clocks_after p.clocks e n) more) goes.made.leads h));
       robin = λ rest ok more h. rw (append_assoc p.past (e ∷ []) more) (p.robin rest ok (e ∷ more) (robin_more s after who what outcome (goes.agenda rest) (joined (others_of turn (parts rest))) (p.agendas rest) more (goes.of rest) goes.made (takes rest ok) h));
       left = λ rest ok more. rw (append_assoc p.past (e ∷ []) more) (p.left rest ok (e ∷ more) ∙ left_more s after who what outcome (goes.agenda rest) (joined (others_of turn (parts rest))) (p.agendas rest) more goes.made (takes rest ok));
       made = λ other more. rw (append_assoc p.past (e ∷ []) more) (p.made other (e ∷ more) ∙ calls_more s after calls other who what outcome more goes.made);

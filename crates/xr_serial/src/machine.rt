@@ -143,6 +143,7 @@ impl Machine {
     }
 
     /// Whether the compositor's next call has to wait.
+    #[tactic(auto, using(crate::proofs::Ops::frame_held_back))]
     pub(crate) fn next_frame_waits(&self) -> bool
         ensures { result ≡ true → ready self.now (asked Compositor next_frame) ≡ false }
     {

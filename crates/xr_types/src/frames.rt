@@ -120,6 +120,15 @@ pub struct Image {
     pub index: u8,
 }
 
+/// What a frame is told of a swapchain that it shows: its width and height in pixels, 1 to 8192, and the image that was
+/// released last, where one was and isn't acquired again.
+#[derive(Clone, Copy)]
+pub struct ChainInfo {
+    pub width: u32,
+    pub height: u32,
+    pub last: Option<Image>,
+}
+
 /// A layer of a pending frame, by its images.
 #[derive(Clone, Copy)]
 pub enum FrameLayer {

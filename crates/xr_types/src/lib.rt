@@ -26,7 +26,7 @@ pub use code::Code;
 pub use device::{DeviceEvent, Wish};
 pub use fields::FieldName;
 pub use frames::{
-    Blend, Frame, FrameLayer, Image, Layer, MOST_LAYERS, Shown, ShownLayer, SubImage,
+    Blend, ChainInfo, Frame, FrameLayer, Image, Layer, MOST_LAYERS, Shown, ShownLayer, SubImage,
 };
 pub use handles::{
     ACTION_SETS, ACTIONS, INSTANCES, Kind, MOST_HANDLES, SESSIONS, SPACES, SWAPCHAINS, Slot,

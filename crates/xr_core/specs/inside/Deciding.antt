@@ -1,5 +1,5 @@
 -- What the method of one call says: how the parts decide it, before it is counted.
-use Rattle.std.specs.Prelude.{◌≡◌, ◌||◌, ◌&&◌, ℕ, List, true, false, not, is_some, None, Result, Ok, Err}
+use Rattle.std.specs.Prelude.{◌≡◌, ◌||◌, ◌&&◌, ℕ, List, [], true, false, not, is_some, None, Result, Ok, Err}
 use Rattle.xr_types.specs.Code.{is_success, is_out_of_memory}
 use Rattle.xr_types.specs.declared.calls.Actor.{Actor}
 use Rattle.xr_types.specs.declared.calls.Gives.{Gives}
@@ -34,11 +34,11 @@ pub record HasToWait (old : CoreState) (r : ℕ → Rule) (new : CoreState) (bef
   pub same : new ≡ old
   pub unwritten : after ≡ before
 
--- how a call is decided that this actor makes and that is lent something, whatever the cells tell
+-- how a call is decided that this actor makes and that is lent something, whatever the cells tell, where no image is held
 abbrev pub DecidesOver : Actor → CoreState → Request → CoreState → Result Reply Halt → Lent → Lent → Type 0
-DecidesOver who old what new (Ok d) before after = (reads : CellReads) → Comes old (λ given. rule_of old reads who given what) new d.code d.gives before after
-DecidesOver who old what new (Err (Refused code)) before after = (reads : CellReads) → Comes old (λ given. rule_of old reads who given what) new code Nothing before after
-DecidesOver who old what new (Err NotReady) before after = (reads : CellReads) → HasToWait old (λ given. rule_of old reads who given what) new before after
+DecidesOver who old what new (Ok d) before after = (reads : CellReads) → reads.held ≡ [] → Comes old (λ given. rule_of old reads who given what) new d.code d.gives before after
+DecidesOver who old what new (Err (Refused code)) before after = (reads : CellReads) → reads.held ≡ [] → Comes old (λ given. rule_of old reads who given what) new code Nothing before after
+DecidesOver who old what new (Err NotReady) before after = (reads : CellReads) → reads.held ≡ [] → HasToWait old (λ given. rule_of old reads who given what) new before after
 
 -- of a call that leaves all that it is lent
 abbrev pub DecidesBy : Actor → CoreState → Request → CoreState → Result Reply Halt → Type 0

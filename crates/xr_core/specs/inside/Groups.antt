@@ -37,7 +37,7 @@ IsSetCall (destroy_action action) = Unit {0}
 IsSetCall (attach_sets session sets) = Unit {0}
 IsSetCall _ = ⊥
 
--- without layers so far
+-- an application's calls on frames, and of their ends those without layers, which are all that the core answers so far
 abbrev pub IsFrameCall : Request → Type 0
 IsFrameCall (wait_frame session) = Unit {0}
 IsFrameCall (begin_frame session) = Unit {0}

@@ -1,12 +1,8 @@
--- What a check comes to: the code of its refusal, or what it was made for.
+-- What a check comes to that is made for something which may be missing.
 use Rattle.std.specs.Prelude.{Option, Some, None, Result, Ok, Err}
 use Rattle.xr_types.specs.declared.code.Code.{Code}
 use Rattle.xr_types.specs.declared.code.Code.TheVariants.{PathUnsupported}
 use Rattle.xr_model.specs.machine.Refusals.{Refusal}
-
-abbrev pub or_refused : {T : Type 0} → Option Refusal → T → Result T Code
-or_refused None x = Ok x
-or_refused (Some r) x = Err r.code
 
 -- what may be missing, which then is unsupported
 abbrev pub some_or_refused : {T : Type 0} → Option Refusal → Option T → Result T Code

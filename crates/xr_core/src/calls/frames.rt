@@ -1,7 +1,6 @@
 // The calls on frames (OpenXR 1.0 chapter 10).
-ghost use Rattle.std.specs.Prelude.{◌≡◌, ◌<◌, ◌^◌, ◌+◌, ◌||◌, ◌&&◌, is_none, List, [], ◌∷◌, ◌++◌, None, Ok, Err, IfSome, not, true, false, if◌then◌else◌};
+ghost use Rattle.std.specs.Prelude.{◌≡◌, ◌<◌, ◌^◌, ◌+◌, ◌||◌, ◌&&◌, is_none, slice_get, [], ◌∷◌, ◌++◌, None, Ok, Err, IfSome, not, true, false, if◌then◌else◌};
 ghost use Rattle.xr_types.specs.declared.calls.Actor.{Actor};
-ghost use Rattle.xr_types.specs.declared.frames.Layer.{Layer};
 ghost use Rattle.xr_types.specs.declared.session.SessionState.TheVariants.{Visible, Focused};
 ghost use Rattle.xr_model.specs.machine.Frames.{waited_loop, begun_loop, ended_loop, is_frame_held_back};
 ghost use Rattle.xr_model.specs.machine.LiveSessions.{session_at};
@@ -10,11 +9,13 @@ ghost use Rattle.xr_model.specs.machine.Request.{wait_frame, begin_frame, end_fr
 ghost use Rattle.xr_model.specs.machine.Rule.{ahead, refusals};
 ghost use Rattle.xr_model.specs.machine.SessionLife.{is_state, synced_session};
 ghost use Rattle.xr_model.specs.machine.SessionRule.{loss_of, code_on};
-ghost use Rattle.xr_model.specs.machine.Rules.Frames.{not_running, next_time, wait_frame_rule, frame_checks, new_frame, end_frame_rule, next_frame_rule, shown_of};
+ghost use Rattle.xr_model.specs.machine.Layers.{form_checks};
+ghost use Rattle.xr_model.specs.machine.Rules.Frames.{not_running, next_time, wait_frame_rule, new_frame, end_frame_rule, is_frame_awaited, with_frame_taken};
 ghost use Rattle.xr_model.specs.machine.Rules.Session.{life_of, with_change, with_loop};
+ghost use Rattle.xr_core.specs.inside.Bare.{are_bare};
 ghost use Rattle.xr_core.specs.inside.Deciding.{Decides, DecidesShowing};
 ghost use Rattle.xr_core.specs.inside.Groups.{IsFrameCall};
-ghost use Rattle.xr_core.specs.inside.Refusing.{or_refused};
+ghost use Rattle.xr_model.specs.machine.PartAnswers.{or_refused};
 
 use crate::halt::{Halt, done, giving};
 use crate::parts::Parts;
@@ -24,7 +25,7 @@ use xr_types::{Blend, Call, Code, Frame, FrameState, Gives, Kind, Reply, Shown};
 
 /// Shows a pending frame, without layers so far.
 fn show(frame: &Frame, shown: &mut Shown)
-    ensures { shown.new ≡ shown_of frame.now }
+    ensures { shown.new ≡ record { number = frame.now.number; time = frame.now.time; layers = [] } }
 {
     shown.number = frame.number;
     shown.time = frame.time;
@@ -33,7 +34,7 @@ fn show(frame: &Frame, shown: &mut Shown)
 
 /// What refuses the time, in ns of device time, and the blend mode of a frame.
 fn check_frame(time: &i64, blend: Blend) -> Result<(), Code>
-    ensures { result ≡ or_refused (first_of (frame_checks time.now blend)) tt }
+    ensures { result ≡ or_refused (first_of (form_checks time.now blend [])) tt }
 {
     if *time <= 0 {
         return Err(Code::TimeInvalid);
@@ -187,7 +188,7 @@ impl Parts {
         requires ended { self.old.ended < 2 ^ 44 }
         requires begun { self.old.frames.frame_loop.has_begun ≡ true }
         ensures { self.new ≡ record self.old {
-          frames = record { frame_loop = ended_loop self.old.frames.frame_loop; pending = self.old.frames.pending ++ new_frame self.old time.now ∷ [] };
+          frames = record { frame_loop = ended_loop self.old.frames.frame_loop; pending = self.old.frames.pending ++ new_frame self.old time.now [] ∷ [] };
           ended = self.old.ended + 1;
         } }
     {
@@ -203,7 +204,7 @@ impl Parts {
     /// Ends a frame without layers.
     fn end_frame(&mut self, session: u64, time: &i64, blend: Blend) -> Result<Reply, Halt>
         requires ended { self.old.ended < 2 ^ 44 }
-        ensures { (layers : List Layer) → Decides self.old (end_frame session time.now blend layers) self.new result }
+        ensures { Decides self.old (end_frame session time.now blend []) self.new result }
     {
         let success = self.may_end_frame(session, time, blend)?;
         self.sync(session);
@@ -213,17 +214,27 @@ impl Parts {
 
     /// Whether the compositor has to wait for a frame: none is pending, and some application hasn't left.
     pub(crate) fn next_frame_waits(&self) -> bool
-        ensures { result ≡ (next_frame_rule self.now).waits }
+        ensures { result ≡ is_frame_awaited self.now }
     {
         !self.frames.has_pending() && !self.all_left()
+    }
+
+    /// Takes the frame that is pending longest, where one is.
+    fn take(&mut self) -> Option<Frame>
+        requires bare { are_bare self.old.frames.pending ≡ true }
+        ensures frame { result ≡ slice_get self.old.frames.pending 0 }
+        ensures kept { self.new ≡ with_frame_taken self.old }
+    {
+        self.frames.pop()
     }
 
     /// Shows the frame that is pending longest, and takes it. Where none is the end is told, or the call waits until every
     /// application has left.
     pub(crate) fn next_frame(&mut self, shown: &mut Shown) -> Result<Reply, Halt>
+        requires bare { are_bare self.old.frames.pending ≡ true }
         ensures { (who : Actor) → DecidesShowing who self.old next_frame self.new result shown.old shown.new }
     {
-        match self.frames.pop() {
+        match self.take() {
             Some(frame) => {
                 show(&frame, shown);
                 giving(Code::Success, Gives::Shown)

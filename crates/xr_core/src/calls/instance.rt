@@ -8,7 +8,7 @@ ghost use Rattle.xr_model.specs.machine.Rule.{refusals};
 ghost use Rattle.xr_model.specs.machine.Rules.Instance.{create_instance_rule};
 ghost use Rattle.xr_core.specs.inside.Deciding.{Decides};
 ghost use Rattle.xr_core.specs.inside.Groups.{IsInstanceCall};
-ghost use Rattle.xr_core.specs.inside.Refusing.{or_refused};
+ghost use Rattle.xr_model.specs.machine.PartAnswers.{or_refused};
 
 use crate::halt::{Halt, done, giving, refused};
 use crate::parts::{Parts, give};

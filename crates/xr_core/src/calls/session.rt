@@ -10,7 +10,7 @@ ghost use Rattle.xr_model.specs.machine.Rules.Session.{life_of, with_session, cr
 ghost use Rattle.xr_core.specs.inside.Changes.{place_at, life_request, changed_life, with_period, answer_to};
 ghost use Rattle.xr_core.specs.inside.Deciding.{Decides};
 ghost use Rattle.xr_core.specs.inside.Groups.{IsSessionCall};
-ghost use Rattle.xr_core.specs.inside.Refusing.{or_refused};
+ghost use Rattle.xr_model.specs.machine.PartAnswers.{or_refused};
 
 use crate::calls::instance::SYSTEM;
 use crate::halt::{Halt, done, giving, refused};

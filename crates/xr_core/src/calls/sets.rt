@@ -14,7 +14,7 @@ ghost use Rattle.xr_model.specs.machine.Rules.Sets.{with_action_set, with_new_ac
 ghost use Rattle.xr_core.specs.inside.Changes.{place_at};
 ghost use Rattle.xr_core.specs.inside.Deciding.{Decides};
 ghost use Rattle.xr_core.specs.inside.Groups.{IsSetCall};
-ghost use Rattle.xr_core.specs.inside.Refusing.{or_refused};
+ghost use Rattle.xr_model.specs.machine.PartAnswers.{or_refused};
 
 use crate::halt::{Halt, done, giving};
 use crate::parts::{Parts, give};

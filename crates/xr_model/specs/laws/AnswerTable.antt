@@ -1,10 +1,13 @@
--- The codes that each call may answer, one row a call. The codes of its refusals stand in the order in which they are asked for.
+-- The codes that each call may answer, one row a call. The codes of its refusals stand in the order in which they are asked for;
+-- those of a frame's layers stand there layer by layer.
 -- A call that has no rule yet has an empty row.
 use Rattle.std.specs.Prelude.{zero, suc, ℕ, Bool, true, false, List, [], ◌∷◌, ◌++◌, flat_map, if◌then◌else◌}
 use Rattle.std.specs.List.{list_any}
 use Rattle.xr_types.specs.declared.code.Code.{Code}
-use Rattle.xr_types.specs.declared.code.Code.TheVariants.{Success, SessionLossPending, EventUnavailable, FrameDiscarded, ValidationFailure, OutOfMemory, ApiVersionUnsupported, LimitReached, SizeInsufficient, HandleInvalid, SessionRunning, SessionNotRunning, SessionLost, SystemInvalid, PathInvalid, PathCountExceeded, PathFormatInvalid, PathUnsupported, SessionNotReady, SessionNotStopping, TimeInvalid, ReferenceSpaceUnsupported, FormFactorUnsupported, CallOrderInvalid, PoseInvalid, ViewConfigurationTypeUnsupported, NameDuplicated, NameInvalid, ActionsetsAlreadyAttached, LocalizedNameDuplicated, LocalizedNameInvalid, EnvironmentBlendModeUnsupported}
-use Rattle.xr_model.specs.machine.Request.{Request, create_instance, destroy_instance, get_system, string_to_path, path_to_string, poll_event, create_session, destroy_session, begin_session, end_session, request_exit_session, create_reference_space, destroy_space, locate_space, create_action_set, destroy_action_set, create_action, destroy_action, suggest_bindings, attach_sets, wait_frame, begin_frame, end_frame, mark, await_mark, leave, device, next_frame}
+use Rattle.xr_types.specs.declared.code.Code.TheVariants.{Success, TimeoutExpired, SessionLossPending, EventUnavailable, FrameDiscarded, LayerInvalid, LayerLimitExceeded, SwapchainRectInvalid, SwapchainFormatUnsupported, ValidationFailure, OutOfMemory, ApiVersionUnsupported, LimitReached, SizeInsufficient, HandleInvalid, SessionRunning, SessionNotRunning, SessionLost, SystemInvalid, PathInvalid, PathCountExceeded, PathFormatInvalid, PathUnsupported, SessionNotReady, SessionNotStopping, TimeInvalid, ReferenceSpaceUnsupported, FormFactorUnsupported, CallOrderInvalid, PoseInvalid, ViewConfigurationTypeUnsupported, NameDuplicated, NameInvalid, ActionsetsAlreadyAttached, LocalizedNameDuplicated, LocalizedNameInvalid, EnvironmentBlendModeUnsupported}
+use Rattle.xr_types.specs.declared.frames.Layer.{Layer}
+use Rattle.xr_types.specs.declared.frames.Layer.TheVariants.{Projection, Quad}
+use Rattle.xr_model.specs.machine.Request.{Request, create_instance, destroy_instance, get_system, string_to_path, path_to_string, poll_event, create_session, destroy_session, begin_session, end_session, request_exit_session, create_reference_space, destroy_space, locate_space, create_action_set, destroy_action_set, create_action, destroy_action, suggest_bindings, attach_sets, create_swapchain, destroy_swapchain, acquire_image, wait_image, paint, release_image, wait_frame, begin_frame, end_frame, mark, await_mark, leave, device, next_frame, image_done}
 
 -- ---- a row
 
@@ -39,6 +42,14 @@ on_session refuses = record (plain refuses) { succeeds = Success ∷ SessionLoss
 abbrev pub discarding : List Refuses → Row
 discarding refuses = record (on_session refuses) { succeeds = Success ∷ SessionLossPending ∷ FrameDiscarded ∷ [] }
 
+-- what refuses a part of an image, and a layer
+abbrev pub part_refuses : List Refuses
+part_refuses = one HandleInvalid ∷ one SwapchainRectInvalid ∷ one LayerInvalid ∷ []
+
+abbrev pub layer_refuses : Layer → List Refuses
+layer_refuses (Projection space count views) = one HandleInvalid ∷ one ValidationFailure ∷ part_refuses ++ part_refuses
+layer_refuses (Quad space image pose) = one HandleInvalid ∷ part_refuses ++ one PoseInvalid ∷ []
+
 -- ---- the table
 
 abbrev pub answers_of : Request → Row
@@ -71,16 +82,26 @@ answers_of (suggest_bindings instance profile list) =
     ∷ each (HandleInvalid ∷ ActionsetsAlreadyAttached ∷ PathInvalid ∷ PathUnsupported ∷ []) ∷ [])
 answers_of (attach_sets session handles) =
     on_session (one HandleInvalid ∷ one SessionLost ∷ one ActionsetsAlreadyAttached ∷ one ValidationFailure ∷ each (HandleInvalid ∷ []) ∷ [])
+answers_of (create_swapchain session format width height fixed) =
+    on_session (one HandleInvalid ∷ one SessionLost ∷ one SwapchainFormatUnsupported ∷ one ValidationFailure ∷ one LimitReached ∷ one LimitReached ∷ [])
+answers_of (destroy_swapchain chain) = plain (one HandleInvalid ∷ [])
+answers_of (acquire_image chain) = on_session (one HandleInvalid ∷ one SessionLost ∷ one CallOrderInvalid ∷ [])
+answers_of (wait_image chain timeout start) =
+    on_session (one HandleInvalid ∷ one SessionLost ∷ one CallOrderInvalid ∷ one TimeoutExpired ∷ [])
+answers_of (paint chain stamp) = on_session (one HandleInvalid ∷ one SessionLost ∷ one CallOrderInvalid ∷ [])
+answers_of (release_image chain) = on_session (one HandleInvalid ∷ one SessionLost ∷ one CallOrderInvalid ∷ [])
 answers_of (wait_frame session) = on_session (one HandleInvalid ∷ one SessionLost ∷ one SessionNotRunning ∷ [])
 answers_of (begin_frame session) =
     discarding (one HandleInvalid ∷ one SessionLost ∷ one SessionNotRunning ∷ one CallOrderInvalid ∷ [])
 answers_of (end_frame session time blend layers) =
-    on_session (one HandleInvalid ∷ one SessionLost ∷ one SessionNotRunning ∷ one CallOrderInvalid ∷ one TimeInvalid ∷ one EnvironmentBlendModeUnsupported ∷ [])
+    on_session (one HandleInvalid ∷ one SessionLost ∷ one SessionNotRunning ∷ one CallOrderInvalid ∷ one TimeInvalid ∷ one EnvironmentBlendModeUnsupported
+    ∷ one LayerLimitExceeded ∷ flat_map layer_refuses layers)
 answers_of (mark number value) = plain []
 answers_of (await_mark number) = plain []
 answers_of leave = plain []
 answers_of (device what) = plain []
-answers_of next_frame = plain []
+answers_of next_frame = plain (one CallOrderInvalid ∷ [])
+answers_of image_done = plain (one CallOrderInvalid ∷ [])
 answers_of _ = no_row
 
 -- ---- the codes of a row

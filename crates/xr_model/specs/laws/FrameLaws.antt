@@ -1,11 +1,15 @@
 -- Frames in every history: how many are pending, that they are shown as they were submitted, how many are taken, and the
 -- times that are predicted.
-use Rattle.std.specs.Prelude.{◌≡◌, ◌≤◌, ◌<◌, ◌+◌, ◌*◌, ◌+ℤ◌, ◌&&◌, int_le, int_lt, nat_abs, pos, ℕ, ℤ, Bool, true, false, List, [], ◌∷◌, ◌++◌, map, Option, Some, None, length, if◌then◌else◌}
+use Rattle.std.specs.Prelude.{◌≡◌, ◌≤◌, ◌<◌, ◌+◌, ◌*◌, ◌+ℤ◌, ◌&&◌, int_le, int_lt, nat_abs, pos, ℕ, ℤ, Bool, true, false, List, [], ◌∷◌, ◌++◌, map, length, if◌then◌else◌}
 use Rattle.xr_types.specs.Code.{is_success}
-use Rattle.xr_types.specs.Frames.{ShownFrame}
+use Rattle.xr_types.specs.declared.frames.Layer.{Layer}
+use Rattle.xr_types.specs.declared.frames.ShownLayer.{ShownLayer}
+use Rattle.xr_types.specs.Frames.{PendingFrame, ShownFrame}
 use Rattle.xr_model.specs.machine.Request.{Request, begin_frame, end_frame, Entry}
 use Rattle.xr_model.specs.machine.Frames.{predicted_time, most_time}
-use Rattle.xr_model.specs.machine.Rules.Frames.{shown_of}
+use Rattle.xr_model.specs.machine.Images.{stamp_in, shown_layer, shown_with}
+use Rattle.xr_model.specs.machine.Layers.{layer_of}
+use Rattle.xr_model.specs.machine.Rules.Frames.{look_of}
 use Rattle.xr_model.specs.machine.State.{Settings, State, opening}
 use Rattle.xr_model.specs.machine.Machine.{step}
 use Rattle.xr_model.specs.machine.History.{after, IsLegal, shown_if}
@@ -16,37 +20,45 @@ AtMostThree = (settings : Settings) (es : List Entry) → IsLegal settings es �
 
 -- ---- frames are shown as they were submitted
 
-abbrev pub is_frame_end : Request → Option ℤ
-is_frame_end (end_frame session time blend layers) = Some time
-is_frame_end _ = None
+-- a layer that is asked for, with the stamps that the images released last have now
+abbrev pub asked_layer : State → Layer → ShownLayer
+asked_layer s l = shown_layer (stamp_in s.cells.stamps) (layer_of (look_of s.core) l)
 
--- the time of the frame that an entry submits, if it does
-abbrev pub times_if : Bool → Option ℤ → List ℤ
-times_if true (Some time) = time ∷ []
-times_if _ _ = []
+-- the frame that a call submits where it succeeds, if it does
+abbrev pub submitted_if : Bool → State → Request → List ShownFrame
+submitted_if true s (end_frame session time blend layers) = record { number = s.core.ended + 1; time = time; layers = map (asked_layer s) layers } ∷ []
+submitted_if _ s _ = []
 
-abbrev pub times_by : State → Entry → List ℤ
-times_by s e = times_if (is_success (step s e).1.reply.code) (is_frame_end e.request)
+-- all frames that a history submits, in order, each with the stamps that its images have then
+abbrev pub submitted_from : State → List Entry → List ShownFrame
+submitted_from s [] = []
+submitted_from s (e ∷ es) = submitted_if (is_success (step s e).1.reply.code) s e.request ++ submitted_from (step s e).0 es
 
--- the times of all frames that a history submits, in order
-abbrev pub times_from : State → List Entry → List ℤ
-times_from s [] = []
-times_from s (e ∷ es) = times_by s e ++ times_from (step s e).0 es
+-- frames as they would be shown with the stamps that images have now
+abbrev pub shown_now : State → List PendingFrame → List ShownFrame
+shown_now s frames = map (shown_with (stamp_in s.cells.stamps)) frames
 
 -- the frames that a history shows
 abbrev pub shown_from : State → List Entry → List ShownFrame
 shown_from s [] = []
 shown_from s (e ∷ es) = shown_if (step s e).1.shown ++ shown_from (step s e).0 es
 
-abbrev pub numbered : ℕ → List ℤ → List ShownFrame
-numbered n [] = []
-numbered n (time ∷ times) = record { number = n; time = time; layers = [] } ∷ numbered (n + 1) times
-
--- The frames that were shown, and then those that are pending, are those that were submitted, numbered from 1 in their order.
+-- The frames that were shown, and then those that are pending, with the stamps of now, are those that were submitted, with the
+-- stamps of then.
 abbrev pub FramesAsSubmitted : Type 0
 FramesAsSubmitted =
-    (settings : Settings) (es : List Entry)
-    → shown_from (opening settings) es ++ map shown_of (after (opening settings) es).core.frames.pending ≡ numbered 1 (times_from (opening settings) es)
+    (settings : Settings) (es : List Entry) → IsLegal settings es
+    → shown_from (opening settings) es ++ shown_now (after (opening settings) es) (after (opening settings) es).core.frames.pending
+    ≡ submitted_from (opening settings) es
+
+-- these frames have the numbers from this one on
+abbrev pub AreNumbered : ℕ → List ShownFrame → Type 0
+AreNumbered n [] = Unit {0}
+AreNumbered n (f ∷ frames) = (f.number ≡ n) × AreNumbered (n + 1) frames
+
+-- the frames that were submitted are numbered from 1 in their order
+abbrev pub FramesAreNumbered : Type 0
+FramesAreNumbered = (settings : Settings) (es : List Entry) → AreNumbered 1 (submitted_from (opening settings) es)
 
 -- ---- frames that are taken
 

@@ -58,7 +58,7 @@ destroys (get_float session action sub) handle = false
 destroys (get_vector session action sub) handle = false
 destroys (get_pose_active session action sub) handle = false
 destroys (create_swapchain session format width height fixed) handle = false
-destroys (destroy_swapchain chain) handle = false
+destroys (destroy_swapchain chain) handle = chain == handle
 destroys (acquire_image chain) handle = false
 destroys (wait_image chain timeout start) handle = false
 destroys (paint chain stamp) handle = false

@@ -1,18 +1,21 @@
 -- What was decided in a history, the newest first, and what is counted over it. The counts know nothing of the state.
-use Rattle.std.specs.Prelude.{ℕ, ◌+◌, ◌==◌, ◌&&◌, ◌||◌, not, Bool, true, false, List, [], ◌∷◌, if◌then◌else◌}
+use Rattle.std.specs.Prelude.{ℕ, ◌+◌, ◌-◌, ◌==◌, ◌&&◌, ◌||◌, nat_lt, length, not, Bool, true, false, List, [], ◌∷◌, if◌then◌else◌}
+use Rattle.std.specs.List.{list_any}
 use Rattle.xr_types.specs.Code.{is_success}
-use Rattle.xr_model.specs.machine.Request.{Request, begin_session, end_session, wait_frame, begin_frame, end_frame, Entry}
+use Rattle.xr_model.specs.machine.Request.{Request, begin_session, end_session, create_swapchain, acquire_image, wait_image, paint, release_image, wait_frame, begin_frame, end_frame, next_frame, image_done, Entry}
 use Rattle.xr_model.specs.machine.State.{Settings, State, opening}
-use Rattle.xr_model.specs.machine.Machine.{step}
+use Rattle.xr_model.specs.machine.Rule.{Did}
+use Rattle.xr_model.specs.machine.Machine.{effect, reads_of, step}
 
--- an entry: what was asked, whether it succeeded, and the handle that it gave
+-- an entry: what was asked, whether it succeeded, the handle that it gave, and what it did with handles and images
 pub record Decided : Type 0 where
   pub request : Request
   pub is_done : Bool
   pub given : ℕ
+  pub did : Did
 
 abbrev pub decided : State → Entry → Decided
-decided s e = record { request = e.request; is_done = is_success (step s e).1.reply.code; given = e.given }
+decided s e = record { request = e.request; is_done = is_success (step s e).1.reply.code; given = e.given; did = (effect s.core (reads_of s e.request) e).did }
 
 abbrev pub past_from : State → List Decided → List Entry → List Decided
 past_from s past [] = past
@@ -83,8 +86,79 @@ abbrev pub is_begun : ℕ → List Decided → Bool
 is_begun session [] = false
 is_begun session (t ∷ ts) = if acts is_begin_frame session t then true else if acts is_end_frame session t then false else is_begun session ts
 
+-- ---- images of a swapchain
+
+abbrev pub is_acquire_image : Request → Bool
+is_acquire_image (acquire_image chain) = true
+is_acquire_image _ = false
+
+abbrev pub is_wait_image : Request → Bool
+is_wait_image (wait_image chain timeout start) = true
+is_wait_image _ = false
+
+abbrev pub is_release_image : Request → Bool
+is_release_image (release_image chain) = true
+is_release_image _ = false
+
+-- the swapchain that such a call is made on
+abbrev pub asked_chain : Request → ℕ
+asked_chain (acquire_image chain) = chain
+asked_chain (wait_image chain timeout start) = chain
+asked_chain (release_image chain) = chain
+asked_chain _ = 0
+
+-- a successful call of this sort on the swapchain
+abbrev pub acts_on : (Request → Bool) → ℕ → Decided → Bool
+acts_on sort chain t = sort t.request && (t.is_done && (asked_chain t.request == chain))
+
+abbrev pub on_chain : (Request → Bool) → ℕ → List Decided → ℕ
+on_chain sort chain past = how_many (acts_on sort chain) past
+
+abbrev pub acquires : ℕ → List Decided → ℕ
+acquires chain past = on_chain is_acquire_image chain past
+
+abbrev pub image_waits : ℕ → List Decided → ℕ
+image_waits chain past = on_chain is_wait_image chain past
+
+abbrev pub releases : ℕ → List Decided → ℕ
+releases chain past = on_chain is_release_image chain past
+
+-- the swapchain was created as a static one
+abbrev pub is_static_creation : Request → Bool
+is_static_creation (create_swapchain session format width height fixed) = fixed
+is_static_creation _ = false
+
+abbrev pub creates_static : ℕ → Decided → Bool
+creates_static chain t = is_static_creation t.request && (t.is_done && (t.given == chain))
+
+abbrev pub is_static_chain : ℕ → List Decided → Bool
+is_static_chain chain past = list_any (creates_static chain) past
+
+-- ---- images of the frames that were taken
+
+abbrev pub is_image_done : Request → Bool
+is_image_done image_done = true
+is_image_done _ = false
+
+-- how many images the frames had that were taken
+abbrev pub taken_images : List Decided → ℕ
+taken_images [] = 0
+taken_images (t ∷ ts) = length t.did.taken + taken_images ts
+
+-- how many of them were given back
+abbrev pub given_back : List Decided → ℕ
+given_back past = how_many (λ t. is_image_done t.request && t.is_done) past
+
+-- ---- order
+
 -- a call that is out of order after this past
 abbrev pub is_disorder : List Decided → Request → Bool
 is_disorder past (begin_frame session) = waits session past == begins session past
 is_disorder past (end_frame session time blend layers) = not (is_begun session (period session past))
+is_disorder past (acquire_image chain) = if is_static_chain chain past then not (acquires chain past == 0) else acquires chain past - releases chain past == 3
+is_disorder past (wait_image chain timeout start) = (acquires chain past == image_waits chain past) || nat_lt (releases chain past) (image_waits chain past)
+is_disorder past (paint chain stamp) = image_waits chain past == releases chain past
+is_disorder past (release_image chain) = image_waits chain past == releases chain past
+is_disorder past next_frame = nat_lt (given_back past) (taken_images past)
+is_disorder past image_done = given_back past == taken_images past
 is_disorder past _ = false

@@ -26,7 +26,7 @@ SessionsAreListed = (settings : Settings) (es : List Entry) → IsLegal settings
 
 -- ---- lost sessions
 
--- the session that a call is made on; one on spaces is made where both live
+-- the session that a call is made on; one on spaces is made where both live, and one on a swapchain where that lives
 abbrev pub session_of : Handles → Request → Option ℕ
 session_of h (create_instance major minor) = None
 session_of h (destroy_instance instance) = None
@@ -54,12 +54,12 @@ session_of h (get_boolean session action sub) = None
 session_of h (get_float session action sub) = None
 session_of h (get_vector session action sub) = None
 session_of h (get_pose_active session action sub) = None
-session_of h (create_swapchain session format width height fixed) = None
+session_of h (create_swapchain session format width height fixed) = Some session
 session_of h (destroy_swapchain chain) = None
-session_of h (acquire_image chain) = None
-session_of h (wait_image chain timeout start) = None
-session_of h (paint chain stamp) = None
-session_of h (release_image chain) = None
+session_of h (acquire_image chain) = if is_live h kind.Swapchain chain then parent_of h chain else None
+session_of h (wait_image chain timeout start) = if is_live h kind.Swapchain chain then parent_of h chain else None
+session_of h (paint chain stamp) = if is_live h kind.Swapchain chain then parent_of h chain else None
+session_of h (release_image chain) = if is_live h kind.Swapchain chain then parent_of h chain else None
 session_of h (wait_frame session) = Some session
 session_of h (begin_frame session) = Some session
 session_of h (end_frame session time blend layers) = Some session

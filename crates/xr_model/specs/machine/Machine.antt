@@ -1,10 +1,14 @@
 -- The machine of one thread: what an entry does, when a call is ready, and which entries are allowed.
-use Rattle.std.specs.Prelude.{◌≡◌, ◌≢◌, ◌≤◌, ◌-◌, ℕ, [], ◌&&◌, ◌||◌, Bool, true, false, not, is_some, slice_get, Some, None}
+use Rattle.std.specs.Prelude.{◌≡◌, ◌≢◌, ◌≤◌, ◌-◌, ◌==◌, ◌++◌, ℕ, List, drop, length, ◌&&◌, ◌||◌, Bool, true, false, not, is_some, slice_get, Some, None}
 use Rattle.xr_types.specs.declared.calls.Actor.{Actor}
 use Rattle.xr_types.specs.declared.calls.Actor.TheVariants.{App, Compositor, Device}
+use Rattle.xr_types.specs.declared.frames.Image.{Image}
 use Rattle.xr_types.specs.Code.{is_success}
-use Rattle.xr_model.specs.machine.Request.{Request, create_instance, destroy_instance, get_system, string_to_path, path_to_string, poll_event, create_session, destroy_session, begin_session, end_session, request_exit_session, create_reference_space, destroy_space, locate_space, create_action_set, destroy_action_set, create_action, destroy_action, suggest_bindings, attach_sets, wait_frame, begin_frame, end_frame, mark, await_mark, leave, device, next_frame, Entry, Outcome}
+use Rattle.xr_model.specs.machine.CellCalls.{CellCall, claim_calls, pin_calls, free_calls, stamp_calls, peek_calls, return_calls}
+use Rattle.xr_model.specs.machine.Chains.{oldest_image}
+use Rattle.xr_model.specs.machine.Request.{Request, create_instance, destroy_instance, get_system, string_to_path, path_to_string, poll_event, create_session, destroy_session, begin_session, end_session, request_exit_session, create_reference_space, destroy_space, locate_space, create_action_set, destroy_action_set, create_action, destroy_action, suggest_bindings, attach_sets, create_swapchain, destroy_swapchain, acquire_image, wait_image, paint, release_image, wait_frame, begin_frame, end_frame, mark, await_mark, leave, device, next_frame, image_done, Entry, Outcome}
 use Rattle.xr_model.specs.machine.Handles.{Handles, was_given}
+use Rattle.xr_model.specs.machine.Images.{slot_of, count_of, first_images, stamps_at, with_stamps}
 use Rattle.xr_model.specs.machine.Refusals.{first_of}
 use Rattle.xr_model.specs.machine.State.{CoreState, Cells, State, CellReads}
 use Rattle.xr_model.specs.machine.Rule.{Rule, Effect, Did, refusals, carried_out, decided_call}
@@ -17,6 +21,7 @@ use Rattle.xr_model.specs.machine.Rules.Device.{device_rule}
 use Rattle.xr_model.specs.machine.Rules.Paths.{string_to_path_rule, path_to_string_rule}
 use Rattle.xr_model.specs.machine.Rules.Own.{leave_rule, mark_rule, await_mark_rule, no_rule}
 use Rattle.xr_model.specs.machine.Rules.Frames.{wait_frame_rule, begin_frame_rule, end_frame_rule, next_frame_rule}
+use Rattle.xr_model.specs.machine.Rules.Swapchains.{create_swapchain_rule, destroy_swapchain_rule, acquire_image_rule, wait_image_rule, paint_rule, release_image_rule, image_done_rule}
 
 -- the rule of a call
 abbrev pub rule_of : CoreState → CellReads → Actor → ℕ → Request → Rule
@@ -40,6 +45,12 @@ rule_of s reads who given (create_action set name kind subs localized) = create_
 rule_of s reads who given (destroy_action action) = destroy_action_rule s action
 rule_of s reads who given (suggest_bindings instance profile list) = suggest_bindings_rule s instance profile list
 rule_of s reads who given (attach_sets session handles) = attach_sets_rule s session handles
+rule_of s reads who given (create_swapchain session format width height fixed) = create_swapchain_rule s given session format width height fixed
+rule_of s reads who given (destroy_swapchain chain) = destroy_swapchain_rule s chain
+rule_of s reads who given (acquire_image chain) = acquire_image_rule s chain
+rule_of s reads who given (wait_image chain timeout start) = wait_image_rule s reads chain timeout start
+rule_of s reads who given (paint chain stamp) = paint_rule s chain stamp
+rule_of s reads who given (release_image chain) = release_image_rule s chain
 rule_of s reads who given (wait_frame session) = wait_frame_rule s session
 rule_of s reads who given (begin_frame session) = begin_frame_rule s session
 rule_of s reads who given (end_frame session time blend layers) = end_frame_rule s session time blend layers
@@ -47,7 +58,8 @@ rule_of s reads who given (mark number value) = mark_rule s number value
 rule_of s reads who given (await_mark number) = await_mark_rule s number
 rule_of s reads who given leave = leave_rule s who
 rule_of s reads who given (device what) = device_rule s what
-rule_of s reads who given next_frame = next_frame_rule s
+rule_of s reads who given next_frame = next_frame_rule s reads
+rule_of s reads who given image_done = image_done_rule s reads
 rule_of s reads who given _ = no_rule s
 
 abbrev pub rule : CoreState → CellReads → Entry → Rule
@@ -61,13 +73,41 @@ effect s reads e = carried_out s e.short (rule s reads e)
 abbrev pub core_step : CoreState → CellReads → Entry → CoreState × Outcome
 core_step s reads e = decided_call s e.request (effect s reads e)
 
--- The cells after a call that did this. No call that is built takes an image or gives one back.
-abbrev pub cells_after : Cells → Did → Cells
-cells_after cells did = cells
+-- ---- cells
 
--- What the cells of a state tell a call. No image is acquired yet and no frame is pending.
+-- the images that are held after a call that did this
+abbrev pub held_after : List Image → Did → List Image
+held_after held did = did.taken ++ drop (length did.returned) held
+
+-- the cells after it
+abbrev pub cells_after : Cells → Did → Cells
+cells_after cells did = record { stamps = with_stamps did.stamped cells.stamps; held = held_after cells.held did }
+
+-- the image that a call waits for
+abbrev pub waited_image : CoreState → Request → Image
+waited_image s (wait_image chain timeout start) = oldest_image s.chains chain
+waited_image s _ = record { place = 0; index = 0 }
+
+-- what the cells of a state tell a call
 abbrev pub reads_of : State → Request → CellReads
-reads_of s what = record { unused = true; stamps = []; held = s.cells.held }
+reads_of s what = record {
+  unused = count_of s.core.frames.pending s.cells.held (slot_of (waited_image s.core what)) == 0;
+  stamps = stamps_at s.cells.stamps (first_images s.core.frames.pending);
+  held = s.cells.held;
+}
+
+-- A claim is made also where a count stands against it, so it is what the call would do with the image unused.
+abbrev pub as_unused : CellReads → CellReads
+as_unused reads = record reads { unused = true }
+
+-- the calls on cells that an entry makes, in order
+abbrev pub cell_calls : CoreState → CellReads → Entry → List CellCall
+cell_calls s reads e =
+    let did = (effect s reads e).did in
+    claim_calls reads.unused (effect s (as_unused reads) e).did.claimed
+    ++ (pin_calls did.used ++ (free_calls did.freed ++ (stamp_calls did.stamped ++ (peek_calls did.taken reads.stamps ++ return_calls did.returned))))
+
+-- ---- steps
 
 -- the state after an entry, and its outcome
 abbrev pub step : State → Entry → State × Outcome

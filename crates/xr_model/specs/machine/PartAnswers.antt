@@ -1,5 +1,5 @@
 -- What a part of the core answers by its refusals.
-use Rattle.std.specs.Prelude.{ℕ, Option, Some, None}
+use Rattle.std.specs.Prelude.{ℕ, Option, Some, None, Result, Ok, Err}
 use Rattle.xr_types.specs.declared.code.Code.{Code}
 use Rattle.xr_types.specs.declared.code.Code.TheVariants.{Success}
 use Rattle.xr_types.specs.declared.calls.Gives.{Gives}
@@ -23,3 +23,8 @@ answer_by (Some r) n = record { code = r.code; number = answered_number r.gives 
 abbrev pub code_by : Option Refusal → Code
 code_by None = Success
 code_by (Some r) = r.code
+
+-- what a check comes to: the code of its refusal, or what it was made for
+abbrev pub or_refused : {T : Type 0} → Option Refusal → T → Result T Code
+or_refused None x = Ok x
+or_refused (Some r) x = Err r.code

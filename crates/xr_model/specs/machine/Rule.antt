@@ -6,8 +6,10 @@ use Rattle.xr_types.specs.declared.code.Code.{Code}
 use Rattle.xr_types.specs.declared.code.Code.TheVariants.{Success, CallOrderInvalid, OutOfMemory}
 use Rattle.xr_types.specs.declared.calls.Gives.{Gives}
 use Rattle.xr_types.specs.declared.calls.Gives.TheVariants.{Nothing}
+use Rattle.xr_types.specs.declared.frames.Image.{Image}
 use Rattle.xr_types.specs.declared.handles.Kind.{Kind}
 use Rattle.xr_types.specs.Frames.{ShownFrame}
+use Rattle.xr_model.specs.machine.Images.{Stamped}
 use Rattle.xr_model.specs.machine.Request.{Request, Outcome, is_locked}
 use Rattle.xr_model.specs.machine.Refusals.{Refusal, when, first_of}
 use Rattle.xr_model.specs.machine.SessionRule.{Loss, code_on, losses}
@@ -15,12 +17,20 @@ use Rattle.xr_model.specs.machine.State.{CoreState}
 
 -- ---- what a call does
 
--- what a call did beside changing what the core keeps: the handles that went, with all below them
+-- What a call did beside changing what the core keeps: the handles that went, with all below them; the images that a new frame
+-- uses, that an application got, that it no longer has, and that got a stamp; and the images that the compositor took, and that
+-- it gave back.
 pub record Did : Type 0 where
   pub destroyed : List ℕ
+  pub used : List Image
+  pub claimed : List Image
+  pub freed : List Image
+  pub stamped : List Stamped
+  pub taken : List Image
+  pub returned : List Image
 
 abbrev pub nothing_done : Did
-nothing_done = record { destroyed = [] }
+nothing_done = record { destroyed = []; used = []; claimed = []; freed = []; stamped = []; taken = []; returned = [] }
 
 -- The effect of a call: what the core keeps after it, its code, what it gives, the bytes that go to the
 -- front of the lent buffer, the frame that it shows, and what it did.
@@ -40,9 +50,13 @@ done s value = record { state = s; code = Success; gives = value; text = []; sho
 abbrev pub done_writing : CoreState → Gives → List ℕ → Effect
 done_writing s value bytes = record (done s value) { text = bytes }
 
--- a success by which these handles go
-abbrev pub destroying : CoreState → List ℕ → Effect
-destroying s handles = record (done s Nothing) { did = record nothing_done { destroyed = handles } }
+-- a success that also does this
+abbrev pub done_doing : CoreState → Gives → Did → Effect
+done_doing s value did = record (done s value) { did = did }
+
+-- a success by which these handles go, and an application no longer has these images
+abbrev pub destroying : CoreState → List ℕ → List Image → Effect
+destroying s handles images = done_doing s Nothing (record nothing_done { destroyed = handles; freed = images })
 
 -- ---- the rule of a call
 

@@ -8,3 +8,4 @@ pub mod Device
 pub mod Paths
 pub mod Own
 pub mod Frames
+pub mod Swapchains

@@ -5,6 +5,7 @@ use Rattle.xr_types.specs.declared.handles.TheConstants.{SWAPCHAINS}
 use Rattle.xr_types.specs.declared.input.Bound.{Bound}
 use Rattle.xr_model.specs.machine.Handles.{Handles, no_handles}
 use Rattle.xr_model.specs.machine.Bindings.{no_suggestions}
+use Rattle.xr_model.specs.machine.Chains.{Chain, no_chains}
 use Rattle.xr_model.specs.machine.Events.{Queue, no_events}
 use Rattle.xr_model.specs.machine.Frames.{Frames, no_frames}
 use Rattle.xr_model.specs.machine.LiveSessions.{Session}
@@ -16,8 +17,8 @@ use Rattle.xr_model.specs.machine.Device.{Device, first_device}
 -- What a core keeps: the handles, the atoms' texts, the events that wait, the live sessions in the order of their
 -- creation, how many were created in the run, the action sets with their actions, what is suggested for each profile, the
 -- spaces with the samples of their origins, the loop of frames and those that are pending, how many frames were ended in
--- the run, what the device has told of itself, the marks, how many applications there are, which of them have left, and
--- how many locked calls were decided.
+-- the run, the swapchains in their places, the images of the frame taken last, what the device has told of itself, the marks,
+-- how many applications there are, which of them have left, and how many locked calls were decided.
 pub record CoreState : Type 0 where
   pub handles : Handles
   pub atoms : List (List ℕ)
@@ -29,6 +30,8 @@ pub record CoreState : Type 0 where
   pub spaces : Spaces
   pub frames : Frames
   pub ended : ℕ
+  pub chains : List Chain
+  pub shown_images : List Image
   pub device : Device
   pub marks : List (Option ℕ)
   pub apps : ℕ
@@ -73,6 +76,8 @@ opening_core settings = record {
   spaces = no_spaces;
   frames = no_frames;
   ended = 0;
+  chains = no_chains;
+  shown_images = [];
   device = first_device;
   marks = no_marks;
   apps = settings.apps;

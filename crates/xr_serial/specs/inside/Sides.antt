@@ -15,6 +15,7 @@ use Rattle.xr_types.specs.declared.scenario.Op.{Op}
 use Rattle.xr_types.specs.declared.scenario.Op.TheVariants as op
 use Rattle.xr_model.specs.machine.Request.{leave, device, next_frame, Outcome, Exchange}
 use Rattle.xr_model.specs.machine.State.{State}
+use Rattle.xr_model.specs.scenario.Built.{is_built_op}
 use Rattle.xr_model.specs.machine.Machine.{ready}
 use Rattle.xr_model.specs.runs.NameValues.{with_name_value, no_values}
 use Rattle.xr_model.specs.runs.Scripts.{request_for}
@@ -52,6 +53,7 @@ pub record OpMade (number : ℕ) (ops : List Op) (old new : AppState) (s after :
 pub record OpWaits (number : ℕ) (ops : List Op) (old new : AppState) (s after : State) : Type 0 where
   pub op : Op
   pub here : drop old.made ops ≡ op ∷ drop (old.made + 1) ops
+  pub built : is_built_op op ≡ true
   pub waits : ready s (asked (App number) (request_for old.names op)) ≡ false
   pub same : after ≡ s
   pub app : new ≡ old

@@ -1,24 +1,27 @@
 -- Frames (OpenXR 1.0 chapter 10).
-use Rattle.std.specs.Prelude.{ℕ, ℤ, pos, int_le, ◌+◌, ◌&&◌, ◌||◌, Bool, true, false, not, List, [], ◌∷◌, ◌++◌, Some, drop, Option, None}
+use Rattle.std.specs.Prelude.{ℕ, ℤ, ◌+◌, ◌&&◌, ◌||◌, Bool, not, List, [], ◌∷◌, ◌++◌, Some, drop, Option, None, if◌then◌else◌}
 use Rattle.std.specs.List.{list_all}
-use Rattle.xr_types.specs.declared.code.Code.TheVariants.{SessionNotRunning, TimeInvalid, EnvironmentBlendModeUnsupported}
+use Rattle.xr_types.specs.declared.code.Code.TheVariants.{SessionNotRunning}
 use Rattle.xr_types.specs.declared.calls.Gives.{Gives}
 use Rattle.xr_types.specs.declared.calls.Gives.TheVariants as gives
 use Rattle.xr_types.specs.declared.frames.Blend.{Blend}
-use Rattle.xr_types.specs.declared.frames.Blend.TheVariants as blend
+use Rattle.xr_types.specs.declared.frames.Image.{Image}
 use Rattle.xr_types.specs.declared.frames.Layer.{Layer}
-use Rattle.xr_types.specs.declared.handles.Kind.TheVariants.{Session}
+use Rattle.xr_types.specs.declared.handles.Kind.TheVariants.{Session, Space, Swapchain}
 use Rattle.xr_types.specs.declared.session.FrameState.{FrameState}
 use Rattle.xr_types.specs.declared.session.SessionState.TheVariants.{Visible, Focused}
 use Rattle.xr_types.specs.Frames.{PendingFrame, ShownFrame}
+use Rattle.xr_model.specs.machine.Chains.{Chain, info_at, is_place_used, left_in_places}
 use Rattle.xr_model.specs.machine.Frames.{waited_loop, begun_loop, begun_code, ended_loop, predicted_time, is_frame_held_back, is_empty}
-use Rattle.xr_model.specs.machine.Handles.{no_handle}
+use Rattle.xr_model.specs.machine.Handles.{Handles, is_live, no_handle}
+use Rattle.xr_model.specs.machine.Images.{first_images, with_images_of, shown_of}
+use Rattle.xr_model.specs.machine.Layers.{Look, frame_checks, layers_of}
 use Rattle.xr_model.specs.machine.LiveSessions.{session_at}
 use Rattle.xr_model.specs.machine.Refusals.{Refusal, when}
 use Rattle.xr_model.specs.machine.SessionLife.{Life, is_state, synced_session}
 use Rattle.xr_model.specs.machine.SessionRule.{loss_of}
-use Rattle.xr_model.specs.machine.State.{CoreState}
-use Rattle.xr_model.specs.machine.Rule.{Rule, compositor, ordinary, done}
+use Rattle.xr_model.specs.machine.State.{CoreState, CellReads}
+use Rattle.xr_model.specs.machine.Rule.{Rule, compositor, ordinary, done, done_doing, nothing_done}
 use Rattle.xr_model.specs.machine.Rules.Session.{life_of, with_change, with_loop}
 
 -- ---- the loop of a session
@@ -60,17 +63,17 @@ begin_frame_rule s session = record (ordinary s) {
 
 -- ---- frames that are submitted
 
-abbrev pub is_opaque : Blend → Bool
-is_opaque blend.Opaque = true
-is_opaque _ = false
+-- what a frame is checked against: the live spaces and swapchains
+abbrev pub look_of : CoreState → Look
+look_of s = record {
+  space = λ space. is_live s.handles Space space;
+  chain = λ chain. if is_live s.handles Swapchain chain then info_at s.chains chain else None;
+}
 
--- what refuses the time and the blend mode of a frame
-abbrev pub frame_checks : ℤ → Blend → List Refusal
-frame_checks time mode = when (int_le time (pos 0)) TimeInvalid ∷ when (not (is_opaque mode)) EnvironmentBlendModeUnsupported ∷ []
-
--- the next frame, without layers so far
-abbrev pub new_frame : CoreState → ℤ → PendingFrame
-new_frame s time = record { number = s.ended + 1; time = time; layers = []; images = [] }
+-- the next frame: its layers by the images that were released last, and these images, each once
+abbrev pub new_frame : CoreState → ℤ → List Layer → PendingFrame
+new_frame s time layers =
+    record { number = s.ended + 1; time = time; layers = layers_of (look_of s) layers; images = with_images_of [] (layers_of (look_of s) layers) }
 
 -- a frame is pending from now on; the first one of a period synchronizes its session
 abbrev pub with_frame : CoreState → ℕ → PendingFrame → CoreState
@@ -79,41 +82,58 @@ with_frame s session frame = record (with_change s (session_at s.sessions sessio
   ended = s.ended + 1;
 }
 
--- xrEndFrame: of the frame that was begun. There is a rule for a frame without layers alone.
+-- xrEndFrame: of the frame that was begun. It uses its images from now on.
 abbrev pub end_frame_rule : CoreState → ℕ → ℤ → Blend → List Layer → Rule
 end_frame_rule s session time mode layers = record (ordinary s) {
-  is_there = is_empty layers;
   on = Some (loss_of (life_of s session));
   handles = no_handle s.handles Session session ∷ [];
   before = not_running (life_of s session) ∷ [];
   disorder = not s.frames.frame_loop.has_begun;
-  behind = frame_checks time mode;
-  effect = done (with_frame s session (new_frame s time)) gives.Nothing;
+  behind = frame_checks (look_of s) time mode layers;
+  effect = done_doing (with_frame s session (new_frame s time layers)) gives.Nothing (record nothing_done { used = (new_frame s time layers).images });
 }
 
 -- ---- frames that are shown
-
--- a frame as it is shown, without layers so far
-abbrev pub shown_of : PendingFrame → ShownFrame
-shown_of f = record { number = f.number; time = f.time; layers = [] }
 
 -- what the compositor is told where these frames are pending: that it was shown a frame, or the end
 abbrev pub told_frame : List PendingFrame → Gives
 told_frame [] = gives.Ended
 told_frame (f ∷ fs) = gives.Shown
 
-abbrev pub oldest_shown : List PendingFrame → Option ShownFrame
-oldest_shown [] = None
-oldest_shown (f ∷ fs) = Some (shown_of f)
+-- the oldest of these frames as it is shown, told the stamps of its images
+abbrev pub oldest_shown : List PendingFrame → List ℕ → Option ShownFrame
+oldest_shown [] stamps = None
+oldest_shown (f ∷ fs) stamps = Some (shown_of f stamps)
 
-abbrev pub with_pending : CoreState → List PendingFrame → CoreState
-with_pending s fs = record s { frames = record s.frames { pending = fs } }
+-- the swapchains once the oldest of these frames is taken: a place that a destroyed chain kept is free where neither that frame
+-- nor another one uses it
+abbrev pub chains_behind : Handles → List PendingFrame → List Chain → List Chain
+chains_behind h [] chains = chains
+chains_behind h (f ∷ fs) chains = left_in_places h (is_place_used fs f.images) 0 chains
 
--- The compositor asks for a frame and is shown the oldest one that is pending. It waits while there is none and an
--- application is there; where all have left it is told the end.
-abbrev pub next_frame_rule : CoreState → Rule
-next_frame_rule s = record (ordinary s) {
+-- the images of the frame taken last, once the oldest of these is taken
+abbrev pub shown_behind : List PendingFrame → List Image → List Image
+shown_behind [] images = images
+shown_behind (f ∷ fs) images = f.images
+
+-- the oldest pending frame is taken, where one is
+abbrev pub with_frame_taken : CoreState → CoreState
+with_frame_taken s = record s {
+  frames = record s.frames { pending = drop 1 s.frames.pending };
+  chains = chains_behind s.handles s.frames.pending s.chains;
+  shown_images = shown_behind s.frames.pending s.shown_images;
+}
+
+-- no frame is pending, and some application hasn't left
+abbrev pub is_frame_awaited : CoreState → Bool
+is_frame_awaited s = is_empty s.frames.pending && not (list_all (λ has_left. has_left) s.left)
+
+-- The compositor asks for a frame, once it has given back all images of the last one, and is shown the oldest one that is
+-- pending. It waits while there is none and an application is there; where all have left it is told the end.
+abbrev pub next_frame_rule : CoreState → CellReads → Rule
+next_frame_rule s reads = record (ordinary s) {
   caller = compositor;
-  waits = is_empty s.frames.pending && not (list_all (λ has_left. has_left) s.left);
-  effect = record (done (with_pending s (drop 1 s.frames.pending)) (told_frame s.frames.pending)) { shown = oldest_shown s.frames.pending };
+  waits = is_frame_awaited s;
+  disorder = not (is_empty reads.held);
+  effect = record (done_doing (with_frame_taken s) (told_frame s.frames.pending) (record nothing_done { taken = first_images s.frames.pending })) { shown = oldest_shown s.frames.pending reads.stamps };
 }

@@ -11,7 +11,7 @@ use Rattle.xr_model.specs.machine.Handles.{no_handle, no_room, with_handle, dest
 use Rattle.xr_model.specs.machine.Events.{no_events, polled, behind_poll}
 use Rattle.xr_model.specs.machine.Refusals.{when}
 use Rattle.xr_model.specs.machine.State.{CoreState}
-use Rattle.xr_model.specs.machine.Destroyed.{without_handle}
+use Rattle.xr_model.specs.machine.Destroyed.{without_handle, freed_by}
 use Rattle.xr_model.specs.machine.Rule.{Rule, ordinary, done, destroying}
 
 -- xrCreateInstance (section 4.2): version 1.0 alone, and one instance at a time
@@ -26,7 +26,7 @@ create_instance_rule s given major minor = record (ordinary s) {
 abbrev pub destroy_instance_rule : CoreState → ℕ → Rule
 destroy_instance_rule s instance = record (ordinary s) {
   handles = no_handle s.handles Instance instance ∷ [];
-  effect = destroying (record (without_handle s instance) { atoms = []; events = no_events }) (destroyed_by s.handles instance);
+  effect = destroying (record (without_handle s instance) { atoms = []; events = no_events }) (destroyed_by s.handles instance) (freed_by s instance);
 }
 
 -- the one system of a runtime

@@ -12,7 +12,7 @@ use Rattle.xr_model.specs.machine.SessionLife.{Life, Changed, unchanged, started
 use Rattle.xr_model.specs.machine.LiveSessions as sessions
 use Rattle.xr_model.specs.machine.LiveSessions.{session_at, life_in, with_life_at, told_states}
 use Rattle.xr_model.specs.machine.State.{CoreState}
-use Rattle.xr_model.specs.machine.Destroyed.{without_handle}
+use Rattle.xr_model.specs.machine.Destroyed.{without_handle, freed_by}
 use Rattle.xr_model.specs.machine.SessionRule.{loss_of}
 use Rattle.xr_model.specs.machine.Rule.{Rule, ordinary, done, destroying}
 use Rattle.xr_model.specs.machine.Rules.Instance.{the_system}
@@ -46,7 +46,7 @@ create_session_rule s given instance system = record (ordinary s) {
 abbrev pub destroy_session_rule : CoreState → ℕ → Rule
 destroy_session_rule s session = record (ordinary s) {
   handles = no_handle s.handles Session session ∷ [];
-  effect = destroying (without_handle s session) (destroyed_by s.handles session);
+  effect = destroying (without_handle s session) (destroyed_by s.handles session) (freed_by s session);
 }
 
 -- ---- calls on a live session

@@ -39,7 +39,7 @@ create_action_set_rule s given instance name localized priority = record (ordina
 abbrev pub destroy_action_set_rule : CoreState → ℕ → Rule
 destroy_action_set_rule s set = record (ordinary s) {
   handles = no_handle s.handles ActionSet set ∷ [];
-  effect = destroying (without_handle s set) (destroyed_by s.handles set);
+  effect = destroying (without_handle s set) (destroyed_by s.handles set) [];
 }
 
 -- ---- actions
@@ -90,7 +90,7 @@ create_action_rule s given set name type subs localized = record (ordinary s) {
 abbrev pub destroy_action_rule : CoreState → ℕ → Rule
 destroy_action_rule s action = record (ordinary s) {
   handles = no_handle s.handles Action action ∷ [];
-  effect = destroying (without_handle s action) (destroyed_by s.handles action);
+  effect = destroying (without_handle s action) (destroyed_by s.handles action) [];
 }
 
 -- ---- attaching

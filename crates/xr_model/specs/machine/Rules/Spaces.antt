@@ -39,7 +39,7 @@ with_space_gone s space = record s { handles = without_alone s.handles kind.Spac
 abbrev pub destroy_space_rule : CoreState → ℕ → Rule
 destroy_space_rule s space = record (ordinary s) {
   handles = no_handle s.handles kind.Space space ∷ [];
-  effect = destroying (with_space_gone s space) (space ∷ []);
+  effect = destroying (with_space_gone s space) (space ∷ []) [];
 }
 
 -- the session of a space

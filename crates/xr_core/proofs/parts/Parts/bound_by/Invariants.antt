@@ -1,7 +1,7 @@
 use Rattle.std.proofs.Common.{◌≡◌, ◌++◌, length, drop, flat_map, filter_map}
 use Rattle.xr_model.specs.machine.Refusals.{first_of}
 use Rattle.xr_model.specs.machine.Rules.Bindings.{binding_checks, bound_of}
-use Rattle.xr_core.specs.inside.Refusing.{or_refused}
+use Rattle.xr_model.specs.machine.PartAnswers.{or_refused}
 use Rattle.xr_core.proofs.parts.Parts.bound_by.Given as goal
 
 abbrev pub invariant-loop-binding : goal.invariant-loop-binding

@@ -10,7 +10,7 @@ use Rattle.xr_model.specs.machine.SessionRule.{loss_of, code_on}
 use Rattle.xr_model.specs.machine.Spaces.{located, no_states}
 use Rattle.xr_model.specs.machine.Rules.Session.{life_of}
 use Rattle.xr_model.specs.machine.Rules.Spaces.{locate_space_rule, session_above}
-use Rattle.xr_core.specs.inside.Refusing.{or_refused}
+use Rattle.xr_model.specs.machine.PartAnswers.{or_refused}
 use Rattle.xr_core.specs.declared.halt.Halt.TheVariants.{Refused}
 use Rattle.xr_core.proofs.Deciding.{err_decides, effect_decides, ok_none, success_found}
 use Rattle.xr_core.proofs.parts.Parts.locate_space.Goals as goal

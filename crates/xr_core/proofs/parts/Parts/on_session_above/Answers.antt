@@ -5,7 +5,7 @@ use Rattle.xr_model.specs.machine.SessionLife.{is_lost}
 use Rattle.xr_model.specs.machine.SessionRule.{loss_of, code_on}
 use Rattle.xr_model.specs.machine.Rules.Session.{life_of}
 use Rattle.xr_model.specs.machine.Rules.Spaces.{session_above}
-use Rattle.xr_core.specs.inside.Refusing.{or_refused}
+use Rattle.xr_model.specs.machine.PartAnswers.{or_refused}
 use Rattle.xr_core.proofs.parts.Parts.on_session_above.Goals as goal
 
 pub returns : goal.returns

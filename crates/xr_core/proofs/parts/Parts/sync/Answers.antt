@@ -1,4 +1,5 @@
-use Rattle.std.proofs.Common.{rules, ◌≡◌, take, Some, None, refl}
+use Rattle.std.proofs.Common.{rules, ◌≡◌, [], take, Some, None, refl}
+use Rattle.xr_model.specs.machine.Chains.{no_chains}
 use Rattle.xr_model.specs.machine.SessionLife.{synced_session}
 use Rattle.xr_model.specs.machine.State.{CoreState}
 use Rattle.xr_model.proofs.Listed.{listed_lives}
@@ -40,6 +41,8 @@ returns c =
       spaces = c.self.inside.spaces;
       frames = c.self.inside.frames;
       ended = c.self.inside.ended;
+      chains = no_chains;
+      shown_images = [];
       device = c.self.inside.device;
       marks = c.self.inside.marks;
       apps = c.self.inside.apps;

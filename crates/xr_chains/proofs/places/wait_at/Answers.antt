@@ -1,0 +1,6 @@
+use Rattle.xr_model.specs.machine.Chains.{waiting}
+use Rattle.xr_chains.proofs.Standing.{changed_at}
+use Rattle.xr_chains.proofs.places.wait_at.Goals as goal
+
+pub returns : goal.returns
+returns c = rw (c.wait.ensures, ← c.index-places-place.is) (changed_at c.args.places.now c.args.handle c.args.place c.index-places-place.result c.requires.found c.index-places-place.is waiting)

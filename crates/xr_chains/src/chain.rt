@@ -1,0 +1,274 @@
+// One place, and the swapchain that stands in it.
+ghost use Rattle.std.specs.Prelude.{◌≡◌, ◌<◌, ◌==◌, [], ◌∷◌, false, Some, None, if◌then◌else◌};
+ghost use Rattle.xr_model.specs.machine.Chains.{free_place, kept_place, new_chain, is_chain, is_acquire_wrong, is_wait_wrong, is_paint_wrong, oldest_of, index_behind, unless_acquired, acquiring, waiting, releasing, info_of, removed, swept_place};
+ghost use Rattle.xr_model.specs.machine.PartAnswers.{answer_by};
+ghost use Rattle.xr_model.specs.machine.Refusals.{when, first_of, unless};
+
+use arrayvec::ArrayVec;
+use std::marker::Model;
+use xr_types::{Answer, ChainInfo, Code, Image};
+
+/// How many images a swapchain has.
+const IMAGES: usize = 3;
+
+/// What a call is answered that comes out of order.
+pub(crate) const OUT_OF_ORDER: Answer = Answer {
+    code: Code::CallOrderInvalid,
+    number: 0,
+};
+
+/// A place: the handle of its swapchain, 0 where the place is free; whether that was destroyed and keeps the place for frames
+/// that show it; its width and height in pixels; whether it is a static one; the indices acquired, the oldest first; whether
+/// the oldest was waited for; the index released last, where one was and isn't acquired again; and the index that is acquired
+/// next, below 3. Contracts see the machine's chain.
+#[derive(Drop)]
+pub(crate) struct Chain {
+    handle: u64,
+    is_destroyed: bool,
+    width: u32,
+    height: u32,
+    is_static: bool,
+    acquired: ArrayVec<u8, IMAGES>,
+    has_waited: bool,
+    last: Option<u8>,
+    next: u8,
+}
+
+impl Model for Chain {
+    ghost use Rattle.std.specs.Prelude.{◌≤◌, ◌<◌, length, if◌then◌else◌};
+    ghost use Rattle.xr_model.specs.machine.Chains as machine;
+
+    ghost Value = { machine.Chain };
+
+    ghost view = { λ c. record {
+      handle = c.handle;
+      is_destroyed = c.is_destroyed;
+      width = c.width;
+      height = c.height;
+      is_static = c.is_static;
+      acquired = c.acquired.items;
+      has_waited = c.has_waited;
+      last = c.last;
+      next = c.next;
+    } };
+
+    ghost invariant = { λ c. (c.next < 3) × (length c.acquired.items ≤ (if c.is_static then c.next else 3)) };
+}
+
+/// The index behind this one: they come in turn. That of a static swapchain comes once.
+fn index_behind(is_static: bool, index: u8) -> u8
+    requires { index < 3 }
+    ensures { result ≡ index_behind is_static index }
+{
+    if is_static { 1 } else { (index + 1) % 3 }
+}
+
+/// The last-released index once this one is acquired.
+fn unless_acquired(index: u8, last: Option<u8>) -> Option<u8>
+    ensures { result ≡ unless_acquired index last }
+{
+    match last {
+        Some(released) if released != index => Some(released),
+        _ => None,
+    }
+}
+
+impl Chain {
+    /// A free place.
+    pub(crate) fn free() -> Chain
+        ensures { result ≡ free_place }
+    {
+        Chain::new(0, 0, 0, false)
+    }
+
+    /// A new swapchain: no image of it is acquired or was released.
+    pub(crate) fn new(handle: u64, width: u32, height: u32, fixed: bool) -> Chain
+        ensures { result ≡ new_chain handle width height fixed }
+    {
+        Chain {
+            handle,
+            is_destroyed: false,
+            width,
+            height,
+            is_static: fixed,
+            acquired: ArrayVec::new(),
+            has_waited: false,
+            last: None,
+            next: 0,
+        }
+    }
+
+    /// A place that a destroyed swapchain keeps.
+    fn kept(handle: u64) -> Chain
+        ensures { result ≡ kept_place handle }
+    {
+        let mut place = Chain::new(handle, 0, 0, false);
+        place.is_destroyed = true;
+        place
+    }
+
+    /// Whether the place is free.
+    pub(crate) fn is_free(&self) -> bool
+        ensures { result ≡ (self.now.handle == 0) }
+    {
+        self.handle == 0
+    }
+
+    /// Whether it is the swapchain with this handle. None is where the place is free, or was kept for a destroyed one.
+    #[tactic(auto, unfolding(xr_model::specs::machine::Chains::is_chain))]
+    pub(crate) fn is_chain(&self, handle: u64) -> bool
+        ensures { result ≡ is_chain handle self.now }
+    {
+        self.handle == handle && !(self.is_free() || self.is_destroyed)
+    }
+
+    /// Whether every image is acquired; the one of a static swapchain may be acquired once.
+    #[tactic(auto, unfolding(xr_model::specs::machine::Chains::is_acquire_wrong))]
+    fn is_acquire_wrong(&self) -> bool
+        ensures { result ≡ is_acquire_wrong (Some self.now) }
+    {
+        if self.is_static {
+            self.next != 0
+        } else {
+            self.acquired.len() == IMAGES
+        }
+    }
+
+    /// Whether nothing is acquired, or the oldest was waited for.
+    #[tactic(auto, unfolding(xr_model::specs::machine::Chains::is_wait_wrong))]
+    fn is_wait_wrong(&self) -> bool
+        ensures { result ≡ is_wait_wrong (Some self.now) }
+    {
+        self.acquired.is_empty() || self.has_waited
+    }
+
+    /// Whether no image is waited for.
+    #[tactic(auto, unfolding(xr_model::specs::machine::Chains::is_paint_wrong))]
+    fn is_paint_wrong(&self) -> bool
+        ensures { result ≡ is_paint_wrong (Some self.now) }
+    {
+        !self.has_waited
+    }
+
+    /// The index that was acquired first, or 0.
+    fn oldest(&self) -> u8
+        ensures { result ≡ oldest_of self.now.acquired }
+    {
+        match self.acquired.as_slice().first() {
+            Some(index) => *index,
+            None => 0,
+        }
+    }
+
+    /// The image of that index, where the swapchain stands in this place.
+    fn oldest_image(&self, place: u8) -> Image
+        ensures { result ≡ record { place = place; index = oldest_of self.now.acquired } }
+    {
+        Image {
+            place,
+            index: self.oldest(),
+        }
+    }
+
+    /// The image in this place that may be waited for, which is the one acquired first; none where nothing is acquired, or
+    /// that one was waited for.
+    pub(crate) fn front(&self, place: u8) -> Option<Image>
+        ensures { result ≡ (if is_wait_wrong (Some self.now) then None else Some (record { place = place; index = oldest_of self.now.acquired })) }
+    {
+        if self.is_wait_wrong() {
+            None
+        } else {
+            Some(self.oldest_image(place))
+        }
+    }
+
+    /// The image in this place that was waited for.
+    pub(crate) fn held(&self, place: u8) -> Option<Image>
+        ensures { result ≡ (if is_paint_wrong (Some self.now) then None else Some (record { place = place; index = oldest_of self.now.acquired })) }
+    {
+        if self.is_paint_wrong() {
+            None
+        } else {
+            Some(self.oldest_image(place))
+        }
+    }
+
+    /// The next index is acquired.
+    #[tactic(auto, unfolding(xr_model::specs::machine::Chains::is_acquire_wrong))]
+    fn take_next(&mut self)
+        requires { is_acquire_wrong (Some self.old) ≡ false }
+        ensures { self.new ≡ acquiring self.old }
+    {
+        let index = self.next;
+        self.acquired.push(index);
+        self.next = index_behind(self.is_static, index);
+        self.last = unless_acquired(index, self.last);
+    }
+
+    /// Acquires the next image, and gives its index. Refused is a call where none may be acquired (`CallOrderInvalid`).
+    pub(crate) fn acquire(&mut self) -> Answer
+        ensures answer { result ≡ answer_by (first_of (when (is_acquire_wrong (Some self.old)) Code.CallOrderInvalid ∷ [])) self.old.next }
+        ensures chain { self.new ≡ unless (first_of (when (is_acquire_wrong (Some self.old)) Code.CallOrderInvalid ∷ [])) self.old (acquiring self.old) }
+    {
+        if self.is_acquire_wrong() {
+            return OUT_OF_ORDER;
+        }
+        let number = u64::from(self.next);
+        self.take_next();
+        Answer {
+            code: Code::Success,
+            number,
+        }
+    }
+
+    /// The image that was acquired first was waited for.
+    pub(crate) fn wait(&mut self)
+        ensures { self.new ≡ waiting self.old }
+    {
+        self.has_waited = true;
+    }
+
+    /// The image that was acquired first is released.
+    pub(crate) fn release(&mut self)
+        ensures { self.new ≡ releasing self.old }
+    {
+        self.last = Some(self.oldest());
+        self.acquired.pop_at(0);
+        self.has_waited = false;
+    }
+
+    /// What a frame is told of it in this place.
+    pub(crate) fn info(&self, place: u8) -> ChainInfo
+        ensures { result ≡ info_of place self.now }
+    {
+        let last = match self.last {
+            Some(index) => Some(Image { place, index }),
+            None => None,
+        };
+        ChainInfo {
+            width: self.width,
+            height: self.height,
+            last,
+        }
+    }
+
+    /// It was destroyed: it keeps its place where that is used.
+    pub(crate) fn remove(&mut self, used: bool)
+        ensures { self.new ≡ removed used self.old }
+    {
+        *self = if used {
+            Chain::kept(self.handle)
+        } else {
+            Chain::free()
+        };
+    }
+
+    /// A place that a destroyed swapchain kept is free once it isn't used any more.
+    pub(crate) fn sweep(&mut self, used: bool)
+        ensures { self.new ≡ swept_place used self.old }
+    {
+        if self.is_destroyed && !used {
+            *self = Chain::free();
+        }
+    }
+}

@@ -1,0 +1,118 @@
+// The row of places: where a swapchain stands in it, and what changes in a place.
+ghost use Rattle.std.specs.Prelude.{◌≡◌, ◌≤◌, ◌<◌, ◌==◌, [], ◌∷◌, length, IfSome, None, Some, option_map, if◌then◌else◌};
+ghost use Rattle.std.specs.List.{position_from};
+ghost use Rattle.xr_model.specs.machine.Chains.{is_chain, chain_at, with_chain, with_chain_at, is_acquire_wrong, is_wait_wrong, is_paint_wrong, next_index, oldest_index, acquiring, waiting, releasing, info_of, removed, swept};
+ghost use Rattle.xr_model.specs.machine.PartAnswers.{answer_by};
+ghost use Rattle.xr_model.specs.machine.Refusals.{when, first_of, unless};
+
+use crate::chain::Chain;
+use xr_types::{Answer, ChainInfo, Code, Image};
+
+/// The first free place.
+pub(crate) fn free_place(places: &[Chain]) -> Option<usize>
+    ensures place { result ≡ position_from (λ c. c.handle == 0) 0 places.now }
+    ensures within { IfSome result (λ k. k < length places.now) }
+{
+    places.iter().position(|chain| chain.is_free())
+}
+
+/// Where the swapchain with a handle stands.
+pub(crate) fn place_of(places: &[Chain], handle: u64) -> Option<usize>
+    ensures place { result ≡ position_from (is_chain handle) 0 places.now }
+    ensures within { IfSome result (λ k. k < length places.now) }
+{
+    places.iter().position(|chain| chain.is_chain(handle))
+}
+
+/// Puts a swapchain into the first free place, which is this one.
+#[tactic(auto, using(crate::proofs::Standing::put_first))]
+pub(crate) fn put(places: &mut [Chain], place: usize, chain: Chain)
+    requires found { position_from (λ c. c.handle == 0) 0 places.old ≡ Some place }
+    requires within { place < length places.old }
+    ensures { places.new ≡ with_chain places.old chain }
+{
+    places[place] = chain;
+}
+
+/// Acquires the next image of the swapchain in a place.
+#[tactic(auto, using(crate::proofs::Standing::found_at))]
+pub(crate) fn acquire_at(places: &mut [Chain], handle: u64, place: usize) -> Answer
+    requires found { position_from (is_chain handle) 0 places.old ≡ Some place }
+    requires within { place < length places.old }
+    ensures answer { result ≡ answer_by (first_of (when (is_acquire_wrong (chain_at places.old handle)) Code.CallOrderInvalid ∷ [])) (next_index (chain_at places.old handle)) }
+    ensures places { places.new ≡ unless (first_of (when (is_acquire_wrong (chain_at places.old handle)) Code.CallOrderInvalid ∷ [])) places.old (with_chain_at handle acquiring places.old) }
+{
+    places[place].acquire()
+}
+
+/// The image of the swapchain in a place that may be waited for.
+#[tactic(auto, using(crate::proofs::Standing::found_at))]
+pub(crate) fn front_at(places: &[Chain], handle: u64, place: usize) -> Option<Image>
+    requires found { position_from (is_chain handle) 0 places.now ≡ Some place }
+    requires within { place < length places.now }
+    requires few { length places.now ≤ 256 }
+    ensures { result ≡ (if is_wait_wrong (chain_at places.now handle) then None else Some (record { place = place; index = oldest_index (chain_at places.now handle) })) }
+{
+    places[place].front(place as u8)
+}
+
+/// The image of the swapchain in a place was waited for.
+pub(crate) fn wait_at(places: &mut [Chain], handle: u64, place: usize)
+    requires found { position_from (is_chain handle) 0 places.old ≡ Some place }
+    requires within { place < length places.old }
+    ensures { places.new ≡ with_chain_at handle waiting places.old }
+{
+    places[place].wait();
+}
+
+/// The image of the swapchain in a place that was waited for.
+#[tactic(auto, using(crate::proofs::Standing::found_at))]
+pub(crate) fn held_at(places: &[Chain], handle: u64, place: usize) -> Option<Image>
+    requires found { position_from (is_chain handle) 0 places.now ≡ Some place }
+    requires within { place < length places.now }
+    requires few { length places.now ≤ 256 }
+    ensures { result ≡ (if is_paint_wrong (chain_at places.now handle) then None else Some (record { place = place; index = oldest_index (chain_at places.now handle) })) }
+{
+    places[place].held(place as u8)
+}
+
+/// The image of the swapchain in a place is released.
+pub(crate) fn release_at(places: &mut [Chain], handle: u64, place: usize)
+    requires found { position_from (is_chain handle) 0 places.old ≡ Some place }
+    requires within { place < length places.old }
+    ensures { places.new ≡ with_chain_at handle releasing places.old }
+{
+    places[place].release();
+}
+
+/// What a frame is told of the swapchain in a place.
+#[tactic(auto, using(crate::proofs::Standing::found_at))]
+pub(crate) fn info_at(places: &[Chain], handle: u64, place: usize) -> ChainInfo
+    requires found { position_from (is_chain handle) 0 places.now ≡ Some place }
+    requires within { place < length places.now }
+    requires few { length places.now ≤ 256 }
+    ensures { Some result ≡ option_map (info_of place) (chain_at places.now handle) }
+{
+    places[place].info(place as u8)
+}
+
+/// The swapchain in a place was destroyed, and the place is kept where it is used.
+pub(crate) fn remove_at(places: &mut [Chain], handle: u64, place: usize, used: bool)
+    requires found { position_from (is_chain handle) 0 places.old ≡ Some place }
+    requires within { place < length places.old }
+    ensures { places.new ≡ with_chain_at handle (removed used) places.old }
+{
+    places[place].remove(used);
+}
+
+/// The places that destroyed swapchains kept are free where they aren't among these.
+pub(crate) fn sweep_each(places: &mut [Chain], used: &[u8])
+    requires { length places.old ≤ 256 }
+    ensures { places.new ≡ swept used.now 0 places.old }
+{
+    let count = places.len();
+    for place in 0..count {
+        let is_used = used.contains(&(place as u8));
+        places[place].sweep(is_used);
+    }
+}
