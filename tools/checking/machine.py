@@ -1,19 +1,20 @@
-"""The machine of docs/MACHINE.md, as far as it decides who waits: marks, an instance and its session, and frames.
+"""The machine of docs/MACHINE.md, as far as it decides who waits: marks, an instance and its session, what is below the
+session, and frames.
 
-A handle is a number from 1 here, in the order of their creation. Handles of other kinds decide nothing, and are 0.
+A handle is a number from 1 here, in the order of their creation. Those of action sets and actions decide nothing, and are 0.
 """
 from __future__ import annotations
 
-from typing import Any
-
 from states import LAST, MOST_FRAMES, next_state
 
+from .images import Chain, Fields, Frames, images_of, may_make
+
 MOST_TIME = 2**63 - 1
-Fields = dict[str, Any]
+MOST_SPACES = 64
 
 
 class Session:
-    """A live session and its frame loop."""
+    """A live session with its frame loop, its spaces, and its swapchains by their handles."""
 
     def __init__(self, handle: int) -> None:
         self.handle = handle
@@ -21,6 +22,8 @@ class Session:
         self.is_running = self.is_asked_to_exit = self.is_lost = False
         self.has_waited = self.has_begun = False
         self.predicted = 0
+        self.spaces: set[int] = set()
+        self.chains: dict[int, Chain] = {}
 
     def settle(self, wish: str) -> None:
         """Goes on by the table, until no row fits."""
@@ -44,18 +47,23 @@ class Machine:
         self.marks: dict[int, int] = {}
         self.wish = "rest"
         self.clock, self.base, self.period = 0, 0, 11_111_111
-        self.pending = 0
+        self.has_stage = False
+        self.frames = Frames()
 
     # ---- calls of applications, by the values of their fields
 
-    def is_held_back(self, op: str, fields: Fields) -> bool:
-        """Whether a call has to wait. One that would be refused doesn't."""
+    def is_held_back(self, op: str, fields: Fields, since: int) -> bool:
+        """Whether a call has to wait, whose time runs from this clock on. One that would be refused doesn't."""
         if op == "await":
             return fields["mark"] not in self.marks
-        if op != "wait_frame":
-            return False
-        session = self.running(fields)
-        return session is not None and (session.has_waited or self.pending + session.has_begun > MOST_FRAMES)
+        if op == "wait_image":
+            return self.is_image_used(self.usable_chain(fields)) and not self.is_up(fields["timeout"], since)
+        session = self.running(fields) if op == "wait_frame" else None
+        return session is not None and (session.has_waited or self.frames.count + session.has_begun > MOST_FRAMES)
+
+    def is_up(self, timeout: int | str, since: int) -> bool:
+        """Whether a timeout is over that runs from this clock on. No clock shows as much as the greatest timeout."""
+        return timeout != "inf" and timeout <= self.clock - since
 
     def make(self, op: str, fields: Fields) -> int:
         """Makes a call. Those that decide nothing give 0."""
@@ -75,6 +83,15 @@ class Machine:
         """The same where it runs as well."""
         session = self.usable(fields)
         return session if session and session.is_running else None
+
+    def usable_chain(self, fields: Fields) -> Chain | None:
+        """The swapchain of a call, where it is live and its session isn't lost."""
+        session = self.session
+        return session.chains.get(fields["chain"]) if session and not session.is_lost else None
+
+    def is_image_used(self, chain: Chain | None) -> bool:
+        """Whether a swapchain's oldest image may be waited for, and a frame uses it."""
+        return chain is not None and chain.may_wait and self.frames.is_used(chain.oldest)
 
     def make_create_instance(self, fields: Fields) -> int:
         if (fields["major"], fields["minor"]) != (1, 0) or self.instance:
@@ -123,6 +140,52 @@ class Machine:
             session.settle(self.wish)
         return 0
 
+    def make_create_reference_space(self, fields: Fields) -> int:
+        session = self.usable(fields)
+        is_known = self.has_stage or fields["kind"] != "stage"
+        if not session or not is_known or fields["offset"] == 0 or len(session.spaces) == MOST_SPACES:
+            return 0
+        space = self.give()
+        session.spaces.add(space)
+        return space
+
+    def make_destroy_space(self, fields: Fields) -> int:
+        if self.session:
+            self.session.spaces.discard(fields["space"])
+        return 0
+
+    def make_create_swapchain(self, fields: Fields) -> int:
+        session = self.usable(fields)
+        if not session or not may_make(fields) or not self.frames.has_place(session.chains):
+            return 0
+        chain = Chain(self.give(), fields)
+        session.chains[chain.handle] = chain
+        return chain.handle
+
+    def make_destroy_swapchain(self, fields: Fields) -> int:
+        if self.session:
+            self.session.chains.pop(fields["chain"], None)
+        return 0
+
+    def make_acquire_image(self, fields: Fields) -> int:
+        chain = self.usable_chain(fields)
+        if chain and chain.may_acquire:
+            chain.acquire()
+        return 0
+
+    def make_wait_image(self, fields: Fields) -> int:
+        """Where the image is used still, the time is up."""
+        chain = self.usable_chain(fields)
+        if chain and chain.may_wait and not self.is_image_used(chain):
+            chain.has_waited = True
+        return 0
+
+    def make_release_image(self, fields: Fields) -> int:
+        chain = self.usable_chain(fields)
+        if chain and chain.has_waited:
+            chain.release()
+        return 0
+
     def make_wait_frame(self, fields: Fields) -> int:
         session = self.running(fields)
         if not session:
@@ -141,12 +204,16 @@ class Machine:
 
     def make_end_frame(self, fields: Fields) -> int:
         session = self.running(fields)
-        if session and session.has_begun and fields["time"] > 0 and fields["blend"] == "opaque":
-            session.has_begun = False
-            self.pending += 1
-            if session.state == "READY":
-                session.state = "SYNCHRONIZED"
-                session.settle(self.wish)
+        if not session or not session.has_begun or fields["time"] <= 0 or fields["blend"] != "opaque":
+            return 0
+        images = images_of(fields["layers"], session.spaces, session.chains)
+        if images is None:
+            return 0
+        session.has_begun = False
+        self.frames.pending.append(images)
+        if session.state == "READY":
+            session.state = "SYNCHRONIZED"
+            session.settle(self.wish)
         return 0
 
     def make_mark(self, fields: Fields) -> int:
@@ -156,7 +223,7 @@ class Machine:
     def make_await(self, fields: Fields) -> int:
         return self.marks[fields["mark"]]
 
-    # ---- the device and the compositor
+    # ---- the device
 
     def tell(self, name: str, words: str) -> None:
         """What an event of the device does, by its name and the words behind it."""
@@ -168,15 +235,11 @@ class Machine:
             self.base, self.period = map(int, words.split(" "))
         elif name == "wish":
             self.wish = words
+        elif name == "stage":
+            self.has_stage = words == "on"
         if self.session and name == "lost":
             self.session.is_lost = True
         elif self.session and name == "loss" and self.session.state not in LAST:
             self.session.state = "LOSS_PENDING"
         elif self.session and name == "wish":
             self.session.settle(self.wish)
-
-    def take_frame(self) -> bool:
-        """The compositor takes the oldest frame that is pending, if there is one."""
-        is_pending = self.pending > 0
-        self.pending -= is_pending
-        return is_pending

@@ -1,15 +1,18 @@
 """How a run of texts ends. It is followed as far as it decides who waits, so the texts tell it.
 
 An `await` waits until its mark is set, and a mark stays set. A `wait_frame` waits while the frame before it isn't begun, and
-while the compositor has more than two frames still to take. Each other op that is run so far is answered at once.
+while the compositor has more than two frames still to take. A `wait_image` waits while frames use its image and its time
+isn't up. Each other op that is run so far is answered at once.
 """
 from __future__ import annotations
 
 from collections.abc import Callable
 from dataclasses import dataclass
+from typing import Any
 
 from .device import DeviceFound
-from .machine import Fields, Machine
+from .images import Fields
+from .machine import Machine
 from .places import line_and_column
 from .scenario import ScenarioFound, Step
 
@@ -20,8 +23,8 @@ CANNOT_READ = "xrsim: cannot read the scenario"
 DEVICE_FAILED = "xrsim: device failed"
 STUCK = "xrsim: stuck"
 
-# the fields that may be a name whose value decides who waits
-USES = ("instance", "session", "system", "time", "value")
+# the fields that may have names whose values decide who waits
+USES = ("instance", "session", "space", "chain", "system", "time", "value", "layers")
 
 
 @dataclass
@@ -34,11 +37,12 @@ class Answer:
 
 
 class Script:
-    """A script on its way: its ops, how many of them were made, and what its names stand for."""
+    """A script on its way: its ops, how many of them were made, the clock after the last one, and what its names stand for."""
 
     def __init__(self, steps: list[Step]) -> None:
         self.steps = steps
         self.made = 0
+        self.clock = 0
         self.values: dict[str, int] = {}
 
     @property
@@ -49,23 +53,31 @@ class Script:
     def next(self) -> Step:
         return self.steps[self.made]
 
+    def named(self, value: Any) -> Any:
+        """What stands in a field, with values in the place of names."""
+        if isinstance(value, str):
+            return self.values.get(value, 0)
+        if isinstance(value, list):
+            return [self.named(it) for it in value]
+        return {key: self.named(it) for key, it in value.items()} if isinstance(value, dict) else value
+
     def fields(self) -> Fields:
         """The fields of the next op, with values in the place of names."""
         fields = self.next.fields
-        named = {key: self.values.get(fields[key], 0) for key in USES if isinstance(fields.get(key), str)}
-        return {**fields, **named} if named else fields
+        return {**fields, **{key: self.named(fields[key]) for key in USES if key in fields}}
 
     def turn(self, machine: Machine) -> bool:
         """Makes the next call, unless it has to wait or there is none."""
         if self.is_done:
             return False
         step, fields = self.next, self.fields()
-        if machine.is_held_back(step.op, fields):
+        if machine.is_held_back(step.op, fields, self.clock):
             return False
         given = machine.make(step.op, fields)
         if "as" in fields:
             self.values[fields["as"]] = given
         self.made += 1
+        self.clock = machine.clock
         return True
 
     def left(self, does: Callable[[Step], bool]) -> int:
@@ -97,7 +109,8 @@ class Teller:
         return True
 
     def is_quiet(self, machine: Machine) -> bool:
-        """Whether the next event is there and releases nobody who waits. A mark may, where it isn't set yet, and a loss may."""
+        """Whether the next event is there and releases nobody who waits for a mark or a frame. A mark may, where it isn't set
+        yet, and a loss may."""
         if self.told >= len(self.events):
             return False
         event = self.events[self.told]
@@ -128,12 +141,13 @@ class Run:
             is_moving = self.round(machine)
 
     def round(self, machine: Machine) -> bool:
-        """A turn for each; whether anybody made a call. Where all scripts wait the device goes on until it may release one."""
+        """A turn for each; whether anybody made a call. Where all others wait the device goes on until it may release one:
+        nobody waits for an image then, since no frame uses any."""
         has_moved = any([it.turn(machine) for it in self.scripts])
-        has_told = self.device.turn(machine)
-        while not has_moved and not machine.pending and self.device.is_quiet(machine):
+        while not has_moved and machine.frames.are_done and self.device.is_quiet(machine):
             self.device.turn(machine)
-        return machine.take_frame() or has_moved or has_told
+        has_told = self.device.turn(machine)
+        return machine.frames.turn() or has_moved or has_told
 
     def left(self, does: Callable[[Step], bool]) -> list[str]:
         """The first op of each script that does something and isn't made."""
@@ -148,7 +162,8 @@ class Run:
         return would_be("set", "sets", found)
 
     def why(self, step: Step) -> str:
-        """What an op waits for, and who would give it. In the end a frame waits only for the one before it."""
+        """What an op waits for, and who would give it. In the end a frame waits only for the one before it, and nobody waits
+        for an image."""
         if step.op == "await":
             return f"for mark {step.fields['mark']}: {self.setters(step.fields['mark'])}"
         found = self.left(lambda it: it.op == "begin_frame" and it.fields["session"] != 0)

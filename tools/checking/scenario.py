@@ -16,24 +16,17 @@ MOST_FINDINGS = 5
 RUN_OPS = frozenset(
     "create_instance destroy_instance get_system string_to_path path_to_string poll_event create_session destroy_session "
     "begin_session end_session request_exit_session create_reference_space destroy_space locate_space create_action_set "
-    "destroy_action_set create_action destroy_action suggest_bindings attach_sets wait_frame begin_frame end_frame mark "
-    "await".split()
+    "destroy_action_set create_action destroy_action suggest_bindings attach_sets create_swapchain destroy_swapchain "
+    "acquire_image wait_image paint release_image wait_frame begin_frame end_frame mark await".split()
 )
 
 
 class Step(NamedTuple):
-    """An op, as far as a run of it is followed: its name, its place in the text, and its fields; a list is its length."""
+    """An op: its name, its place in the text, and its fields."""
 
     op: str
     at: int
     fields: dict[str, Any]
-
-    @property
-    def unrun(self) -> str:
-        """What of it isn't run so far, if anything isn't."""
-        if self.op not in RUN_OPS:
-            return self.op
-        return "end_frame with layers" if self.op == "end_frame" and self.fields["layers"] else ""
 
 
 class WrongKey(NamedTuple):
@@ -162,22 +155,25 @@ def read_scripts(found: ScenarioFound, schema: Schema, scripts: list[Node]) -> N
 
 def find_unrun(found: ScenarioFound) -> None:
     """The first op that is read and not run so far."""
-    unrun = [(s, o, it) for s, ops in enumerate(found.scripts, 1) for o, it in enumerate(ops, 1) if it.unrun]
+    ops = [(s, o, it) for s, steps in enumerate(found.scripts, 1) for o, it in enumerate(steps, 1)]
+    unrun = [it for it in ops if it[2].op not in RUN_OPS]
     if not unrun:
         return
     script, place, step = unrun[0]
-    words = f"script {script} op {place} is {step.unrun}, which the program reads and doesn't run yet"
+    words = f"script {script} op {place} is {step.op}, which the program reads and doesn't run yet"
     more = ["The whole scenario is refused for it, as unbuilt, and no call is made."]
-    others = sorted({it.unrun for _, _, it in unrun} - {step.unrun})
+    others = sorted({it.op for _, _, it in unrun} - {step.op})
     if len(unrun) > 1:
         also = f", also of {listed(others)}" if others else ""
         more.append(f"Behind it {'stands' if len(unrun) == 2 else 'stand'} {count(len(unrun) - 1, 'more such op')}{also}.")
     found.refuse("unbuilt", step.at, words, more)
 
 
-def plain(value: object) -> object:
-    """A field's value, and the length of a list."""
-    return len(value) if isinstance(value, list) else value
+def plain(node: Node) -> Any:
+    """A value without the places of what stands in it."""
+    if isinstance(node.value, list):
+        return [plain(it) for it in node.value]
+    return {key: plain(it) for key, (_, it) in node.value.items()} if isinstance(node.value, dict) else node.value
 
 
 def sort_given(op: str, mark: object) -> str | None:
@@ -212,7 +208,7 @@ class ScriptReader:
         if wrong:
             self.refuse(place, node, *wrong)
         self.keep_name(place, op, members, members["mark"][1].value if "mark" in members else 0)
-        self.steps.append(Step(op, node.start, {key: plain(it.value) for key, (_, it) in members.items() if key != "op"}))
+        self.steps.append(Step(op, node.start, {key: plain(it) for key, (_, it) in members.items() if key != "op"}))
 
     def keep_unknown(self, place: int, node: Node) -> None:
         """Keeps the name that no known op gives, so that the ops that use it aren't wrong for it."""

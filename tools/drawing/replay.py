@@ -192,14 +192,23 @@ def held_back_until(ordered: Iterable[Call]) -> list[int]:
     return found
 
 
+def is_passed_over(ordered: list[Call], start: int, end: int) -> bool:
+    """Whether somebody made two calls between these places. Turns go round, so whose calls these are had a turn in between,
+    and its call wasn't ready."""
+    between = [call.actor for call in ordered[start : end - 1]]
+    return len(set(between)) < len(between)
+
+
 def waits_of(report: Report) -> list[Wait]:
-    """The bars of all actors: awaits, waits for frames, and who is stuck."""
+    """The bars of all actors: awaits, waits for frames and images, and who is stuck."""
     waits = []
     last = {actor: 0 for actor in report.actors}
-    held_back = held_back_until(report.ordered())
+    ordered = report.ordered()
+    held_back = held_back_until(ordered)
     for actor, calls in report.actors.items():
         for call in calls:
             is_late = call.name == "wait_frame" and call.is_met and held_back[call.place - 1] >= last[actor]
+            is_late |= call.name == "wait_image" and is_passed_over(ordered, last[actor], call.place)
             if call.name == "await" or actor == COMPOSITOR or is_late:
                 mark = mark_of(call)
                 what = "the next frame" if actor == COMPOSITOR else awaited(call.name, mark)
@@ -212,7 +221,11 @@ def waits_of(report: Report) -> list[Wait]:
     return waits
 
 
-AWAITED = {"next_frame": "a frame, or for all scripts to leave", "wait_frame": "the frames before its own"}
+AWAITED = {
+    "next_frame": "a frame, or for all scripts to leave",
+    "wait_frame": "the frames before its own",
+    "wait_image": "an image",
+}
 
 
 def awaited(name: str, mark: int | None) -> str:

@@ -5,7 +5,7 @@ ghost use Rattle.xr_model.specs.machine.Request.{request_of};
 ghost use Rattle.xr_model.specs.machine.CoreCalls.{MayAsk};
 
 use crate::round::{answer, ask, handle, has_places};
-use xr_core::Core;
+use xr_core::PlainCore;
 use xr_types::{
     Actor, Blend, Call, DeviceEvent, Form, FrameState, Gives, Reply, Shown, Step, ViewConfig, Wish,
 };
@@ -18,7 +18,7 @@ fn is_taking(call: &Call<'_>) -> bool
 }
 
 /// Takes a frame; whether one was pending.
-fn take(core: &mut Core, shown: &mut Shown) -> bool {
+fn take(core: &mut PlainCore, shown: &mut Shown) -> bool {
     let call = Call::NextFrame;
     if !is_taking(&call) || !has_places(core) {
         return false;
@@ -37,7 +37,7 @@ fn is_wish(call: &Call<'_>) -> bool
 }
 
 /// The device wishes sessions ready.
-fn wish_ready(core: &mut Core, shown: &mut Shown) {
+fn wish_ready(core: &mut PlainCore, shown: &mut Shown) {
     let call = Call::Device(DeviceEvent::Wish(Wish::Ready));
     if is_wish(&call) && has_places(core) {
         let _ = core.apply(Actor::Device, &call, &mut [], shown);
@@ -52,7 +52,7 @@ pub(crate) struct Running {
 }
 
 /// Gives the core a session that runs.
-pub(crate) fn set_running(core: &mut Core) -> Running {
+pub(crate) fn set_running(core: &mut PlainCore) -> Running {
     wish_ready(core, &mut Shown::default());
     let instance = handle(ask(core, &Call::CreateInstance { major: 1, minor: 0 }));
     let session = handle(ask(
@@ -68,7 +68,7 @@ pub(crate) fn set_running(core: &mut Core) -> Running {
 }
 
 /// A frame is waited for, begun and ended.
-fn submit(core: &mut Core, session: u64) -> Option<Reply> {
+fn submit(core: &mut PlainCore, session: u64) -> Option<Reply> {
     let waited = answer(core, &Call::WaitFrame { session })?;
     let Gives::Frame(FrameState { time, .. }) = waited.gives else {
         return None;
@@ -86,7 +86,7 @@ fn submit(core: &mut Core, session: u64) -> Option<Reply> {
 }
 
 /// So many frames go round, each of four calls; how many were shown.
-pub(crate) fn frame_often(core: &mut Core, running: Running, times: u64) -> u64 {
+pub(crate) fn frame_often(core: &mut PlainCore, running: Running, times: u64) -> u64 {
     let mut shown = Shown::default();
     let mut frames: u64 = 0;
     for _ in 0..times {
@@ -99,7 +99,7 @@ pub(crate) fn frame_often(core: &mut Core, running: Running, times: u64) -> u64 
 }
 
 /// Asks for the system so often, five times each; how often.
-pub(crate) fn ask_five_often(core: &mut Core, instance: u64, times: u64) -> u64 {
+pub(crate) fn ask_five_often(core: &mut PlainCore, instance: u64, times: u64) -> u64 {
     let form = Form::Head;
     let mut asked: u64 = 0;
     for _ in 0..times {

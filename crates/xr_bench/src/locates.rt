@@ -5,7 +5,7 @@ ghost use Rattle.xr_model.specs.machine.Request.{request_of};
 ghost use Rattle.xr_model.specs.machine.CoreCalls.{MayAsk};
 
 use crate::round::{ask, handle, has_places};
-use xr_core::Core;
+use xr_core::PlainCore;
 use xr_types::{Actor, Call, DeviceEvent, Gives, Location, Origin, RefKind, Shown};
 
 /// Whether the device may tell this: a pose whose numbers are in range.
@@ -22,7 +22,7 @@ fn is_pose(call: &Call<'_>) -> bool
 }
 
 /// Tells a pose.
-fn tell(core: &mut Core, origin: Origin, time: i64) {
+fn tell(core: &mut PlainCore, origin: Origin, time: i64) {
     let call = Call::Device(DeviceEvent::Pose {
         origin,
         time,
@@ -41,7 +41,7 @@ pub(crate) struct Place {
 }
 
 /// Gives the core a session with a head in a room, each with 16 samples.
-pub(crate) fn set_out(core: &mut Core) -> Place {
+pub(crate) fn set_out(core: &mut PlainCore) -> Place {
     let instance = handle(ask(core, &Call::CreateInstance { major: 1, minor: 0 }));
     let session = handle(ask(
         core,
@@ -74,7 +74,7 @@ pub(crate) fn set_out(core: &mut Core) -> Place {
 }
 
 /// Locates the head so often, at times from the newest sample to the oldest; how often it was found.
-pub(crate) fn locate_often(core: &mut Core, place: &Place, times: u64) -> u64 {
+pub(crate) fn locate_often(core: &mut PlainCore, place: &Place, times: u64) -> u64 {
     let mut found: u64 = 0;
     for i in 0..times {
         let call = Call::LocateSpace {

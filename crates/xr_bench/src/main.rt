@@ -25,7 +25,7 @@ use std::time::{Clock, Instant};
 use std::{env, io};
 use suggests::{set_up, suggest_often};
 use texts::{text_of_marks, text_of_names, text_of_polls, time_readings};
-use xr_core::Core;
+use xr_core::PlainCore;
 use xr_types::MOST_SUGGESTED;
 
 const HELP: &str = "\
@@ -50,7 +50,7 @@ fn rate(count: u64, micros: u128) -> u128 {
 }
 
 /// Makes these rounds on a core.
-fn make_rounds(core: &mut Core, rounds: u64) {
+fn make_rounds(core: &mut PlainCore, rounds: u64) {
     for _ in 0..rounds {
         round(core);
     }
@@ -68,7 +68,7 @@ fn read_rounds(alloc: Global, rounds: u64) -> bool {
 
 /// Measures the core.
 fn measure_core<R: Clock + Print>(rt: &R, alloc: Global, rounds: u64) -> io::Result<bool> {
-    let Ok(mut core) = Core::start(alloc, 1) else {
+    let Ok(mut core) = PlainCore::start(alloc, 1) else {
         return Ok(false);
     };
     let start = Instant::now(rt)?;
@@ -84,7 +84,7 @@ fn measure_core<R: Clock + Print>(rt: &R, alloc: Global, rounds: u64) -> io::Res
 
 /// Measures locating.
 fn measure_locating<R: Clock + Print>(rt: &R, alloc: Global, rounds: u64) -> io::Result<bool> {
-    let Ok(mut core) = Core::start(alloc, 1) else {
+    let Ok(mut core) = PlainCore::start(alloc, 1) else {
         return Ok(false);
     };
     let place = set_out(&mut core);
@@ -100,7 +100,7 @@ fn measure_locating<R: Clock + Print>(rt: &R, alloc: Global, rounds: u64) -> io:
 
 /// Measures frames, beside as many times five calls that ask for the system.
 fn measure_frames<R: Clock + Print>(rt: &R, alloc: Global, rounds: u64) -> io::Result<bool> {
-    let Ok(mut core) = Core::start(alloc, 1) else {
+    let Ok(mut core) = PlainCore::start(alloc, 1) else {
         return Ok(false);
     };
     let running = set_running(&mut core);
@@ -123,7 +123,7 @@ fn measure_frames<R: Clock + Print>(rt: &R, alloc: Global, rounds: u64) -> io::R
 
 /// Measures suggesting: as many bindings as there are rounds, and at least as many as a profile has.
 fn measure_suggesting<R: Clock + Print>(rt: &R, alloc: Global, rounds: u64) -> io::Result<bool> {
-    let Ok(mut core) = Core::start(alloc, 1) else {
+    let Ok(mut core) = PlainCore::start(alloc, 1) else {
         return Ok(false);
     };
     let suggestions = set_up(&mut core);

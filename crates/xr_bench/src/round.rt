@@ -4,7 +4,7 @@ ghost use Rattle.xr_types.specs.declared.calls.Actor.TheVariants.{App};
 ghost use Rattle.xr_model.specs.machine.Request.{request_of};
 ghost use Rattle.xr_model.specs.machine.CoreCalls.{MayAsk};
 
-use xr_core::Core;
+use xr_core::PlainCore;
 use xr_types::{Actor, Call, Form, Gives, Reply, Shown, Step};
 
 /// How many calls a round makes.
@@ -41,14 +41,14 @@ fn is_own(call: &Call<'_>) -> bool
 }
 
 /// Whether the core may be asked once more.
-pub(crate) fn has_places(core: &Core) -> bool
-    ensures { IsTrue result → core.now.locked < 2 ^ 44 }
+pub(crate) fn has_places(core: &PlainCore) -> bool
+    ensures { IsTrue result → core.now.core.locked < 2 ^ 44 }
 {
     core.calls() < 1 << 44
 }
 
 /// The reply to a call of the only application, where it can be made.
-pub(crate) fn answer(core: &mut Core, call: &Call<'_>) -> Option<Reply> {
+pub(crate) fn answer(core: &mut PlainCore, call: &Call<'_>) -> Option<Reply> {
     if !is_own(call) || !core.is_present(1) || !has_places(core) {
         return None;
     }
@@ -59,7 +59,7 @@ pub(crate) fn answer(core: &mut Core, call: &Call<'_>) -> Option<Reply> {
 }
 
 /// What a call of the only application gives, nothing where it can't be made.
-pub(crate) fn ask(core: &mut Core, call: &Call<'_>) -> Gives {
+pub(crate) fn ask(core: &mut PlainCore, call: &Call<'_>) -> Gives {
     match answer(core, call) {
         Some(reply) => reply.gives,
         None => Gives::Nothing,
@@ -75,7 +75,7 @@ pub(crate) fn handle(gives: Gives) -> u64 {
 }
 
 /// Makes a round: an instance with a session comes and goes, and what is between.
-pub(crate) fn round(core: &mut Core) {
+pub(crate) fn round(core: &mut PlainCore) {
     let instance = handle(ask(core, &Call::CreateInstance { major: 1, minor: 0 }));
     let form = Form::Head;
     let text = b"/user/hand/left";

@@ -1,6 +1,6 @@
 // A core with an action, and how bindings are suggested for it.
 use crate::round::{answer, ask, handle};
-use xr_core::Core;
+use xr_core::PlainCore;
 use xr_types::{ActionType, Binding, Call, Code, Gives, MOST_SUGGESTED};
 
 /// What is suggested: as many bindings as a profile has.
@@ -12,7 +12,7 @@ pub(crate) struct Suggestions {
 }
 
 /// The atom of a text, or 0.
-fn atom(core: &mut Core, instance: u64, text: &[u8]) -> u64 {
+fn atom(core: &mut PlainCore, instance: u64, text: &[u8]) -> u64 {
     match ask(core, &Call::StringToPath { instance, text }) {
         Gives::Number(atom) => atom,
         _ => 0,
@@ -20,7 +20,7 @@ fn atom(core: &mut Core, instance: u64, text: &[u8]) -> u64 {
 }
 
 /// Gives the core a boolean action, and paths of a controller of which it has the parts.
-pub(crate) fn set_up(core: &mut Core) -> Suggestions {
+pub(crate) fn set_up(core: &mut PlainCore) -> Suggestions {
     let instance = handle(ask(core, &Call::CreateInstance { major: 1, minor: 0 }));
     let set = handle(ask(
         core,
@@ -67,7 +67,7 @@ pub(crate) fn set_up(core: &mut Core) -> Suggestions {
 }
 
 /// Suggests them all so often; how many bindings were taken.
-pub(crate) fn suggest_often(core: &mut Core, suggestions: &Suggestions, times: u64) -> u64 {
+pub(crate) fn suggest_often(core: &mut PlainCore, suggestions: &Suggestions, times: u64) -> u64 {
     let mut taken: u64 = 0;
     for _ in 0..times {
         let call = Call::SuggestBindings {

@@ -1,9 +1,11 @@
 // One place, and the swapchain that stands in it.
-ghost use Rattle.std.specs.Prelude.{◌≡◌, ◌<◌, ◌==◌, [], ◌∷◌, false, Some, None, if◌then◌else◌};
-ghost use Rattle.xr_model.specs.machine.Chains.{free_place, kept_place, new_chain, is_chain, is_acquire_wrong, is_wait_wrong, is_paint_wrong, oldest_of, index_behind, unless_acquired, acquiring, waiting, releasing, info_of, removed, swept_place};
+ghost use Rattle.std.specs.Prelude.{◌≡◌, ◌<◌, ◌==◌, ◌&&◌, not, [], ◌∷◌, false, Some, None, if◌then◌else◌};
+ghost use Rattle.xr_model.specs.machine.Chains.{free_place, kept_place, new_chain, is_chain, is_acquire_wrong, is_wait_wrong, is_paint_wrong, oldest_of, index_behind, unless_acquired, acquiring, waiting, releasing, info_of};
 ghost use Rattle.xr_model.specs.machine.PartAnswers.{answer_by};
 ghost use Rattle.xr_model.specs.machine.Refusals.{when, first_of, unless};
+ghost use Rattle.xr_chains.specs.Going.{left_one};
 
+use crate::standing::Standing;
 use arrayvec::ArrayVec;
 use std::marker::Model;
 use xr_types::{Answer, ChainInfo, Code, Image};
@@ -252,23 +254,28 @@ impl Chain {
         }
     }
 
-    /// It was destroyed: it keeps its place where that is used.
-    pub(crate) fn remove(&mut self, used: bool)
-        ensures { self.new ≡ removed used self.old }
+    /// The image in this place that the application waited for, where the swapchain isn't live.
+    pub(crate) fn freed<S: Standing>(&self, place: u8, standing: &S) -> Option<Image>
+        ensures { result ≡ (if not (S.is_live standing.now self.now.handle) && self.now.has_waited then Some (record { place = place; index = oldest_of self.now.acquired }) else None) }
     {
-        *self = if used {
+        if !standing.is_live(self.handle) && self.has_waited {
+            Some(self.oldest_image(place))
+        } else {
+            None
+        }
+    }
+
+    /// A swapchain that isn't live goes: this place is kept where frames use it, and is free where they don't.
+    pub(crate) fn sweep<S: Standing>(&mut self, place: u8, standing: &S)
+        ensures { self.new ≡ left_one (S.is_live standing.now) (S.is_used standing.now place) self.old }
+    {
+        if standing.is_live(self.handle) {
+            return;
+        }
+        *self = if self.handle != 0 && standing.is_used(place) {
             Chain::kept(self.handle)
         } else {
             Chain::free()
         };
-    }
-
-    /// A place that a destroyed swapchain kept is free once it isn't used any more.
-    pub(crate) fn sweep(&mut self, used: bool)
-        ensures { self.new ≡ swept_place used self.old }
-    {
-        if self.is_destroyed && !used {
-            *self = Chain::free();
-        }
     }
 }

@@ -1,17 +1,19 @@
 // The swapchains in their places, and the calls on them. What a call does to images it does by calls on cells.
 ghost use Rattle.std.specs.Prelude.{◌≡◌, [], ◌∷◌, true, None, Some, if◌then◌else◌};
 ghost use Rattle.xr_model.specs.machine.CellCalls.{MayCall, Leads, stamp_calls, free_calls};
-ghost use Rattle.xr_model.specs.machine.Chains.{no_chains, new_chain, chain_at, chain_checks, is_format, is_size, has_free_place, no_place, first_place, with_chain, with_chain_at, is_acquire_wrong, is_wait_wrong, is_paint_wrong, next_index, acquiring, waiting, releasing, oldest_image, info_at, removed, swept};
+ghost use Rattle.xr_model.specs.machine.Chains.{no_chains, new_chain, chain_at, chain_checks, is_format, is_size, has_free_place, no_place, first_place, with_chain, with_chain_at, is_acquire_wrong, is_wait_wrong, is_paint_wrong, next_index, acquiring, waiting, releasing, oldest_image, info_at};
 ghost use Rattle.xr_model.specs.machine.Images.{unstamped};
 ghost use Rattle.xr_model.specs.machine.PartAnswers.{code_by, answer_by};
 ghost use Rattle.xr_model.specs.machine.Refusals.{when, first_of, unless};
+ghost use Rattle.xr_chains.specs.Going.{left_where, freed_where};
 ghost use Rattle.xr_chains.specs.Waited.{waited_images};
 
 use crate::chain::{Chain, OUT_OF_ORDER};
 use crate::places::{
-    acquire_at, free_place, front_at, held_at, info_at, place_of, put, release_at, remove_at,
+    acquire_at, free_each, free_place, front_at, held_at, info_at, place_of, put, release_at,
     sweep_each, wait_at,
 };
+use crate::standing::Standing;
 use std::marker::Model;
 use xr_model::Cells;
 use xr_types::{Answer, ChainInfo, Code, Image, SWAPCHAINS};
@@ -91,7 +93,7 @@ impl Chains {
     /// A swapchain was created, with a new handle that isn't 0: it stands in the first free place, and the images of that
     /// place get the stamp 0. Refused is a call where no place is free (`LimitReached`), which leaves all as it was. OpenXR 1.0
     /// chapter 10, xrCreateSwapchain.
-    #[tactic(auto, using(crate::proofs::Standing::a_place_is_free, crate::proofs::Standing::no_place_is_free))]
+    #[tactic(auto, using(crate::proofs::ChainPlaces::a_place_is_free, crate::proofs::ChainPlaces::no_place_is_free))]
     pub fn add<C: Cells>(
         &mut self,
         cells: &mut C,
@@ -121,7 +123,7 @@ impl Chains {
     /// where all three images are acquired, where the one image of a static swapchain was acquired before, or where no
     /// swapchain has the handle (`CallOrderInvalid`); it leaves all as it was. OpenXR 1.0 chapter 10,
     /// xrAcquireSwapchainImage.
-    #[tactic(auto, using(crate::proofs::Standing::no_chain), unfolding(xr_model::specs::machine::Chains::is_acquire_wrong))]
+    #[tactic(auto, using(crate::proofs::ChainPlaces::no_chain), unfolding(xr_model::specs::machine::Chains::is_acquire_wrong))]
     pub fn acquire(&mut self, handle: u64) -> Answer
         ensures answer { result ≡ answer_by (first_of (when (is_acquire_wrong (chain_at self.old handle)) Code.CallOrderInvalid ∷ [])) (next_index (chain_at self.old handle)) }
         ensures chains { self.new ≡ unless (first_of (when (is_acquire_wrong (chain_at self.old handle)) Code.CallOrderInvalid ∷ [])) self.old (with_chain_at handle acquiring self.old) }
@@ -135,7 +137,7 @@ impl Chains {
     /// The image of a swapchain that may be waited for: the one that was acquired first and not released. There is none where
     /// nothing is acquired, where that image was waited for, and where no swapchain has the handle. OpenXR 1.0 chapter 10,
     /// xrWaitSwapchainImage.
-    #[tactic(auto, using(crate::proofs::Standing::no_chain), unfolding(xr_model::specs::machine::Chains::is_wait_wrong))]
+    #[tactic(auto, using(crate::proofs::ChainPlaces::no_chain), unfolding(xr_model::specs::machine::Chains::is_wait_wrong))]
     pub fn front(&self, handle: u64) -> Option<Image>
         ensures { result ≡ (if is_wait_wrong (chain_at self.now handle) then None else Some (oldest_image self.now handle)) }
     {
@@ -144,7 +146,7 @@ impl Chains {
     }
 
     /// The image that `front` gives was waited for. OpenXR 1.0 chapter 10, xrWaitSwapchainImage.
-    #[tactic(auto, using(crate::proofs::Standing::nothing_changes))]
+    #[tactic(auto, using(crate::proofs::ChainPlaces::nothing_changes))]
     pub fn waited(&mut self, handle: u64)
         ensures { self.new ≡ with_chain_at handle waiting self.old }
     {
@@ -155,7 +157,7 @@ impl Chains {
 
     /// The image of a swapchain that was waited for and not released, where there is one. OpenXR 1.0 chapter 10,
     /// xrWaitSwapchainImage.
-    #[tactic(auto, using(crate::proofs::Standing::no_chain), unfolding(xr_model::specs::machine::Chains::is_paint_wrong))]
+    #[tactic(auto, using(crate::proofs::ChainPlaces::no_chain), unfolding(xr_model::specs::machine::Chains::is_paint_wrong))]
     pub fn held(&self, handle: u64) -> Option<Image>
         ensures { result ≡ (if is_paint_wrong (chain_at self.now handle) then None else Some (oldest_image self.now handle)) }
     {
@@ -166,7 +168,7 @@ impl Chains {
     /// Releases the image of a swapchain that was waited for: it is the one released last from now on, and the application
     /// has it no longer. Refused is a call where no image was waited for, or no swapchain has the handle
     /// (`CallOrderInvalid`); it leaves all as it was. OpenXR 1.0 chapter 10, xrReleaseSwapchainImage.
-    #[tactic(auto, using(crate::proofs::Standing::no_chain), unfolding(xr_model::specs::machine::Chains::is_paint_wrong))]
+    #[tactic(auto, using(crate::proofs::ChainPlaces::no_chain), unfolding(xr_model::specs::machine::Chains::is_paint_wrong))]
     pub fn release<C: Cells>(&mut self, cells: &mut C, handle: u64) -> Code
         requires may { MayCall C.may C.does cells.old (free_calls (waited_images self.old handle)) }
         ensures code { result ≡ code_by (first_of (when (is_paint_wrong (chain_at self.old handle)) Code.CallOrderInvalid ∷ [])) }
@@ -186,7 +188,7 @@ impl Chains {
 
     /// What a frame is told of a swapchain: its size, and the image that was released last, where one was and isn't acquired
     /// again. Nothing where no swapchain has the handle. OpenXR 1.0 chapter 10, xrEndFrame.
-    #[tactic(auto, using(crate::proofs::Standing::no_chain))]
+    #[tactic(auto, using(crate::proofs::ChainPlaces::no_chain))]
     pub fn info(&self, handle: u64) -> Option<ChainInfo>
         ensures { result ≡ info_at self.now handle }
     {
@@ -194,29 +196,24 @@ impl Chains {
         Some(info_at(&self.places, handle, place))
     }
 
-    /// A swapchain was destroyed, told whether frames use its place: the place is kept where they do, and is free where they
-    /// don't. The application has the image that it waited for no longer. All stays where no swapchain has the handle. OpenXR
-    /// 1.0 chapter 10, xrDestroySwapchain.
-    #[tactic(auto, using(crate::proofs::Standing::no_chain, crate::proofs::Standing::nothing_changes), unfolding(xr_model::specs::machine::Chains::is_paint_wrong))]
-    pub fn remove<C: Cells>(&mut self, cells: &mut C, handle: u64, used: bool)
-        requires may { MayCall C.may C.does cells.old (free_calls (waited_images self.old handle)) }
-        ensures chains { self.new ≡ with_chain_at handle (removed used) self.old }
-        ensures cells { Leads C.does cells.old (free_calls (waited_images self.old handle)) cells.new }
+    /// Swapchains were destroyed: those that aren't live any more go. Of these the application has the images that it waited
+    /// for no longer, in the order of places. A place whose swapchain isn't live is kept where frames use it, and is free
+    /// where they don't. OpenXR 1.0 chapter 10, xrDestroySwapchain.
+    pub fn remove<C: Cells, S: Standing>(&mut self, cells: &mut C, standing: &S)
+        requires may { MayCall C.may C.does cells.old (free_calls (freed_where (S.is_live standing.now) 0 self.old)) }
+        ensures chains { self.new ≡ left_where (S.is_live standing.now) (S.is_used standing.now) 0 self.old }
+        ensures cells { Leads C.does cells.old (free_calls (freed_where (S.is_live standing.now) 0 self.old)) cells.new }
     {
-        let Some(place) = place_of(&self.places, handle) else {
-            return;
-        };
-        if let Some(image) = held_at(&self.places, handle, place) {
-            cells.free(image);
-        }
-        remove_at(&mut self.places, handle, place, used);
+        free_each(&self.places, cells, standing);
+        sweep_each(&mut self.places, standing);
     }
 
-    /// Frees the places that destroyed swapchains kept, but for those of these places, which frames use. OpenXR 1.0 chapter
-    /// 10, xrDestroySwapchain.
-    pub fn sweep(&mut self, used: &[u8])
-        ensures { self.new ≡ swept used.now 0 self.old }
+    /// A place whose swapchain isn't live is kept where frames use it, and is free where they don't. So what a compositor
+    /// frees when it takes a frame are the places that destroyed swapchains kept for frames before it, which is this
+    /// project's own. OpenXR 1.0 chapter 10, xrDestroySwapchain.
+    pub fn sweep<S: Standing>(&mut self, standing: &S)
+        ensures { self.new ≡ left_where (S.is_live standing.now) (S.is_used standing.now) 0 self.old }
     {
-        sweep_each(&mut self.places, used);
+        sweep_each(&mut self.places, standing);
     }
 }

@@ -6,6 +6,8 @@ mod chain;
 mod chains;
 mod places;
 mod plain;
+mod standing;
 
 pub use chains::Chains;
 pub use plain::PlainCells;
+pub use standing::Standing;

@@ -1,11 +1,15 @@
 // The row of places: where a swapchain stands in it, and what changes in a place.
 ghost use Rattle.std.specs.Prelude.{◌≡◌, ◌≤◌, ◌<◌, ◌==◌, [], ◌∷◌, length, IfSome, None, Some, option_map, if◌then◌else◌};
 ghost use Rattle.std.specs.List.{position_from};
-ghost use Rattle.xr_model.specs.machine.Chains.{is_chain, chain_at, with_chain, with_chain_at, is_acquire_wrong, is_wait_wrong, is_paint_wrong, next_index, oldest_index, acquiring, waiting, releasing, info_of, removed, swept};
+ghost use Rattle.xr_model.specs.machine.CellCalls.{MayCall, Leads, free_calls};
+ghost use Rattle.xr_model.specs.machine.Chains.{is_chain, chain_at, with_chain, with_chain_at, is_acquire_wrong, is_wait_wrong, is_paint_wrong, next_index, oldest_index, acquiring, waiting, releasing, info_of};
 ghost use Rattle.xr_model.specs.machine.PartAnswers.{answer_by};
 ghost use Rattle.xr_model.specs.machine.Refusals.{when, first_of, unless};
+ghost use Rattle.xr_chains.specs.Going.{left_where, freed_where};
 
 use crate::chain::Chain;
+use crate::standing::Standing;
+use xr_model::Cells;
 use xr_types::{Answer, ChainInfo, Code, Image};
 
 /// The first free place.
@@ -25,7 +29,7 @@ pub(crate) fn place_of(places: &[Chain], handle: u64) -> Option<usize>
 }
 
 /// Puts a swapchain into the first free place, which is this one.
-#[tactic(auto, using(crate::proofs::Standing::put_first))]
+#[tactic(auto, using(crate::proofs::ChainPlaces::put_first))]
 pub(crate) fn put(places: &mut [Chain], place: usize, chain: Chain)
     requires found { position_from (λ c. c.handle == 0) 0 places.old ≡ Some place }
     requires within { place < length places.old }
@@ -35,7 +39,7 @@ pub(crate) fn put(places: &mut [Chain], place: usize, chain: Chain)
 }
 
 /// Acquires the next image of the swapchain in a place.
-#[tactic(auto, using(crate::proofs::Standing::found_at))]
+#[tactic(auto, using(crate::proofs::ChainPlaces::found_at))]
 pub(crate) fn acquire_at(places: &mut [Chain], handle: u64, place: usize) -> Answer
     requires found { position_from (is_chain handle) 0 places.old ≡ Some place }
     requires within { place < length places.old }
@@ -46,7 +50,7 @@ pub(crate) fn acquire_at(places: &mut [Chain], handle: u64, place: usize) -> Ans
 }
 
 /// The image of the swapchain in a place that may be waited for.
-#[tactic(auto, using(crate::proofs::Standing::found_at))]
+#[tactic(auto, using(crate::proofs::ChainPlaces::found_at))]
 pub(crate) fn front_at(places: &[Chain], handle: u64, place: usize) -> Option<Image>
     requires found { position_from (is_chain handle) 0 places.now ≡ Some place }
     requires within { place < length places.now }
@@ -66,7 +70,7 @@ pub(crate) fn wait_at(places: &mut [Chain], handle: u64, place: usize)
 }
 
 /// The image of the swapchain in a place that was waited for.
-#[tactic(auto, using(crate::proofs::Standing::found_at))]
+#[tactic(auto, using(crate::proofs::ChainPlaces::found_at))]
 pub(crate) fn held_at(places: &[Chain], handle: u64, place: usize) -> Option<Image>
     requires found { position_from (is_chain handle) 0 places.now ≡ Some place }
     requires within { place < length places.now }
@@ -86,7 +90,7 @@ pub(crate) fn release_at(places: &mut [Chain], handle: u64, place: usize)
 }
 
 /// What a frame is told of the swapchain in a place.
-#[tactic(auto, using(crate::proofs::Standing::found_at))]
+#[tactic(auto, using(crate::proofs::ChainPlaces::found_at))]
 pub(crate) fn info_at(places: &[Chain], handle: u64, place: usize) -> ChainInfo
     requires found { position_from (is_chain handle) 0 places.now ≡ Some place }
     requires within { place < length places.now }
@@ -96,23 +100,27 @@ pub(crate) fn info_at(places: &[Chain], handle: u64, place: usize) -> ChainInfo
     places[place].info(place as u8)
 }
 
-/// The swapchain in a place was destroyed, and the place is kept where it is used.
-pub(crate) fn remove_at(places: &mut [Chain], handle: u64, place: usize, used: bool)
-    requires found { position_from (is_chain handle) 0 places.old ≡ Some place }
-    requires within { place < length places.old }
-    ensures { places.new ≡ with_chain_at handle (removed used) places.old }
-{
-    places[place].remove(used);
-}
-
-/// The places that destroyed swapchains kept are free where they aren't among these.
-pub(crate) fn sweep_each(places: &mut [Chain], used: &[u8])
-    requires { length places.old ≤ 256 }
-    ensures { places.new ≡ swept used.now 0 places.old }
+/// The application has the images that it waited for no longer, of the swapchains that aren't live, in the order of places.
+pub(crate) fn free_each<C: Cells, S: Standing>(places: &[Chain], cells: &mut C, standing: &S)
+    requires few { length places.now ≤ 256 }
+    requires may { MayCall C.may C.does cells.old (free_calls (freed_where (S.is_live standing.now) 0 places.now)) }
+    ensures { Leads C.does cells.old (free_calls (freed_where (S.is_live standing.now) 0 places.now)) cells.new }
 {
     let count = places.len();
     for place in 0..count {
-        let is_used = used.contains(&(place as u8));
-        places[place].sweep(is_used);
+        if let Some(image) = places[place].freed(place as u8, standing) {
+            cells.free(image);
+        }
+    }
+}
+
+/// Swapchains that aren't live go: their places are kept where frames use them, and are free where they don't.
+pub(crate) fn sweep_each<S: Standing>(places: &mut [Chain], standing: &S)
+    requires { length places.old ≤ 256 }
+    ensures { places.new ≡ left_where (S.is_live standing.now) (S.is_used standing.now) 0 places.old }
+{
+    let count = places.len();
+    for place in 0..count {
+        places[place].sweep(place as u8, standing);
     }
 }

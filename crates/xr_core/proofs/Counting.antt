@@ -1,57 +1,67 @@
--- What the parts decide, counted, is what the core answers.
-use Rattle.std.proofs.Common.{◌≡◌, ◌+◌, ℕ, Bool, true, [], refl, sym, ap, subst, ◌∙◌}
+-- What is decided beside cells, counted, is what the core answers.
+use Rattle.std.proofs.Common.{◌≡◌, ◌+◌, ℕ, Bool, true, false, refl, sym, ap, subst, ◌∙◌, arith}
+use Rattle.std.specs.Prelude.{Ok, Err, if◌then◌else◌}
 use Rattle.xr_types.specs.declared.calls.Actor.{Actor}
+use Rattle.xr_types.specs.declared.calls.Call.{Call}
 use Rattle.xr_types.specs.declared.calls.Gives.{Gives}
+use Rattle.xr_types.specs.declared.calls.Gives.TheVariants.{Nothing}
 use Rattle.xr_types.specs.declared.calls.Reply.{Reply}
+use Rattle.xr_types.specs.declared.calls.Step.TheVariants as step
 use Rattle.xr_types.specs.declared.code.Code.{Code}
 use Rattle.xr_types.specs.Code.{is_out_of_memory}
-use Rattle.xr_model.specs.machine.Request.{Request}
+use Rattle.xr_model.specs.machine.CellCalls.{CellCall}
+use Rattle.xr_model.specs.machine.Request.{Request, request_of, is_locked}
 use Rattle.xr_model.specs.machine.Refusals.{first_of}
 use Rattle.xr_model.specs.machine.State.{CoreState, CellReads}
-use Rattle.xr_model.specs.machine.Rule.{Effect, carried_out}
+use Rattle.xr_model.specs.machine.Rule.{carried_out}
+use Rattle.xr_model.specs.machine.Frames.{one_if}
 use Rattle.xr_model.specs.machine.Machine.{rule_of, IsPresent}
 use Rattle.xr_model.specs.machine.CoreCalls.{Lent, CoreAnswers, CoreWaits, is_built, given_by, entry_of}
-use Rattle.xr_core.specs.inside.Deciding.{Comes, HasToWait}
-use Rattle.xr_core.proofs.Uncounted.{counting, SameRule, same_rule, Grows, grows, built_is_there, built_is_locked}
+use Rattle.xr_model.specs.machine.OverCells.{World, entry_by, AppliesOver}
+use Rattle.xr_core.specs.declared.halt.Halt.TheVariants.{Refused, NotReady}
+use Rattle.xr_core.specs.inside.Deciding.{Comes, HasToWait, DecidesAlong}
+use Rattle.xr_core.proofs.CountAside.{counting, SameRule, same_rule, Grows, grows, built_is_there, counted_calls, counted_did}
+
+-- how much is counted
+pub counted_is : (b : Bool) (n : ℕ) → (if b then n + 1 else n) ≡ n + one_if b
+counted_is true n = refl
+counted_is false n = omega arith
 
 module _ (s new : CoreState) (n : ℕ) (who : Actor) (what : Request) (before after : Lent) (built : is_built what ≡ true) where
+  -- how many are counted behind a call, and the place in its reply
+  abbrev count : ℕ
+  count = if is_locked what then n + 1 else n
+
+  abbrev place : ℕ
+  place = if is_locked what then n + 1 else 0
+
   -- a call that is made
-  module _ (code : Code) (gives : Gives) (present : IsPresent s who) (comes : (reads : CellReads) → reads.held ≡ [] → Comes s (λ given. rule_of s reads who given what) new code gives before after) where
-    answer : Reply
-    answer = record { code = code; gives = gives; place = n + 1 }
+  module _ (code : Code) (gives : Gives) (reads : CellReads) (m : Comes s (λ given. rule_of s reads who given what) new code gives before after) where
+    same : SameRule s n (is_out_of_memory code) (rule_of s reads who (given_by gives) what) (rule_of (counting s n) reads who (given_by gives) what)
+    same = same_rule s n (is_out_of_memory code) reads who (given_by gives) what
 
-    module _ (reads : CellReads) (unheld : reads.held ≡ []) where
-      same : SameRule s n (is_out_of_memory code) (rule_of s reads who (given_by gives) what) (rule_of (counting s n) reads who (given_by gives) what)
-      same = same_rule s n (is_out_of_memory code) reads who (given_by gives) what
+    stays : (carried_out s (is_out_of_memory code) (rule_of s reads who (given_by gives) what)).state.apps ≡ s.apps
+    stays = (grows s (is_out_of_memory code) reads who (given_by gives) what).apps
 
-      stays : (carried_out s (is_out_of_memory code) (rule_of s reads who (given_by gives) what)).state.apps ≡ s.apps
-      stays = (grows s (is_out_of_memory code) reads who (given_by gives) what).apps
-
-      pub made_answers : CoreAnswers reads (counting s n) (entry_of who what (record { code = code; gives = gives; place = n + 1 })) (counting new (n + 1)) (record { code = code; gives = gives; place = n + 1 }) before after
-      made_answers =
-          let m = comes reads unheld in
-          let effect = same.effect in
-          let locked = built_is_locked what built in
-          let is = sym (ap (λ (e : Effect). e.code) effect) in
-          record {
-            allowed = record {
-              ruled = built_is_there (counting s n) reads who (given_by gives) what built;
-              handle = rw (effect, same.creates, ← m.code) m.handle;
-              memory = λ short. let wants = m.memory short in (same.memory ∙ wants.0, ap first_of same.refusals_same ∙ wants.1);
-              present = present;
-            };
-            is_ready = rw (same.waits, same.refusals_same) m.ready;
-            leads = rw (effect, locked, m.keeps, stays) refl;
-            replies = rw (effect, locked, ← m.code, ← m.gives) refl;
-            writes = rw effect m.writes;
-          }
+    pub made_answers : IsPresent s who → CoreAnswers reads (counting s n) (entry_of who what (record { code = code; gives = gives; place = place })) (counting new count) (record { code = code; gives = gives; place = place }) before after
+    made_answers present =
+        let effect = same.effect in
+        record {
+          allowed = record {
+            ruled = built_is_there (counting s n) reads who (given_by gives) what built;
+            handle = rw (effect, same.creates, ← m.code) m.handle;
+            memory = λ short. let wants = m.memory short in (same.memory ∙ wants.0, ap first_of same.refusals_same ∙ wants.1);
+            present = present;
+          };
+          is_ready = rw (same.waits, same.refusals_same) m.ready;
+          leads = rw (effect, m.keeps, stays) refl;
+          replies = rw (effect, ← m.code, ← m.gives) refl;
+          writes = rw effect m.writes;
+        }
 
     -- and what it adds
-    pub grown : Grows s new
-    grown =
-        let reads : CellReads = record { unused = true; stamps = []; held = [] } in
-        let m = comes reads refl in
-        subst (λ (t : CoreState). Grows s t) (sym m.keeps) (grows s (is_out_of_memory code) reads who (given_by gives) what)
+    pub grown : Grows s new (one_if (is_locked what))
+    grown = subst (λ (t : CoreState). Grows s t (one_if (is_locked what))) (sym m.keeps) (grows s (is_out_of_memory code) reads who (given_by gives) what)
 
   -- a call that has to wait
   pub waits_so : (reads : CellReads) → HasToWait s (λ given. rule_of s reads who given what) new before after → (given : ℕ) (short : Bool)
@@ -63,3 +73,42 @@ module _ (s new : CoreState) (n : ℕ) (who : Actor) (what : Request) (before af
         same = ap (λ (t : CoreState). counting t n) wait.same;
         unwritten = wait.unwritten;
       }
+
+-- ---- over cells
+
+module _ {C : Type 0} (does : C → CellCall → C → Type 0) where
+  -- a refusal is answered by its code
+  pub as_reply : (old new : World C) (who : Actor) (what : Request) (code : Code) → DecidesAlong does old new who what (Err (Refused code)) → DecidesAlong does old new who what (Ok (record { code = code; gives = Nothing; place = 0 }))
+  as_reply old new who what code x = record { reads = x.reads; own = x.own; each = x.each; cells = x.cells; decides = x.decides; holds = x.holds }
+
+  -- so many calls were counted
+  abbrev pub counted_in : World C → ℕ → World C
+  counted_in w n = record w { core = record w.core { kept = counting w.core.kept n } }
+
+  module _ (old new : World C) (n : ℕ) (who : Actor) (call : Call) (built : is_built (request_of call) ≡ true) where
+    pub made_over : (d : Reply) → IsPresent old.core.kept who → DecidesAlong does old new who (request_of call) (Ok d)
+        → AppliesOver does (counted_in old n) (counted_in new (if is_locked (request_of call) then n + 1 else n)) who call (step.Done (record d { place = if is_locked (request_of call) then n + 1 else 0 }))
+    made_over d present x =
+        let what : Request = request_of call in
+        let e = entry_of who what d in
+        let same = counted_did old.core.kept n x.reads e in
+        record {
+          reads = x.reads;
+          own = x.own;
+          each = rw same x.each;
+          cells = rw (counted_calls old.core.kept n x.reads e) x.cells;
+          applies = made_answers old.core.kept new.core.kept n who what old.lent new.lent built d.code d.gives x.reads x.decides present;
+          holds = rw same x.holds;
+        }
+
+    pub waits_over : DecidesAlong does old new who (request_of call) (Err NotReady) → AppliesOver does (counted_in old n) (counted_in new n) who call step.NotReady
+    waits_over x =
+        let e = entry_by who (request_of call) step.NotReady in
+        record {
+          reads = x.reads;
+          own = x.own;
+          each = x.each;
+          cells = rw (counted_calls old.core.kept n x.reads e) x.cells;
+          applies = λ given short. waits_so old.core.kept new.core.kept n who (request_of call) old.lent new.lent built x.reads x.decides given short;
+          holds = x.holds;
+        }

@@ -51,7 +51,7 @@ refused_comes s r x lent first plain = record {
 
 -- a call that is refused so, whoever makes it and whatever the cells tell
 pub refused_decides : (s : CoreState) (what : Request) (x : Refusal) → ((who : Actor) (reads : CellReads) → first_of (refusals (rule_of s reads who 0 what)) ≡ Some x) → IsPlain x → Decides s what s (Err (Refused x.code))
-refused_decides s what x first plain = λ who lent reads unheld. refused_comes s (λ given. rule_of s reads who given what) x lent (first who reads) plain
+refused_decides s what x first plain = λ who lent reads. refused_comes s (λ given. rule_of s reads who given what) x lent (first who reads) plain
 
 -- the error of a check is the rule's refusal
 pub err_decides : {T : Type 0} (s : CoreState) (what : Request) (r : Rule) (x : T) → gives_size what ≡ false → ((who : Actor) (reads : CellReads) → first_of (refusals (rule_of s reads who 0 what)) ≡ first_of (refusals r))
@@ -60,7 +60,7 @@ err_decides {T = T} s what r x sized same code told = λ who. by who (first_of (
   where
     by : (who : Actor) (o : Option Refusal) → first_of (refusals r) ≡ o → or_refused o x ≡ Err code → DecidesBy who s what s (Err (Refused code))
     by who None eo told = cc
-    by who (Some y) eo told = λ lent reads unheld.
+    by who (Some y) eo told = λ lent reads.
         let is : code ≡ y.code = cc in
         rw is (refused_comes s (λ given. rule_of s reads who given what) y lent (same who reads ∙ eo) (first_plain (refusals (rule_of s reads who 0 what)) y (plain_rule s reads who 0 what sized) (same who reads ∙ eo)))
 
@@ -73,7 +73,7 @@ ok_none (Some r) x y told = cc
 
 -- a call that nothing refuses has to wait
 pub waits_decides : (s : CoreState) (what : Request) (r : Rule) → ((who : Actor) (reads : CellReads) (given : ℕ) → rule_of s reads who given what ≡ r) → first_of (refusals r) ≡ None → r.waits ≡ true → Decides s what s (Err NotReady)
-waits_decides s what r same none waits = λ who lent reads unheld. record {
+waits_decides s what r same none waits = λ who lent reads. record {
   not_ready = λ given. rw (same who reads given, none, waits) refl;
   same = refl;
   unwritten = refl;
@@ -84,7 +84,7 @@ pub effect_decides : (s : CoreState) (what : Request) (r : ℕ → Rule) (new : 
     → ((who : Actor) (reads : CellReads) → rule_of s reads who (given_by value) what ≡ r (given_by value)) → first_of (refusals (r (given_by value))) ≡ None → (r (given_by value)).waits ≡ false
     → told_on (r (given_by value)).on (r (given_by value)).effect ≡ record { state = new; code = answer; gives = value; text = []; shown = None; did = did }
     → IsGiven (is_some (r (given_by value)).creates && is_success answer) s.handles (given_by value) → is_out_of_memory answer ≡ false → Decides s what new (Ok (record { code = answer; gives = value; place = 0 }))
-effect_decides s what r new answer value did same none waits effect given memory = λ who lent reads unheld. record {
+effect_decides s what r new answer value did same none waits effect given memory = λ who lent reads. record {
   ready = rw (same who reads, waits) refl;
   handle = rw (same who reads) given;
   memory = λ short. absurd (true≢false (sym short ∙ memory));

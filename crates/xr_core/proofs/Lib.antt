@@ -1,7 +1,16 @@
 pub mod Start
 pub mod Plain
 pub mod Deciding
-pub mod Bareness
+pub mod Along
+pub mod TakenCalls
+pub mod Swept
+pub mod Quiet
+pub mod Touching
+pub mod Stamps
+pub mod CheckedFrame
+pub mod ChainCalls
+pub mod EndCalls
+pub mod AcquireCalls
 pub mod FrameCalls
 pub mod PathCalls
 pub mod SetCalls
@@ -12,6 +21,6 @@ pub mod Kept
 pub mod Going
 pub mod SessionEvents
 pub mod Suggesting
-pub mod Uncounted
+pub mod CountAside
 pub mod Counting
-pub mod Pairing
+pub mod PlainPairs

@@ -88,7 +88,7 @@ module _ (s : CoreState) (instance : ℕ) (text : List ℕ) (a : Answer) (atoms 
     where
       by : (o : Option Refusal) → first_of (intern_refusals s.atoms text (is_out_of_memory a.code)) ≡ o → (who : Actor) → DecidesBy who s (string_to_path instance text) (record s { atoms = atoms }) (Err (Refused a.code))
       by None e who lent = absurd (failed (ap (λ (x : Answer). x.code) (rw e at answer)))
-      by (Some r) e who lent = λ reads unheld.
+      by (Some r) e who lent = λ reads.
           let same : atoms ≡ s.atoms = rw e at kept in
           let code : a.code ≡ r.code = ap (λ (x : Answer). x.code) (rw e at answer) in
           let short = shorted ∙ e in
@@ -108,7 +108,7 @@ module _ (s : CoreState) (instance : ℕ) (text : List ℕ) (a : Answer) (atoms 
   interned good = λ who lent. by (first_of (intern_refusals s.atoms text (is_out_of_memory a.code))) refl who lent
     where
       by : (o : Option Refusal) → first_of (intern_refusals s.atoms text (is_out_of_memory a.code)) ≡ o → (who : Actor) → DecidesBy who s (string_to_path instance text) (record s { atoms = atoms }) (Ok (record { code = Success; gives = Number a.number; place = 0 }))
-      by None e who lent = λ reads unheld.
+      by None e who lent = λ reads.
           let new : atoms ≡ with_text s.atoms text = rw e at kept in
           let number : a.number ≡ atom_of s.atoms text = ap (λ (x : Answer). x.number) (rw e at answer) in
           let none : first_of (intern_checks s.atoms text) ≡ None = unshort (is_new s.atoms text && is_out_of_memory a.code) (first_of (intern_checks s.atoms text)) (shorted ∙ e) in
@@ -144,7 +144,7 @@ module _ (s : CoreState) (instance path : ℕ) (a : Answer) (before after : List
       neither t false e k = failed (ap (λ (x : Answer). x.code) (rw e at k))
 
       by : (found : Option (List ℕ)) → text_at s.atoms path ≡ found → DecidesWriting who s (path_to_string instance path (length before)) s (Err (Refused a.code)) before after
-      by None e = λ frame reads unheld.
+      by None e = λ frame reads.
           let code : a.code ≡ PathInvalid = ap (λ (x : Answer). x.code) (rw e at answer) in
           let stays : after ≡ before = rw e at written in
           rw (code, stays) (record {
@@ -172,7 +172,7 @@ module _ (s : CoreState) (instance path : ℕ) (a : Answer) (before after : List
 
       one : (t : List ℕ) → text_at s.atoms path ≡ Some t → (b : Bool) → (nat_lt 0 (length before) && nat_lt (length before) (size_of t)) ≡ b
           → DecidesWriting who s (path_to_string instance path (length before)) s (Ok (record { code = a.code; gives = Size a.number; place = 0 })) before after
-      one t e true eb = λ frame reads unheld.
+      one t e true eb = λ frame reads.
           let is : a ≡ record { code = SizeInsufficient; number = size_of t } = rw (e, eb) at answer in
           let over : nat_le (size_of t) (length before) ≡ false = unwritten (length before) (size_of t) eb in
           let stays : after ≡ before = rw (e, over) at written in
@@ -185,7 +185,7 @@ module _ (s : CoreState) (instance path : ℕ) (a : Answer) (before after : List
             gives = rw (live, e, eb) refl;
             writes = rw (live, e, eb) refl;
           })
-      one t e false eb = λ frame reads unheld.
+      one t e false eb = λ frame reads.
           let is : a ≡ record { code = Success; number = size_of t } = rw (e, eb) at answer in
           let bytes : after ≡ written_over (copied (Some t) (length before)) before = rw e at written in
           rw is (record {

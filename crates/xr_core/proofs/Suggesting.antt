@@ -163,7 +163,7 @@ module _ (s : CoreState) (instance profile : ℕ) (list : List Binding) (live : 
             where
               by : (short : Bool) → is_out_of_memory code ≡ short → kept ≡ record s { suggestions = unless (first_of (when short OutOfMemory ∷ [])) s.suggestions (with_suggestions s.suggestions which bound) } → code ≡ code_by (first_of (when short OutOfMemory ∷ []))
                   → Decides s (suggest_bindings instance profile list) kept (Err (Refused code))
-              by true eb leads told = rw (leads, told) (λ who lent reads unheld. record {
+              by true eb leads told = rw (leads, told) (λ who lent reads. record {
                 ready = refl;
                 handle = refl;
                 memory = λ short. (refl, nothing_refuses);

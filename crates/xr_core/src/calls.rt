@@ -8,3 +8,4 @@ mod paths;
 mod session;
 mod sets;
 mod spaces;
+mod swapchains;

@@ -1,50 +1,70 @@
-// A core: its parts decide each call, and here alone it is counted.
-ghost use Rattle.std.specs.Prelude.{◌≡◌, ◌≤◌, [], ◌<◌, ◌^◌, ◌+◌, ◌↔◌, ◌&&◌, is_none, IfOk, IsTrue, length, not};
+// A core: its inside decides each call, and here alone it is counted.
+ghost use Rattle.std.specs.Prelude.{◌≡◌, ◌≤ℤ◌, pos, ◌≤◌, [], ◌<◌, ◌^◌, ◌+◌, ◌↔◌, ◌&&◌, is_none, IfOk, IsTrue, length, not, if◌then◌else◌};
 ghost use Rattle.xr_types.specs.declared.limits.TheConstants.{MOST_SCRIPTS};
-ghost use Rattle.xr_model.specs.machine.Request.{request_of};
+ghost use Rattle.xr_model.specs.machine.Request.{request_of, is_locked};
 ghost use Rattle.xr_model.specs.machine.Marks.{is_set};
-ghost use Rattle.xr_model.specs.machine.State.{CellReads, with_apps, opening_core};
+ghost use Rattle.xr_model.specs.machine.State.{with_apps, opening_core};
 ghost use Rattle.xr_model.specs.machine.Machine.{IsPresent};
 ghost use Rattle.xr_model.specs.machine.Refusals.{first_of};
 ghost use Rattle.xr_model.specs.machine.Rule.{refusals};
 ghost use Rattle.xr_model.specs.machine.Rules.Frames.{wait_frame_rule, is_frame_awaited};
-ghost use Rattle.xr_model.specs.machine.CoreCalls.{MayMake, CoreApplies};
+ghost use Rattle.xr_model.specs.machine.CoreCalls.{MayMake};
+ghost use Rattle.xr_model.specs.machine.OverCells.{MayApply, AppliesOver};
 
 use crate::halt::{Halt, refusal};
-use crate::parts::Parts;
+use crate::uncounted::Uncounted;
 use std::alloc::Global;
 use std::marker::Model;
-use xr_types::{Actor, Call, NoMemory, Reply, Shown, Step};
+use xr_model::Cells;
+use xr_types::{Actor, Call, Image, NoMemory, Reply, Shown, Step};
 
-/// What the machine of one thread keeps beside its cells, seen by contracts as the core's half of the state: the parts, and
-/// how many locked calls were answered. Memory for path texts and suggestions is taken from its allocator.
+/// What the machine of one thread has beside its cells: what it keeps, and the images of the frame taken last that aren't given
+/// back. Memory for path texts and suggestions is taken from its allocator.
 #[derive(Drop)]
 pub struct Core {
-    pub(crate) parts: Parts,
+    pub(crate) inside: Uncounted,
+    /// How many locked calls were answered.
     pub(crate) calls: u64,
     pub(crate) alloc: Global,
 }
 
 impl Model for Core {
-    ghost use Rattle.std.specs.Prelude.{◌≡◌, ◌≤◌, true, length};
-    ghost use Rattle.xr_model.specs.machine.State.{CoreState};
-    ghost use Rattle.xr_core.specs.inside.Bare.{are_bare};
+    ghost use Rattle.std.specs.Prelude.{◌≤◌, length};
+    ghost use Rattle.xr_model.specs.machine.State.{WholeCore};
 
-    ghost Value = { CoreState };
+    ghost Value = { WholeCore };
 
-    ghost view = { λ c. record c.parts { locked = c.calls } };
+    ghost view = { λ c. record c.inside { kept = record c.inside.kept { locked = c.calls } } };
 
-    ghost invariant = { λ c. (length c.parts.handles.given ≤ c.calls) × (c.parts.created ≤ c.calls) × (c.parts.ended ≤ c.calls) × (are_bare c.parts.frames.pending ≡ true) };
+    ghost invariant = { λ c. (length c.inside.kept.handles.given ≤ c.calls) × (c.inside.kept.created ≤ c.calls) × (c.inside.kept.ended ≤ c.calls) };
 }
 
-/// Counts a call that is made, and answers it.
-fn counted(calls: &mut u64, mut reply: Reply) -> Step
-    requires { calls.old < 2 ^ 44 }
-    ensures count { calls.new ≡ calls.old + 1 }
-    ensures reply { result ≡ Step.Done (record reply { place = calls.old + 1 }) }
+/// Whether a call is a locked one, which are those that are counted.
+fn is_locked(call: &Call<'_>) -> bool
+    ensures { result ≡ is_locked (request_of call.now) }
 {
-    *calls += 1;
-    reply.place = *calls;
+    !matches!(
+        call,
+        Call::GetBoolean { .. }
+            | Call::GetFloat { .. }
+            | Call::GetVector { .. }
+            | Call::GetPoseActive { .. }
+            | Call::ImageDone
+    )
+}
+
+/// Answers a call that is made, and counts it where it is a locked one.
+fn answered(calls: &mut u64, call: &Call<'_>, mut reply: Reply) -> Step
+    requires { calls.old < 2 ^ 44 }
+    ensures count { calls.new ≡ (if is_locked (request_of call.now) then calls.old + 1 else calls.old) }
+    ensures reply { result ≡ Step.Done (record reply { place = if is_locked (request_of call.now) then calls.old + 1 else 0 }) }
+{
+    if is_locked(call) {
+        *calls += 1;
+        reply.place = *calls;
+    } else {
+        reply.place = 0;
+    }
     Step::Done(reply)
 }
 
@@ -53,11 +73,11 @@ impl Core {
     pub fn start(alloc: Global, apps: u8) -> Result<Core, NoMemory>
         requires some { 1 ≤ apps }
         requires few { apps ≤ MOST_SCRIPTS }
-        ensures { IfOk result (λ core. core ≡ opening_core (with_apps apps)) }
+        ensures { IfOk result (λ core. core ≡ record { kept = opening_core (with_apps apps); held = [] }) }
     {
-        let parts = Parts::start(alloc, apps)?;
+        let inside = Uncounted::start(alloc, apps)?;
         Ok(Core {
-            parts,
+            inside,
             calls: 0,
             alloc,
         })
@@ -65,64 +85,83 @@ impl Core {
 
     /// How many locked calls were answered.
     pub fn calls(&self) -> u64
-        ensures { result ≡ self.now.locked }
+        ensures { result ≡ self.now.kept.locked }
     {
         self.calls
     }
 
     /// Whether there is such an application, from 1, and it hasn't left: whether it may make calls.
     pub fn is_present(&self, app: u8) -> bool
-        ensures { IsTrue result ↔ IsPresent self.now (Actor.App app) }
+        ensures { IsTrue result ↔ IsPresent self.now.kept (Actor.App app) }
     {
-        self.parts.is_present(app)
+        self.inside.parts.is_present(app)
     }
 
-    /// The device's clock, in ns of device time.
+    /// The device's clock, in ns of device time, never negative.
     pub fn clock(&self) -> i64
-        ensures { result ≡ self.now.device.clock }
+        ensures clock { result ≡ self.now.kept.device.clock }
+        ensures begun { pos 0 ≤ℤ result }
     {
-        self.parts.clock()
+        self.inside.parts.clock()
     }
 
     /// Whether `AwaitMark` of this mark, from 1 to 64, has to wait: it isn't set yet.
     pub fn await_waits(&self, mark: u8) -> bool
-        ensures { result ≡ not (is_set self.now.marks mark) }
+        ensures { result ≡ not (is_set self.now.kept.marks mark) }
     {
-        self.parts.mark_value(mark).is_none()
+        self.inside.parts.mark_value(mark).is_none()
     }
 
     /// Whether `WaitFrame` of this session has to wait: a frame is waited for, or more than two are pending or begun, and nothing
     /// refuses the call.
     pub fn wait_frame_waits(&self, session: u64) -> bool
-        ensures { result ≡ ((wait_frame_rule self.now session).waits && is_none (first_of (refusals (wait_frame_rule self.now session)))) }
+        ensures { result ≡ ((wait_frame_rule self.now.kept session).waits && is_none (first_of (refusals (wait_frame_rule self.now.kept session)))) }
     {
-        self.parts.wait_frame_waits(session)
+        self.inside.parts.wait_frame_waits(session)
     }
 
     /// Whether the compositor's `NextFrame` has to wait where it holds no image: no frame is pending, and some application
     /// hasn't left.
     pub fn next_frame_waits(&self) -> bool
-        ensures { result ≡ is_frame_awaited self.now }
+        ensures { result ≡ is_frame_awaited self.now.kept }
     {
-        self.parts.next_frame_waits()
+        self.inside.parts.next_frame_waits()
+    }
+
+    /// The images of the frame taken last that aren't given back, in order.
+    pub fn taken(&self) -> &[Image]
+        ensures { result.now ≡ self.now.held }
+    {
+        self.inside.held.as_slice()
     }
 
     /// Makes a call that is built, or says that it has to wait and leaves all as it was. `text` is the buffer that
     /// `path_to_string` is lent, of the call's `capacity`; for other calls it may have any size and stays. `shown` is the place
     /// for the frame that `NextFrame` shows; it stays where none is.
-    /// Whatever the cells tell, as long as no image is held, the reply is the machine's to an allowed entry: it gives a handle
-    /// exactly where a creation succeeds, and `OutOfMemory` comes only to a new path text that would else be interned, and to
-    /// suggestions that would else be taken.
-    pub fn apply(&mut self, who: Actor, call: &Call<'_>, text: &mut [u8], shown: &mut Shown) -> Step
-        requires calls { self.old.locked < 2 ^ 44 }
-        requires may { MayMake self.old who (request_of call.now) (length text.old) }
-        ensures { (reads : CellReads) → reads.held ≡ [] → CoreApplies reads self.old self.new who call.now (record { text = text.old; frame = shown.old }) (record { text = text.new; frame = shown.new }) result }
+    /// By what the cells tell, the reply is the machine's to an allowed entry: it gives a handle exactly where a creation
+    /// succeeds, and `OutOfMemory` comes only to a new path text that would else be interned, and to suggestions that would
+    /// else be taken. The calls on cells that it makes are those of the machine's step, in order.
+    pub fn apply<C: Cells>(
+        &mut self,
+        cells: &mut C,
+        who: Actor,
+        call: &Call<'_>,
+        text: &mut [u8],
+        shown: &mut Shown,
+    ) -> Step
+        requires calls { self.old.kept.locked < 2 ^ 44 }
+        requires may { MayMake self.old.kept who (request_of call.now) (length text.old) }
+        requires cells { MayApply C.may C.does self.old cells.old who (request_of call.now) }
+        ensures { AppliesOver C.does (record { core = self.old; cells = cells.old; lent = record { text = text.old; frame = shown.old } }) (record { core = self.new; cells = cells.new; lent = record { text = text.new; frame = shown.new } }) who call.now result }
     {
-        let reply = match self.parts.decide(self.alloc, who, call, text, shown) {
+        let reply = match self
+            .inside
+            .decide(self.alloc, cells, who, call, text, shown)
+        {
             Ok(reply) => reply,
             Err(Halt::Refused(code)) => refusal(code),
             Err(Halt::NotReady) => return Step::NotReady,
         };
-        counted(&mut self.calls, reply)
+        answered(&mut self.calls, call, reply)
     }
 }

@@ -1,50 +1,53 @@
-// How one call is decided: by the group that it belongs to, a file of `calls` each.
-ghost use Rattle.std.specs.Prelude.{◌≡◌, ◌<◌, ◌^◌, true, length};
+// How one call is decided but for the compositor's: by the group that it belongs to, a file of `calls` each.
+ghost use Rattle.std.specs.Prelude.{◌≡◌, ◌<◌, ◌^◌, true, length, List};
+ghost use Rattle.xr_types.specs.declared.frames.Image.{Image};
+ghost use Rattle.xr_types.specs.Frames.{ShownFrame};
 ghost use Rattle.xr_model.specs.machine.Request.{request_of};
 ghost use Rattle.xr_model.specs.machine.CoreCalls.{Fits, asked, is_built};
 ghost use Rattle.xr_model.specs.machine.Rule.{is_by};
 ghost use Rattle.xr_model.specs.machine.Machine.{IsPresent};
-ghost use Rattle.xr_core.specs.inside.Bare.{are_bare};
-ghost use Rattle.xr_core.specs.inside.Deciding.{DecidesOver};
+ghost use Rattle.xr_model.proofs.HeldFits.{IsAside};
+ghost use Rattle.xr_core.specs.inside.Deciding.{DecidesAlong, MayTouch};
 
 use crate::halt::Halt;
 use crate::parts::Parts;
 use std::alloc::Global;
-use xr_types::{Actor, Call, Reply, Shown};
+use xr_model::Cells;
+use xr_types::{Actor, Call, Reply};
 
 impl Parts {
-    /// Decides a call that is built: what it comes to, that it is refused, or that it has to wait. `text` is the buffer that
-    /// `path_to_string` is lent, and `shown` the place of the frame that `next_frame` shows; other calls leave them. Memory is
-    /// taken for a new path text and for suggestions.
-    pub(crate) fn decide(
+    /// Decides a call that is built and none of the compositor's: what it comes to, that it is refused, or that it has to
+    /// wait. `text` is the buffer that `path_to_string` is lent; other calls leave it. Memory is taken for a new path text and
+    /// for suggestions.
+    pub(crate) fn decide<C: Cells>(
         &mut self,
         alloc: Global,
+        cells: &mut C,
         who: Actor,
         call: &Call<'_>,
         text: &mut [u8],
-        shown: &mut Shown,
     ) -> Result<Reply, Halt>
         requires given { length self.old.handles.given < 2 ^ 44 }
         requires created { self.old.created < 2 ^ 44 }
         requires ended { self.old.ended < 2 ^ 44 }
-        requires bare { are_bare self.old.frames.pending ≡ true }
         requires present { IsPresent self.old who }
         requires built { is_built (request_of call.now) ≡ true }
         requires caller { is_by (asked who (request_of call.now)).caller who ≡ true }
         requires numbers { (asked who (request_of call.now)).in_range ≡ true }
         requires buffer { Fits (asked who (request_of call.now)).lent (length text.old) }
-        ensures { DecidesOver who self.old (request_of call.now) self.new result (record { text = text.old; frame = shown.old }) (record { text = text.new; frame = shown.new }) }
+        requires aside { IsAside (request_of call.now) }
+        requires cells { MayTouch C.may C.does self.old cells.old (request_of call.now) }
+        ensures { (held : List Image) (frame : ShownFrame) → DecidesAlong C.does (record { core = record { kept = self.old; held = held }; cells = cells.old; lent = record { text = text.old; frame = frame } }) (record { core = record { kept = self.new; held = held }; cells = cells.new; lent = record { text = text.new; frame = frame } }) who (request_of call.now) result }
     {
         match call {
-            Call::CreateInstance { .. }
-            | Call::DestroyInstance { .. }
-            | Call::GetSystem { .. }
-            | Call::PollEvent { .. } => self.instance_call(call),
+            Call::DestroyInstance { instance } => self.destroy_instance(cells, *instance),
+            Call::CreateInstance { .. } | Call::GetSystem { .. } | Call::PollEvent { .. } =>
+                self.instance_call(call),
             Call::StringToPath { .. } | Call::PathToString { .. } => self.path_call(
                 alloc, who, call, text,
             ),
+            Call::DestroySession { session } => self.destroy_session(cells, *session),
             Call::CreateSession { .. }
-            | Call::DestroySession { .. }
             | Call::BeginSession { .. }
             | Call::EndSession { .. }
             | Call::RequestExitSession { .. } => self.session_call(call),
@@ -61,11 +64,20 @@ impl Parts {
                 profile,
                 list,
             } => self.suggest_bindings(alloc, *instance, *profile, list),
-            Call::WaitFrame { .. } | Call::BeginFrame { .. } | Call::EndFrame { .. } => {
-                self.frame_call(call)
-            }
+            Call::CreateSwapchain { .. }
+            | Call::DestroySwapchain { .. }
+            | Call::WaitImage { .. }
+            | Call::Paint { .. }
+            | Call::ReleaseImage { .. } => self.chain_call(cells, call),
+            Call::AcquireImage { chain } => self.acquire_image(*chain),
+            Call::WaitFrame { .. } | Call::BeginFrame { .. } => self.frame_call(call),
+            Call::EndFrame {
+                session,
+                time,
+                blend,
+                layers,
+            } => self.end_frame(cells, *session, time, *blend, layers),
             Call::Mark { .. } | Call::AwaitMark { .. } | Call::Leave => self.own_call(who, call),
-            Call::NextFrame => self.next_frame(shown),
             Call::Device(event) => self.device_event(*event),
             Call::CreateActionSpace { .. }
             | Call::SyncActions { .. }
@@ -73,12 +85,7 @@ impl Parts {
             | Call::GetFloat { .. }
             | Call::GetVector { .. }
             | Call::GetPoseActive { .. }
-            | Call::CreateSwapchain { .. }
-            | Call::DestroySwapchain { .. }
-            | Call::AcquireImage { .. }
-            | Call::WaitImage { .. }
-            | Call::Paint { .. }
-            | Call::ReleaseImage { .. }
+            | Call::NextFrame
             | Call::ImageDone => unreachable!(),
         }
     }

@@ -26,7 +26,7 @@ impl Model for DeviceValues {
 
     ghost Value = { Device };
 
-    ghost invariant = { λ d. pos 1 ≤ℤ d.period };
+    ghost invariant = { λ d. (pos 0 ≤ℤ d.clock) × (pos 1 ≤ℤ d.period) };
 
     ghost view = { λ d. record { clock = d.clock; base = d.base; period = d.period; wish = d.wish; stage = d.stage } };
 }
@@ -45,8 +45,10 @@ impl DeviceValues {
         }
     }
 
+    /// The clock, never negative.
     pub(crate) fn clock(&self) -> i64
-        ensures { result ≡ self.now.clock }
+        ensures clock { result ≡ self.now.clock }
+        ensures begun { pos 0 ≤ℤ result }
     {
         self.clock
     }

@@ -11,7 +11,11 @@ mod halt;
 mod parts;
 mod plain_core;
 mod sessions;
+mod showing;
+mod sight;
+mod standing;
 mod subactions;
+mod uncounted;
 
 pub use counted::Core;
 pub use plain_core::PlainCore;

@@ -1,7 +1,9 @@
 // What a core keeps, and what all calls do to it. It counts no call, and touches no part's inside.
-ghost use Rattle.std.specs.Prelude.{◌≡◌, ◌≢◌, ◌≤◌, ◌<◌, ◌^◌, ◌↔◌, [], ◌∷◌, IfOk, IsTrue, true, false, length, map};
+ghost use Rattle.std.specs.Prelude.{◌≡◌, ◌≤ℤ◌, pos, ◌≢◌, ◌≤◌, ◌<◌, ◌^◌, ◌↔◌, [], ◌∷◌, IfOk, IsTrue, true, false, length, map};
 ghost use Rattle.xr_model.specs.machine.Bindings.{without_suggestions};
-ghost use Rattle.xr_model.specs.machine.Destroyed.{without_handle};
+ghost use Rattle.xr_model.specs.machine.CellCalls.{MayCall, Leads, free_calls};
+ghost use Rattle.xr_model.specs.machine.Chains.{is_place_used, left_in_places, freed_in_places};
+ghost use Rattle.xr_model.specs.machine.Destroyed.{without_handle, freed_by};
 ghost use Rattle.xr_model.specs.machine.Handles.{row_of, has_room, no_handle, no_room, was_given, with_handle};
 ghost use Rattle.xr_model.specs.machine.HandlePlaces.{limit_of};
 ghost use Rattle.xr_model.specs.machine.LiveSessions.{still_live};
@@ -19,19 +21,22 @@ ghost use Rattle.xr_model.specs.machine.PartAnswers.{or_refused};
 
 use crate::device_values::DeviceValues;
 use crate::sessions::{Change, Session, change_each, forget_attached, session_at};
+use crate::standing::Kept;
 use arrayvec::ArrayVec;
 use std::alloc::Global;
 use std::marker::Model;
 use xr_bindings::Bindings;
+use xr_chains::Chains;
 use xr_events::Events;
 use xr_frames::Frames;
 use xr_handles::Handles;
+use xr_model::Cells;
 use xr_paths::Paths;
 use xr_sets::Sets;
 use xr_spaces::Spaces;
 use xr_types::{
-    ACTIONS, Actor, Code, Column, Kind, MOST_HANDLES, MOST_MARK, MOST_SCRIPTS, NoMemory, SESSIONS,
-    States,
+    ACTIONS, Actor, Code, Column, Image, Kind, MOST_HANDLES, MOST_LAYERS, MOST_MARK, MOST_SCRIPTS,
+    NoMemory, SESSIONS, States,
 };
 
 /// How many marks there are.
@@ -53,7 +58,7 @@ const NO_STATES: States = States {
 };
 
 /// All parts of a core, and what decides its calls: the inside of a core. Contracts see what the core keeps, with no call
-/// counted. There are no swapchains yet.
+/// counted.
 #[derive(Drop)]
 pub(crate) struct Parts {
     pub(crate) handles: Handles,
@@ -73,6 +78,10 @@ pub(crate) struct Parts {
     pub(crate) frames: Frames,
     /// How many frames were ended.
     pub(crate) ended: u64,
+    /// The swapchains in their places.
+    pub(crate) chains: Chains,
+    /// The images of the frame that was taken last.
+    pub(crate) shown: ArrayVec<Image, MOST_LAYERS>,
     /// What the last sync found. None was made yet.
     pub(crate) states: States,
     /// What the device has told of itself.
@@ -84,10 +93,10 @@ pub(crate) struct Parts {
 }
 
 impl Model for Parts {
-    ghost use Rattle.std.specs.Prelude.{◌≡◌, ◌≤◌, [], take, length};
+    ghost use Rattle.std.specs.Prelude.{◌≡◌, ◌≤◌, take, length};
+    ghost use Rattle.xr_types.specs.declared.handles.TheConstants.{SWAPCHAINS};
     ghost use Rattle.xr_types.specs.declared.limits.TheConstants.{MOST_SCRIPTS};
     ghost use Rattle.xr_model.specs.laws.SessionLaws.{AreListed};
-    ghost use Rattle.xr_model.specs.machine.Chains.{no_chains};
     ghost use Rattle.xr_model.specs.machine.Spaces.{no_states};
     ghost use Rattle.xr_core.specs.inside.Housed.{KeepsLive};
     ghost use Rattle.xr_model.specs.machine.State.{CoreState};
@@ -105,8 +114,8 @@ impl Model for Parts {
       spaces = c.spaces;
       frames = c.frames;
       ended = c.ended;
-      chains = no_chains;
-      shown_images = [];
+      chains = c.chains;
+      shown_images = c.shown.items;
       device = c.device;
       marks = c.marks;
       apps = c.apps;
@@ -114,7 +123,7 @@ impl Model for Parts {
       locked = 0;
     } };
 
-    ghost invariant = { λ c. AreListed c.handles c.sessions.items × (c.apps ≤ MOST_SCRIPTS) × KeepsLive c.spaces c.sets c.handles × (c.states ≡ no_states) };
+    ghost invariant = { λ c. AreListed c.handles c.sessions.items × (c.apps ≤ MOST_SCRIPTS) × KeepsLive c.spaces c.sets c.handles × (c.states ≡ no_states) × (length c.chains ≡ SWAPCHAINS) };
 }
 
 /// Only the sessions whose handles are live are kept.
@@ -185,6 +194,8 @@ impl Parts {
             spaces,
             frames: Frames::start(),
             ended: 0,
+            chains: Chains::start(),
+            shown: ArrayVec::new(),
             states: NO_STATES,
             device: DeviceValues::start(),
             marks: [None; MARKS],
@@ -204,9 +215,10 @@ impl Parts {
         matches!(self.left[..apps].get(app as usize - 1), Some(false))
     }
 
-    /// The device's clock, in ns of device time.
+    /// The device's clock, in ns of device time, never negative.
     pub(crate) fn clock(&self) -> i64
-        ensures { result ≡ self.now.device.clock }
+        ensures clock { result ≡ self.now.device.clock }
+        ensures begun { pos 0 ≤ℤ result }
     {
         self.device.clock()
     }
@@ -243,9 +255,9 @@ impl Parts {
         }
     }
 
-    /// Takes a handle and all below it out of all parts.
-    pub(crate) fn destroy(&mut self, handle: u64)
-        ensures { self.new ≡ without_handle self.old handle }
+    /// Takes a handle and all below it out of all parts but the swapchains.
+    fn remove(&mut self, handle: u64)
+        ensures { self.new ≡ record (without_handle self.old handle) { chains = self.old.chains } }
     {
         let mut destroyed: ArrayVec<u64, MOST_HANDLES> = ArrayVec::new();
         self.handles.destroy(handle, &mut destroyed);
@@ -254,6 +266,54 @@ impl Parts {
         forget_spaces(&mut self.spaces, destroyed.as_slice());
         forget_sets(&mut self.sets, destroyed.as_slice());
         forget_suggestions(&mut self.bindings, destroyed.as_slice());
+    }
+
+    /// Frees the places of swapchains that aren't live and that no frame uses.
+    #[tactic(auto, using(crate::proofs::Swept::left_same, crate::proofs::Swept::length_swept))]
+    pub(crate) fn sweep(&mut self)
+        ensures { self.new ≡ record self.old { chains = left_in_places self.old.handles (is_place_used self.old.frames.pending self.old.shown_images) 0 self.old.chains } }
+    {
+        let kept = Kept {
+            handles: &self.handles,
+            frames: &self.frames,
+            shown: self.shown.as_slice(),
+        };
+        self.chains.sweep(&kept);
+    }
+
+    /// Takes a handle and all below it out of all parts, where no swapchain is below it.
+    pub(crate) fn destroy(&mut self, handle: u64)
+        ensures { self.new ≡ without_handle self.old handle }
+    {
+        self.remove(handle);
+        self.sweep();
+    }
+
+    /// Takes the swapchains that aren't live out of their places. The images that were waited for are an application's no
+    /// longer.
+    #[tactic(auto, using(crate::proofs::Swept::left_same, crate::proofs::Swept::freed_same, crate::proofs::Swept::length_swept))]
+    fn remove_chains<C: Cells>(&mut self, cells: &mut C)
+        requires may { MayCall C.may C.does cells.old (free_calls (freed_in_places self.old.handles 0 self.old.chains)) }
+        ensures chains { self.new ≡ record self.old { chains = left_in_places self.old.handles (is_place_used self.old.frames.pending self.old.shown_images) 0 self.old.chains } }
+        ensures cells { Leads C.does cells.old (free_calls (freed_in_places self.old.handles 0 self.old.chains)) cells.new }
+    {
+        let kept = Kept {
+            handles: &self.handles,
+            frames: &self.frames,
+            shown: self.shown.as_slice(),
+        };
+        self.chains.remove(cells, &kept);
+    }
+
+    /// Takes a handle and all below it out of all parts. The images that were waited for, of the swapchains that go with it,
+    /// are an application's no longer.
+    pub(crate) fn destroy_over<C: Cells>(&mut self, cells: &mut C, handle: u64)
+        requires may { MayCall C.may C.does cells.old (free_calls (freed_by self.old handle)) }
+        ensures state { self.new ≡ without_handle self.old handle }
+        ensures cells { Leads C.does cells.old (free_calls (freed_by self.old handle)) cells.new }
+    {
+        self.remove(handle);
+        self.remove_chains(cells);
     }
 
     /// Changes all live sessions, in the order of their creation.

@@ -1,5 +1,5 @@
 // A core and plain cells as one value, seen as the whole state. It knows no call.
-ghost use Rattle.std.specs.Prelude.{◌≡◌, ◌≤◌, ◌<◌, ◌^◌, ◌↔◌, ◌&&◌, [], is_none, IfOk, IsTrue, length, not};
+ghost use Rattle.std.specs.Prelude.{◌≡◌, ◌≤ℤ◌, pos, ◌≤◌, ◌<◌, ◌^◌, ◌↔◌, ◌&&◌, [], is_none, IfOk, IsTrue, length, not};
 ghost use Rattle.xr_types.specs.declared.limits.TheConstants.{MOST_SCRIPTS};
 ghost use Rattle.xr_model.specs.machine.Request.{request_of};
 ghost use Rattle.xr_model.specs.machine.Marks.{is_set};
@@ -17,8 +17,7 @@ use std::marker::Model;
 use xr_chains::PlainCells;
 use xr_types::{Actor, Call, NoMemory, Shown, Step};
 
-/// The machine of one thread: a core over plain cells, seen by contracts as its state. No image is held yet, since no call that
-/// is built gives a frame one.
+/// The machine of one thread: a core over plain cells, seen by contracts as its state.
 #[derive(Drop)]
 pub struct PlainCore {
     pub(crate) core: Core,
@@ -26,15 +25,14 @@ pub struct PlainCore {
 }
 
 impl Model for PlainCore {
-    ghost use Rattle.std.specs.Prelude.{◌≡◌, [], true};
     ghost use Rattle.xr_model.specs.machine.State.{State};
-    ghost use Rattle.xr_core.specs.inside.Bare.{are_bare};
+    ghost use Rattle.xr_core.specs.inside.Plainly.{IsPlain};
 
     ghost Value = { State };
 
-    ghost view = { λ p. record { core = p.core; cells = record { stamps = p.cells.stamps; held = [] } } };
+    ghost view = { λ p. record { core = p.core.kept; cells = record { stamps = p.cells.stamps; held = p.core.held } } };
 
-    ghost invariant = { λ p. are_bare p.core.frames.pending ≡ true };
+    ghost invariant = { λ p. IsPlain p.core p.cells };
 }
 
 impl PlainCore {
@@ -65,11 +63,19 @@ impl PlainCore {
         self.core.is_present(app)
     }
 
-    /// The device's clock, in ns of device time.
+    /// The device's clock, in ns of device time, never negative.
     pub fn clock(&self) -> i64
-        ensures { result ≡ self.now.core.device.clock }
+        ensures clock { result ≡ self.now.core.device.clock }
+        ensures begun { pos 0 ≤ℤ result }
     {
         self.core.clock()
+    }
+
+    /// How many images of the frame taken last aren't given back yet.
+    pub fn held(&self) -> usize
+        ensures { result ≡ length self.now.cells.held }
+    {
+        self.core.taken().len()
     }
 
     /// Whether `AwaitMark` of this mark, from 1 to 64, has to wait: it isn't set yet.
@@ -92,7 +98,7 @@ impl PlainCore {
     pub fn next_frame_waits(&self) -> bool
         ensures { result ≡ (is_frame_awaited self.now.core && is_empty self.now.cells.held) }
     {
-        self.core.next_frame_waits()
+        self.core.next_frame_waits() && self.core.taken().is_empty()
     }
 
     /// Makes a call that is built, or says that it has to wait and leaves all as it was. `text` is the buffer that
@@ -100,13 +106,11 @@ impl PlainCore {
     /// for the frame that `NextFrame` shows; it stays where none is.
     /// The reply is the machine's to an allowed entry: it gives a handle exactly where a creation succeeds, and
     /// `OutOfMemory` comes only to a new path text that would else be interned, and to suggestions that would else be taken.
-    /// No image is held before it, so `NextFrame` is never refused.
     pub fn apply(&mut self, who: Actor, call: &Call<'_>, text: &mut [u8], shown: &mut Shown) -> Step
         requires calls { self.old.core.locked < 2 ^ 44 }
         requires may { MayMake self.old.core who (request_of call.now) (length text.old) }
-        ensures unheld { self.old.cells.held ≡ [] }
-        ensures applies { Applies self.old self.new who call.now (record { text = text.old; frame = shown.old }) (record { text = text.new; frame = shown.new }) result }
+        ensures { Applies self.old self.new who call.now (record { text = text.old; frame = shown.old }) (record { text = text.new; frame = shown.new }) result }
     {
-        self.core.apply(who, call, text, shown)
+        self.core.apply(&mut self.cells, who, call, text, shown)
     }
 }

@@ -5,7 +5,7 @@ ghost use Rattle.xr_model.specs.scenario.Built.{is_built_op, are_built};
 
 use xr_types::{Op, Script};
 
-/// Whether an op is built. A frame may have no layers so far.
+/// Whether an op is built.
 fn is_built(op: &Op) -> bool
     ensures { result ≡ is_built_op op.now }
 {
@@ -30,11 +30,17 @@ fn is_built(op: &Op) -> bool
         | Op::DestroyAction { .. }
         | Op::SuggestBindings { .. }
         | Op::AttachSets { .. }
+        | Op::CreateSwapchain { .. }
+        | Op::DestroySwapchain { .. }
+        | Op::AcquireImage { .. }
+        | Op::WaitImage { .. }
+        | Op::Paint { .. }
+        | Op::ReleaseImage { .. }
         | Op::WaitFrame { .. }
         | Op::BeginFrame { .. }
+        | Op::EndFrame { .. }
         | Op::Mark { .. }
         | Op::Await { .. } => true,
-        Op::EndFrame { layers, .. } => layers.as_slice().is_empty(),
         _ => false,
     }
 }

@@ -1,5 +1,5 @@
 -- Swapchains have their own places, and who owns an image in every legal history is what the state says.
-use Rattle.std.proofs.Common.{◌≡◌, ◌≢◌, ◌+◌, ◌*◌, ◌≤◌, ◌==◌, ◌&&◌, ◌||◌, ℕ, ℤ, zero, suc, Bool, true, false, not, List, [], ◌∷◌, length, replicate, Option, Some, None, is_some, slice_get, refl, sym, ap, subst, ◌∙◌, arith, true≢false}
+use Rattle.std.proofs.Common.{◌≡◌, ◌+◌, ◌*◌, ◌≤◌, ◌==◌, ◌&&◌, ◌||◌, ℕ, ℤ, zero, suc, Bool, true, false, not, List, [], ◌∷◌, length, replicate, Option, Some, None, is_some, slice_get, refl, sym, ap, subst, ◌∙◌, arith, true≢false}
 use Rattle.std.specs.Prelude.{nat_lt}
 use Rattle.std.proofs.lemmas.Bool.Decides.{nat_tests}
 use Rattle.xr_types.specs.declared.code.Code.TheVariants.{TimeoutExpired}
@@ -188,7 +188,7 @@ images_step settings es e i legal placed =
     let front = fronts_are_legal (opening settings) (opening_clocks settings) es (e ∷ []) legal in
     image_steps (after (opening settings) es) e i (handles_stand_once settings es front) (no_orphans settings es) (sound_history settings es front)
 
-uses_few : (fs : List PendingFrame) (k : ℕ) → AreSound fs → uses_of fs k ≤ length fs
+pub uses_few : (fs : List PendingFrame) (k : ℕ) → AreSound fs → uses_of fs k ≤ length fs
 uses_few [] k sound = omega arith
 uses_few (f ∷ fs) k sound = let here = sound.0.images.once k in let more = uses_few fs k sound.1 in omega (arith, here, more)
 

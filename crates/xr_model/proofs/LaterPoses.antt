@@ -15,7 +15,7 @@ use Rattle.xr_model.proofs.SampleOrder.{all_so, earlier_still, found_falls, samp
 
 -- ---- each origin has its list
 
-set_length : {T : Type 0} (xs : List T) (i : ℕ) (a : T) → length (slice_set xs i a) ≡ length xs
+pub set_length : {T : Type 0} (xs : List T) (i : ℕ) (a : T) → length (slice_set xs i a) ≡ length xs
 set_length [] i a = refl
 set_length (x ∷ xs) zero a = refl
 set_length (x ∷ xs) (suc i) a = let more = set_length xs i a in omega (arith, more)

@@ -69,3 +69,5 @@ pub mod ImageSteps
 pub mod ImageOwners
 pub mod ImageStamps
 pub mod ShownFrames
+pub mod OverCells
+pub mod CellCounts

@@ -37,7 +37,7 @@ each_joined P (x ∷ xs) ys first second = (first.0, each_joined P xs ys first.1
 abbrev Knows : List ℤ → Agenda → Type 0
 Knows clocks (script app place ops values clock) = (1 ≤ app) × (app ≤ length clocks) × (clock_of clocks (App app) ≡ clock)
 Knows clocks (events e es) = Unit {0}
-Knows clocks compositor = Unit {0}
+Knows clocks (compositor held) = Unit {0}
 
 -- the numbers of applications begin at 1
 abbrev IsNumbered : Actor → Type 0
@@ -48,7 +48,7 @@ IsNumbered Device = Unit {0}
 numbered : (clocks : List ℤ) (x : Agenda) → Knows clocks x → IsNumbered (actor_of x)
 numbered clocks (script app place ops values clock) knows = knows.0
 numbered clocks (events e es) knows = tt
-numbered clocks compositor knows = tt
+numbered clocks (compositor held) knows = tt
 
 -- another's call leaves the clock
 another : (clocks : List ℤ) (who : Actor) (time : ℤ) (b : Bool) (y : Agenda) → IsNumbered who → is_actor who (actor_of y) ≡ false → Knows clocks y
@@ -65,7 +65,7 @@ another clocks (App k) time true (script app place ops values clock) is other kn
 another clocks Compositor time true y is other knows = knows
 another clocks Device time true y is other knows = knows
 another clocks (App k) time true (events e es) is other knows = tt
-another clocks (App k) time true compositor is other knows = tt
+another clocks (App k) time true (compositor held) is other knows = tt
 
 others : (clocks : List ℤ) (who : Actor) (time : ℤ) (b : Bool) (xs : List Agenda) → IsNumbered who → count_of who (map actor_of xs) ≡ 0
     → Each (Knows clocks) xs → Each (Knows (if b then with_clock clocks who time else clocks)) xs
@@ -81,6 +81,11 @@ others clocks who time b (x ∷ xs) is none each = by (is_actor who (actor_of x)
 as_locked : (r : Request) (clock : ℤ) → is_locked (with_start clock r) ≡ is_locked r
 as_locked (create_instance major minor) clock = refl
 as_locked _ clock = refl
+
+-- the compositor has no clock
+turns_on : (clocks : List ℤ) (t : State) (b : Bool) → Each (Knows clocks) (if b then [] else compositor (length t.cells.held) ∷ [])
+turns_on clocks t true = tt
+turns_on clocks t false = (tt, tt)
 
 -- its own call tells it the clock
 own : (clocks : List ℤ) (x : Agenda) (t : State) (o : Outcome) → Knows clocks x
@@ -106,11 +111,8 @@ own clocks (script app place (p ∷ ps) values clock) t o knows =
     by false true e = absurd (true≢false (sym e))
 own clocks (events e []) t o knows = tt
 own clocks (events e (f ∷ fs)) t o knows = (tt, tt)
-own clocks compositor t o knows = by (is_ended o.reply.gives)
-  where
-    by : (b : Bool) → Each (Knows clocks) (if b then [] else compositor ∷ [])
-    by true = tt
-    by false = (tt, tt)
+own clocks (compositor zero) t o knows = turns_on clocks t (is_ended o.reply.gives)
+own clocks (compositor (suc held)) t o knows = turns_on clocks t (is_ended o.reply.gives)
 
 -- ---- one call
 
@@ -122,7 +124,8 @@ starts_at : (clocks : List ℤ) (x : Agenda) → Knows clocks x → StartsAt (cl
 starts_at clocks (script app place [] values clock) knows = tt
 starts_at clocks (script app place (o ∷ os) values clock) knows = starts (clock_of clocks (App app)) clock (request_for values o) knows.2
 starts_at clocks (events e es) knows = tt
-starts_at clocks compositor knows = tt
+starts_at clocks (compositor zero) knows = tt
+starts_at clocks (compositor (suc held)) knows = tt
 
 -- neither a handle nor want of memory decides whether a call is ready
 ready_alike : (s : State) (r : Request) (who : Actor) (given : ℕ) (short : Bool)
@@ -209,5 +212,5 @@ calls_are_ready settings scenario calls history apps robin =
     let scripts = scripts_know settings.apps 1 scenario.scripts (omega arith) (omega (arith, apps)) in
     are_ready (opening settings) clocks start history (all_calls (opening settings) start history robin)
     (λ who. once_in_order who (map actor_of start) (first_ordered calls scenario))
-    (each_joined know (script_agendas 1 scenario.scripts ++ device_agendas calls) (compositor ∷ [])
+    (each_joined know (script_agendas 1 scenario.scripts ++ device_agendas calls) (compositor 0 ∷ [])
     (each_joined know (script_agendas 1 scenario.scripts) (device_agendas calls) scripts (device_knows clocks calls)) (tt, tt))

@@ -1,5 +1,5 @@
 -- The turns of a run: each is that of the front actor, which stands last afterwards or has finished.
-use Rattle.std.proofs.Common.{arith, ◌≡◌, ◌≤◌, ◌<◌, ◌+◌, ◌&&◌, ◌||◌, ◌⊎◌, inl, inr, nat_lt, ℕ, zero, suc, Bool, true, false, List, [], ◌∷◌, ◌++◌, map, Option, Some, None, refl, sym, ap, subst, ◌∙◌, true≢false}
+use Rattle.std.proofs.Common.{arith, ◌≡◌, ◌≤◌, ◌<◌, ◌+◌, ◌&&◌, ◌||◌, ◌⊎◌, inl, inr, nat_lt, ℕ, zero, suc, Bool, true, false, List, [], ◌∷◌, ◌++◌, length, map, Option, Some, None, refl, sym, ap, subst, ◌∙◌, true≢false}
 use Rattle.std.specs.Prelude.{◌↔◌, if◌then◌else◌}
 use Rattle.std.specs.List.{list_any, list_all}
 use Rattle.std.proofs.lemmas.List.{append_assoc, map-append}
@@ -102,9 +102,9 @@ once_or_gone (script app place [] values clock) s o = inr refl
 once_or_gone (script app place (p ∷ ps) values clock) s o = inl refl
 once_or_gone (events e []) s o = inr refl
 once_or_gone (events e (f ∷ fs)) s o = inl refl
-once_or_gone compositor s o = by (is_ended o.reply.gives)
+once_or_gone (compositor held) s o = by (is_ended o.reply.gives)
   where
-    by : (b : Bool) → (map actor_of (if b then [] else compositor ∷ []) ≡ Compositor ∷ []) ⊎ (map actor_of (if b then [] else compositor ∷ []) ≡ [])
+    by : (b : Bool) → (map actor_of (if b then [] else compositor (length s.cells.held) ∷ []) ≡ Compositor ∷ []) ⊎ (map actor_of (if b then [] else compositor (length s.cells.held) ∷ []) ≡ [])
     by true = inr refl
     by false = inl refl
 
@@ -210,19 +210,19 @@ leads_in_order a b (x ∷ xs) order ahead some =
 
 module _ (calls : List DeviceEvent) where
   scripts_later : (app n : ℕ) (scripts : List (List Op)) → app < n
-      → list_all (comes_before (App app)) (map actor_of (script_agendas n scripts ++ device_agendas calls ++ compositor ∷ [])) ≡ true
+      → list_all (comes_before (App app)) (map actor_of (script_agendas n scripts ++ device_agendas calls ++ compositor 0 ∷ [])) ≡ true
   scripts_later app n [] later = by calls
     where
-      by : (cs : List DeviceEvent) → list_all (comes_before (App app)) (map actor_of (device_agendas cs ++ compositor ∷ [])) ≡ true
+      by : (cs : List DeviceEvent) → list_all (comes_before (App app)) (map actor_of (device_agendas cs ++ compositor 0 ∷ [])) ≡ true
       by [] = refl
       by (e ∷ es) = refl
   scripts_later app n (ops ∷ scripts) later = rw (lower app n later) (scripts_later app (n + 1) scripts (omega arith))
 
   scripts_ordered : (app : ℕ) (scripts : List (List Op))
-      → ordered (map actor_of (script_agendas app scripts ++ device_agendas calls ++ compositor ∷ [])) ≡ true
+      → ordered (map actor_of (script_agendas app scripts ++ device_agendas calls ++ compositor 0 ∷ [])) ≡ true
   scripts_ordered app [] = by calls
     where
-      by : (cs : List DeviceEvent) → ordered (map actor_of (device_agendas cs ++ compositor ∷ [])) ≡ true
+      by : (cs : List DeviceEvent) → ordered (map actor_of (device_agendas cs ++ compositor 0 ∷ [])) ≡ true
       by [] = refl
       by (e ∷ es) = refl
   scripts_ordered app (ops ∷ scripts) = rw (scripts_later app (app + 1) scripts (omega arith)) (scripts_ordered (app + 1) scripts)

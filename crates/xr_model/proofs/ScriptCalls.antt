@@ -42,7 +42,7 @@ undue who (x ∷ xs) none = by (is_actor who (actor_of x)) x none (undue who xs)
         → (if b then x ∷ agendas_of who xs else agendas_of who xs) ≡ []
     by true (script app place ops values clock) none more = absurd (omega arith)
     by true (events e es) none more = absurd (omega arith)
-    by true compositor none more = absurd (omega arith)
+    by true (compositor held) none more = absurd (omega arith)
     by false x none more = more (omega arith)
 
 -- ---- following
@@ -51,7 +51,7 @@ undue who (x ∷ xs) none = by (is_actor who (actor_of x)) x none (undue who xs)
 abbrev Does : Agenda → List Exchange → Type 0
 Does (script app place ops values clock) ts = FollowsSoFarFrom place values ops ts
 Does (events e es) ts = (rest : List DeviceEvent) × (e ∷ es ≡ events_in ts ++ rest)
-Does compositor ts = Unit {0}
+Does (compositor held) ts = Unit {0}
 
 abbrev DoAll : List Agenda → List Exchange → Type 0
 DoAll [] ts = ts ≡ []
@@ -62,7 +62,7 @@ none_made : (agendas : List Agenda) → DoAll agendas []
 none_made [] = refl
 none_made (script app place ops values clock ∷ []) = tt
 none_made (events e es ∷ []) = (e ∷ es, refl)
-none_made (compositor ∷ []) = tt
+none_made (compositor held ∷ []) = tt
 none_made (x ∷ y ∷ xs) = tt
 
 not_started : (o : Op) (values : List ℕ) (clock : ℤ) → unstarted (with_start clock (request_for values o)) ≡ request_for values o
@@ -76,7 +76,7 @@ one_more (script app place [] values clock) s t ts is more = subst (λ l. Follow
 one_more (script app place (o ∷ os) values clock) s t ts is more = (ap unstarted is ∙ not_started o values clock, more)
 one_more (events e []) s t ts is more = ([], subst (λ l. e ∷ [] ≡ events_in (t ∷ l) ++ []) (sym more) (rw is refl))
 one_more (events e (f ∷ fs)) s t ts is more = (more.0, rw is (ap (λ (l : List DeviceEvent). e ∷ l) more.1))
-one_more compositor s t ts is more = tt
+one_more (compositor held) s t ts is more = tt
 
 -- what another did changes nothing
 other_after : (who : Actor) (x : Agenda) (s : State) (o : Outcome) → is_actor who (actor_of x) ≡ false → agendas_of who (agenda_after x s o) ≡ []
@@ -84,9 +84,9 @@ other_after who (script app place [] values clock) s o other = refl
 other_after who (script app place (p ∷ ps) values clock) s o other = rw other refl
 other_after who (events e []) s o other = refl
 other_after who (events e (f ∷ fs)) s o other = rw other refl
-other_after who compositor s o other = by (is_ended o.reply.gives)
+other_after who (compositor held) s o other = by (is_ended o.reply.gives)
   where
-    by : (b : Bool) → agendas_of who (if b then [] else compositor ∷ []) ≡ []
+    by : (b : Bool) → agendas_of who (if b then [] else compositor (length s.cells.held) ∷ []) ≡ []
     by true = refl
     by false = rw other refl
 
@@ -95,9 +95,9 @@ own_after (script app place [] values clock) s o = refl
 own_after (script app place (p ∷ ps) values clock) s o = rw (actor_itself (App app)) refl
 own_after (events e []) s o = refl
 own_after (events e (f ∷ fs)) s o = refl
-own_after compositor s o = by (is_ended o.reply.gives)
+own_after (compositor held) s o = by (is_ended o.reply.gives)
   where
-    by : (b : Bool) → agendas_of Compositor (if b then [] else compositor ∷ []) ≡ (if b then [] else compositor ∷ [])
+    by : (b : Bool) → agendas_of Compositor (if b then [] else compositor (length s.cells.held) ∷ []) ≡ (if b then [] else compositor (length s.cells.held) ∷ [])
     by true = refl
     by false = refl
 
@@ -213,10 +213,10 @@ own_device (e ∷ es) = refl
 
 first_parts : (who : Actor) (scenario : Scenario) (calls : List DeviceEvent)
     → agendas_of who (first_agendas scenario calls)
-    ≡ agendas_of who (script_agendas 1 scenario.scripts) ++ agendas_of who (device_agendas calls) ++ agendas_of who (compositor ∷ [])
+    ≡ agendas_of who (script_agendas 1 scenario.scripts) ++ agendas_of who (device_agendas calls) ++ agendas_of who (compositor 0 ∷ [])
 first_parts who scenario calls =
-    of_more who (script_agendas 1 scenario.scripts ++ device_agendas calls) (compositor ∷ [])
-    ∙ ap (λ l. l ++ agendas_of who (compositor ∷ [])) (of_more who (script_agendas 1 scenario.scripts) (device_agendas calls))
+    of_more who (script_agendas 1 scenario.scripts ++ device_agendas calls) (compositor 0 ∷ [])
+    ∙ ap (λ l. l ++ agendas_of who (compositor 0 ∷ [])) (of_more who (script_agendas 1 scenario.scripts) (device_agendas calls))
 
 first_script : (scenario : Scenario) (calls : List DeviceEvent) (k : ℕ) (ops : List Op) → script_of scenario.scripts k ≡ Some ops
     → agendas_of (App k) (first_agendas scenario calls) ≡ script k 1 ops (no_values (length ops)) (pos 0) ∷ []

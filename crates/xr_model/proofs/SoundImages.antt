@@ -6,7 +6,9 @@ use Rattle.xr_types.specs.Code.{is_success}
 use Rattle.xr_types.specs.declared.code.Code.TheVariants.{SwapchainFormatUnsupported, ValidationFailure, LimitReached, TimeoutExpired}
 use Rattle.xr_types.specs.declared.device.DeviceEvent.{DeviceEvent}
 use Rattle.xr_types.specs.declared.device.DeviceEvent.TheVariants as event
+use Rattle.xr_types.specs.declared.frames.Blend.{Blend}
 use Rattle.xr_types.specs.declared.frames.Image.{Image}
+use Rattle.xr_types.specs.declared.frames.Layer.{Layer}
 use Rattle.xr_types.specs.declared.handles.Kind.TheVariants.{Swapchain}
 use Rattle.xr_types.specs.declared.handles.Slot.{Slot}
 use Rattle.xr_types.specs.declared.handles.TheConstants.{SWAPCHAINS}
@@ -16,8 +18,8 @@ use Rattle.xr_model.specs.machine.Chains.{Chain, free_place, kept_place, new_cha
 use Rattle.xr_model.specs.machine.Frames.{is_empty}
 use Rattle.xr_model.specs.machine.Handles.{Handles, no_room, has_room, is_live, has, with_handle, without}
 use Rattle.xr_model.specs.machine.Images.{slot_of, times_in, uses_of, count_of, first_images}
-use Rattle.xr_model.specs.machine.Layers.{form_checks, layer_checks, layers_of}
-use Rattle.xr_model.specs.machine.Refusals.{Refusal, when}
+use Rattle.xr_model.specs.machine.Layers.{frame_checks, form_checks, layer_checks, layers_of}
+use Rattle.xr_model.specs.machine.Refusals.{Refusal, when, first_of}
 use Rattle.xr_model.specs.machine.Request.{Request, Entry, destroy_instance, destroy_session, destroy_action_set, destroy_action, create_swapchain, destroy_swapchain, acquire_image, wait_image, release_image, end_frame, next_frame, image_done, device}
 use Rattle.xr_model.specs.machine.State.{CoreState, Settings, State, opening}
 use Rattle.xr_model.specs.machine.Rule.{Rule, Effect, Did, nothing_done, refusal, told_on, unless_refused, carried_out}
@@ -227,6 +229,14 @@ sound_ended row chains pending shown held f new each sound = record {
         let more = uses_more pending f (3 * p + oldest_of c.acquired) in
         omega (arith, none, zero_before, more)
 
+-- the images of a frame that nothing refuses were released last, and are in it once
+pub submitted_images : (s : CoreState) (held : List Image) → IsSound s.handles.chains s.chains s.frames.pending s.shown_images held → (time : ℤ) (blend : Blend) (layers : List Layer)
+    → first_of (frame_checks (look_of s) time blend layers) ≡ None → AreOnce (IsLast s.chains) (new_frame s time layers).images
+submitted_images s held sound time blend layers none =
+    let checks = (none_of (form_checks time blend layers) (flat_map (layer_checks (look_of s)) layers) none).1 in
+    let each = layers_are_last s (PlaceIsSound s.handles.chains) (λ c good. good.last) sound.places layers checks in
+    once_of (IsLast s.chains) (λ i last. last.below) [] (layers_of (look_of s) layers) (record { each = tt; once = λ k. omega arith }) each
+
 -- ---- an entry
 
 abbrev KeptBy : CoreState → List Image → CoreState → Did → Type 0
@@ -407,9 +417,7 @@ sound_step s e allowed is_ready sound = by e.request allowed is_ready
     by (end_frame session time blend layers) allowed is_ready =
         let f = rule s.core (reads_of s (end_frame session time blend layers)) (record e { request = end_frame session time blend layers }) in
         effect_kept (KeptBy s.core s.cells.held) s.core e.short f sound (λ none.
-        let checks = (none_of (form_checks time blend layers) (flat_map (layer_checks (look_of s.core)) layers) (clear f e.short none).behind).1 in
-        let each = layers_are_last s.core (PlaceIsSound s.core.handles.chains) (λ c good. good.last) sound.places layers checks in
-        let once = once_of (IsLast s.core.chains) (λ i last. last.below) [] (layers_of (look_of s.core) layers) (record { each = tt; once = λ k. omega arith }) each in
+        let once = submitted_images s.core s.cells.held sound time blend layers (clear f e.short none).behind in
         sound_ended s.core.handles.chains s.core.chains s.core.frames.pending s.core.shown_images s.cells.held (new_frame s.core time layers)
         (record { images = record { each = each_so (IsLast s.core.chains) IsBelow (λ i last. last.below) (new_frame s.core time layers).images once.each; once = once.once }; among = are_among [] (layers_of (look_of s.core) layers) }) once.each sound)
     by next_frame allowed is_ready =

@@ -33,7 +33,7 @@ abbrev IsRest : List (List Op) → List DeviceEvent → Agenda → Type 0
 IsRest scripts calls (script app place ops values clock) =
     (begun : List Op) × (script_of scripts app ≡ Some (begun ++ ops)) × (place ≡ length begun + 1)
 IsRest scripts calls (events e es) = (begun : List DeviceEvent) × (calls ≡ begun ++ e ∷ es)
-IsRest scripts calls compositor = Unit {0}
+IsRest scripts calls (compositor held) = Unit {0}
 
 abbrev AreRest : List (List Op) → List DeviceEvent → List Agenda → Type 0
 AreRest scripts calls [] = Unit {0}
@@ -56,9 +56,9 @@ module _ (scripts : List (List Op)) (calls : List DeviceEvent) where
       ((rest.0 ++ p ∷ [], rest.1 ∙ ap Some (sym (append_assoc rest.0 (p ∷ []) ps)), omega (arith, e, f)), tt)
   rest_after (events e []) s o rest = tt
   rest_after (events e (f ∷ fs)) s o rest = ((rest.0 ++ e ∷ [], rest.1 ∙ sym (append_assoc rest.0 (e ∷ []) (f ∷ fs))), tt)
-  rest_after compositor s o rest = by (is_ended o.reply.gives)
+  rest_after (compositor held) s o rest = by (is_ended o.reply.gives)
     where
-      by : (b : Bool) → AreRest scripts calls (if b then [] else compositor ∷ [])
+      by : (b : Bool) → AreRest scripts calls (if b then [] else compositor (length s.cells.held) ∷ [])
       by true = tt
       by false = (tt, tt)
 
@@ -83,7 +83,7 @@ module _ (scripts : List (List Op)) (calls : List DeviceEvent) where
         (λ j. ap (script_of scripts) (omega arith) ∙ numbered (suc j)),
   )
 
-  rest_first : (cs : List DeviceEvent) → calls ≡ cs → AreRest scripts calls (device_agendas cs ++ compositor ∷ [])
+  rest_first : (cs : List DeviceEvent) → calls ≡ cs → AreRest scripts calls (device_agendas cs ++ compositor 0 ∷ [])
   rest_first [] is = (tt, tt)
   rest_first (e ∷ es) is = (([], is), (tt, tt))
 
@@ -149,7 +149,7 @@ module _ (settings : Settings) (scenario : Scenario) (calls : List DeviceEvent) 
       same_next Device (mark_awaited e) (mark_behind (slice_get calls (length (calls_of settings Device history)))) call.Await call.Await
       (same_mark e ∙ ap mark_behind
       (sym (behind_front rest.0 (e ∷ es)) ∙ ap (λ l. slice_get l (length rest.0)) (sym rest.1) ∙ ap (slice_get calls) (sym made))) refl
-  waiting_is compositor rest sum = refl
+  waiting_is (compositor held) rest sum = refl
 
   one_next : (who : Actor) (xs : List Agenda) → AreRest scenario.scripts calls xs → count_of who (map actor_of xs) ≤ 1
       → did who (calls_of settings who history) + due who xs ≡ all_of scenario calls who
@@ -211,8 +211,8 @@ stuck_names_the_unfinished settings scenario calls history apps robin =
 
     first_rest : AreRest scenario.scripts calls (first_agendas scenario calls)
     first_rest =
-        subst (AreRest scenario.scripts calls) (sym (append_assoc (script_agendas 1 scenario.scripts) (device_agendas calls) (compositor ∷ [])))
-        (rest_joined scenario.scripts calls (script_agendas 1 scenario.scripts) (device_agendas calls ++ compositor ∷ []) (none_told calls)
+        subst (AreRest scenario.scripts calls) (sym (append_assoc (script_agendas 1 scenario.scripts) (device_agendas calls) (compositor 0 ∷ [])))
+        (rest_joined scenario.scripts calls (script_agendas 1 scenario.scripts) (device_agendas calls ++ compositor 0 ∷ []) (none_told calls)
         (rest_first scenario.scripts calls calls refl))
 
     as_filtered : (who : Actor) (b : Bool) → (if b then next_of settings scenario calls history who ∷ [] else [])

@@ -22,7 +22,7 @@ use Rattle.xr_model.proofs.RobinTurns.{AreCalls, moved, front_calls, all_turned,
 abbrev pub todo : Agenda → ℕ
 todo (script app place ops values clock) = suc (length ops)
 todo (events e es) = suc (length es)
-todo compositor = 1
+todo (compositor held) = 1
 
 abbrev pub due : Actor → List Agenda → ℕ
 due who [] = 0
@@ -53,27 +53,27 @@ one_done (App k) (script app place [] values clock) s t = omega arith
 one_done (App k) (script app place (o ∷ os) values clock) s t = of_two (k == app) (suc (length os)) 0
 one_done (App k) (events e []) s t = omega arith
 one_done (App k) (events e (f ∷ fs)) s t = omega arith
-one_done (App k) compositor s t = by (is_ended t.outcome.reply.gives)
+one_done (App k) (compositor held) s t = by (is_ended t.outcome.reply.gives)
   where
-    by : (b : Bool) → 0 ≡ 0 + due (App k) (if b then [] else compositor ∷ [])
+    by : (b : Bool) → 0 ≡ 0 + due (App k) (if b then [] else compositor (length s.cells.held) ∷ [])
     by true = omega arith
     by false = omega arith
 one_done Device (script app place [] values clock) s t = omega arith
 one_done Device (script app place (o ∷ os) values clock) s t = omega arith
 one_done Device (events e []) s t = omega arith
 one_done Device (events e (f ∷ fs)) s t = omega arith
-one_done Device compositor s t = by (is_ended t.outcome.reply.gives)
+one_done Device (compositor held) s t = by (is_ended t.outcome.reply.gives)
   where
-    by : (b : Bool) → 0 ≡ 0 + due Device (if b then [] else compositor ∷ [])
+    by : (b : Bool) → 0 ≡ 0 + due Device (if b then [] else compositor (length s.cells.held) ∷ [])
     by true = omega arith
     by false = omega arith
 one_done Compositor (script app place [] values clock) s t = omega arith
 one_done Compositor (script app place (o ∷ os) values clock) s t = omega arith
 one_done Compositor (events e []) s t = omega arith
 one_done Compositor (events e (f ∷ fs)) s t = omega arith
-one_done Compositor compositor s t = by (is_ended t.outcome.reply.gives)
+one_done Compositor (compositor held) s t = by (is_ended t.outcome.reply.gives)
   where
-    by : (b : Bool) → 1 ≡ bit b + due Compositor (if b then [] else compositor ∷ [])
+    by : (b : Bool) → 1 ≡ bit b + due Compositor (if b then [] else compositor (length s.cells.held) ∷ [])
     by true = omega arith
     by false = omega arith
 
@@ -105,7 +105,7 @@ all_done who s agendas (e ∷ es) calls =
 some_todo : (x : Agenda) → 1 ≤ todo x
 some_todo (script app place ops values clock) = omega arith
 some_todo (events e es) = omega arith
-some_todo compositor = omega arith
+some_todo (compositor held) = omega arith
 
 pub turns_due : (who : Actor) (agendas : List Agenda) → has_turns agendas who ≡ nat_lt 0 (due who agendas)
 turns_due who [] = refl
@@ -160,12 +160,12 @@ all_of scenario calls Compositor = 1
 
 pub first_due : (scenario : Scenario) (calls : List DeviceEvent) (who : Actor) → due who (first_agendas scenario calls) ≡ all_of scenario calls who
 first_due scenario calls who =
-    let more = due_more who (script_agendas 1 scenario.scripts ++ device_agendas calls) (compositor ∷ []) in
+    let more = due_more who (script_agendas 1 scenario.scripts ++ device_agendas calls) (compositor 0 ∷ []) in
     let parts = due_more who (script_agendas 1 scenario.scripts) (device_agendas calls) in
-    more ∙ (ap (λ n. n + due who (compositor ∷ [])) parts ∙ by who (device_due who calls))
+    more ∙ (ap (λ n. n + due who (compositor 0 ∷ [])) parts ∙ by who (device_due who calls))
   where
     by : (who : Actor) → due who (device_agendas calls) ≡ (if is_actor who Device then length calls else 0)
-        → due who (script_agendas 1 scenario.scripts) + due who (device_agendas calls) + due who (compositor ∷ []) ≡ all_of scenario calls who
+        → due who (script_agendas 1 scenario.scripts) + due who (device_agendas calls) + due who (compositor 0 ∷ []) ≡ all_of scenario calls who
     by (App zero) device = let none = none_below 0 1 scenario.scripts (omega arith) in omega (arith, none, device)
     by (App (suc k)) device = let own = script_due (suc k) 1 k scenario.scripts (omega arith) in omega (arith, own, device)
     by Device device = let none = no_script Device 1 scenario.scripts (λ k. refl) in omega (arith, none, device)

@@ -27,5 +27,6 @@ pub mod SessionRule
 pub mod Rules
 pub mod Machine
 pub mod CoreCalls
+pub mod OverCells
 pub mod History
 pub mod Positions

@@ -1,6 +1,6 @@
 -- What the loop keeps in an application's turn.
-use Rattle.std.proofs.Common.{◌≡◌, ◌+◌, ◌-◌, ◌<◌, ◌≤◌, ℕ, ℤ, pos, Bool, true, false, List, [], ◌∷◌, ◌++◌, length, drop, map, get_or, set, refl, sym, ap, subst, ◌∙◌, arith}
-use Rattle.std.specs.Prelude.{if◌then◌else◌, zero, suc, Some, option_map}
+use Rattle.std.proofs.Common.{◌≡◌, ◌+◌, ◌-◌, ◌<◌, ◌≤◌, ℕ, ℤ, pos, Bool, true, false, List, [], ◌∷◌, ◌++◌, length, drop, map, get_or, set, refl, sym, ap, subst, ◌∙◌, arith, append-nil}
+use Rattle.std.specs.Prelude.{if◌then◌else◌, zero, suc, Option, Some, option_map, unwrap_or}
 use Rattle.std.specs.List.{list_all}
 use Rattle.std.proofs.lemmas.Bool.{and_parts}
 use Rattle.std.proofs.lemmas.Option.{slice_get-map, slice_get-get_or}
@@ -12,46 +12,47 @@ use Rattle.xr_types.specs.declared.device.DeviceEvent.{DeviceEvent}
 use Rattle.xr_types.specs.declared.scenario.Op.{Op}
 use Rattle.xr_types.specs.declared.scenario.Scenario.{Scenario}
 use Rattle.xr_model.specs.machine.Request as request
-use Rattle.xr_model.specs.machine.Request.{Request, Outcome, leave}
+use Rattle.xr_model.specs.machine.Request.{Request, Outcome, leave, is_locked}
 use Rattle.xr_model.specs.machine.CoreCalls.{entry_of}
-use Rattle.xr_model.specs.machine.Machine.{ready}
 use Rattle.xr_model.specs.machine.State.{State}
+use Rattle.xr_model.specs.machine.History.{clock_of, StartsAt}
 use Rattle.xr_model.specs.machine.Machine.{IsPresent}
 use Rattle.xr_model.specs.scenario.Built.{is_built_op}
 use Rattle.xr_model.specs.scenario.ScriptForm.{IsInForm, AllInForm}
 use Rattle.xr_model.specs.runs.Scripts.{request_for}
-use Rattle.xr_model.specs.runs.Robin.{Agenda, script, agenda_after, clock_behind}
+use Rattle.xr_model.specs.runs.Lists.{done_at}
+use Rattle.xr_model.specs.runs.Robin.{Agenda, script, agenda_after}
 use Rattle.xr_serial.specs.inside.Made.{IsAnswered, exchange_of, calls_with, asked}
 use Rattle.xr_serial.specs.inside.RunState.{AppState, RunState}
 use Rattle.xr_device.specs.Prospect.{Prospect}
-use Rattle.xr_serial.specs.inside.Sides.{app_with, app_left, OpMade, OpWaits, OpTurn, Leaves}
+use Rattle.xr_serial.specs.inside.Sides.{app_with, app_left, op_request, OpMade, OpWaits, OpTurn, Leaves}
 use Rattle.xr_serial.specs.inside.Turns.{script_part, parts_of, actors_of, turn_behind, AreHeldBack}
-use Rattle.xr_serial.specs.inside.Past.{IsRest}
-use Rattle.xr_serial.specs.inside.RunInvariant.{AppKept, app_work, apps_work, events_told, RunKept, RunInvariant}
-use Rattle.xr_serial.proofs.Ops.{op_unstarted, built_unstarted, built_locked}
+use Rattle.xr_serial.specs.inside.Past.{Trace, IsRest, Standing}
+use Rattle.xr_serial.specs.inside.RunInvariant.{AppKept, app_work, apps_work, frames_work, events_told, trace_of, RunKept, RunInvariant}
+use Rattle.xr_serial.proofs.Ops.{starts, op_locked, as_locked, op_returns}
+use Rattle.xr_serial.proofs.Holding.{call_holds, op_holds}
 use Rattle.xr_serial.proofs.OnlyLeaveLeaves.{call_keeps, op_stays}
 use Rattle.xr_serial.proofs.Parts.{AreAll, parts_count, app_at, app_set}
-use Rattle.xr_serial.proofs.Steps.{IsAgendaOf, Goes, AreSo, made_turn, passed_turn, same_parts}
-use Rattle.xr_serial.proofs.Pending.{brings, brings_one, op_is_bringing}
+use Rattle.xr_serial.proofs.Steps.{IsAgendaOf, Goes, AreSo, trace_behind, made_turn, passed_turn, same_parts}
+use Rattle.xr_serial.proofs.Pending.{brings, op_brings}
 use Rattle.xr_serial.proofs.Work.{work_set}
 use Rattle.xr_serial.proofs.Apps.{op_more, leave_more, one_more}
 
 -- the lists of a run that is kept have the lengths of its scenario
-pub all_of : (scenario : Scenario) (s : State) (run : RunState) (clocks : List ℤ) (calls : Actor → List request.Exchange) (start now : Prospect) → RunKept scenario s run clocks calls start now → AreAll scenario run clocks
-all_of scenario s run clocks calls start now kept = record { count = kept.apps.count; timed = kept.apps.timed }
+pub all_of : (scenario : Scenario) (s : State) (run : RunState) (calls : Actor → List request.Exchange) (start now : Prospect) → RunKept scenario s run calls start now → AreAll scenario run
+all_of scenario s run calls start now kept = kept.apps.count
 
-pub are_so : (scenario : Scenario) (turn idle : ℕ) (run : RunState) (clocks : List ℤ) → AreAll scenario run clocks → turn < actors_of scenario → idle < actors_of scenario → AreSo (actors_of scenario) turn idle (parts_of scenario run clocks)
-are_so scenario turn idle run clocks all within few = record { count = λ rest. parts_count scenario run clocks rest all; within = within; few = few }
+pub are_so : (scenario : Scenario) (turn idle : ℕ) (s : State) (run : RunState) → AreAll scenario run → turn < actors_of scenario → idle < actors_of scenario → AreSo (actors_of scenario) turn idle (parts_of scenario s run)
+are_so scenario turn idle s run all within few = record { count = λ rest. parts_count scenario s run rest all; within = within; few = few }
 
 -- a turn that makes no call
 pub passes : (scenario : Scenario) (turn idle : ℕ) (s : State) (run : RunState) (start now : Prospect) → turn < actors_of scenario → idle < actors_of scenario → (kept : RunInvariant scenario turn idle s run start now)
-    → ((rest : List DeviceEvent) → IsRest run.side.over rest → AreHeldBack s (get_or (parts_of scenario run kept.clocks rest) turn [])) → RunInvariant scenario (turn_behind turn (actors_of scenario)) (idle + 1) s run start now
+    → ((rest : List DeviceEvent) → IsRest run.side.over rest → AreHeldBack s (get_or (parts_of scenario s run rest) turn [])) → RunInvariant scenario (turn_behind turn (actors_of scenario)) (idle + 1) s run start now
 passes scenario turn idle s run start now within few kept held = record {
   calls = kept.calls;
-  clocks = kept.clocks;
   standing =
-      passed_turn scenario turn idle s s run.side.over _ (parts_of scenario run kept.clocks) (actors_of scenario) kept.calls
-      (are_so scenario turn idle run kept.clocks (all_of scenario s run kept.clocks kept.calls start now kept.kept) within few) held kept.standing;
+      passed_turn scenario turn idle s s run.side.over _ (parts_of scenario s run) (actors_of scenario) (trace_of run kept.calls)
+      (are_so scenario turn idle s run (all_of scenario s run kept.calls start now kept.kept) within few) held kept.standing;
   kept = kept.kept;
 }
 
@@ -71,42 +72,73 @@ module _ (scenario : Scenario) (place idle : ℕ) (s after : State) (run : RunSt
   turn_within : place < actors_of scenario
   turn_within = omega (arith, within)
 
+  own : place + 1 - 1 ≡ place
+  own = omega arith
+
   old_kept : (kept : RunInvariant scenario place idle s run start now) → AppKept ops old (kept.calls (App (place + 1)))
   old_kept kept = subst (λ (app : AppState). AppKept ops app (kept.calls (App (place + 1)))) (here old) (kept.kept.apps.each place old within)
 
-  -- it makes a call
-  goes_on : (what : Request) (outcome : Outcome) (app : AppState) (agenda : Agenda) (clock : ℤ) (kept : RunInvariant scenario place idle s run start now) → IsAnswered s after (App (place + 1)) what outcome
-      → script_part (place + 1) ops old (get_or kept.clocks place (pos 0)) ≡ agenda ∷ [] → IsAgendaOf (App (place + 1)) what agenda → agenda_after agenda after outcome ≡ script_part (place + 1) ops app clock
-      → AppKept ops app (kept.calls (App (place + 1)) ++ exchange_of what outcome ∷ []) → after.core.apps ≡ s.core.apps → after.core.left ≡ map (λ (a : AppState). a.has_left) (set run.apps place app) → after.core.locked ≡ s.core.locked + 1
-      → app_work ops app + length after.core.frames.pending + 1 ≤ app_work ops old + length s.core.frames.pending → RunInvariant scenario (turn_behind place (actors_of scenario)) 0 after (record run { apps = set run.apps place app }) start now
-  goes_on what outcome app agenda clock kept call alone of next more known left locks less =
+  -- what of a call is the same for an op and for `leave`: it is a locked one, after which its application knows the clock, a wait
+  -- begins at the clock before, and as many images are held as before
+  record Asks (what : Request) (app : AppState) : Type 0 where
+    locked : is_locked what ≡ true
+    starts : StartsAt old.clock what
+    timed : app.clock ≡ after.core.device.clock
+    returns : done_at s what ≡ []
+    holds : after.cells.held ≡ s.cells.held
+
+  -- the clock that the application knows
+  clock_is : (calls : Actor → List request.Exchange) → length run.apps ≡ length scenario.scripts → clock_of (trace_of run calls).clocks (App (place + 1)) ≡ old.clock
+  clock_is calls size =
+      rw own
+      (ap (λ (o : Option ℤ). unwrap_or o (pos 0)) (slice_get-map (λ (a : AppState). a.clock) run.apps place ∙ ap (option_map (λ (a : AppState). a.clock)) (slice_get-get_or run.apps place old (omega (arith, within, size)) ∙ ap Some (here old))))
+
+  app_trace : (calls : Actor → List request.Exchange) (what : Request) (outcome : Outcome) (app : AppState) → Asks what app
+      → trace_behind s after (trace_of run calls) (App (place + 1)) what outcome ≡ trace_of (record run { apps = set run.apps place app }) (calls_with calls (App (place + 1)) (exchange_of what outcome))
+  app_trace calls what outcome app asks =
       let t : request.Exchange = exchange_of what outcome in
-      let all : AreAll scenario run kept.clocks = all_of scenario s run kept.clocks kept.calls start now kept.kept in
-      let goes : Goes place (parts_of scenario run kept.clocks) s after (App (place + 1)) what outcome = record {
+      rw (asks.locked, own, asks.returns, append-nil run.compositor.done, ← asks.timed)
+      (ap (λ (l : List ℤ). let trace : Trace = record { calls = calls_with calls (App (place + 1)) t; clocks = l; done = run.compositor.done } in trace) (sym (map-set (λ (a : AppState). a.clock) run.apps place app)))
+
+  -- it makes a call
+  goes_on : (what : Request) (outcome : Outcome) (app : AppState) (agenda : Agenda) (kept : RunInvariant scenario place idle s run start now) → IsAnswered s after (App (place + 1)) what outcome → Asks what app
+      → script_part (place + 1) ops old ≡ agenda ∷ [] → IsAgendaOf (App (place + 1)) what agenda → agenda_after agenda after outcome ≡ script_part (place + 1) ops app
+      → AppKept ops app (kept.calls (App (place + 1)) ++ exchange_of what outcome ∷ []) → after.core.left ≡ map (λ (a : AppState). a.has_left) (set run.apps place app)
+      → app_work ops app + frames_work after.core.frames.pending + 1 ≤ app_work ops old + frames_work s.core.frames.pending → RunInvariant scenario (turn_behind place (actors_of scenario)) 0 after (record run { apps = set run.apps place app }) start now
+  goes_on what outcome app agenda kept call asks alone of next more left less =
+      let t : request.Exchange = exchange_of what outcome in
+      let all : AreAll scenario run = all_of scenario s run kept.calls start now kept.kept in
+      let goes : Goes place (parts_of scenario s run) s after (trace_of run kept.calls) (App (place + 1)) what outcome = record {
         agenda = λ rest. agenda;
-        alone = λ rest. app_at scenario run kept.clocks rest all place old within ∙ ap (λ (a : AppState). script_part (place + 1) ops a (get_or kept.clocks place (pos 0))) (here old) ∙ alone;
+        alone = λ rest. app_at scenario s run rest all place old within ∙ ap (script_part (place + 1) ops) (here old) ∙ alone;
         of = λ rest. of;
+        starts = subst (λ (c : ℤ). StartsAt c what) (sym (clock_is kept.calls all)) asks.starts;
         made = call;
       } in
       let work = kept.kept.work in
       let counted = kept.kept.counted in
+      let locks : after.core.locked ≡ s.core.locked + 1 = rw (call.leads, asks.locked) refl in
+      let held : length after.cells.held ≡ length s.cells.held = ap length asks.holds in
       let set_work : apps_work scenario.scripts (set run.apps place app) + app_work ops old ≡ apps_work scenario.scripts run.apps + app_work ops app =
-      ap (λ (a : AppState). apps_work scenario.scripts (set run.apps place app) + app_work ops a) (sym (here old)) ∙ work_set scenario.scripts run.apps place app old kept.kept.apps.count within in
+      ap (λ (a : AppState). apps_work scenario.scripts (set run.apps place app) + app_work ops a) (sym (here old)) ∙ work_set scenario.scripts run.apps place app old all within in
       record {
         calls = calls_with kept.calls (App (place + 1)) t;
-        clocks = set kept.clocks place clock;
         standing =
-            same_parts scenario (turn_behind place (actors_of scenario)) 0 after after run.side.over (events_told run.side (kept.calls Device)) _ (calls_with kept.calls (App (place + 1)) t)
-            (parts_of scenario (record run { apps = set run.apps place app }) (set kept.clocks place clock))
-            (λ rest ok. ap (set (parts_of scenario run kept.clocks rest) place) next ∙ app_set scenario run kept.clocks rest all place app clock within)
-            (made_turn scenario place idle s after run.side.over (events_told run.side (kept.calls Device)) (parts_of scenario run kept.clocks) (actors_of scenario) kept.calls (App (place + 1)) what outcome
-            (are_so scenario place idle run kept.clocks all turn_within few) goes kept.standing);
+            subst
+            (Standing scenario (turn_behind place (actors_of scenario)) 0 after run.side.over (events_told run.side (kept.calls Device))
+            (parts_of scenario after (record run { apps = set run.apps place app })))
+            (app_trace kept.calls what outcome app asks)
+            (same_parts scenario (turn_behind place (actors_of scenario)) 0 after after run.side.over (events_told run.side (kept.calls Device)) _ (trace_behind s after (trace_of run kept.calls) (App (place + 1)) what outcome)
+            (parts_of scenario after (record run { apps = set run.apps place app }))
+            (λ rest ok. ap (set (parts_of scenario s run rest) place) next ∙ app_set scenario s run rest all after place app within asks.holds)
+            (made_turn scenario place idle s after run.side.over (events_told run.side (kept.calls Device)) (parts_of scenario s run) (actors_of scenario) (trace_of run kept.calls) (App (place + 1)) what outcome
+            (are_so scenario place idle s run all turn_within few) goes kept.standing));
         kept = record {
-          apps = one_more scenario.scripts s after run.apps kept.clocks kept.calls place app clock t within kept.kept.apps known left more;
+          apps = one_more scenario.scripts s after run.apps kept.calls place app t within kept.kept.apps (rw call.leads refl) left more;
           device = kept.kept.device;
           compositor = kept.kept.compositor;
           counted = omega (arith, counted, locks);
-          work = omega (arith, work, set_work, less, locks);
+          work = omega (arith, work, set_work, less, locks, held);
         };
       }
 
@@ -114,64 +146,68 @@ module _ (scenario : Scenario) (place idle : ℕ) (s after : State) (run : RunSt
   pub op_made : (app : AppState) → OpMade (place + 1) ops old app s after → old.made < length ops → old.has_left ≡ false → RunInvariant scenario place idle s run start now
       → RunInvariant scenario (turn_behind place (actors_of scenario)) 0 after (record run { apps = set run.apps place app }) start now
   op_made app m more stays kept =
-      let what : Request = request_for old.names m.op in
-      let clock : ℤ = get_or kept.clocks place (pos 0) in
+      let what : Request = op_request old m.op in
+      let clock : ℤ = after.core.device.clock in
       let t : request.Exchange = exchange_of what m.outcome in
       let e = entry_of (App (place + 1)) what m.outcome.reply in
-      let pending : length after.core.frames.pending ≤ length s.core.frames.pending + 1 = rw m.call.leads (brings_one s e (op_is_bringing old.names m.op)) in
-      let same_left : after.core.left ≡ s.core.left = rw m.call.leads (call_keeps s e (op_stays old.names m.op)) in
+      let locked : is_locked (request_for old.names m.op) ≡ true = op_locked old.names m.op m.built in
+      let brought : frames_work after.core.frames.pending ≤ frames_work s.core.frames.pending + 65 = rw m.call.leads (op_brings s e old.clock old.names m.op refl m.ranged) in
+      let same_left : after.core.left ≡ s.core.left = rw m.call.leads (call_keeps s e (op_stays old.clock old.names m.op)) in
       rw m.app
-      (goes_on what m.outcome (app_with old m.op t) (script (place + 1) (old.made + 1) (drop old.made ops) old.names clock) (clock_behind clock what after) kept m.call
+      (goes_on what m.outcome (app_with old m.op t clock) (script (place + 1) (old.made + 1) (drop old.made ops) old.names old.clock) kept m.call
+      (record {
+        locked = as_locked old.clock (request_for old.names m.op) ∙ locked;
+        starts = starts old.clock (request_for old.names m.op);
+        timed = refl;
+        returns = op_returns old.clock old.names s m.op;
+        holds = rw m.call.leads (call_holds s e (op_holds old.clock old.names m.op));
+      })
       (rw stays refl)
-      (record { actor = refl; call = rw m.here (built_unstarted clock what m.call.built) })
-      (rw (m.here, stays) refl)
-      (op_more ops old (kept.calls (App (place + 1))) m.op m.outcome more m.here stays (old_kept kept))
-      (rw m.call.leads refl)
-      (same_left ∙ kept.kept.apps.left ∙ sym (map-set_same (λ (a : AppState). a.has_left) run.apps place (app_with old m.op t) old (ap (λ (a : AppState). a.has_left) (sym (here old)))))
-      (rw (m.call.leads, built_locked what m.call.built) refl)
-      (rw stays (omega (arith, more, pending))))
+      (record { actor = refl; call = rw m.here refl })
+      (rw (m.here, stays, locked) refl)
+      (op_more ops old (kept.calls (App (place + 1))) m.op m.outcome clock more m.here stays (old_kept kept))
+      (same_left ∙ kept.kept.apps.left ∙ sym (map-set_same (λ (a : AppState). a.has_left) run.apps place (app_with old m.op t clock) old (ap (λ (a : AppState). a.has_left) (sym (here old)))))
+      (rw stays (omega (arith, more, brought))))
 
   -- `leave`
   pub leaves : (app : AppState) → Leaves (place + 1) old app s after → old.made ≡ length ops → old.has_left ≡ false → RunInvariant scenario place idle s run start now
       → RunInvariant scenario (turn_behind place (actors_of scenario)) 0 after (record run { apps = set run.apps place app }) start now
   leaves app m all stays kept =
-      let clock : ℤ = get_or kept.clocks place (pos 0) in
+      let clock : ℤ = after.core.device.clock in
       let t : request.Exchange = exchange_of leave m.outcome in
+      let e = entry_of (App (place + 1)) leave m.outcome.reply in
       let none : drop old.made ops ≡ [] = none_left ops old.made all in
-      let own : place + 1 - 1 ≡ place = omega arith in
-      let pending : length after.core.frames.pending ≤ length s.core.frames.pending + 0 = rw m.call.leads (brings s (entry_of (App (place + 1)) leave m.outcome.reply) tt) in
+      let same_left : after.core.left ≡ set s.core.left place true = rw (m.call.leads, own) refl in
+      let brought : frames_work after.core.frames.pending ≤ frames_work s.core.frames.pending + 0 = rw m.call.leads (brings s e tt) in
       rw m.app
-      (goes_on leave m.outcome (app_left old t) (script (place + 1) (old.made + 1) (drop old.made ops) old.names clock) clock kept m.call
+      (goes_on leave m.outcome (app_left old t clock) (script (place + 1) (old.made + 1) (drop old.made ops) old.names old.clock) kept m.call
+      (record { locked = refl; starts = tt; timed = refl; returns = refl; holds = rw m.call.leads (call_holds s e tt) })
       (rw stays refl)
       (record { actor = refl; call = rw none refl })
       (rw none refl)
-      (leave_more ops old (kept.calls (App (place + 1))) m.outcome all stays (old_kept kept))
-      (rw m.call.leads refl)
-      (rw (m.call.leads, own, kept.kept.apps.left) (sym (map-set (λ (a : AppState). a.has_left) run.apps place (app_left old t))))
-      (rw m.call.leads refl)
-      (rw stays (omega (arith, pending))))
+      (leave_more ops old (kept.calls (App (place + 1))) m.outcome clock all stays (old_kept kept))
+      (same_left ∙ ap (λ (l : List Bool). set l place true) kept.kept.apps.left ∙ sym (map-set (λ (a : AppState). a.has_left) run.apps place (app_left old t clock)))
+      (rw stays (omega (arith, brought))))
 
   -- it has to wait
   pub op_waits : (app : AppState) → OpWaits (place + 1) ops old app s after → old.has_left ≡ false → RunInvariant scenario place idle s run start now
       → RunInvariant scenario (turn_behind place (actors_of scenario)) (idle + 1) after (record run { apps = set run.apps place app }) start now
   op_waits app m stays kept =
-      let clock : ℤ = get_or kept.clocks place (pos 0) in
-      let all : AreAll scenario run kept.clocks = all_of scenario s run kept.clocks kept.calls start now kept.kept in
-      let part : (rest : List DeviceEvent) → get_or (parts_of scenario run kept.clocks rest) place [] ≡ script (place + 1) (old.made + 1) (drop old.made ops) old.names clock ∷ [] =
-      λ rest. app_at scenario run kept.clocks rest all place old within ∙ ap (λ (a : AppState). script_part (place + 1) ops a clock) (here old) ∙ rw stays refl in
+      let all : AreAll scenario run = all_of scenario s run kept.calls start now kept.kept in
+      let part : (rest : List DeviceEvent) → get_or (parts_of scenario s run rest) place [] ≡ script (place + 1) (old.made + 1) (drop old.made ops) old.names old.clock ∷ [] =
+      λ rest. app_at scenario s run rest all place old within ∙ ap (script_part (place + 1) ops) (here old) ∙ rw stays refl in
       rw (m.same, m.app, same_apps run old place here)
       (passes scenario place idle s run start now turn_within few kept
-      (λ rest ok. subst (AreHeldBack s) (sym (part rest)) (rw m.here (ap (λ (r : Request). ready s (asked (App (place + 1)) r)) (op_unstarted clock old.names m.op m.built) ∙ m.waits), tt)))
+      (λ rest ok. subst (AreHeldBack s) (sym (part rest)) (rw m.here m.waits, tt)))
 
   -- it has left
   pub has_left : old.has_left ≡ true → RunInvariant scenario place idle s run start now → RunInvariant scenario (turn_behind place (actors_of scenario)) (idle + 1) s (record run { apps = set run.apps place old }) start now
   has_left gone kept =
-      let gone_part : (clock : ℤ) → script_part (place + 1) ops old clock ≡ [] = λ clock. rw gone refl in
-      let clock : ℤ = get_or kept.clocks place (pos 0) in
-      let all : AreAll scenario run kept.clocks = all_of scenario s run kept.clocks kept.calls start now kept.kept in
+      let gone_part : script_part (place + 1) ops old ≡ [] = rw gone refl in
+      let all : AreAll scenario run = all_of scenario s run kept.calls start now kept.kept in
       rw (same_apps run old place here)
       (passes scenario place idle s run start now turn_within few kept
-      (λ rest ok. subst (AreHeldBack s) (sym (app_at scenario run kept.clocks rest all place old within ∙ ap (λ (a : AppState). script_part (place + 1) ops a clock) (here old) ∙ gone_part clock)) tt))
+      (λ rest ok. subst (AreHeldBack s) (sym (app_at scenario s run rest all place old within ∙ ap (script_part (place + 1) ops) (here old) ∙ gone_part)) tt))
 
   -- by what the function that makes the call says
   pub op_turn : (app : AppState) (went : Bool) → OpTurn (place + 1) ops old app s after went → old.made < length ops → old.has_left ≡ false → RunInvariant scenario place idle s run start now

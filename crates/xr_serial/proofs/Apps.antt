@@ -12,11 +12,10 @@ use Rattle.xr_model.specs.machine.Request as request
 use Rattle.xr_model.specs.machine.Request.{Request, Outcome, leave}
 use Rattle.xr_model.specs.machine.State.{State}
 use Rattle.xr_model.specs.runs.NameValues.{value_given}
-use Rattle.xr_model.specs.runs.Scripts.{request_for}
 use Rattle.xr_model.specs.runs.Lists.{made_at, made_from}
 use Rattle.xr_serial.specs.inside.Made.{exchange_of, calls_with}
 use Rattle.xr_serial.specs.inside.RunState.{AppState}
-use Rattle.xr_serial.specs.inside.Sides.{app_with, app_left}
+use Rattle.xr_serial.specs.inside.Sides.{app_with, app_left, op_request}
 use Rattle.xr_serial.specs.inside.RunInvariant.{AppKept, AppsKept}
 use Rattle.xr_serial.proofs.Ops.{same_request}
 
@@ -29,14 +28,21 @@ drop_all ops = grind (arith, common_steps)
 
 -- ---- one application
 
+-- told by what each of its values is
+pub same_app : {a b : AppState} → a.made ≡ b.made → a.names ≡ b.names → a.calls ≡ b.calls → a.clock ≡ b.clock → a.has_left ≡ b.has_left → a ≡ b
+same_app {a} {b} made names calls clock left = by b.made b.names b.calls b.clock b.has_left made names calls clock left
+  where
+    by : (m : ℕ) (n : List ℕ) (c : List Made) (t : ℤ) (l : Bool) → a.made ≡ m → a.names ≡ n → a.calls ≡ c → a.clock ≡ t → a.has_left ≡ l → a ≡ record { made = m; names = n; calls = c; clock = t; has_left = l }
+    by m n c t l em en ec et el = rw (← em, ← en, ← ec, ← et, ← el) refl
+
 -- it hasn't left yet
 left_no_calls : (app : AppState) (calls : List request.Exchange) → app.has_left ≡ false → length calls ≡ app.made + (if app.has_left then 1 else 0) → length calls ≡ app.made + 0
 left_no_calls app calls stays count = count ∙ rw stays refl
 
-pub op_more : (ops : List Op) (app : AppState) (calls : List request.Exchange) (o : Op) (outcome : Outcome) → app.made < length ops → drop app.made ops ≡ o ∷ drop (app.made + 1) ops → app.has_left ≡ false → AppKept ops app calls
-    → AppKept ops (app_with app o (exchange_of (request_for app.names o) outcome)) (calls ++ exchange_of (request_for app.names o) outcome ∷ [])
-op_more ops app calls o outcome within here stays kept =
-    let t : request.Exchange = exchange_of (request_for app.names o) outcome in
+pub op_more : (ops : List Op) (app : AppState) (calls : List request.Exchange) (o : Op) (outcome : Outcome) (clock : ℤ) → app.made < length ops → drop app.made ops ≡ o ∷ drop (app.made + 1) ops → app.has_left ≡ false → AppKept ops app calls
+    → AppKept ops (app_with app o (exchange_of (op_request app o) outcome) clock) (calls ++ exchange_of (op_request app o) outcome ∷ [])
+op_more ops app calls o outcome clock within here stays kept =
+    let t : request.Exchange = exchange_of (op_request app o) outcome in
     let count : length calls ≡ app.made + 0 = left_no_calls app calls stays kept.count in
     let place : 1 + length calls ≡ app.made + 1 = omega (arith, count) in
     record {
@@ -44,15 +50,15 @@ op_more ops app calls o outcome within here stays kept =
       named = length-set app.names (app.made + 1 - 1) (value_given o outcome.reply.gives) ∙ kept.named;
       list_is = sym (made_snoc 1 calls t ∙ rw (place, ← kept.list_is) refl);
       count = length-append calls (t ∷ []) ∙ rw stays (omega (arith, count));
-      follows = λ more here_yet h. rw append_assoc (kept.follows (t ∷ more) stays (rw here (same_request app.names o, h)));
-      so_far = λ more here_yet h. rw append_assoc (kept.so_far (t ∷ more) stays (rw here (same_request app.names o, h)));
+      follows = λ more here_yet h. rw append_assoc (kept.follows (t ∷ more) stays (rw here (same_request app.clock app.names o, h)));
+      so_far = λ more here_yet h. rw append_assoc (kept.so_far (t ∷ more) stays (rw here (same_request app.clock app.names o, h)));
       whole = λ e. absurd (true≢false (sym e ∙ stays));
       front = λ e. absurd (true≢false (sym e ∙ stays));
     }
 
-pub leave_more : (ops : List Op) (app : AppState) (calls : List request.Exchange) (outcome : Outcome) → app.made ≡ length ops → app.has_left ≡ false → AppKept ops app calls
-    → AppKept ops (app_left app (exchange_of leave outcome)) (calls ++ exchange_of leave outcome ∷ [])
-leave_more ops app calls outcome all stays kept =
+pub leave_more : (ops : List Op) (app : AppState) (calls : List request.Exchange) (outcome : Outcome) (clock : ℤ) → app.made ≡ length ops → app.has_left ≡ false → AppKept ops app calls
+    → AppKept ops (app_left app (exchange_of leave outcome) clock) (calls ++ exchange_of leave outcome ∷ [])
+leave_more ops app calls outcome clock all stays kept =
     let t : request.Exchange = exchange_of leave outcome in
     let none : drop app.made ops ≡ [] = rw all (drop_all ops) in
     let count : length calls ≡ app.made + 0 = left_no_calls app calls stays kept.count in
@@ -81,12 +87,11 @@ other_place i place apart = ne_eqb (i + 1) (place + 1) (λ same. apart (omega (a
 other_calls : (calls : Actor → List request.Exchange) (i place : ℕ) (t : request.Exchange) → (i ≡ place → ⊥) → calls_with calls (App (place + 1)) t (App (i + 1)) ≡ calls (App (i + 1))
 other_calls calls i place t apart = rw (other_place i place apart) refl
 
-pub one_more : (scripts : List (List Op)) (s after : State) (apps : List AppState) (clocks : List ℤ) (calls : Actor → List request.Exchange) (place : ℕ) (app : AppState) (clock : ℤ) (t : request.Exchange) → place < length scripts → AppsKept scripts s apps clocks calls
+pub one_more : (scripts : List (List Op)) (s after : State) (apps : List AppState) (calls : Actor → List request.Exchange) (place : ℕ) (app : AppState) (t : request.Exchange) → place < length scripts → AppsKept scripts s apps calls
     → after.core.apps ≡ s.core.apps → after.core.left ≡ map (λ (a : AppState). a.has_left) (set apps place app) → AppKept (get_or scripts place []) app (calls (App (place + 1)) ++ t ∷ [])
-    → AppsKept scripts after (set apps place app) (set clocks place clock) (calls_with calls (App (place + 1)) t)
-one_more scripts s after apps clocks calls place app clock t within kept known left here = record {
+    → AppsKept scripts after (set apps place app) (calls_with calls (App (place + 1)) t)
+one_more scripts s after apps calls place app t within kept known left here = record {
   count = length-set apps place app ∙ kept.count;
-  timed = length-set clocks place clock ∙ kept.timed;
   known = known ∙ kept.known;
   left = left;
   each = λ i none there. by i none there (i == place) refl;
@@ -102,11 +107,10 @@ one_more scripts s after apps clocks calls place app clock t within kept known l
         rw (get_or-set_other apps place i app none apart, other_calls calls i place t apart) (kept.each i none there)
 
 -- all, where somebody else has made a call
-pub others_more : (scripts : List (List Op)) (s after : State) (apps : List AppState) (clocks : List ℤ) (calls more : Actor → List request.Exchange) → AppsKept scripts s apps clocks calls
-    → after.core.apps ≡ s.core.apps → after.core.left ≡ s.core.left → ((place : ℕ) → more (App (place + 1)) ≡ calls (App (place + 1))) → AppsKept scripts after apps clocks more
-others_more scripts s after apps clocks calls more kept known left same = record {
+pub others_more : (scripts : List (List Op)) (s after : State) (apps : List AppState) (calls more : Actor → List request.Exchange) → AppsKept scripts s apps calls
+    → after.core.apps ≡ s.core.apps → after.core.left ≡ s.core.left → ((place : ℕ) → more (App (place + 1)) ≡ calls (App (place + 1))) → AppsKept scripts after apps more
+others_more scripts s after apps calls more kept known left same = record {
   count = kept.count;
-  timed = kept.timed;
   known = known ∙ kept.known;
   left = left ∙ kept.left;
   each = λ place none within. rw (same place) (kept.each place none within);

@@ -14,24 +14,24 @@ use Rattle.xr_types.specs.declared.scenario.Op.{Op}
 use Rattle.xr_types.specs.declared.scenario.Scenario.{Scenario}
 use Rattle.xr_io.specs.Outside.{Rose}
 use Rattle.xr_model.specs.machine.Request as request
-use Rattle.xr_model.specs.machine.Request.{Request, wait_image, next_frame, Entry, Outcome, is_actor}
+use Rattle.xr_model.specs.machine.Request.{next_frame, Entry, Outcome, is_actor}
 use Rattle.xr_model.specs.machine.State.{State, opening}
 use Rattle.xr_model.specs.machine.History.{shown_if, calls_from, calls_of}
 use Rattle.xr_model.specs.runs.Scripts.{request_for, FollowsSoFar}
-use Rattle.xr_model.specs.runs.Robin.{Agenda, script, events, compositor, actor_of, next_call, NextMove, next_move, IsCallOf, agendas_behind, with_start, device_calls, first_agendas, IsRobinFrom, agendas_left, in_round}
+use Rattle.xr_model.specs.runs.Robin.{Agenda, script, events, compositor, actor_of, next_call, NextMove, next_move, IsCallOf, agendas_behind, is_ended, device_calls, first_agendas, IsRobinFrom, agendas_left, in_round}
 use Rattle.xr_types.specs.declared.calls.Gives.TheVariants.{Ended}
 use Rattle.xr_types.specs.Frames.{ShownFrame}
 use Rattle.xr_model.specs.laws.FrameLaws.{shown_from}
 use Rattle.xr_model.specs.machine.Machine.{step}
 use Rattle.xr_serial.specs.inside.Made.{exchange_of}
 use Rattle.xr_model.specs.report.RunEnding.{is_fault}
-use Rattle.xr_model.specs.runs.Lists.{name_of, end_of, frames_in, events_in, lists_to, lists_of, made_from, waiting_of}
-use Rattle.xr_serial.specs.Ran.{settings_of, OfEachScript, IsEnd, IsWhole, Ran}
+use Rattle.xr_model.specs.runs.Lists.{name_of, end_of, done_from, frames_in, events_in, lists_to, lists_of, made_from, waiting_of}
+use Rattle.xr_serial.specs.Ran.{settings_of, OfEachScript, GoesOn, a_frame, an_image, IsEnd, IsWhole, Ran}
 use Rattle.xr_serial.specs.inside.RunState.{AppState, RunState}
 use Rattle.xr_device.specs.Prospect.{Prospect}
 use Rattle.xr_serial.specs.inside.Turns.{script_part, script_parts, device_part, compositor_part, pending_list, parts_of, actors_of, from_turn, joined, AreHeldBack}
 use Rattle.xr_serial.specs.inside.Past.{IsRest}
-use Rattle.xr_serial.specs.inside.RunInvariant.{AppKept, WereShown, EndKept, events_told, RunInvariant}
+use Rattle.xr_serial.specs.inside.RunInvariant.{AppKept, AllGoOn, EndKept, events_told, RunInvariant}
 use Rattle.xr_serial.specs.inside.AtEnd.{app_next, apps_next, next_name, next_calls, lists_at}
 use Rattle.xr_serial.proofs.TurnOrder.{none_turn, all_held}
 use Rattle.xr_serial.proofs.Parts.{AreAll, parts_count}
@@ -54,24 +54,29 @@ follows_so_far ops app calls kept = by app.has_left refl
 
 -- ---- the compositor
 
-none_ended : (calls : List request.Exchange) → WereShown calls → end_of calls ≡ None
-none_ended [] were = refl
-none_ended (t ∷ calls) were = rw were.1 (none_ended calls were.2)
+-- behind such a call it isn't told the end
+not_the_end : (t : request.Exchange) → GoesOn t → is_ended t.outcome.reply.gives ≡ false
+not_the_end t (a_frame is gives) = rw gives refl
+not_the_end t (an_image is gives) = rw gives refl
 
-last_ended : (front : List request.Exchange) (last : Outcome) → WereShown front → last.reply.gives ≡ Ended → end_of (front ++ exchange_of next_frame last ∷ []) ≡ Some last.reply
+none_ended : (calls : List request.Exchange) → AllGoOn calls → end_of calls ≡ None
+none_ended [] were = refl
+none_ended (t ∷ calls) were = rw (not_the_end t were.0) (none_ended calls were.1)
+
+last_ended : (front : List request.Exchange) (last : Outcome) → AllGoOn front → last.reply.gives ≡ Ended → end_of (front ++ exchange_of next_frame last ∷ []) ≡ Some last.reply
 last_ended [] last were ends = rw ends refl
-last_ended (t ∷ front) last were ends = rw were.1 (last_ended front last were.2 ends)
+last_ended (t ∷ front) last were ends = rw (not_the_end t were.0) (last_ended front last were.1 ends)
 
 ends_so : (ended : Option Reply) (calls : List request.Exchange) → EndKept ended calls → end_of calls ≡ ended
 ends_so None calls were = none_ended calls were
 ends_so (Some reply) calls end = rw end.2 (last_ended end.0 end.1 end.3 (ap (λ (r : Reply). r.gives) end.4 ∙ end.5) ∙ ap Some end.4)
 
-ends_last : (front : List request.Exchange) (last : Outcome) → WereShown front → last.reply.gives ≡ Ended → IsEnd (front ++ exchange_of next_frame last ∷ [])
+ends_last : (front : List request.Exchange) (last : Outcome) → AllGoOn front → last.reply.gives ≡ Ended → IsEnd (front ++ exchange_of next_frame last ∷ [])
 ends_last [] last were ends = (refl, ends)
-ends_last (t ∷ []) last were ends = (were.0, were.1, (refl, ends))
-ends_last (t ∷ u ∷ front) last were ends = (were.0, were.1, ends_last (u ∷ front) last were.2 ends)
+ends_last (t ∷ []) last were ends = (were.0, (refl, ends))
+ends_last (t ∷ u ∷ front) last were ends = (were.0, ends_last (u ∷ front) last were.1 ends)
 
-ends_once : (ended : Option Reply) (calls : List request.Exchange) → EndKept ended calls → map waiting_of (compositor_part ended) ≡ [] → IsEnd calls
+ends_once : (ended : Option Reply) (calls : List request.Exchange) → EndKept ended calls → map waiting_of (compositor_part ended 0) ≡ [] → IsEnd calls
 ends_once None calls none h = absurd (filled _ [] h)
 ends_once (Some reply) calls end none = rw end.2 (ends_last end.0 end.1 end.3 (ap (λ (r : Reply). r.gives) end.4 ∙ end.5))
 
@@ -100,33 +105,33 @@ robin_shows s agendas (e ∷ es) robin = by (next_move s [] agendas) robin.0 (ro
         of (script app place [] values clock) who what = hidden (rw who refl) (rw what tt) more
         of (script app place (o ∷ os) values clock) who what = hidden (rw who refl) (subst IsHidden (sym what) (op_hidden clock values o)) more
         of (events event later) who what = hidden (rw who refl) (rw what tt) more
-        of compositor who what = own (rw who refl) more
+        of (compositor held) who what = own (rw who refl) more
 
 -- ---- those left
-
-name_started : (clock : ℤ) (r : Request) → name_of (with_start clock r) ≡ name_of r
-name_started clock (wait_image chain timeout start) = refl
-name_started clock _ = refl
 
 -- what is told of an application doesn't tell its clock
 script_waits : (number place : ℕ) (ops : List Op) (values : List ℕ) (clock : ℤ) → waiting_of (script number place ops values clock) ≡ record { actor = App number; op = place; name = next_name ops }
 script_waits number place [] values clock = refl
-script_waits number place (o ∷ os) values clock = rw (name_started clock (request_for values o), name_is values o) refl
+script_waits number place (o ∷ os) values clock = rw (name_is clock values o) refl
 
-part_waits : (number : ℕ) (ops : List Op) (app : AppState) (clock : ℤ) → map waiting_of (script_part number ops app clock) ≡ app_next number ops app
-part_waits number ops app clock = by app.has_left refl
+part_waits : (number : ℕ) (ops : List Op) (app : AppState) → map waiting_of (script_part number ops app) ≡ app_next number ops app
+part_waits number ops app = by app.has_left refl
   where
-    by : (left : Bool) → app.has_left ≡ left → map waiting_of (script_part number ops app clock) ≡ app_next number ops app
+    by : (left : Bool) → app.has_left ≡ left → map waiting_of (script_part number ops app) ≡ app_next number ops app
     by true e = rw e refl
-    by false e = rw e (ap (λ (w : Waiting). w ∷ []) (script_waits number (app.made + 1) (drop app.made ops) app.names clock))
+    by false e = rw e (ap (λ (w : Waiting). w ∷ []) (script_waits number (app.made + 1) (drop app.made ops) app.names app.clock))
 
-parts_wait : (number : ℕ) (scripts : List (List Op)) (apps : List AppState) (clocks : List ℤ) → length apps ≡ length scripts → length clocks ≡ length scripts → map waiting_of (joined (script_parts number scripts apps clocks)) ≡ apps_next number scripts apps
-parts_wait number [] apps clocks a c = refl
-parts_wait number (ops ∷ scripts) [] clocks a c = refl
-parts_wait number (ops ∷ scripts) (app ∷ apps) [] a c = let none : ⊥ = omega (arith, c) in absurd none
-parts_wait number (ops ∷ scripts) (app ∷ apps) (clock ∷ clocks) a c =
-    map-append waiting_of (script_part number ops app clock) (joined (script_parts (number + 1) scripts apps clocks))
-    ∙ rw (part_waits number ops app clock, parts_wait (number + 1) scripts apps clocks (omega (arith, a)) (omega (arith, c))) refl
+parts_wait : (number : ℕ) (scripts : List (List Op)) (apps : List AppState) → length apps ≡ length scripts → map waiting_of (joined (script_parts number scripts apps)) ≡ apps_next number scripts apps
+parts_wait number [] apps a = refl
+parts_wait number (ops ∷ scripts) [] a = refl
+parts_wait number (ops ∷ scripts) (app ∷ apps) a =
+    map-append waiting_of (script_part number ops app) (joined (script_parts (number + 1) scripts apps))
+    ∙ rw (part_waits number ops app, parts_wait (number + 1) scripts apps (omega (arith, a))) refl
+
+-- nor how many images the compositor holds
+end_waits : (ended : Option Reply) (held : ℕ) → map waiting_of (compositor_part ended held) ≡ map waiting_of (compositor_part ended 0)
+end_waits None held = refl
+end_waits (Some reply) held = refl
 
 -- what is still to come of a device is behind its next event
 device_waits : (over : Bool) (pending : Option DeviceEvent) (rest : List DeviceEvent) → IsRest over rest → (pending ≡ None → over ≡ true) → map waiting_of (device_part pending rest) ≡ map waiting_of (device_part pending [])
@@ -180,7 +185,7 @@ as_many turn parts =
 -- ---- the run
 
 abbrev nobody : AppState
-nobody = record { made = 0; names = []; calls = []; has_left = false }
+nobody = record { made = 0; names = []; calls = []; clock = pos 0; has_left = false }
 
 module _ (scenario : Scenario) (turn : ℕ) (s : State) (run : RunState) (start now : Prospect) (inv : RunInvariant scenario turn (actors_of scenario) s run start now) (within : turn < actors_of scenario) where
   abbrev device : Gives run.side (inv.calls Device) start now
@@ -192,20 +197,20 @@ module _ (scenario : Scenario) (turn : ℕ) (s : State) (run : RunState) (start 
   calls_are : (who : Actor) → calls_of (settings_of scenario) who history ≡ inv.calls who
   calls_are who = inv.standing.so_far.made who [] ∙ append-nil (inv.calls who)
 
-  all : AreAll scenario run inv.clocks
-  all = all_of scenario s run inv.clocks inv.calls start now inv.kept
+  all : AreAll scenario run
+  all = all_of scenario s run inv.calls start now inv.kept
 
   abbrev left : List DeviceEvent → List Agenda
-  left rest = joined (from_turn turn (parts_of scenario run inv.clocks rest))
+  left rest = joined (from_turn turn (parts_of scenario s run rest))
 
   abbrev calls : List DeviceEvent
   calls = device_calls device.events device.ending
 
   stands : (rest : List DeviceEvent) → IsRest run.side.over rest → (inv.standing.so_far.agendas rest ≡ left rest) × AreHeldBack s (left rest)
   stands rest ok =
-      let size : length (parts_of scenario run inv.clocks rest) ≡ actors_of scenario = parts_count scenario run inv.clocks rest all in
-      let from : length (from_turn turn (parts_of scenario run inv.clocks rest)) ≡ length (parts_of scenario run inv.clocks rest) = as_many turn (parts_of scenario run inv.clocks rest) in
-      all_held s (actors_of scenario) (from_turn turn (parts_of scenario run inv.clocks rest)) (inv.standing.so_far.agendas rest) (omega (arith, size, from)) (inv.standing.order rest ok)
+      let size : length (parts_of scenario s run rest) ≡ actors_of scenario = parts_count scenario s run rest all in
+      let from : length (from_turn turn (parts_of scenario s run rest)) ≡ length (parts_of scenario s run rest) = as_many turn (parts_of scenario s run rest) in
+      all_held s (actors_of scenario) (from_turn turn (parts_of scenario s run rest)) (inv.standing.so_far.agendas rest) (omega (arith, size, from)) (inv.standing.order rest ok)
 
   -- a device of which more may come is asked for it, since it could tell what can be made at once
   known : run.side.pending ≡ None → run.side.over ≡ true
@@ -216,7 +221,7 @@ module _ (scenario : Scenario) (turn : ℕ) (s : State) (run : RunState) (start 
       by false e =
           let rest : List DeviceEvent = event.Clock (pos 0) ∷ [] in
           let ok : IsRest run.side.over rest = λ over. absurd (true≢false (sym over ∙ e)) in
-          let held : AreHeldBack s (device_part run.side.pending rest) = device_held scenario run inv.clocks rest all turn s (stands rest ok).1 in
+          let held : AreHeldBack s (device_part run.side.pending rest) = device_held scenario s run rest all turn (stands rest ok).1 in
           let can : AreHeldBack s (device_part None rest) = subst (λ (p : Option DeviceEvent). AreHeldBack s (device_part p rest)) none held in
           absurd (true≢false can.0)
 
@@ -233,11 +238,12 @@ module _ (scenario : Scenario) (turn : ℕ) (s : State) (run : RunState) (start 
 
   next_are : map waiting_of (in_round (length scenario.scripts) (agendas_left (opening (settings_of scenario)) (first_agendas scenario calls) history)) ≡ next_calls scenario run
   next_are =
-      let scripts : List Agenda = joined (script_parts 1 scenario.scripts run.apps inv.clocks) in
+      let scripts : List Agenda = joined (script_parts 1 scenario.scripts run.apps) in
       let part : List Agenda = device_part run.side.pending device.rest in
-      ap (λ (l : List Agenda). map waiting_of (in_round (length scenario.scripts) l)) left_are ∙ ap (map waiting_of) (in_round_is scenario run inv.clocks device.rest all turn)
-      ∙ map-append waiting_of (scripts ++ part) (compositor_part run.compositor.ended) ∙ ap (λ (l : List Waiting). l ++ map waiting_of (compositor_part run.compositor.ended)) (map-append waiting_of scripts part)
-      ∙ rw (parts_wait 1 scenario.scripts run.apps inv.clocks all.count all.timed, device_waits run.side.over run.side.pending device.rest device.none known) refl
+      let ends : List Agenda = compositor_part run.compositor.ended (length s.cells.held) in
+      ap (λ (l : List Agenda). map waiting_of (in_round (length scenario.scripts) l)) left_are ∙ ap (map waiting_of) (in_round_is scenario s run device.rest all turn)
+      ∙ map-append waiting_of (scripts ++ part) ends ∙ ap (λ (l : List Waiting). l ++ map waiting_of ends) (map-append waiting_of scripts part)
+      ∙ rw (parts_wait 1 scenario.scripts run.apps all, end_waits run.compositor.ended (length s.cells.held), device_waits run.side.over run.side.pending device.rest device.none known) refl
 
   kept_at : (place : ℕ) → place < length scenario.scripts → AppKept (get_or scenario.scripts place []) (get_or run.apps place nobody) (inv.calls (App (place + 1)))
   kept_at place within = inv.kept.apps.each place nobody within
@@ -245,15 +251,18 @@ module _ (scenario : Scenario) (turn : ℕ) (s : State) (run : RunState) (start 
   apps_are : (n : ℕ) → n ≤ length scenario.scripts → lists_to (settings_of scenario) n history ≡ map (λ (app : AppState). app.calls) (take n run.apps)
   apps_are zero few = refl
   apps_are (suc n) few =
-      let size = all.count in
+      let size = all in
       let one : made_from 1 (calls_of (settings_of scenario) (App (suc n)) history) ≡ (get_or run.apps n nobody).calls = ap (made_from 1) (calls_are (App (suc n))) ∙ ap (λ (m : ℕ). made_from 1 (inv.calls (App m))) (sym (add-one n)) ∙ sym (kept_at n (omega (arith, few))).list_is in
       rw (apps_are n (omega (arith, few)), one) (sym (map_more (λ (app : AppState). app.calls) run.apps n nobody (omega (arith, few, size))) ∙ ap (λ (m : ℕ). map (λ (app : AppState). app.calls) (take m run.apps)) (add-one n))
 
   all_apps : lists_to (settings_of scenario) (length scenario.scripts) history ≡ map (λ (app : AppState). app.calls) run.apps
-  all_apps = let size = all.count in apps_are (length scenario.scripts) (omega arith) ∙ ap (map (λ (app : AppState). app.calls)) (take_all (length scenario.scripts) run.apps (omega (arith, size)))
+  all_apps = let size = all in apps_are (length scenario.scripts) (omega arith) ∙ ap (map (λ (app : AppState). app.calls)) (take_all (length scenario.scripts) run.apps (omega (arith, size)))
+
+  done_are : done_from (opening (settings_of scenario)) history ≡ run.compositor.done
+  done_are = inv.standing.so_far.done [] ∙ append-nil run.compositor.done
 
   lists_are : lists_at scenario run ≡ lists_of (settings_of scenario) history (agendas_left (opening (settings_of scenario)) (first_agendas scenario calls) history)
-  lists_are = rw (next_are, all_apps, calls_are Device, calls_are Compositor, ← inv.kept.device.list_is, ← inv.kept.device.events_are, ends_so run.compositor.ended (inv.calls Compositor) inv.kept.compositor.end, ← inv.kept.compositor.frames_are, ← inv.kept.compositor.replies_are) refl
+  lists_are = rw (next_are, all_apps, calls_are Device, calls_are Compositor, ← inv.kept.device.list_is, ← inv.kept.device.events_are, ends_so run.compositor.ended (inv.calls Compositor) inv.kept.compositor.end, ← inv.kept.compositor.frames_are, ← inv.kept.compositor.replies_are, done_are) refl
 
   follow_so_far : OfEachScript scenario history FollowsSoFar
   follow_so_far place within = rw (calls_are (App (place + 1))) (follows_so_far (get_or scenario.scripts place []) (get_or run.apps place nobody) (inv.calls (App (place + 1))) (kept_at place within))
@@ -262,11 +271,11 @@ module _ (scenario : Scenario) (turn : ℕ) (s : State) (run : RunState) (start 
   whole none =
       let apps : List Waiting = apps_next 1 scenario.scripts run.apps in
       let told : List Waiting = map waiting_of (device_part run.side.pending []) in
-      let ends : List Waiting = map waiting_of (compositor_part run.compositor.ended) in
+      let ends : List Waiting = map waiting_of (compositor_part run.compositor.ended 0) in
       let both : apps ++ told ≡ [] = front_none (apps ++ told) ends none in
       let unknown : run.side.pending ≡ None = no_pending run.side.pending (behind_none apps told both) in
       record {
-        follow = λ place within. rw (calls_are (App (place + 1))) ((kept_at place within).whole (all_gone 1 scenario.scripts run.apps place nobody all.count (front_none apps told both) within));
+        follow = λ place within. rw (calls_are (App (place + 1))) ((kept_at place within).whole (all_gone 1 scenario.scripts run.apps place nobody all (front_none apps told both) within));
         ends = rw (calls_are Compositor) (ends_once run.compositor.ended (inv.calls Compositor) inv.kept.compositor.end (behind_none (apps ++ told) ends none));
         device =
             ap events_in (calls_are Device)
@@ -302,7 +311,7 @@ module _ (scenario : Scenario) (turn : ℕ) (s : State) (run : RunState) (start 
   -- a fault is never left, since its call can always be made
   no_fault_left : run.side.pending ≡ Some event.Fault → ⊥
   no_fault_left is =
-      let held : AreHeldBack s (device_part run.side.pending device.rest) = device_held scenario run inv.clocks device.rest all turn s (stands device.rest device.none).1 in
+      let held : AreHeldBack s (device_part run.side.pending device.rest) = device_held scenario s run device.rest all turn (stands device.rest device.none).1 in
       let can : AreHeldBack s (device_part (Some event.Fault) device.rest) = subst (λ (p : Option DeviceEvent). AreHeldBack s (device_part p device.rest)) is held in
       true≢false can.0
 

@@ -1,5 +1,5 @@
 -- What the loop keeps holds at the start.
-use Rattle.std.proofs.Common.{◌≡◌, ◌≤◌, ◌+◌, ℕ, ℤ, suc, pos, false, List, [], ◌∷◌, ◌++◌, length, map, get_or, replicate, Option, Some, None, refl, sym, ap, ◌∙◌, arith, append_assoc, true≢false}
+use Rattle.std.proofs.Common.{◌≡◌, ◌≤◌, ◌+◌, ℕ, ℤ, suc, pos, false, List, [], ◌∷◌, ◌++◌, length, map, get_or, replicate, Option, Some, None, refl, sym, ap, subst, ◌∙◌, arith, append_assoc, true≢false}
 use Rattle.std.proofs.lemmas.Grind.{common_steps}
 use Rattle.std.proofs.lemmas.List.{get_or-map}
 use Rattle.xr_types.specs.declared.calls.Actor.{Actor}
@@ -8,7 +8,7 @@ use Rattle.xr_types.specs.declared.scenario.Op.{Op}
 use Rattle.xr_types.specs.declared.scenario.Scenario.{Scenario}
 use Rattle.xr_model.specs.machine.Request as request
 use Rattle.xr_model.specs.machine.State.{opening}
-use Rattle.xr_model.specs.machine.History.{opening_clocks}
+use Rattle.xr_model.specs.machine.History.{IsLegalFrom}
 use Rattle.xr_model.specs.device_text.DeviceText.{DeviceStream}
 use Rattle.xr_model.specs.runs.NameValues.{no_values}
 use Rattle.xr_model.specs.runs.Robin.{Agenda, script, script_agendas, device_agendas, compositor, first_agendas}
@@ -23,7 +23,7 @@ use Rattle.xr_serial.proofs.Work.{work_at_start}
 
 -- a run before its first call
 abbrev pub start_of : Scenario → RunState
-start_of scenario = record { apps = map new_app scenario.scripts; side = record { pending = None; over = false; events = []; calls = [] }; compositor = record { frames = []; replies = []; ended = None } }
+start_of scenario = record { apps = map new_app scenario.scripts; side = record { pending = None; over = false; events = []; calls = [] }; compositor = record { frames = []; replies = []; done = []; ended = None } }
 
 gives_all : (told : Option DeviceStream) → GivesMore told told []
 gives_all None = tt
@@ -32,9 +32,10 @@ gives_all (Some t) = refl
 abbrev no_calls : Actor → List request.Exchange
 no_calls who = []
 
--- the clock of each application
-abbrev clocks_at_start : List (List Op) → List ℤ
-clocks_at_start scripts = map (λ (ops : List Op). pos 0) scripts
+-- the clock that each application knows
+no_clocks : (scripts : List (List Op)) → replicate (length scripts) (pos 0) ≡ map (λ (a : AppState). a.clock) (map new_app scripts)
+no_clocks [] = refl
+no_clocks (ops ∷ scripts) = ap (λ l. pos 0 ∷ l) (no_clocks scripts)
 
 length-map : {A B : Type 0} (f : A → B) (xs : List A) → length (map f xs) ≡ length xs
 length-map f [] = refl
@@ -46,16 +47,16 @@ none_left [] = refl
 none_left (ops ∷ scripts) = ap (λ l. false ∷ l) (none_left scripts)
 
 -- each application's agenda is its whole script
-scripts_joined : (number : ℕ) (scripts : List (List Op)) → joined (script_parts number scripts (map new_app scripts) (clocks_at_start scripts)) ≡ script_agendas number scripts
+scripts_joined : (number : ℕ) (scripts : List (List Op)) → joined (script_parts number scripts (map new_app scripts)) ≡ script_agendas number scripts
 scripts_joined number [] = refl
 scripts_joined number (ops ∷ scripts) = ap (λ (l : List Agenda). script number 1 ops (no_values (length ops)) (pos 0) ∷ l) (scripts_joined (number + 1) scripts)
 
-parts_joined : (scenario : Scenario) (rest : List DeviceEvent) → first_agendas scenario rest ≡ joined (parts_of scenario (start_of scenario) (clocks_at_start scenario.scripts) rest)
+parts_joined : (scenario : Scenario) (rest : List DeviceEvent) → first_agendas scenario rest ≡ joined (parts_of scenario (opening (settings_of scenario)) (start_of scenario) rest)
 parts_joined scenario rest =
-    let scripts : List (List Agenda) = script_parts 1 scenario.scripts (map new_app scenario.scripts) (clocks_at_start scenario.scripts) in
+    let scripts : List (List Agenda) = script_parts 1 scenario.scripts (map new_app scenario.scripts) in
     sym
-    (joined-append scripts (device_agendas rest ∷ (compositor ∷ []) ∷ []) ∙ ap (λ (l : List Agenda). l ++ (device_agendas rest ++ compositor ∷ [])) (scripts_joined 1 scenario.scripts)
-    ∙ sym (append_assoc (script_agendas 1 scenario.scripts) (device_agendas rest) (compositor ∷ [])))
+    (joined-append scripts (device_agendas rest ∷ (compositor 0 ∷ []) ∷ []) ∙ ap (λ (l : List Agenda). l ++ (device_agendas rest ++ compositor 0 ∷ [])) (scripts_joined 1 scenario.scripts)
+    ∙ sym (append_assoc (script_agendas 1 scenario.scripts) (device_agendas rest) (compositor 0 ∷ [])))
 
 app_starts : (ops : List Op) → AppKept ops (new_app ops) []
 app_starts ops = record {
@@ -74,19 +75,18 @@ starts scenario start few =
     let work = work_at_start scenario.scripts in
     record {
       calls = no_calls;
-      clocks = clocks_at_start scenario.scripts;
       standing = record {
         so_far = record {
           past = [];
-          clocks = opening_clocks (settings_of scenario);
           agendas = λ rest. first_agendas scenario rest;
-          legal = λ more h. h;
+          legal = λ more h. subst (λ (l : List ℤ). IsLegalFrom (opening (settings_of scenario)) l more) (sym (no_clocks scenario.scripts)) h;
           robin = λ rest ok more h. h;
           left = λ rest ok more. refl;
           made = λ who more. refl;
+          done = λ more. refl;
         };
         order = λ rest ok. record {
-          coming = parts_of scenario (start_of scenario) (clocks_at_start scenario.scripts) rest;
+          coming = parts_of scenario (opening (settings_of scenario)) (start_of scenario) rest;
           passed = [];
           order_is = refl;
           count = refl;
@@ -97,7 +97,6 @@ starts scenario start few =
       kept = record {
         apps = record {
           count = length-map new_app scenario.scripts;
-          timed = length-map (λ (ops : List Op). pos 0) scenario.scripts;
           known = refl;
           left = none_left scenario.scripts;
           each = λ place none within. rw (get_or-map new_app scenario.scripts place [] none within) (app_starts (get_or scenario.scripts place []));

@@ -17,12 +17,13 @@ use Rattle.xr_serial.specs.inside.RunState.{SideState, RunState}
 use Rattle.xr_device.specs.Prospect.{Prospect}
 use Rattle.xr_serial.specs.inside.Sides.{Fetched, side_asked, side_with, EventMade, EventWaits, EventTurn}
 use Rattle.xr_serial.specs.inside.Turns.{pending_list, device_part, parts_of, actors_of, turn_behind, AreHeldBack}
-use Rattle.xr_serial.specs.inside.Past.{Standing}
-use Rattle.xr_serial.specs.inside.RunInvariant.{DeviceKept, side_work, events_told, RunInvariant}
+use Rattle.xr_serial.specs.inside.Past.{Trace, Standing}
+use Rattle.xr_serial.specs.inside.RunInvariant.{DeviceKept, side_work, frames_work, events_told, trace_of, RunInvariant}
 use Rattle.xr_serial.proofs.Pending.{brings}
+use Rattle.xr_serial.proofs.Holding.{call_holds}
 use Rattle.xr_serial.proofs.OnlyLeaveLeaves.{call_keeps}
 use Rattle.xr_serial.proofs.Parts.{AreAll, device_at, device_set}
-use Rattle.xr_serial.proofs.Steps.{Goes, made_turn, same_parts, device_tells, device_ends}
+use Rattle.xr_serial.proofs.Steps.{Goes, trace_behind, made_turn, same_parts, device_tells, device_ends}
 use Rattle.xr_serial.proofs.Apps.{others_more}
 use Rattle.xr_serial.proofs.Told.{is_open, tells_event, tells_end, tells_garbled, tells_fault, events_snoc, event_kept}
 use Rattle.xr_serial.proofs.AppTurns.{all_of, are_so, passes}
@@ -32,8 +33,8 @@ abbrev pub with_side : RunState → SideState → RunState
 with_side run side = record run { side = side }
 
 -- what was told is the same list
-begun_again : (scenario : Scenario) (turn idle : ℕ) (s : State) (over : Bool) (a b : List DeviceEvent) (parts : List DeviceEvent → List (List Agenda)) (calls : Actor → List request.Exchange) → a ≡ b → Standing scenario turn idle s over a parts calls → Standing scenario turn idle s over b parts calls
-begun_again scenario turn idle s over a b parts calls same g = subst (λ (l : List DeviceEvent). Standing scenario turn idle s over l parts calls) same g
+begun_again : (scenario : Scenario) (turn idle : ℕ) (s : State) (over : Bool) (a b : List DeviceEvent) (parts : List DeviceEvent → List (List Agenda)) (trace : Trace) → a ≡ b → Standing scenario turn idle s over a parts trace → Standing scenario turn idle s over b parts trace
+begun_again scenario turn idle s over a b parts trace same g = subst (λ (l : List DeviceEvent). Standing scenario turn idle s over l parts trace) same g
 
 one_spent : (n : ℕ) → 1 + n ≡ 0 + n + 1
 one_spent n = omega arith
@@ -47,58 +48,65 @@ module _ (scenario : Scenario) (idle : ℕ) (s after : State) (run : RunState) (
   device_within : place < actors_of scenario
   device_within = omega arith
 
+  -- the device's call moves no application's clock, and gives back no image
+  event_trace : (calls : Actor → List request.Exchange) (e : DeviceEvent) (outcome : Outcome) → trace_behind s after (trace_of run calls) Device (device e) outcome ≡ trace_of run (calls_with calls Device (exchange_of (device e) outcome))
+  event_trace calls e outcome = rw (append-nil run.compositor.done) refl
+
   pub event_made : (side : SideState) (e : DeviceEvent) → run.side.pending ≡ Some e → EventMade e run.side side s after → RunInvariant scenario place idle s run start now
       → RunInvariant scenario (turn_behind place (actors_of scenario)) 0 after (with_side run side) start now
   event_made side e this m kept =
       let t : request.Exchange = exchange_of (device e) m.outcome in
-      let all : AreAll scenario run kept.clocks = all_of scenario s run kept.clocks kept.calls start now kept.kept in
+      let all : AreAll scenario run = all_of scenario s run kept.calls start now kept.kept in
       let new : SideState = side_with run.side e t in
-      let goes : Goes place (parts_of scenario run kept.clocks) s after Device (device e) m.outcome = record {
+      let goes : Goes place (parts_of scenario s run) s after (trace_of run kept.calls) Device (device e) m.outcome = record {
         agenda = λ rest. events e rest;
-        alone = λ rest. device_at scenario run kept.clocks rest all ∙ ap (λ (p : Option DeviceEvent). device_part p rest) this;
+        alone = λ rest. device_at scenario s run rest all ∙ ap (λ (p : Option DeviceEvent). device_part p rest) this;
         of = λ rest. record { actor = refl; call = refl };
+        starts = tt;
         made = m.call;
       } in
       let work = kept.kept.work in
       let counted = kept.kept.counted in
+      let holds : after.cells.held ≡ s.cells.held = rw m.call.leads (call_holds s (entry_of Device (device e) m.outcome.reply) tt) in
+      let held : length after.cells.held ≡ length s.cells.held = ap length holds in
       let grown : length (run.side.calls ++ made_at (length run.side.calls + 1) t ∷ []) ≡ length run.side.calls + 1 = length-append run.side.calls (made_at (length run.side.calls + 1) t ∷ []) in
       let locks : after.core.locked ≡ s.core.locked + 1 = rw m.call.leads refl in
-      let pending : length after.core.frames.pending ≤ length s.core.frames.pending + 0 = rw m.call.leads (brings s (entry_of Device (device e) m.outcome.reply) tt) in
+      let pending : frames_work after.core.frames.pending ≤ frames_work s.core.frames.pending + 0 = rw m.call.leads (brings s (entry_of Device (device e) m.outcome.reply) tt) in
       let spent : side_work run.side now.bound ≡ side_work new now.bound + 1 = ap (λ (p : Option DeviceEvent). (if is_some p then 1 else 0) + (if run.side.over then 0 else now.bound + 1)) this ∙ one_spent (if run.side.over then 0 else now.bound + 1) in
       let told : events_told run.side (kept.calls Device) ≡ events_told new (kept.calls Device ++ t ∷ []) =
       ap (λ (p : Option DeviceEvent). events_in (kept.calls Device) ++ pending_list p) this ∙ sym (append-nil (events_in (kept.calls Device ++ t ∷ [])) ∙ events_snoc (kept.calls Device) e m.outcome) in
       rw m.side (record {
         calls = calls_with kept.calls Device t;
-        clocks = kept.clocks;
         standing =
-            begun_again scenario (turn_behind place (actors_of scenario)) 0 after run.side.over _ _ _ (calls_with kept.calls Device t) told
-            (same_parts scenario (turn_behind place (actors_of scenario)) 0 after after run.side.over (events_told run.side (kept.calls Device)) _ (calls_with kept.calls Device t) (parts_of scenario (with_side run new) kept.clocks)
-            (λ rest ok. device_set scenario run kept.clocks rest all new rest)
-            (made_turn scenario place idle s after run.side.over (events_told run.side (kept.calls Device)) (parts_of scenario run kept.clocks) (actors_of scenario) kept.calls Device (device e) m.outcome
-            (are_so scenario place idle run kept.clocks all device_within few) goes kept.standing));
+            begun_again scenario (turn_behind place (actors_of scenario)) 0 after run.side.over _ _ _ (trace_of run (calls_with kept.calls Device t)) told
+            (subst (Standing scenario (turn_behind place (actors_of scenario)) 0 after run.side.over (events_told run.side (kept.calls Device)) (parts_of scenario after (with_side run new))) (event_trace kept.calls e m.outcome)
+            (same_parts scenario (turn_behind place (actors_of scenario)) 0 after after run.side.over (events_told run.side (kept.calls Device)) _ (trace_behind s after (trace_of run kept.calls) Device (device e) m.outcome) (parts_of scenario after (with_side run new))
+            (λ rest ok. device_set scenario s run rest all after new rest holds)
+            (made_turn scenario place idle s after run.side.over (events_told run.side (kept.calls Device)) (parts_of scenario s run) (actors_of scenario) (trace_of run kept.calls) Device (device e) m.outcome
+            (are_so scenario place idle s run all device_within few) goes kept.standing)));
         kept = record {
-          apps = others_more scenario.scripts s after run.apps kept.clocks kept.calls (calls_with kept.calls Device t) kept.kept.apps (rw m.call.leads refl) (rw m.call.leads (call_keeps s (entry_of Device (device e) m.outcome.reply) tt)) (λ place. refl);
+          apps = others_more scenario.scripts s after run.apps kept.calls (calls_with kept.calls Device t) kept.kept.apps (rw m.call.leads refl) (rw m.call.leads (call_keeps s (entry_of Device (device e) m.outcome.reply) tt)) (λ place. refl);
           device = event_kept run.side (kept.calls Device) start now e m.outcome this kept.kept.device;
           compositor = kept.kept.compositor;
           counted = omega (arith, counted, grown, locks);
-          work = omega (arith, work, locks, spent, pending);
+          work = omega (arith, work, locks, spent, pending, held);
         };
       })
 
   pub event_waits : (side : SideState) (e : DeviceEvent) → run.side.pending ≡ Some e → EventWaits e run.side side s after → RunInvariant scenario place idle s run start now
       → RunInvariant scenario (turn_behind place (actors_of scenario)) (idle + 1) after (with_side run side) start now
   event_waits side e this m kept =
-      let all : AreAll scenario run kept.clocks = all_of scenario s run kept.clocks kept.calls start now kept.kept in
+      let all : AreAll scenario run = all_of scenario s run kept.calls start now kept.kept in
       rw (m.same, m.side)
       (passes scenario place idle s run start now device_within few kept
-      (λ rest ok. subst (AreHeldBack s) (sym (device_at scenario run kept.clocks rest all ∙ ap (λ (p : Option DeviceEvent). device_part p rest) this)) (m.waits, tt)))
+      (λ rest ok. subst (AreHeldBack s) (sym (device_at scenario s run rest all ∙ ap (λ (p : Option DeviceEvent). device_part p rest) this)) (m.waits, tt)))
 
   -- nothing more comes
   pub device_over : run.side.pending ≡ None → run.side.over ≡ true → RunInvariant scenario place idle s run start now → RunInvariant scenario (turn_behind place (actors_of scenario)) (idle + 1) s run start now
   device_over none over kept =
-      let all : AreAll scenario run kept.clocks = all_of scenario s run kept.clocks kept.calls start now kept.kept in
+      let all : AreAll scenario run = all_of scenario s run kept.calls start now kept.kept in
       passes scenario place idle s run start now device_within few kept
-      (λ rest ok. subst (AreHeldBack s) (sym (device_at scenario run kept.clocks rest all ∙ ap (λ (p : Option DeviceEvent). device_part p rest) none ∙ ap device_agendas (ok over))) tt)
+      (λ rest ok. subst (AreHeldBack s) (sym (device_at scenario s run rest all ∙ ap (λ (p : Option DeviceEvent). device_part p rest) none ∙ ap device_agendas (ok over))) tt)
 
   pub event_turn : (side : SideState) (e : DeviceEvent) (went : Bool) → run.side.pending ≡ Some e → EventTurn e run.side side s after went → RunInvariant scenario place idle s run start now
       → RunInvariant scenario (turn_behind place (actors_of scenario)) (if went then 0 else idle + 1) after (with_side run side) start now
@@ -118,11 +126,10 @@ module _ (scenario : Scenario) (turn idle : ℕ) (s : State) (run : RunState) (s
       let work = kept.kept.work in
       record {
         calls = kept.calls;
-        clocks = kept.clocks;
         standing =
-            begun_again scenario turn idle s over ((events_in (kept.calls Device) ++ []) ++ e ∷ []) (events_in (kept.calls Device) ++ e ∷ []) (parts_of scenario (with_side run (side_asked side (Some e) over)) kept.clocks) kept.calls
+            begun_again scenario turn idle s over ((events_in (kept.calls Device) ++ []) ++ e ∷ []) (events_in (kept.calls Device) ++ e ∷ []) (parts_of scenario s (with_side run (side_asked side (Some e) over))) (trace_of run kept.calls)
             (ap (λ (l : List DeviceEvent). l ++ e ∷ []) (append-nil (events_in (kept.calls Device))))
-            (device_tells scenario turn idle s (parts_of scenario before kept.clocks) over (events_in (kept.calls Device) ++ []) kept.calls e kept.standing);
+            (device_tells scenario turn idle s (parts_of scenario s before) over (events_in (kept.calls Device) ++ []) (trace_of run kept.calls) e kept.standing);
         kept = record { apps = kept.kept.apps; device = told; compositor = kept.kept.compositor; counted = kept.kept.counted; work = omega (arith, work, less) };
       }
 
@@ -133,8 +140,7 @@ module _ (scenario : Scenario) (turn idle : ℕ) (s : State) (run : RunState) (s
       let work = kept.kept.work in
       record {
         calls = kept.calls;
-        clocks = kept.clocks;
-        standing = device_ends scenario turn idle s (parts_of scenario before kept.clocks) (events_in (kept.calls Device) ++ []) kept.calls kept.standing;
+        standing = device_ends scenario turn idle s (parts_of scenario s before) (events_in (kept.calls Device) ++ []) (trace_of run kept.calls) kept.standing;
         kept = record { apps = kept.kept.apps; device = told; compositor = kept.kept.compositor; counted = kept.kept.counted; work = omega (arith, work, less) };
       }
 

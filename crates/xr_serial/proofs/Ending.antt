@@ -1,5 +1,5 @@
 -- Where nobody can go on: what the device gave, and who is left in the order of a round.
-use Rattle.std.proofs.Common.{◌≡◌, ◌⊎◌, inl, inr, ◌+◌, ◌<◌, ◌≤◌, ℕ, ℤ, zero, suc, Bool, true, false, List, [], ◌∷◌, ◌++◌, length, drop, take, get_or, Option, Some, None, refl, sym, ap, subst, ◌∙◌, arith, append_assoc, append-nil, length-append, true≢false, add-one}
+use Rattle.std.proofs.Common.{◌≡◌, ◌⊎◌, inl, inr, ◌+◌, ◌<◌, ◌≤◌, ℕ, zero, suc, Bool, true, false, List, [], ◌∷◌, ◌++◌, length, drop, take, get_or, Option, Some, None, refl, sym, ap, subst, ◌∙◌, arith, append_assoc, append-nil, length-append, true≢false, add-one}
 use Rattle.std.specs.Prelude.{if◌then◌else◌, ◌||◌, ◌≢◌}
 use Rattle.std.proofs.lemmas.List.{take-append-drop, take_more, take_all}
 use Rattle.std.specs.List.{list_any}
@@ -214,17 +214,17 @@ any_turn who turn parts one =
 
 -- ---- the parts of a run
 
-part_own : (number : ℕ) (ops : List Op) (app : AppState) (clock : ℤ) → agendas_of (App number) (script_part number ops app clock) ≡ script_part number ops app clock
-part_own number ops app clock = by app.has_left refl
+part_own : (number : ℕ) (ops : List Op) (app : AppState) → agendas_of (App number) (script_part number ops app) ≡ script_part number ops app
+part_own number ops app = by app.has_left refl
   where
-    by : (left : Bool) → app.has_left ≡ left → agendas_of (App number) (script_part number ops app clock) ≡ script_part number ops app clock
+    by : (left : Bool) → app.has_left ≡ left → agendas_of (App number) (script_part number ops app) ≡ script_part number ops app
     by true e = rw e refl
     by false e = rw (e, eq-eqb number number refl) refl
 
-part_other : (who : Actor) (number : ℕ) (ops : List Op) (app : AppState) (clock : ℤ) → is_actor who (App number) ≡ false → agendas_of who (script_part number ops app clock) ≡ []
-part_other who number ops app clock other = by app.has_left refl
+part_other : (who : Actor) (number : ℕ) (ops : List Op) (app : AppState) → is_actor who (App number) ≡ false → agendas_of who (script_part number ops app) ≡ []
+part_other who number ops app other = by app.has_left refl
   where
-    by : (left : Bool) → app.has_left ≡ left → agendas_of who (script_part number ops app clock) ≡ []
+    by : (left : Bool) → app.has_left ≡ left → agendas_of who (script_part number ops app) ≡ []
     by true e = rw e refl
     by false e = rw (e, other) refl
 
@@ -232,12 +232,11 @@ other_app : (own number : ℕ) → own ≢ number → is_actor (App own) (App nu
 other_app own number apart = ne_eqb own number apart
 
 -- scripts from a number on are of nobody else
-scripts_none : (who : Actor) (number : ℕ) (scripts : List (List Op)) (apps : List AppState) (clocks : List ℤ) → ((n : ℕ) → number ≤ n → is_actor who (App n) ≡ false) → NoneOf who (script_parts number scripts apps clocks)
-scripts_none who number [] apps clocks other = tt
-scripts_none who number (ops ∷ scripts) [] clocks other = tt
-scripts_none who number (ops ∷ scripts) (app ∷ apps) [] other = tt
-scripts_none who number (ops ∷ scripts) (app ∷ apps) (clock ∷ clocks) other =
-    (part_other who number ops app clock (other number (omega arith)), scripts_none who (number + 1) scripts apps clocks (λ n least. other n (omega (arith, least))))
+scripts_none : (who : Actor) (number : ℕ) (scripts : List (List Op)) (apps : List AppState) → ((n : ℕ) → number ≤ n → is_actor who (App n) ≡ false) → NoneOf who (script_parts number scripts apps)
+scripts_none who number [] apps other = tt
+scripts_none who number (ops ∷ scripts) [] other = tt
+scripts_none who number (ops ∷ scripts) (app ∷ apps) other =
+    (part_other who number ops app (other number (omega arith)), scripts_none who (number + 1) scripts apps (λ n least. other n (omega (arith, least))))
 
 device_own : (calls : List DeviceEvent) → agendas_of Device (device_agendas calls) ≡ device_agendas calls
 device_own [] = refl
@@ -251,81 +250,80 @@ device_compositor : (calls : List DeviceEvent) → agendas_of Compositor (device
 device_compositor [] = refl
 device_compositor (e ∷ es) = refl
 
-compositor_own : (ended : Option Reply) → agendas_of Compositor (compositor_part ended) ≡ compositor_part ended
-compositor_own None = refl
-compositor_own (Some reply) = refl
+compositor_own : (ended : Option Reply) (held : ℕ) → agendas_of Compositor (compositor_part ended held) ≡ compositor_part ended held
+compositor_own None held = refl
+compositor_own (Some reply) held = refl
 
-compositor_app : (n : ℕ) (ended : Option Reply) → agendas_of (App n) (compositor_part ended) ≡ []
-compositor_app n None = refl
-compositor_app n (Some reply) = refl
+compositor_app : (n : ℕ) (ended : Option Reply) (held : ℕ) → agendas_of (App n) (compositor_part ended held) ≡ []
+compositor_app n None held = refl
+compositor_app n (Some reply) held = refl
 
-compositor_device : (ended : Option Reply) → agendas_of Device (compositor_part ended) ≡ []
-compositor_device None = refl
-compositor_device (Some reply) = refl
+compositor_device : (ended : Option Reply) (held : ℕ) → agendas_of Device (compositor_part ended held) ≡ []
+compositor_device None held = refl
+compositor_device (Some reply) held = refl
 
-module _ (device : List DeviceEvent) (ended : Option Reply) where
+module _ (device : List DeviceEvent) (ended : Option Reply) (held : ℕ) where
   abbrev last_two : List (List Agenda)
-  last_two = device_agendas device ∷ compositor_part ended ∷ []
+  last_two = device_agendas device ∷ compositor_part ended held ∷ []
 
-  app_one : (own number place : ℕ) (scripts : List (List Op)) (apps : List AppState) (clocks : List ℤ) → own ≡ number + place → IsOne (App own) (script_parts number scripts apps clocks ++ last_two)
-  app_one own number place [] apps clocks is = inl (device_app own device, inl (compositor_app own ended, tt))
-  app_one own number place (ops ∷ scripts) [] clocks is = inl (device_app own device, inl (compositor_app own ended, tt))
-  app_one own number place (ops ∷ scripts) (app ∷ apps) [] is = inl (device_app own device, inl (compositor_app own ended, tt))
-  app_one own number zero (ops ∷ scripts) (app ∷ apps) (clock ∷ clocks) is =
-      inr (none-append (App own) (script_parts (number + 1) scripts apps clocks) last_two (scripts_none (App own) (number + 1) scripts apps clocks (λ n least. other_app own n (λ same. omega (arith, least, is, same)))) (device_app own device, (compositor_app own ended, tt)))
-  app_one own number (suc place) (ops ∷ scripts) (app ∷ apps) (clock ∷ clocks) is =
-      inl (part_other (App own) number ops app clock (other_app own number (λ same. omega (arith, is, same))), app_one own (number + 1) place scripts apps clocks (omega (arith, is)))
+  app_one : (own number place : ℕ) (scripts : List (List Op)) (apps : List AppState) → own ≡ number + place → IsOne (App own) (script_parts number scripts apps ++ last_two)
+  app_one own number place [] apps is = inl (device_app own device, inl (compositor_app own ended held, tt))
+  app_one own number place (ops ∷ scripts) [] is = inl (device_app own device, inl (compositor_app own ended held, tt))
+  app_one own number zero (ops ∷ scripts) (app ∷ apps) is =
+      inr (none-append (App own) (script_parts (number + 1) scripts apps) last_two (scripts_none (App own) (number + 1) scripts apps (λ n least. other_app own n (λ same. omega (arith, least, is, same)))) (device_app own device, (compositor_app own ended held, tt)))
+  app_one own number (suc place) (ops ∷ scripts) (app ∷ apps) is =
+      inl (part_other (App own) number ops app (other_app own number (λ same. omega (arith, is, same))), app_one own (number + 1) place scripts apps (omega (arith, is)))
 
-  device_one : (number : ℕ) (scripts : List (List Op)) (apps : List AppState) (clocks : List ℤ) → IsOne Device (script_parts number scripts apps clocks ++ last_two)
-  device_one number [] apps clocks = inr (compositor_device ended, tt)
-  device_one number (ops ∷ scripts) [] clocks = inr (compositor_device ended, tt)
-  device_one number (ops ∷ scripts) (app ∷ apps) [] = inr (compositor_device ended, tt)
-  device_one number (ops ∷ scripts) (app ∷ apps) (clock ∷ clocks) = inl (part_other Device number ops app clock refl, device_one (number + 1) scripts apps clocks)
+  device_one : (number : ℕ) (scripts : List (List Op)) (apps : List AppState) → IsOne Device (script_parts number scripts apps ++ last_two)
+  device_one number [] apps = inr (compositor_device ended held, tt)
+  device_one number (ops ∷ scripts) [] = inr (compositor_device ended held, tt)
+  device_one number (ops ∷ scripts) (app ∷ apps) = inl (part_other Device number ops app refl, device_one (number + 1) scripts apps)
 
-  compositor_one : (number : ℕ) (scripts : List (List Op)) (apps : List AppState) (clocks : List ℤ) → IsOne Compositor (script_parts number scripts apps clocks ++ last_two)
-  compositor_one number [] apps clocks = inl (device_compositor device, inr tt)
-  compositor_one number (ops ∷ scripts) [] clocks = inl (device_compositor device, inr tt)
-  compositor_one number (ops ∷ scripts) (app ∷ apps) [] = inl (device_compositor device, inr tt)
-  compositor_one number (ops ∷ scripts) (app ∷ apps) (clock ∷ clocks) = inl (part_other Compositor number ops app clock refl, compositor_one (number + 1) scripts apps clocks)
+  compositor_one : (number : ℕ) (scripts : List (List Op)) (apps : List AppState) → IsOne Compositor (script_parts number scripts apps ++ last_two)
+  compositor_one number [] apps = inl (device_compositor device, inr tt)
+  compositor_one number (ops ∷ scripts) [] = inl (device_compositor device, inr tt)
+  compositor_one number (ops ∷ scripts) (app ∷ apps) = inl (part_other Compositor number ops app refl, compositor_one (number + 1) scripts apps)
 
 -- an application's own part
-own_at : (own number place : ℕ) (scripts : List (List Op)) (apps : List AppState) (clocks : List ℤ) → own ≡ number + place → place < length (script_parts number scripts apps clocks)
-    → of_parts (App own) (script_parts number scripts apps clocks) ≡ get_or (script_parts number scripts apps clocks) place []
-own_at own number place [] apps clocks is within = let no : ⊥ = omega (arith, within) in absurd no
-own_at own number place (ops ∷ scripts) [] clocks is within = let no : ⊥ = omega (arith, within) in absurd no
-own_at own number place (ops ∷ scripts) (app ∷ apps) [] is within = let no : ⊥ = omega (arith, within) in absurd no
-own_at own number zero (ops ∷ scripts) (app ∷ apps) (clock ∷ clocks) is within =
+own_at : (own number place : ℕ) (scripts : List (List Op)) (apps : List AppState) → own ≡ number + place → place < length (script_parts number scripts apps)
+    → of_parts (App own) (script_parts number scripts apps) ≡ get_or (script_parts number scripts apps) place []
+own_at own number place [] apps is within = let no : ⊥ = omega (arith, within) in absurd no
+own_at own number place (ops ∷ scripts) [] is within = let no : ⊥ = omega (arith, within) in absurd no
+own_at own number zero (ops ∷ scripts) (app ∷ apps) is within =
     let same : own ≡ number = omega (arith, is) in
-    let others : of_parts (App own) (script_parts (number + 1) scripts apps clocks) ≡ [] = none_of (App own) (script_parts (number + 1) scripts apps clocks) (scripts_none (App own) (number + 1) scripts apps clocks (λ n least. other_app own n (λ equal. omega (arith, least, is, equal)))) in
-    agendas-append (App own) (script_part number ops app clock) (joined (script_parts (number + 1) scripts apps clocks)) ∙ rw (others, same, part_own number ops app clock) (append-nil (script_part number ops app clock))
-own_at own number (suc place) (ops ∷ scripts) (app ∷ apps) (clock ∷ clocks) is within =
-    agendas-append (App own) (script_part number ops app clock) (joined (script_parts (number + 1) scripts apps clocks))
-    ∙ rw (part_other (App own) number ops app clock (other_app own number (λ same. omega (arith, is, same)))) (own_at own (number + 1) place scripts apps clocks (omega (arith, is)) (omega (arith, within)))
+    let others : of_parts (App own) (script_parts (number + 1) scripts apps) ≡ [] = none_of (App own) (script_parts (number + 1) scripts apps) (scripts_none (App own) (number + 1) scripts apps (λ n least. other_app own n (λ equal. omega (arith, least, is, equal)))) in
+    agendas-append (App own) (script_part number ops app) (joined (script_parts (number + 1) scripts apps)) ∙ rw (others, same, part_own number ops app) (append-nil (script_part number ops app))
+own_at own number (suc place) (ops ∷ scripts) (app ∷ apps) is within =
+    agendas-append (App own) (script_part number ops app) (joined (script_parts (number + 1) scripts apps))
+    ∙ rw (part_other (App own) number ops app (other_app own number (λ same. omega (arith, is, same)))) (own_at own (number + 1) place scripts apps (omega (arith, is)) (omega (arith, within)))
 
 -- ---- who is left
 
-module _ (scenario : Scenario) (run : RunState) (clocks : List ℤ) (rest : List DeviceEvent) (all : AreAll scenario run clocks) (turn : ℕ) where
+module _ (scenario : Scenario) (s : State) (run : RunState) (rest : List DeviceEvent) (all : AreAll scenario run) (turn : ℕ) where
+  abbrev holds : ℕ
+  holds = length s.cells.held
+
   abbrev scripts : List (List Agenda)
-  scripts = script_parts 1 scenario.scripts run.apps clocks
+  scripts = script_parts 1 scenario.scripts run.apps
 
   abbrev device : List DeviceEvent
   device = pending_list run.side.pending ++ rest
 
   abbrev two : List (List Agenda)
-  two = device_agendas device ∷ compositor_part run.compositor.ended ∷ []
+  two = device_agendas device ∷ compositor_part run.compositor.ended holds ∷ []
 
   abbrev left : List Agenda
   left = joined (from_turn turn (scripts ++ two))
 
   count : length scripts ≡ length scenario.scripts
-  count = length-script_parts 1 scenario.scripts run.apps clocks all.count all.timed
+  count = length-script_parts 1 scenario.scripts run.apps all
 
   app_left : (place : ℕ) → place < length scenario.scripts → agendas_of (App (suc place)) left ≡ get_or scripts place []
   app_left place within =
       let size = count in
-      any_turn (App (suc place)) turn (scripts ++ two) (app_one device run.compositor.ended (suc place) 1 place scenario.scripts run.apps clocks (omega arith)) ∙ of_parts-append (App (suc place)) scripts two
-      ∙ rw (none_of (App (suc place)) two (device_app (suc place) device, (compositor_app (suc place) run.compositor.ended, tt)))
-      (append-nil (of_parts (App (suc place)) scripts) ∙ own_at (suc place) 1 place scenario.scripts run.apps clocks (omega arith) (omega (arith, within, size)))
+      any_turn (App (suc place)) turn (scripts ++ two) (app_one device run.compositor.ended holds (suc place) 1 place scenario.scripts run.apps (omega arith)) ∙ of_parts-append (App (suc place)) scripts two
+      ∙ rw (none_of (App (suc place)) two (device_app (suc place) device, (compositor_app (suc place) run.compositor.ended holds, tt)))
+      (append-nil (of_parts (App (suc place)) scripts) ∙ own_at (suc place) 1 place scenario.scripts run.apps (omega arith) (omega (arith, within, size)))
 
   scripts_left : (n : ℕ) → n ≤ length scenario.scripts → scripts_to n left ≡ joined (take n scripts)
   scripts_left zero few = refl
@@ -336,39 +334,39 @@ module _ (scenario : Scenario) (run : RunState) (clocks : List ℤ) (rest : List
 
   device_left : agendas_of Device left ≡ device_agendas device
   device_left =
-      any_turn Device turn (scripts ++ two) (device_one device run.compositor.ended 1 scenario.scripts run.apps clocks) ∙ of_parts-append Device scripts two
-      ∙ rw (none_of Device scripts (scripts_none Device 1 scenario.scripts run.apps clocks (λ n least. refl)))
-      (agendas-append Device (device_agendas device) (compositor_part run.compositor.ended ++ []) ∙ rw (append-nil (compositor_part run.compositor.ended), device_own device, compositor_device run.compositor.ended) (append-nil (device_agendas device)))
+      any_turn Device turn (scripts ++ two) (device_one device run.compositor.ended holds 1 scenario.scripts run.apps) ∙ of_parts-append Device scripts two
+      ∙ rw (none_of Device scripts (scripts_none Device 1 scenario.scripts run.apps (λ n least. refl)))
+      (agendas-append Device (device_agendas device) (compositor_part run.compositor.ended holds ++ []) ∙ rw (append-nil (compositor_part run.compositor.ended holds), device_own device, compositor_device run.compositor.ended holds) (append-nil (device_agendas device)))
 
-  compositor_left : agendas_of Compositor left ≡ compositor_part run.compositor.ended
+  compositor_left : agendas_of Compositor left ≡ compositor_part run.compositor.ended holds
   compositor_left =
-      any_turn Compositor turn (scripts ++ two) (compositor_one device run.compositor.ended 1 scenario.scripts run.apps clocks) ∙ of_parts-append Compositor scripts two
-      ∙ rw (none_of Compositor scripts (scripts_none Compositor 1 scenario.scripts run.apps clocks (λ n least. refl)))
-      (agendas-append Compositor (device_agendas device) (compositor_part run.compositor.ended ++ []) ∙ rw (append-nil (compositor_part run.compositor.ended), device_compositor device, compositor_own run.compositor.ended) refl)
+      any_turn Compositor turn (scripts ++ two) (compositor_one device run.compositor.ended holds 1 scenario.scripts run.apps) ∙ of_parts-append Compositor scripts two
+      ∙ rw (none_of Compositor scripts (scripts_none Compositor 1 scenario.scripts run.apps (λ n least. refl)))
+      (agendas-append Compositor (device_agendas device) (compositor_part run.compositor.ended holds ++ []) ∙ rw (append-nil (compositor_part run.compositor.ended holds), device_compositor device, compositor_own run.compositor.ended holds) refl)
 
   -- in the order of a round
-  pub in_round_is : in_round (length scenario.scripts) left ≡ joined scripts ++ device_part run.side.pending rest ++ compositor_part run.compositor.ended
+  pub in_round_is : in_round (length scenario.scripts) left ≡ joined scripts ++ device_part run.side.pending rest ++ compositor_part run.compositor.ended holds
   in_round_is =
       let size = count in
-      rw (scripts_left (length scenario.scripts) (omega arith), device_left, compositor_left) (ap (λ (l : List (List Agenda)). joined l ++ device_agendas device ++ compositor_part run.compositor.ended) (take_all (length scenario.scripts) scripts (omega (arith, size))))
+      rw (scripts_left (length scenario.scripts) (omega arith), device_left, compositor_left) (ap (λ (l : List (List Agenda)). joined l ++ device_agendas device ++ compositor_part run.compositor.ended holds) (take_all (length scenario.scripts) scripts (omega (arith, size))))
 
   -- ---- nobody can
 
-  held_front : (s : State) (xs ys : List Agenda) → AreHeldBack s (xs ++ ys) → AreHeldBack s xs
-  held_front s [] ys held = tt
-  held_front s (x ∷ xs) ys held = (held.0, held_front s xs ys held.1)
+  held_front : (xs ys : List Agenda) → AreHeldBack s (xs ++ ys) → AreHeldBack s xs
+  held_front [] ys held = tt
+  held_front (x ∷ xs) ys held = (held.0, held_front xs ys held.1)
 
-  held_behind : (s : State) (xs ys : List Agenda) → AreHeldBack s (xs ++ ys) → AreHeldBack s ys
-  held_behind s [] ys held = held
-  held_behind s (x ∷ xs) ys held = held_behind s xs ys held.1
+  held_behind : (xs ys : List Agenda) → AreHeldBack s (xs ++ ys) → AreHeldBack s ys
+  held_behind [] ys held = held
+  held_behind (x ∷ xs) ys held = held_behind xs ys held.1
 
   -- the device among them
-  pub device_held : (s : State) → AreHeldBack s left → AreHeldBack s (device_agendas device)
-  device_held s held =
+  pub device_held : AreHeldBack s left → AreHeldBack s (device_agendas device)
+  device_held held =
       let parts : List (List Agenda) = scripts ++ two in
       let apart : AreHeldBack s (joined (drop turn parts) ++ joined (take turn parts)) = subst (AreHeldBack s) (joined-append (drop turn parts) (take turn parts)) held in
       let again : AreHeldBack s (joined (take turn parts) ++ joined (drop turn parts)) =
-      held_append s (joined (take turn parts)) (joined (drop turn parts)) (held_behind s (joined (drop turn parts)) (joined (take turn parts)) apart) (held_front s (joined (drop turn parts)) (joined (take turn parts)) apart) in
+      held_append s (joined (take turn parts)) (joined (drop turn parts)) (held_behind (joined (drop turn parts)) (joined (take turn parts)) apart) (held_front (joined (drop turn parts)) (joined (take turn parts)) apart) in
       let all_of_them : AreHeldBack s (joined scripts ++ joined two) =
       subst (AreHeldBack s) (sym (joined-append (take turn parts) (drop turn parts)) ∙ ap joined (take-append-drop turn parts) ∙ joined-append scripts two) again in
-      held_front s (device_agendas device) (compositor_part run.compositor.ended ++ []) (held_behind s (joined scripts) (joined two) all_of_them)
+      held_front (device_agendas device) (compositor_part run.compositor.ended holds ++ []) (held_behind (joined scripts) (joined two) all_of_them)

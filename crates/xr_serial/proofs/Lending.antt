@@ -12,7 +12,7 @@ use Rattle.xr_types.specs.declared.frames.Image.{Image}
 use Rattle.xr_types.specs.declared.frames.Layer.{Layer}
 use Rattle.xr_types.specs.declared.frames.Layer.TheVariants.{Projection, Quad}
 use Rattle.xr_model.specs.machine.Layers.{Look, layer_checks}
-use Rattle.xr_model.specs.machine.CoreCalls.{is_built, entry_of}
+use Rattle.xr_model.specs.machine.CoreCalls.{entry_of}
 use Rattle.xr_types.specs.declared.session.Event.{Event}
 use Rattle.xr_model.specs.machine.Events.{polled}
 use Rattle.xr_model.specs.machine.Rules.Instance.{told_event}
@@ -225,12 +225,12 @@ same_outcome o answer bytes shown e f g = rw (e, f, g) refl
 
 -- It is a call that was made, with the bytes at the front of its buffer and the frame in its place.
 pub made_of : (old new : State) (who : Actor) (what : Request) (answer : Reply) (before written : Lent) (bytes : List ℕ) (n : ℕ) → Answers old (entry_of who what answer) new answer before written
-    → is_built what ≡ true → old.cells.held ≡ [] → n ≡ written_size answer.gives (lent_size what) → bytes ≡ take n written.text
+    → n ≡ written_size answer.gives (lent_size what) → bytes ≡ take n written.text
     → IsAnswered old new who what (record { reply = answer; text = bytes; shown = frame_shown what answer.gives written.frame })
-made_of old new who what answer before written bytes n a built unheld size front =
+made_of old new who what answer before written bytes n a size front =
     let led : Outcome = (step old (entry_of who what answer)).1 in
     let fits : length led.text ≡ n = text_fits old (entry_of who what answer) ∙ ap (λ (r : Reply). written_size r.gives (lent_size what)) (sym a.replies) ∙ sym size in
     let same : bytes ≡ led.text = front ∙ rw a.writes (front_of-written led.text before.text n fits) in
     let shown : frame_shown what answer.gives written.frame ≡ led.shown =
     ap (λ (l : Lent). frame_shown what answer.gives l.frame) a.writes ∙ ap (λ (r : Reply). frame_shown what r.gives (shown_over led.shown before.frame)) a.replies ∙ frame_left old (entry_of who what answer) before.frame in
-    record { built = built; unheld = unheld; allowed = a.allowed; is_ready = a.is_ready; leads = a.leads; comes = same_outcome led answer bytes (frame_shown what answer.gives written.frame) a.replies same shown }
+    record { allowed = a.allowed; is_ready = a.is_ready; leads = a.leads; comes = same_outcome led answer bytes (frame_shown what answer.gives written.frame) a.replies same shown }

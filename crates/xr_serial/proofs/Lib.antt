@@ -5,6 +5,7 @@ pub mod Ops
 pub mod Steps
 pub mod OnlyLeaveLeaves
 pub mod Pending
+pub mod Holding
 pub mod Work
 pub mod Apps
 pub mod Told

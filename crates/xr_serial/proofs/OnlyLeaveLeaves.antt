@@ -1,5 +1,5 @@
 -- Only `leave` tells that an application has left.
-use Rattle.std.proofs.Common.{◌≡◌, ℕ, Option, Some, None, refl, List}
+use Rattle.std.proofs.Common.{◌≡◌, ℕ, ℤ, Option, Some, None, refl, List}
 use Rattle.xr_types.specs.declared.device.DeviceEvent.{DeviceEvent}
 use Rattle.xr_types.specs.declared.device.DeviceEvent.TheVariants as event
 use Rattle.xr_types.specs.declared.scenario.Op.{Op}
@@ -8,6 +8,7 @@ use Rattle.xr_model.specs.machine.Refusals.{Refusal}
 use Rattle.xr_model.specs.machine.Request.{Request, Entry, leave, device}
 use Rattle.xr_model.specs.machine.SessionRule.{Loss}
 use Rattle.xr_model.specs.machine.Rule.{Rule, Effect, refusal, told_on, unless_refused}
+use Rattle.xr_model.specs.runs.Robin.{with_start}
 use Rattle.xr_model.specs.runs.Scripts.{request_for}
 use Rattle.xr_model.specs.machine.State.{CoreState, State}
 use Rattle.xr_model.specs.machine.Rules.Device.{behind_event}
@@ -43,6 +44,6 @@ call_keeps s e stays = refused_keeps s.core (refusal e.short (rule_for e.request
     by (device what) stays = events_keep s.core what
     by _ stays = refl
 
-pub op_stays : (values : List ℕ) (o : Op) → IsStaying (request_for values o)
-op_stays values (op.CreateInstance major minor) = tt
-op_stays values _ = tt
+pub op_stays : (clock : ℤ) (values : List ℕ) (o : Op) → IsStaying (with_start clock (request_for values o))
+op_stays clock values (op.CreateInstance major minor) = tt
+op_stays clock values _ = tt

@@ -1,6 +1,6 @@
 -- What is known of a script's op and of its call.
 use Rattle.std.proofs.Common.{◌≡◌, ◌<◌, ◌≤◌, ◌+◌, ℕ, ℤ, pos, true, true≢false, sym, List, [], ◌∷◌, length, map, drop, get_or, refl, ◌∙◌, add-one, drop-cons, arith, zero, suc}
-use Rattle.std.specs.Prelude.{◌&&◌, ◌||◌, Bool, Option, Some, None, is_none, is_some, not, false}
+use Rattle.std.specs.Prelude.{◌≤ℤ◌, int_le, ◌&&◌, ◌||◌, Bool, Option, Some, None, is_none, is_some, not, false}
 use Rattle.xr_model.specs.machine.Refusals.{Refusal, when, first_of}
 use Rattle.std.proofs.lemmas.Bool.Decides.{nat_tests}
 use Rattle.std.specs.List.{list_all}
@@ -12,23 +12,22 @@ use Rattle.xr_types.specs.Op.{call_name}
 use Rattle.xr_model.specs.scenario.Built.{is_built_op}
 use Rattle.xr_model.specs.scenario.InRange.{IsMark}
 use Rattle.xr_model.specs.scenario.ScriptForm.{IsInRange}
-use Rattle.xr_model.specs.runs.Lists.{name_of, mark_of, start_of}
+use Rattle.xr_model.specs.runs.Lists.{name_of, mark_of, start_of, done_at}
 use Rattle.xr_types.specs.declared.code.Code.TheVariants.{CallOrderInvalid}
 use Rattle.xr_model.specs.machine.Machine.{ready}
-use Rattle.xr_model.specs.machine.CoreCalls.{MayAsk, is_built}
+use Rattle.xr_model.specs.machine.CoreCalls.{MayAsk}
 use Rattle.xr_model.specs.machine.Rules.Frames.{is_frame_awaited}
 use Rattle.xr_model.specs.runs.Scripts.{request_for, unstarted}
-use Rattle.xr_model.specs.machine.Request.{Request, wait_image, get_boolean, get_float, get_vector, get_pose_active, next_frame, image_done, is_locked}
+use Rattle.xr_model.specs.machine.Request.{Request, wait_image, next_frame, is_locked}
 use Rattle.xr_model.specs.runs.Robin.{with_start}
 use Rattle.xr_model.specs.machine.State.{State}
 use Rattle.xr_model.specs.machine.History.{StartsAt}
 use Rattle.xr_model.specs.machine.Frames.{is_empty}
-use Rattle.xr_model.specs.runs.NameValues.{layer_for}
 use Rattle.xr_serial.proofs.Lending.{IsHidden}
 use Rattle.xr_serial.specs.inside.Made.{asked}
 use Rattle.xr_types.specs.declared.calls.Actor.TheVariants.{App, Compositor}
 use Rattle.xr_serial.specs.inside.Lent.{lent_size}
-use Rattle.xr_serial.specs.inside.Sides.{op_mark}
+use Rattle.xr_serial.specs.inside.Sides.{op_mark, op_start}
 
 pub built_at : (ops : List Op) (i : ℕ) (d : Op) → list_all is_built_op ops ≡ true → i < length ops → is_built_op (get_or ops i d) ≡ true
 built_at [] i d all h = let none : ⊥ = omega (arith, h) in absurd none
@@ -41,18 +40,17 @@ here_at ops i o h here = rw (add-one, drop-cons ops i o h, ← here) refl
 mark_in_range : (n : ℕ) → IsMark n → is_mark n ≡ true
 mark_in_range n m = let low = m.0 in let high = m.1 in grind (arith, nat_tests, low, high)
 
-empty_map : {A B : Type 0} (f : A → B) (xs : List A) → is_empty (map f xs) ≡ is_empty xs
-empty_map f [] = refl
-empty_map f (x ∷ xs) = refl
+up_from : (timeout clock : ℤ) → pos 0 ≤ℤ timeout → pos 0 ≤ℤ clock → int_le (pos 0) timeout && int_le (pos 0) clock ≡ true
+up_from timeout clock a b = grind (arith, a, b)
 
-pub op_asks : (values : List ℕ) (number : ℕ) (o : Op) → is_built_op o ≡ true → IsInRange o → MayAsk (App number) (request_for values o) (lent_size (request_for values o))
-op_asks values number (op.CreateInstance major minor) built r = record { built = refl; caller = refl; numbers = refl; buffer = tt }
-op_asks values number (op.PathToString instance path capacity) built r = record { built = refl; caller = refl; numbers = refl; buffer = refl }
-op_asks values number (op.Mark number' value) built r = record { built = refl; caller = refl; numbers = mark_in_range number' r.0; buffer = tt }
-op_asks values number (op.Await number') built r = record { built = refl; caller = refl; numbers = mark_in_range number' r; buffer = tt }
-op_asks values number (op.EndFrame session time blend layers) built r = record { built = empty_map (layer_for values) layers ∙ built; caller = refl; numbers = refl; buffer = tt }
-op_asks values number (op.WaitImage chain timeout) built r = absurd (true≢false (sym built))
-op_asks values number _ built r = record { built = built; caller = refl; numbers = refl; buffer = tt }
+pub op_asks : (clock : ℤ) (values : List ℕ) (number : ℕ) (o : Op) → pos 0 ≤ℤ clock → is_built_op o ≡ true → IsInRange o
+    → MayAsk (App number) (with_start clock (request_for values o)) (lent_size (with_start clock (request_for values o)))
+op_asks clock values number (op.CreateInstance major minor) begun built r = record { built = refl; caller = refl; numbers = refl; buffer = tt }
+op_asks clock values number (op.PathToString instance path capacity) begun built r = record { built = refl; caller = refl; numbers = refl; buffer = refl }
+op_asks clock values number (op.Mark number' value) begun built r = record { built = refl; caller = refl; numbers = mark_in_range number' r.0; buffer = tt }
+op_asks clock values number (op.Await number') begun built r = record { built = refl; caller = refl; numbers = mark_in_range number' r; buffer = tt }
+op_asks clock values number (op.WaitImage chain timeout) begun built r = record { built = refl; caller = refl; numbers = up_from timeout clock r.1.0 begun; buffer = tt }
+op_asks clock values number _ begun built r = record { built = built; caller = refl; numbers = refl; buffer = tt }
 
 -- no op asks for a frame to be shown
 pub op_hidden : (clock : ℤ) (values : List ℕ) (o : Op) → IsHidden (with_start clock (request_for values o))
@@ -60,25 +58,25 @@ op_hidden clock values (op.CreateInstance major minor) = tt
 op_hidden clock values _ = tt
 
 -- what a call of an op in range is lent
-pub op_lent : (values : List ℕ) (o : Op) → IsInRange o → lent_size (request_for values o) ≤ 1024
-op_lent values (op.PathToString instance path capacity) r = r.2
-op_lent values _ r = omega arith
+pub op_lent : (clock : ℤ) (values : List ℕ) (o : Op) → IsInRange o → lent_size (with_start clock (request_for values o)) ≤ 1024
+op_lent clock values (op.PathToString instance path capacity) r = r.2
+op_lent clock values _ r = omega arith
 
-pub name_is : (values : List ℕ) (o : Op) → name_of (request_for values o) ≡ call_name o
-name_is values (op.CreateInstance major minor) = refl
-name_is values _ = refl
+pub name_is : (clock : ℤ) (values : List ℕ) (o : Op) → name_of (with_start clock (request_for values o)) ≡ call_name o
+name_is clock values (op.CreateInstance major minor) = refl
+name_is clock values _ = refl
 
-pub mark_is : (values : List ℕ) (o : Op) → mark_of (request_for values o) ≡ op_mark o
-mark_is values (op.Await number) = refl
-mark_is values _ = refl
+pub mark_is : (clock : ℤ) (values : List ℕ) (o : Op) → mark_of (with_start clock (request_for values o)) ≡ op_mark o
+mark_is clock values (op.Await number) = refl
+mark_is clock values _ = refl
 
-pub no_start : (values : List ℕ) (o : Op) → start_of (request_for values o) ≡ pos 0
-no_start values (op.CreateInstance major minor) = refl
-no_start values _ = refl
+pub start_is : (clock : ℤ) (values : List ℕ) (o : Op) → start_of (with_start clock (request_for values o)) ≡ op_start clock o
+start_is clock values (op.WaitImage chain timeout) = refl
+start_is clock values _ = refl
 
-pub same_request : (values : List ℕ) (o : Op) → unstarted (request_for values o) ≡ request_for values o
-same_request values (op.CreateInstance major minor) = refl
-same_request values _ = refl
+pub same_request : (clock : ℤ) (values : List ℕ) (o : Op) → unstarted (with_start clock (request_for values o)) ≡ request_for values o
+same_request clock values (op.CreateInstance major minor) = refl
+same_request clock values _ = refl
 
 -- a wait that nothing refuses isn't ready
 pub held_back : (waits : Bool) (found : Option Refusal) → (waits && is_none found) ≡ true → not waits || is_some found ≡ false
@@ -95,27 +93,26 @@ frame_held_back s told = by (is_frame_awaited s.core) (is_empty s.cells.held) to
     by true false told = absurd (true≢false (sym told))
     by false unheld told = absurd (true≢false (sym told))
 
--- ---- a call and the clock at which a wait would begin
+-- ---- a call and the clock at which a wait begins
 
--- no call that is built is a wait for an image
-pub op_unstarted : (clock : ℤ) (values : List ℕ) (o : Op) → is_built_op o ≡ true → with_start clock (request_for values o) ≡ request_for values o
-op_unstarted clock values (op.CreateInstance major minor) built = refl
-op_unstarted clock values (op.WaitImage chain timeout) built = absurd (true≢false (sym built))
-op_unstarted clock values _ built = refl
+-- it begins where its clock says, and no other call cares
+pub starts : (clock : ℤ) (r : Request) → StartsAt clock (with_start clock r)
+starts clock (wait_image chain timeout start) = refl
+starts clock _ = tt
 
-pub built_unstarted : (clock : ℤ) (r : Request) → is_built r ≡ true → with_start clock r ≡ r
-built_unstarted clock (wait_image chain timeout start) built = absurd (true≢false (sym built))
-built_unstarted clock _ built = refl
+-- the call of an op that is built is a locked one, whenever a wait begins
+pub op_locked : (values : List ℕ) (o : Op) → is_built_op o ≡ true → is_locked (request_for values o) ≡ true
+op_locked values (op.GetBoolean session action sub) built = absurd (true≢false (sym built))
+op_locked values (op.GetFloat session action sub) built = absurd (true≢false (sym built))
+op_locked values (op.GetVector session action sub) built = absurd (true≢false (sym built))
+op_locked values (op.GetPoseActive session action sub) built = absurd (true≢false (sym built))
+op_locked values _ built = refl
 
-pub built_starts : (clock : ℤ) (r : Request) → is_built r ≡ true → StartsAt clock r
-built_starts clock (wait_image chain timeout start) built = absurd (true≢false (sym built))
-built_starts clock _ built = tt
+pub as_locked : (clock : ℤ) (r : Request) → is_locked (with_start clock r) ≡ is_locked r
+as_locked clock (wait_image chain timeout start) = refl
+as_locked clock _ = refl
 
--- each call that is built is a locked one
-pub built_locked : (r : Request) → is_built r ≡ true → is_locked r ≡ true
-built_locked (get_boolean session action sub) built = absurd (true≢false (sym built))
-built_locked (get_float session action sub) built = absurd (true≢false (sym built))
-built_locked (get_vector session action sub) built = absurd (true≢false (sym built))
-built_locked (get_pose_active session action sub) built = absurd (true≢false (sym built))
-built_locked image_done built = absurd (true≢false (sym built))
-built_locked _ built = refl
+-- and gives back no image
+pub op_returns : (clock : ℤ) (values : List ℕ) (s : State) (o : Op) → done_at s (with_start clock (request_for values o)) ≡ []
+op_returns clock values s (op.CreateInstance major minor) = refl
+op_returns clock values s _ = refl

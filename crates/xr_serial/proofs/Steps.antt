@@ -8,13 +8,13 @@ use Rattle.xr_types.specs.declared.scenario.Scenario.{Scenario}
 use Rattle.xr_model.specs.machine.Request.{Request, Entry, Outcome, Exchange, is_actor}
 use Rattle.xr_model.specs.machine.CoreCalls.{entry_of, given_by}
 use Rattle.xr_model.specs.machine.State.{State}
-use Rattle.xr_model.specs.machine.History.{clock_of, clocks_after, IsLegalFrom, calls_from}
+use Rattle.xr_model.specs.machine.History.{clock_of, clocks_after, StartsAt, IsLegalFrom, calls_from}
 use Rattle.xr_model.specs.runs.Robin.{Agenda, actor_of, next_call, agenda_after, is_next_ready, IsRobinFrom, agendas_left}
 use Rattle.xr_serial.specs.inside.Made.{IsAnswered, exchange_of, calls_with}
 use Rattle.xr_serial.specs.inside.Turns.{turn_behind, others_of, from_turn, joined, AreHeldBack, IsTurnOrder}
-use Rattle.xr_serial.specs.inside.Past.{IsRest, Past, Standing}
+use Rattle.xr_model.specs.runs.Lists.{done_at, done_from}
+use Rattle.xr_serial.specs.inside.Past.{Trace, IsRest, Past, Standing}
 use Rattle.xr_serial.proofs.Lending.{ready_any}
-use Rattle.xr_serial.proofs.Ops.{built_starts}
 use Rattle.xr_serial.proofs.TurnOrder.{Takes, takes_turn, passed_over, from_turn_is, from_turn_next, count_from, joined-snoc}
 use Rattle.std.proofs.lemmas.List.{set-get_or}
 
@@ -30,6 +30,18 @@ calls_more s after calls who by what outcome more made = each (is_actor who by) 
     each : (b : Bool) → is_actor who by ≡ b → calls who ++ calls_from s who (entry_of by what outcome.reply ∷ more) ≡ (if b then calls who ++ t ∷ [] else calls who) ++ calls_from after who more
     each true e = rw (e, made.comes, ← made.leads) (sym (append_assoc (calls who) (t ∷ []) (calls_from after who more)))
     each false e = rw (e, ← made.leads) refl
+
+done_more : (s after : State) (done : List ℕ) (by : Actor) (what : Request) (outcome : Outcome) (more : List Entry) → IsAnswered s after by what outcome
+    → done ++ done_from s (entry_of by what outcome.reply ∷ more) ≡ (done ++ done_at s what) ++ done_from after more
+done_more s after done by what outcome more made = rw (← made.leads) (sym (append_assoc done (done_at s what) (done_from after more)))
+
+-- what was made, once this call was answered
+abbrev pub trace_behind : State → State → Trace → Actor → Request → Outcome → Trace
+trace_behind s after trace who what outcome = record {
+  calls = calls_with trace.calls who (exchange_of what outcome);
+  clocks = clocks_after trace.clocks (entry_of who what outcome.reply) after;
+  done = trace.done ++ done_at s what;
+}
 
 -- the next call of an agenda
 pub record IsAgendaOf (who : Actor) (what : Request) (x : Agenda) : Type 0 where
@@ -52,10 +64,11 @@ left_more s after who what outcome x others agendas more made t =
 -- ---- a run goes on
 
 -- the actor whose turn it is makes its call
-pub record Goes (turn : ℕ) (parts : List DeviceEvent → List (List Agenda)) (s after : State) (who : Actor) (what : Request) (outcome : Outcome) : Type 0 where
+pub record Goes (turn : ℕ) (parts : List DeviceEvent → List (List Agenda)) (s after : State) (trace : Trace) (who : Actor) (what : Request) (outcome : Outcome) : Type 0 where
   pub agenda : List DeviceEvent → Agenda
   pub alone : (rest : List DeviceEvent) → get_or (parts rest) turn [] ≡ agenda rest ∷ []
   pub of : (rest : List DeviceEvent) → IsAgendaOf who what (agenda rest)
+  pub starts : StartsAt (clock_of trace.clocks who) what
   pub made : IsAnswered s after who what outcome
 
 -- so many actors, and this turn's is one of them
@@ -76,24 +89,24 @@ idle_in actors turn idle parts rest are =
 
 module _ (scenario : Scenario) (turn idle : ℕ) (s after : State) (over : Bool) (begun : List DeviceEvent) (parts : List DeviceEvent → List (List Agenda)) where
   -- the parts are those, whatever may come
-  pub same_parts : (calls : Actor → List Exchange) (others : List DeviceEvent → List (List Agenda)) → ((rest : List DeviceEvent) → IsRest over rest → parts rest ≡ others rest) → Standing scenario turn idle s over begun parts calls
-      → Standing scenario turn idle s over begun others calls
-  same_parts calls others same g = record {
+  pub same_parts : (trace : Trace) (others : List DeviceEvent → List (List Agenda)) → ((rest : List DeviceEvent) → IsRest over rest → parts rest ≡ others rest) → Standing scenario turn idle s over begun parts trace
+      → Standing scenario turn idle s over begun others trace
+  same_parts trace others same g = record {
     so_far = g.so_far;
     order = λ rest ok. subst (λ (p : List (List Agenda)). IsTurnOrder s idle (from_turn turn p) (g.so_far.agendas rest)) (same rest ok) (g.order rest ok);
   }
 
-  pub made_turn : (actors : ℕ) (calls : Actor → List Exchange) (who : Actor) (what : Request) (outcome : Outcome) → AreSo actors turn idle parts → (goes : Goes turn parts s after who what outcome) → Standing scenario turn idle s over begun parts calls
-      → Standing scenario (turn_behind turn actors) 0 after over begun (λ rest. set (parts rest) turn (agenda_after (goes.agenda rest) after outcome)) (calls_with calls who (exchange_of what outcome))
-  made_turn actors calls who what outcome are goes g = record {
+  pub made_turn : (actors : ℕ) (trace : Trace) (who : Actor) (what : Request) (outcome : Outcome) → AreSo actors turn idle parts → (goes : Goes turn parts s after trace who what outcome) → Standing scenario turn idle s over begun parts trace
+      → Standing scenario (turn_behind turn actors) 0 after over begun (λ rest. set (parts rest) turn (agenda_after (goes.agenda rest) after outcome)) (trace_behind s after trace who what outcome)
+  made_turn actors trace who what outcome are goes g = record {
     so_far = record {
       past = p.past ++ e ∷ [];
-      clocks = clocks_after p.clocks e after;
       agendas = λ rest. joined (others_of turn (parts rest)) ++ later rest;
-      legal = λ more h. rw (append_assoc p.past (e ∷ []) more) (p.legal (e ∷ more) (goes.made.allowed, built_starts (clock_of p.clocks who) what goes.made.built, goes.made.is_ready, subst (λ (n : State). IsLegalFrom n (clocks_after p.clocks e n) more) goes.made.leads h));
+      legal = λ more h. rw (append_assoc p.past (e ∷ []) more) (p.legal (e ∷ more) (goes.made.allowed, goes.starts, goes.made.is_ready, subst (λ (n : State). IsLegalFrom n (clocks_after trace.clocks e n) more) goes.made.leads h));
       robin = λ rest ok more h. rw (append_assoc p.past (e ∷ []) more) (p.robin rest ok (e ∷ more) (robin_more s after who what outcome (goes.agenda rest) (joined (others_of turn (parts rest))) (p.agendas rest) more (goes.of rest) goes.made (takes rest ok) h));
       left = λ rest ok more. rw (append_assoc p.past (e ∷ []) more) (p.left rest ok (e ∷ more) ∙ left_more s after who what outcome (goes.agenda rest) (joined (others_of turn (parts rest))) (p.agendas rest) more goes.made (takes rest ok));
-      made = λ other more. rw (append_assoc p.past (e ∷ []) more) (p.made other (e ∷ more) ∙ calls_more s after calls other who what outcome more goes.made);
+      made = λ other more. rw (append_assoc p.past (e ∷ []) more) (p.made other (e ∷ more) ∙ calls_more s after trace.calls other who what outcome more goes.made);
+      done = λ more. rw (append_assoc p.past (e ∷ []) more) (p.done (e ∷ more) ∙ done_more s after trace.done who what outcome more goes.made);
     };
     order = λ rest ok. record {
       coming = others_of turn (parts rest) ++ later rest ∷ [];
@@ -105,7 +118,7 @@ module _ (scenario : Scenario) (turn idle : ℕ) (s after : State) (over : Bool)
     };
   }
     where
-      p : Past scenario s over begun calls
+      p : Past scenario s over begun trace
       p = g.so_far
 
       e : Entry
@@ -122,9 +135,9 @@ module _ (scenario : Scenario) (turn idle : ℕ) (s after : State) (over : Bool)
           (is_ready s after who what outcome (goes.agenda rest) (goes.of rest) goes.made)
 
   -- it has nothing left, or can't make its call
-  pub passed_turn : (actors : ℕ) (calls : Actor → List Exchange) → AreSo actors turn idle parts → ((rest : List DeviceEvent) → IsRest over rest → AreHeldBack s (get_or (parts rest) turn [])) → Standing scenario turn idle s over begun parts calls
-      → Standing scenario (turn_behind turn actors) (idle + 1) s over begun parts calls
-  passed_turn actors calls are held g = record {
+  pub passed_turn : (actors : ℕ) (trace : Trace) → AreSo actors turn idle parts → ((rest : List DeviceEvent) → IsRest over rest → AreHeldBack s (get_or (parts rest) turn [])) → Standing scenario turn idle s over begun parts trace
+      → Standing scenario (turn_behind turn actors) (idle + 1) s over begun parts trace
+  passed_turn actors trace are held g = record {
     so_far = g.so_far;
     order = λ rest ok.
         let here : from_turn turn (parts rest) ≡ get_or (parts rest) turn [] ∷ others_of turn (parts rest) = from_turn_is turn (parts rest) (turn_in actors turn idle parts rest are) in
@@ -140,37 +153,37 @@ not_over : (rest : List DeviceEvent) → IsRest false rest
 not_over rest e = absurd (true≢false (sym e))
 
 -- the device tells its next event, or how it ends, and nothing more may come then
-pub device_tells : (scenario : Scenario) (turn idle : ℕ) (s : State) (parts : List DeviceEvent → List (List Agenda)) (over : Bool) (begun : List DeviceEvent) (calls : Actor → List Exchange) (event : DeviceEvent) → Standing scenario turn idle s false begun parts calls
-    → Standing scenario turn idle s over (begun ++ event ∷ []) (λ rest. parts (event ∷ rest)) calls
-device_tells scenario turn idle s parts over begun calls event g = record {
+pub device_tells : (scenario : Scenario) (turn idle : ℕ) (s : State) (parts : List DeviceEvent → List (List Agenda)) (over : Bool) (begun : List DeviceEvent) (trace : Trace) (event : DeviceEvent) → Standing scenario turn idle s false begun parts trace
+    → Standing scenario turn idle s over (begun ++ event ∷ []) (λ rest. parts (event ∷ rest)) trace
+device_tells scenario turn idle s parts over begun trace event g = record {
   so_far = record {
     past = p.past;
-    clocks = p.clocks;
     agendas = λ rest. p.agendas (event ∷ rest);
     legal = p.legal;
     robin = λ rest ok more h. rw (append_assoc begun (event ∷ []) rest) (p.robin (event ∷ rest) (not_over (event ∷ rest)) more h);
     left = λ rest ok more. rw (append_assoc begun (event ∷ []) rest) (p.left (event ∷ rest) (not_over (event ∷ rest)) more);
     made = p.made;
+    done = p.done;
   };
   order = λ rest ok. g.order (event ∷ rest) (not_over (event ∷ rest));
 }
   where
-    p : Past scenario s false begun calls
+    p : Past scenario s false begun trace
     p = g.so_far
 
-pub device_ends : (scenario : Scenario) (turn idle : ℕ) (s : State) (parts : List DeviceEvent → List (List Agenda)) (begun : List DeviceEvent) (calls : Actor → List Exchange) → Standing scenario turn idle s false begun parts calls → Standing scenario turn idle s true begun parts calls
-device_ends scenario turn idle s parts begun calls g = record {
+pub device_ends : (scenario : Scenario) (turn idle : ℕ) (s : State) (parts : List DeviceEvent → List (List Agenda)) (begun : List DeviceEvent) (trace : Trace) → Standing scenario turn idle s false begun parts trace → Standing scenario turn idle s true begun parts trace
+device_ends scenario turn idle s parts begun trace g = record {
   so_far = record {
     past = p.past;
-    clocks = p.clocks;
     agendas = p.agendas;
     legal = p.legal;
     robin = λ rest ok. p.robin rest (not_over rest);
     left = λ rest ok. p.left rest (not_over rest);
     made = p.made;
+    done = p.done;
   };
   order = λ rest ok. g.order rest (not_over rest);
 }
   where
-    p : Past scenario s false begun calls
+    p : Past scenario s false begun trace
     p = g.so_far

@@ -19,7 +19,7 @@ work_set (ops ∷ scripts) (other ∷ apps) (suc place) app none a within =
     omega (arith, more)
 
 -- at the start all ops and each `leave` are to come
-pub work_at_start : (scripts : List (List Op)) → apps_work scripts (map new_app scripts) ≡ 2 * sum_by length scripts + length scripts
+pub work_at_start : (scripts : List (List Op)) → apps_work scripts (map new_app scripts) ≡ 66 * sum_by length scripts + length scripts
 work_at_start [] = refl
 work_at_start (ops ∷ scripts) = let more = work_at_start scripts in let all = sum_by-cons length ops scripts in omega (arith, more, all)
 

@@ -1,13 +1,13 @@
 -- A run of a scenario beside a device: the one history that its lists are of.
 use Rattle.std.specs.Prelude.{◌≡◌, ◌<◌, ◌≤◌, ◌+◌, ℕ, true, false, List, [], ◌∷◌, ◌++◌, length, slice_index_or, Option, Some, None}
 use Rattle.xr_types.specs.declared.calls.Actor.TheVariants.{App, Compositor, Device}
-use Rattle.xr_types.specs.declared.calls.Gives.TheVariants.{Ended, Shown}
+use Rattle.xr_types.specs.declared.calls.Gives.TheVariants.{Ended, Nothing, Shown}
 use Rattle.xr_types.specs.declared.device.DeviceEvent.{DeviceEvent}
 use Rattle.xr_types.specs.declared.made.Lists.{Lists}
 use Rattle.xr_types.specs.declared.scenario.Op.{Op}
 use Rattle.xr_types.specs.declared.scenario.Scenario.{Scenario}
 use Rattle.xr_model.specs.machine.Request as request
-use Rattle.xr_model.specs.machine.Request.{next_frame, Entry}
+use Rattle.xr_model.specs.machine.Request.{next_frame, image_done, Entry}
 use Rattle.xr_types.specs.Device.{checks}
 use Rattle.xr_model.specs.machine.Device.{is_built_event}
 use Rattle.xr_model.specs.machine.State.{Settings, with_apps, opening}
@@ -55,11 +55,16 @@ abbrev pub OfEachScript : Scenario → List Entry → (List Op → List request.
 OfEachScript scenario history P =
     (place : ℕ) → place < length scenario.scripts → P (slice_index_or scenario.scripts place []) (calls_of (settings_of scenario) (App (place + 1)) history)
 
--- the compositor was shown frames, and then told the end
+-- A call of the compositor behind which it goes on: it was shown a frame, or gave back an image.
+pub data GoesOn (t : request.Exchange) : Type 0 where
+  a_frame : t.request ≡ next_frame → t.outcome.reply.gives ≡ Shown → GoesOn t
+  an_image : t.request ≡ image_done → t.outcome.reply.gives ≡ Nothing → GoesOn t
+
+-- it went on so, and then was told the end
 abbrev pub IsEnd : List request.Exchange → Type 0
 IsEnd [] = ⊥
 IsEnd (t ∷ []) = (t.request ≡ next_frame) × (t.outcome.reply.gives ≡ Ended)
-IsEnd (t ∷ u ∷ ts) = (t.request ≡ next_frame) × (t.outcome.reply.gives ≡ Shown) × IsEnd (u ∷ ts)
+IsEnd (t ∷ u ∷ ts) = GoesOn t × IsEnd (u ∷ ts)
 
 -- All has come to its end: each application's calls are all of its script's ops and then `leave`, the compositor was told
 -- the end, and the device did all that it had to do.

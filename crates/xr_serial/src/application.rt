@@ -5,7 +5,7 @@ ghost use Rattle.xr_types.specs.declared.calls.Actor.TheVariants.{App};
 ghost use Rattle.xr_model.specs.scenario.Built.{is_built_op};
 ghost use Rattle.xr_model.specs.scenario.ScriptForm.{IsInForm};
 ghost use Rattle.xr_model.specs.machine.Machine.{IsPresent};
-ghost use Rattle.xr_serial.specs.inside.Sides.{op_mark, new_app, OpTurn, Leaves};
+ghost use Rattle.xr_serial.specs.inside.Sides.{op_mark, op_start, new_app, OpTurn, Leaves};
 
 use crate::calls::add;
 use crate::machine::Machine;
@@ -14,25 +14,26 @@ use std::marker::Model;
 use xr_scenario_calls::Names;
 use xr_types::{Actor, Call, CallName, Made, NoMemory, Op};
 
-/// An application on its way: how many ops of its script were made, what its names stand for, its calls, and whether it
-/// has left.
+/// An application on its way: how many ops of its script were made, what its names stand for, its calls, the clock after its
+/// last one in ns of device time, and whether it has left.
 #[derive(Drop)]
 pub(crate) struct Application {
     pub(crate) made: usize,
     names: Names,
     pub(crate) calls: Vec<Made>,
+    clock: i64,
     pub(crate) has_left: bool,
 }
 
 impl Model for Application {
-    ghost use Rattle.std.specs.Prelude.{◌<◌, ◌^◌};
+    ghost use Rattle.std.specs.Prelude.{◌<◌, ◌≤ℤ◌, ◌^◌, pos};
     ghost use Rattle.xr_serial.specs.inside.RunState.{AppState};
 
     ghost Value = { AppState };
 
-    ghost view = { λ app. record { made = app.made; names = app.names; calls = app.calls.items; has_left = app.has_left } };
+    ghost view = { λ app. record { made = app.made; names = app.names; calls = app.calls.items; clock = app.clock; has_left = app.has_left } };
 
-    ghost invariant = { λ app. app.made < 2 ^ 22 };
+    ghost invariant = { λ app. (app.made < 2 ^ 22) × (pos 0 ≤ℤ app.clock) };
 }
 
 /// The mark that an op awaits, else 0.
@@ -41,6 +42,16 @@ fn op_mark(op: &Op) -> u8
 {
     match op {
         Op::Await { mark } => *mark,
+        _ => 0,
+    }
+}
+
+/// When a wait begins, else 0.
+fn op_start(clock: i64, op: &Op) -> i64
+    ensures { result ≡ op_start clock op.now }
+{
+    match op {
+        Op::WaitImage { .. } => clock,
         _ => 0,
     }
 }
@@ -55,6 +66,7 @@ impl Application {
             made: 0,
             names,
             calls: Vec::new(alloc),
+            clock: 0,
             has_left: false,
         })
     }
@@ -77,12 +89,21 @@ impl Application {
         ensures { IfOk result (λ went. OpTurn number ops.now self.old self.new machine.old machine.new went) }
     {
         let op = &ops[self.made];
-        let Some(answered) = machine.make_op(alloc, number, op, &self.names)? else {
+        let Some(answered) = machine.make_op(alloc, number, op, &self.names, self.clock)? else {
             return Ok(false);
         };
         let place = self.made as u32 + 1;
         self.names.learn(place, op, &answered.reply);
-        add(&mut self.calls, place, op.name(), op_mark(op), answered)?;
+        let start = op_start(self.clock, op);
+        add(
+            &mut self.calls,
+            place,
+            op.name(),
+            op_mark(op),
+            start,
+            answered,
+        )?;
+        self.clock = machine.clock();
         self.made += 1;
         Ok(true)
     }
@@ -103,7 +124,8 @@ impl Application {
             None => unreachable!(),
         };
         let place = self.made as u32 + 1;
-        add(&mut self.calls, place, CallName::Leave, 0, answered)?;
+        add(&mut self.calls, place, CallName::Leave, 0, 0, answered)?;
+        self.clock = machine.clock();
         self.has_left = true;
         Ok(())
     }

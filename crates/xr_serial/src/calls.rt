@@ -1,5 +1,5 @@
 // A call of an actor, and what it came to.
-ghost use Rattle.std.specs.Prelude.{◌≡◌, ◌≤◌, ◌<◌, ◌^◌, ◌++◌, ◌∷◌, [], true, pos, IfOk, OnOk, length};
+ghost use Rattle.std.specs.Prelude.{◌≡◌, ◌≤◌, ◌<◌, ◌^◌, ◌++◌, ◌∷◌, [], true, IfOk, OnOk, length};
 ghost use Rattle.xr_model.specs.machine.Request.{request_of};
 ghost use Rattle.xr_model.specs.machine.Machine.{IsPresent};
 ghost use Rattle.xr_model.specs.machine.CoreCalls.{MayAsk};
@@ -54,21 +54,22 @@ pub(crate) fn make(
     }
 }
 
-/// Keeps a call that was made, at its place.
+/// Keeps a call that was made, at its place, with the mark that it awaits and the time at which its wait began.
 pub(crate) fn add(
     list: &mut Vec<Made>,
     op: u32,
     name: CallName,
     mark: u8,
+    start: i64,
     answered: Answered,
 ) -> Result<(), NoMemory>
-    ensures { OnOk result (list.new.items ≡ list.old.items ++ record { op = op; name = name; mark = mark; start = pos 0; reply = answered.reply; text = answered.text } ∷ []) }
+    ensures { OnOk result (list.new.items ≡ list.old.items ++ record { op = op; name = name; mark = mark; start = start; reply = answered.reply; text = answered.text } ∷ []) }
 {
     let next = Made {
         op,
         name,
         mark,
-        start: 0,
+        start,
         reply: answered.reply,
         text: answered.text,
     };

@@ -1,19 +1,22 @@
 // The compositor's side of a run: the frames that it was shown.
-ghost use Rattle.std.specs.Prelude.{◌≡◌, ◌<◌, ◌^◌, [], None, IfOk, OnOk};
+ghost use Rattle.std.specs.Prelude.{◌≡◌, ◌<◌, ◌^◌, [], false, None, IfOk, OnOk};
+ghost use Rattle.xr_model.specs.machine.Frames.{is_empty};
 ghost use Rattle.xr_model.specs.machine.Request.{next_frame};
 ghost use Rattle.xr_serial.specs.inside.Made.{frame_shown};
-ghost use Rattle.xr_serial.specs.inside.Sides.{compositor_with, FrameTurn};
+ghost use Rattle.xr_serial.specs.inside.Sides.{compositor_with, FrameTurn, ImageReturned};
 
 use crate::machine::Machine;
 use std::alloc::Global;
 use std::marker::Model;
 use xr_types::{Gives, NoMemory, Reply, Shown};
 
-/// A compositor on its way: the frames that it was shown with the replies of these calls, and the reply that told it the end.
+/// A compositor on its way: the frames that it was shown with the replies of these calls, for each image that it gave back how
+/// many locked calls came before, and the reply that told it the end.
 #[derive(Drop)]
 pub(crate) struct CompositorSide {
     pub(crate) frames: Vec<Shown>,
     pub(crate) replies: Vec<Reply>,
+    pub(crate) done: Vec<u64>,
     pub(crate) ended: Option<Reply>,
 }
 
@@ -22,17 +25,18 @@ impl Model for CompositorSide {
 
     ghost Value = { CompositorState };
 
-    ghost view = { λ c. record { frames = c.frames.items; replies = c.replies.items; ended = c.ended } };
+    ghost view = { λ c. record { frames = c.frames.items; replies = c.replies.items; done = c.done.items; ended = c.ended } };
 }
 
 impl CompositorSide {
     /// A compositor before its first frame. Takes no memory.
     pub(crate) fn new(alloc: Global) -> CompositorSide
-        ensures { result ≡ record { frames = []; replies = []; ended = None } }
+        ensures { result ≡ record { frames = []; replies = []; done = []; ended = None } }
     {
         CompositorSide {
             frames: Vec::new(alloc),
             replies: Vec::new(alloc),
+            done: Vec::new(alloc),
             ended: None,
         }
     }
@@ -54,9 +58,27 @@ impl CompositorSide {
         Ok(())
     }
 
-    /// Asks for a frame, unless that has to wait: it is shown one, or told the end; whether it was.
+    /// Gives back one of the images that it holds.
+    pub(crate) fn give_back(&mut self, alloc: Global, machine: &mut Machine) -> Result<(), NoMemory>
+        requires calls { machine.old.core.locked < 2 ^ 44 }
+        requires holds { is_empty machine.old.cells.held ≡ false }
+        ensures { OnOk result (ImageReturned self.old self.new machine.old machine.new) }
+    {
+        let before = machine.calls();
+        match machine.give_back(alloc)? {
+            Some(_) => {}
+            None => unreachable!(),
+        }
+        let Ok(()) = self.done.push(before) else {
+            return Err(NoMemory);
+        };
+        Ok(())
+    }
+
+    /// Asks for a frame, where it holds no image, unless that has to wait: it is shown one, or told the end; whether it was.
     pub(crate) fn take(&mut self, alloc: Global, machine: &mut Machine) -> Result<bool, NoMemory>
         requires calls { machine.old.core.locked < 2 ^ 44 }
+        requires unheld { machine.old.cells.held ≡ [] }
         ensures { IfOk result (λ went. FrameTurn self.old self.new machine.old machine.new went) }
     {
         if machine.next_frame_waits() {

@@ -62,7 +62,7 @@ fn device_next(pending: Option<DeviceEvent>) -> Option<Waiting>
 
 /// The compositor's next call, unless it was told the end.
 fn compositor_next(ended: &Option<Reply>) -> Option<Waiting>
-    ensures { list_if result ≡ map waiting_of (compositor_part ended.now) }
+    ensures { list_if result ≡ map waiting_of (compositor_part ended.now 0) }
 {
     match ended {
         Some(_) => None,
@@ -149,7 +149,7 @@ pub(crate) fn lists(alloc: Global, scenario: &Scenario, run: Run) -> Result<List
         compositor: Several::new(compositor.frames),
         ended: compositor.ended,
         shown: Several::new(compositor.replies),
-        done: Several::new(Vec::new(alloc)),
+        done: Several::new(compositor.done),
         events: Several::new(side.events),
         next: Several::new(next),
     })

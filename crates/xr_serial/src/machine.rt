@@ -1,14 +1,16 @@
 // The core, and what its calls are lent.
-ghost use Rattle.std.specs.Prelude.{◌≡◌, ◌<◌, ◌≤◌, ◌^◌, ℕ, List, true, false, IfOk, length};
+ghost use Rattle.std.specs.Prelude.{◌≡◌, ◌<◌, ◌≤◌, ◌≤ℤ◌, ◌^◌, ℕ, ℤ, pos, List, true, false, IfOk, length, not};
 ghost use Rattle.xr_types.specs.declared.limits.TheConstants.{MOST_SCRIPTS};
 ghost use Rattle.xr_types.specs.declared.calls.Actor.TheVariants.{App, Compositor};
 ghost use Rattle.xr_types.specs.Frames.{ShownFrame};
 ghost use Rattle.xr_model.specs.machine.Machine.{IsPresent, ready};
 ghost use Rattle.xr_model.specs.machine.CoreCalls.{MayAsk};
-ghost use Rattle.xr_model.specs.machine.Request.{request_of, next_frame};
+ghost use Rattle.xr_model.specs.machine.Request.{request_of, next_frame, image_done};
 ghost use Rattle.xr_model.specs.machine.State.{with_apps, opening};
 ghost use Rattle.xr_model.specs.scenario.Built.{is_built_op};
 ghost use Rattle.xr_model.specs.scenario.ScriptForm.{IsInRange};
+ghost use Rattle.xr_model.specs.machine.Frames.{is_empty};
+ghost use Rattle.xr_model.specs.runs.Robin.{with_start};
 ghost use Rattle.xr_model.specs.runs.Scripts.{request_for};
 ghost use Rattle.xr_serial.specs.inside.Made.{AnsweredOrWaits, asked};
 ghost use Rattle.xr_serial.specs.inside.Lent.{lent_size};
@@ -43,7 +45,7 @@ impl Model for Machine {
 
 /// How many bytes the call of an op is lent.
 fn lent_size(op: &Op) -> u64
-    ensures { (values : List ℕ) → result ≡ lent_size (request_for values op.now) }
+    ensures { (clock : ℤ) (values : List ℕ) → result ≡ lent_size (with_start clock (request_for values op.now)) }
 {
     match op {
         Op::PathToString {
@@ -55,6 +57,20 @@ fn lent_size(op: &Op) -> u64
     }
 }
 
+/// The call, where a wait begins at this clock.
+fn with_start<'a>(clock: &i64, call: Call<'a>) -> Call<'a>
+    ensures { request_of result ≡ with_start clock.now (request_of call.entry) }
+{
+    match call {
+        Call::WaitImage { chain, timeout, .. } => Call::WaitImage {
+            chain,
+            timeout,
+            start: *clock,
+        },
+        _ => call,
+    }
+}
+
 /// Makes the call of an op, or says by nothing that it has to wait.
 fn ask(
     alloc: Global,
@@ -62,6 +78,7 @@ fn ask(
     number: u8,
     op: &Op,
     names: &Names,
+    clock: i64,
     scratch: &mut Scratch,
     buffer: &mut [u8],
     shown: &mut Shown,
@@ -70,11 +87,12 @@ fn ask(
     requires present { IsPresent core.old.core (App number) }
     requires ranged { IsInRange op.now }
     requires built { is_built_op op.now ≡ true }
+    requires begun { pos 0 ≤ℤ clock }
     requires size { MOST_LENT ≤ length buffer.old }
-    ensures { IfOk result (λ answered. AnsweredOrWaits core.old core.new (App number) (request_for names.now op.now) shown.new answered) }
+    ensures { IfOk result (λ answered. AnsweredOrWaits core.old core.new (App number) (with_start clock (request_for names.now op.now)) shown.new answered) }
 {
     let lent = &mut buffer[..lent_size(op) as usize];
-    let call = call_of(op, names, scratch);
+    let call = with_start(&clock, call_of(op, names, scratch));
     make(alloc, core, Actor::App(number), &call, lent, shown)
 }
 
@@ -82,7 +100,7 @@ fn ask(
 /// is held back.
 #[tactic(auto, using(crate::proofs::Ops::held_back))]
 fn waits(core: &PlainCore, op: &Op, names: &Names) -> bool
-    ensures { (number : ℕ) → result ≡ true → ready core.now (asked (App number) (request_for names.now op.now)) ≡ false }
+    ensures { (number : ℕ) (clock : ℤ) → result ≡ true → ready core.now (asked (App number) (with_start clock (request_for names.now op.now))) ≡ false }
 {
     match op {
         Op::Await { mark } => core.await_waits(*mark),
@@ -123,6 +141,43 @@ impl Machine {
         make(alloc, &mut self.core, who, call, &mut [], &mut self.shown)
     }
 
+    /// The device's clock, in ns of device time, never negative.
+    pub(crate) fn clock(&self) -> i64
+        ensures clock { result ≡ self.now.core.device.clock }
+        ensures begun { pos 0 ≤ℤ result }
+    {
+        self.core.clock()
+    }
+
+    /// How many locked calls were answered.
+    pub(crate) fn calls(&self) -> u64
+        ensures { result ≡ self.now.core.locked }
+    {
+        self.core.calls()
+    }
+
+    /// Whether the compositor holds images, which it gives back before it asks for a frame.
+    pub(crate) fn holds_images(&self) -> bool
+        ensures { result ≡ not (is_empty self.now.cells.held) }
+    {
+        self.core.held() > 0
+    }
+
+    /// Gives back the image that the compositor has held longest.
+    pub(crate) fn give_back(&mut self, alloc: Global) -> Result<Option<Answered>, NoMemory>
+        requires calls { self.old.core.locked < 2 ^ 44 }
+        ensures { (shown : ShownFrame) × IfOk result (λ answered. AnsweredOrWaits self.old self.new Compositor image_done shown answered) }
+    {
+        make(
+            alloc,
+            &mut self.core,
+            Actor::Compositor,
+            &Call::ImageDone,
+            &mut [],
+            &mut self.shown,
+        )
+    }
+
     /// Makes the compositor's call, or says by nothing that it has to wait. The frame that it shows is left in `shown`.
     pub(crate) fn next_frame(
         &mut self,
@@ -150,7 +205,7 @@ impl Machine {
         self.core.next_frame_waits()
     }
 
-    /// Makes the call of an application's op, or says by nothing that it has to wait. A mark that isn't set and a frame that is
+    /// Makes the call of an application's op, of which a wait begins at this clock, or says by nothing that it has to wait. A mark that isn't set and a frame that is
     /// held back are seen before the call is made up, since a script may wait for many rounds.
     pub(crate) fn make_op(
         &mut self,
@@ -158,12 +213,14 @@ impl Machine {
         number: u8,
         op: &Op,
         names: &Names,
+        clock: i64,
     ) -> Result<Option<Answered>, NoMemory>
         requires calls { self.old.core.locked < 2 ^ 44 }
         requires present { IsPresent self.old.core (App number) }
         requires ranged { IsInRange op.now }
         requires built { is_built_op op.now ≡ true }
-        ensures { (shown : ShownFrame) × IfOk result (λ answered. AnsweredOrWaits self.old self.new (App number) (request_for names.now op.now) shown answered) }
+        requires begun { pos 0 ≤ℤ clock }
+        ensures { (shown : ShownFrame) × IfOk result (λ answered. AnsweredOrWaits self.old self.new (App number) (with_start clock (request_for names.now op.now)) shown answered) }
     {
         let Machine {
             core,
@@ -174,6 +231,8 @@ impl Machine {
         if waits(core, op, names) {
             return Ok(None);
         }
-        ask(alloc, core, number, op, names, scratch, buffer, shown)
+        ask(
+            alloc, core, number, op, names, clock, scratch, buffer, shown,
+        )
     }
 }

@@ -9,7 +9,7 @@ ghost use Rattle.xr_serial.specs.Ran.{settings_of};
 ghost use Rattle.xr_device.specs.Prospect.{Prospect};
 ghost use Rattle.xr_serial.specs.inside.Sides.{new_app};
 ghost use Rattle.xr_serial.specs.inside.Turns.{actors_of, turn_behind};
-ghost use Rattle.xr_serial.specs.inside.RunInvariant.{RunInvariant};
+ghost use Rattle.xr_serial.specs.inside.RunInvariant.{calls_made, RunInvariant};
 
 use crate::application::Application;
 use crate::compositor::CompositorSide;
@@ -52,7 +52,7 @@ fn start_apps(alloc: Global, scripts: &[Script]) -> Result<Vec<Application>, NoM
 
 /// A run before its first call.
 pub(crate) fn start(alloc: Global, scenario: &Scenario) -> Result<Run, NoMemory>
-    ensures { IfOk result (λ run. run ≡ record { apps = map new_app scenario.now.scripts; side = record { pending = None; over = false; events = []; calls = [] }; compositor = record { frames = []; replies = []; ended = None } }) }
+    ensures { IfOk result (λ run. run ≡ record { apps = map new_app scenario.now.scripts; side = record { pending = None; over = false; events = []; calls = [] }; compositor = record { frames = []; replies = []; done = []; ended = None } }) }
 {
     let apps = start_apps(alloc, scenario.scripts.as_slice())?;
     Ok(Run {
@@ -87,7 +87,7 @@ fn app_turn(
     ensures kept { IfOk result (λ went. (idle : ℕ) (start now : Prospect) → idle < actors_of scenario.now
         → RunInvariant scenario.now place idle machine.old run.old start now
         → RunInvariant scenario.now (turn_behind place (actors_of scenario.now)) (if went then 0 else idle + 1) machine.new run.new start now) }
-    ensures counts { IfOk result (λ went. machine.new.core.locked ≡ machine.old.core.locked + (if went then 1 else 0)) }
+    ensures counts { IfOk result (λ went. calls_made machine.new run.new ≡ calls_made machine.old run.old + (if went then 1 else 0)) }
 {
     let ops = scenario.scripts.as_slice()[place].as_slice();
     let number = place as u8 + 1;
@@ -118,7 +118,7 @@ fn device_turn<D: Device>(
     ensures kept { IfOk result (λ went. (idle : ℕ) (start : Prospect) → idle < actors_of scenario.now
         → RunInvariant scenario.now (length scenario.now.scripts) idle machine.old run.old start (D.prospect device.old)
         → RunInvariant scenario.now (turn_behind (length scenario.now.scripts) (actors_of scenario.now)) (if went then 0 else idle + 1) machine.new run.new start (D.prospect device.new)) }
-    ensures counts { IfOk result (λ went. machine.new.core.locked ≡ machine.old.core.locked + (if went then 1 else 0)) }
+    ensures counts { IfOk result (λ went. calls_made machine.new run.new ≡ calls_made machine.old run.old + (if went then 1 else 0)) }
     ensures later { (D.prospect device.old).faults ≤ (D.prospect device.new).faults }
     ensures which { (D.prospect device.new).which ≡ (D.prospect device.old).which }
 {
@@ -130,7 +130,7 @@ fn device_turn<D: Device>(
     Ok(went)
 }
 
-/// The compositor's turn; whether it made a call.
+/// The compositor's turn, in which it gives back an image or asks for a frame; whether it made a call.
 fn compositor_turn(
     alloc: Global,
     machine: &mut Machine,
@@ -143,10 +143,14 @@ fn compositor_turn(
     ensures kept { IfOk result (λ went. (idle : ℕ) (start now : Prospect) → idle < actors_of scenario.now
         → RunInvariant scenario.now (length scenario.now.scripts + 1) idle machine.old run.old start now
         → RunInvariant scenario.now (turn_behind (length scenario.now.scripts + 1) (actors_of scenario.now)) (if went then 0 else idle + 1) machine.new run.new start now) }
-    ensures counts { IfOk result (λ went. machine.new.core.locked ≡ machine.old.core.locked + (if went then 1 else 0)) }
+    ensures counts { IfOk result (λ went. calls_made machine.new run.new ≡ calls_made machine.old run.old + (if went then 1 else 0)) }
 {
     if run.compositor.ended.is_some() {
         return Ok(false);
+    }
+    if machine.holds_images() {
+        run.compositor.give_back(alloc, machine)?;
+        return Ok(true);
     }
     let went = run.compositor.take(alloc, machine)?;
     Ok(went)
@@ -171,7 +175,7 @@ fn one_turn<D: Device>(
     ensures kept { IfOk result (λ went. (idle : ℕ) (start : Prospect) → idle < actors_of scenario.now
         → RunInvariant scenario.now turn idle machine.old run.old start (D.prospect device.old)
         → RunInvariant scenario.now (turn_behind turn (actors_of scenario.now)) (if went then 0 else idle + 1) machine.new run.new start (D.prospect device.new)) }
-    ensures counts { IfOk result (λ went. machine.new.core.locked ≡ machine.old.core.locked + (if went then 1 else 0)) }
+    ensures counts { IfOk result (λ went. calls_made machine.new run.new ≡ calls_made machine.old run.old + (if went then 1 else 0)) }
     ensures later { (D.prospect device.old).faults ≤ (D.prospect device.new).faults }
     ensures which { (D.prospect device.new).which ≡ (D.prospect device.old).which }
 {

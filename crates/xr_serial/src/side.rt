@@ -103,7 +103,7 @@ impl DeviceSide {
             return Ok(false);
         };
         let place = self.calls.len() as u32 + 1;
-        add(&mut self.calls, place, CallName::Device, 0, answered)?;
+        add(&mut self.calls, place, CallName::Device, 0, 0, answered)?;
         let Ok(()) = self.events.push(event) else {
             return Err(NoMemory);
         };

@@ -19,9 +19,9 @@ take turns. These ops are run: create_instance, destroy_instance, get_system,
 string_to_path, path_to_string, poll_event, create_session, destroy_session,
 begin_session, end_session, request_exit_session, create_reference_space,
 destroy_space, locate_space, create_action_set, destroy_action_set,
-create_action, destroy_action, suggest_bindings, attach_sets, wait_frame,
-begin_frame, end_frame without layers, mark and await. What is more isn't built
-yet.
+create_action, destroy_action, suggest_bindings, attach_sets, create_swapchain,
+destroy_swapchain, acquire_image, wait_image, paint, release_image, wait_frame,
+begin_frame, end_frame, mark and await. What is more isn't built yet.
 With --device the events of the device are read from a text, one on a line;
 without it there are none.
 With --places each line of a call ends in '@' and its reply's place, the count

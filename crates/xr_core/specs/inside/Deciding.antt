@@ -1,13 +1,19 @@
 -- What the method of one call says: how the parts decide it, before it is counted.
-use Rattle.std.specs.Prelude.{◌≡◌, ◌||◌, ◌&&◌, ℕ, List, [], true, false, not, is_some, None, Result, Ok, Err}
+use Rattle.std.specs.Prelude.{◌≡◌, ◌||◌, ◌&&◌, ℕ, Bool, List, true, false, not, is_some, length, None, Result, Ok, Err}
 use Rattle.xr_types.specs.Code.{is_success, is_out_of_memory}
 use Rattle.xr_types.specs.declared.calls.Actor.{Actor}
 use Rattle.xr_types.specs.declared.calls.Gives.{Gives}
 use Rattle.xr_types.specs.declared.calls.Gives.TheVariants.{Nothing}
 use Rattle.xr_types.specs.declared.code.Code.{Code}
+use Rattle.xr_types.specs.declared.calls.Step.{Step}
+use Rattle.xr_types.specs.declared.calls.Step.TheVariants.{Done}
+use Rattle.xr_types.specs.declared.calls.Step.TheVariants as step
+use Rattle.xr_types.specs.declared.frames.Image.{Image}
 use Rattle.xr_types.specs.Frames.{ShownFrame}
+use Rattle.xr_model.specs.machine.CellCalls.{CellCall, MayCall, Leads}
 use Rattle.xr_model.specs.machine.CoreCalls.{Lent, left_in, given_by}
-use Rattle.xr_model.specs.machine.Machine.{rule_of, IsGiven}
+use Rattle.xr_model.specs.machine.Machine.{rule_of, cell_calls, held_after, IsGiven}
+use Rattle.xr_model.specs.machine.OverCells.{World, entry_by, did_by}
 use Rattle.xr_model.specs.machine.Refusals.{first_of}
 use Rattle.xr_model.specs.machine.Request.{Request}
 use Rattle.xr_model.specs.machine.Rule.{Rule, refusals, carried_out}
@@ -34,11 +40,15 @@ pub record HasToWait (old : CoreState) (r : ℕ → Rule) (new : CoreState) (bef
   pub same : new ≡ old
   pub unwritten : after ≡ before
 
--- how a call is decided that this actor makes and that is lent something, whatever the cells tell, where no image is held
+-- how a call is decided that this actor makes and that is lent something, where the cells tell so much
+abbrev pub DecidesTold : CellReads → Actor → CoreState → Request → CoreState → Result Reply Halt → Lent → Lent → Type 0
+DecidesTold reads who old what new (Ok d) before after = Comes old (λ given. rule_of old reads who given what) new d.code d.gives before after
+DecidesTold reads who old what new (Err (Refused code)) before after = Comes old (λ given. rule_of old reads who given what) new code Nothing before after
+DecidesTold reads who old what new (Err NotReady) before after = HasToWait old (λ given. rule_of old reads who given what) new before after
+
+-- whatever the cells tell
 abbrev pub DecidesOver : Actor → CoreState → Request → CoreState → Result Reply Halt → Lent → Lent → Type 0
-DecidesOver who old what new (Ok d) before after = (reads : CellReads) → reads.held ≡ [] → Comes old (λ given. rule_of old reads who given what) new d.code d.gives before after
-DecidesOver who old what new (Err (Refused code)) before after = (reads : CellReads) → reads.held ≡ [] → Comes old (λ given. rule_of old reads who given what) new code Nothing before after
-DecidesOver who old what new (Err NotReady) before after = (reads : CellReads) → reads.held ≡ [] → HasToWait old (λ given. rule_of old reads who given what) new before after
+DecidesOver who old what new result before after = (reads : CellReads) → DecidesTold reads who old what new result before after
 
 -- of a call that leaves all that it is lent
 abbrev pub DecidesBy : Actor → CoreState → Request → CoreState → Result Reply Halt → Type 0
@@ -53,7 +63,30 @@ abbrev pub DecidesWriting : Actor → CoreState → Request → CoreState → Re
 DecidesWriting who old what new result before after =
     (frame : ShownFrame) → DecidesOver who old what new result (record { text = before; frame = frame }) (record { text = after; frame = frame })
 
--- of a call that shows a frame alone
-abbrev pub DecidesShowing : Actor → CoreState → Request → CoreState → Result Reply Halt → ShownFrame → ShownFrame → Type 0
-DecidesShowing who old what new result before after =
-    (text : List ℕ) → DecidesOver who old what new result (record { text = text; frame = before }) (record { text = text; frame = after })
+-- ---- over cells
+
+-- the answer to a call that isn't counted yet
+abbrev pub step_of : Result Reply Halt → Step
+step_of (Ok d) = Done d
+step_of (Err (Refused code)) = Done (record { code = code; gives = Nothing; place = 0 })
+step_of (Err NotReady) = step.NotReady
+
+-- How a call is decided beside cells: there is something that they told, along the calls on them, by which it is decided so.
+pub record DecidesAlong {C : Type 0} (does : C → CellCall → C → Type 0) (old new : World C) (who : Actor) (what : Request) (result : Result Reply Halt) : Type 0 where
+  pub reads : CellReads
+  pub own : reads.held ≡ old.core.held
+  pub each : length reads.stamps ≡ length (did_by old.core.kept reads who what (step_of result)).taken
+  pub cells : Leads does old.cells (cell_calls old.core.kept reads (entry_by who what (step_of result))) new.cells
+  pub decides : DecidesTold reads who old.core.kept what new.core.kept result old.lent new.lent
+  pub holds : new.core.held ≡ held_after old.core.held (did_by old.core.kept reads who what (step_of result))
+
+-- of a call that leaves what it is lent and what is held
+abbrev pub DecidesCells : {C : Type 0} → (C → CellCall → C → Type 0) → CoreState → Request → CoreState → Result Reply Halt → C → C → Type 0
+DecidesCells does old what new result before after =
+    (who : Actor) (held : List Image) (lent : Lent)
+    → DecidesAlong does (record { core = record { kept = old; held = held }; cells = before; lent = lent }) (record { core = record { kept = new; held = held }; cells = after; lent = lent }) who what result
+
+-- the conditions of the calls on cells, whoever makes the call and whatever is told
+abbrev pub MayTouch : {C : Type 0} → (C → CellCall → Type 0) → (C → CellCall → C → Type 0) → CoreState → C → Request → Type 0
+MayTouch may does s cells what =
+    (who : Actor) (reads : CellReads) (given : ℕ) (short : Bool) → MayCall may does cells (cell_calls s reads (record { actor = who; request = what; given = given; short = short }))

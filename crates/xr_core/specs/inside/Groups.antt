@@ -1,11 +1,8 @@
 -- The calls by groups: a group is a file of calls/, and one function of the core.
-use Rattle.std.specs.Prelude.{◌≡◌, true}
-use Rattle.xr_model.specs.machine.Frames.{is_empty}
-use Rattle.xr_model.specs.machine.Request.{Request, create_instance, destroy_instance, get_system, poll_event, string_to_path, path_to_string, create_session, destroy_session, begin_session, end_session, request_exit_session, create_reference_space, destroy_space, locate_space, create_action_set, destroy_action_set, create_action, destroy_action, attach_sets, wait_frame, begin_frame, end_frame, mark, await_mark, leave}
+use Rattle.xr_model.specs.machine.Request.{Request, create_instance, get_system, poll_event, string_to_path, path_to_string, create_session, begin_session, end_session, request_exit_session, create_reference_space, destroy_space, locate_space, create_action_set, destroy_action_set, create_action, destroy_action, attach_sets, create_swapchain, destroy_swapchain, wait_image, paint, release_image, wait_frame, begin_frame, mark, await_mark, leave}
 
 abbrev pub IsInstanceCall : Request → Type 0
 IsInstanceCall (create_instance major minor) = Unit {0}
-IsInstanceCall (destroy_instance instance) = Unit {0}
 IsInstanceCall (get_system instance form) = Unit {0}
 IsInstanceCall (poll_event instance) = Unit {0}
 IsInstanceCall _ = ⊥
@@ -17,7 +14,6 @@ IsPathCall _ = ⊥
 
 abbrev pub IsSessionCall : Request → Type 0
 IsSessionCall (create_session instance system) = Unit {0}
-IsSessionCall (destroy_session session) = Unit {0}
 IsSessionCall (begin_session session view) = Unit {0}
 IsSessionCall (end_session session) = Unit {0}
 IsSessionCall (request_exit_session session) = Unit {0}
@@ -37,11 +33,19 @@ IsSetCall (destroy_action action) = Unit {0}
 IsSetCall (attach_sets session sets) = Unit {0}
 IsSetCall _ = ⊥
 
--- an application's calls on frames, and of their ends those without layers, which are all that the core answers so far
+-- swapchains and their images
+abbrev pub IsChainCall : Request → Type 0
+IsChainCall (create_swapchain session format width height fixed) = Unit {0}
+IsChainCall (destroy_swapchain chain) = Unit {0}
+IsChainCall (wait_image chain timeout start) = Unit {0}
+IsChainCall (paint chain stamp) = Unit {0}
+IsChainCall (release_image chain) = Unit {0}
+IsChainCall _ = ⊥
+
+-- an application's calls on frames but for their ends
 abbrev pub IsFrameCall : Request → Type 0
 IsFrameCall (wait_frame session) = Unit {0}
 IsFrameCall (begin_frame session) = Unit {0}
-IsFrameCall (end_frame session time blend layers) = is_empty layers ≡ true
 IsFrameCall _ = ⊥
 
 -- marks, and how applications end

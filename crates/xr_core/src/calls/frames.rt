@@ -1,65 +1,61 @@
 // The calls on frames (OpenXR 1.0 chapter 10).
-ghost use Rattle.std.specs.Prelude.{◌≡◌, ◌<◌, ◌^◌, ◌+◌, ◌||◌, ◌&&◌, is_none, slice_get, [], ◌∷◌, ◌++◌, None, Ok, Err, IfSome, not, true, false, if◌then◌else◌};
-ghost use Rattle.xr_types.specs.declared.calls.Actor.{Actor};
+ghost use Rattle.std.specs.Prelude.{◌≡◌, ◌≤◌, ◌<◌, ◌^◌, ◌+◌, ◌||◌, ◌&&◌, is_none, slice_get, [], ◌∷◌, ◌++◌, None, Ok, Err, IfSome, not, true, false, length, if◌then◌else◌};
 ghost use Rattle.xr_types.specs.declared.session.SessionState.TheVariants.{Visible, Focused};
+ghost use Rattle.xr_model.specs.machine.CellCalls.{MayCall, Leads, pin_calls};
 ghost use Rattle.xr_model.specs.machine.Frames.{waited_loop, begun_loop, ended_loop, is_frame_held_back};
+ghost use Rattle.xr_model.specs.machine.Layers.{frame_checks};
 ghost use Rattle.xr_model.specs.machine.LiveSessions.{session_at};
 ghost use Rattle.xr_model.specs.machine.Refusals.{first_of, when};
-ghost use Rattle.xr_model.specs.machine.Request.{wait_frame, begin_frame, end_frame, next_frame, request_of};
+ghost use Rattle.xr_model.specs.machine.Request.{wait_frame, begin_frame, end_frame, request_of};
 ghost use Rattle.xr_model.specs.machine.Rule.{ahead, refusals};
 ghost use Rattle.xr_model.specs.machine.SessionLife.{is_state, synced_session};
 ghost use Rattle.xr_model.specs.machine.SessionRule.{loss_of, code_on};
-ghost use Rattle.xr_model.specs.machine.Layers.{form_checks};
-ghost use Rattle.xr_model.specs.machine.Rules.Frames.{not_running, next_time, wait_frame_rule, new_frame, end_frame_rule, is_frame_awaited, with_frame_taken};
+ghost use Rattle.xr_model.specs.machine.Rules.Frames.{not_running, next_time, wait_frame_rule, look_of, new_frame, end_frame_rule, is_frame_awaited, with_frame_taken};
 ghost use Rattle.xr_model.specs.machine.Rules.Session.{life_of, with_change, with_loop};
-ghost use Rattle.xr_core.specs.inside.Bare.{are_bare};
-ghost use Rattle.xr_core.specs.inside.Deciding.{Decides, DecidesShowing};
+ghost use Rattle.xr_core.specs.inside.Deciding.{Decides, DecidesCells, MayTouch};
 ghost use Rattle.xr_core.specs.inside.Groups.{IsFrameCall};
 ghost use Rattle.xr_model.specs.machine.PartAnswers.{or_refused};
 
 use crate::halt::{Halt, done, giving};
 use crate::parts::Parts;
 use crate::sessions::{place_of, session_at, sync_at};
+use crate::sight::Sight;
 use arrayvec::ArrayVec;
-use xr_types::{Blend, Call, Code, Frame, FrameState, Gives, Kind, Reply, Shown};
+use xr_layers::check;
+use xr_model::Cells;
+use xr_types::{
+    Blend, Call, Code, Frame, FrameState, Gives, Image, Kind, Layer, MOST_LAYERS, Reply,
+};
 
-/// Shows a pending frame, without layers so far.
-fn show(frame: &Frame, shown: &mut Shown)
-    ensures { shown.new ≡ record { number = frame.now.number; time = frame.now.time; layers = [] } }
+/// These images take the place of others.
+fn keep_images(kept: &mut ArrayVec<Image, MOST_LAYERS>, images: &[Image])
+    requires { length images.now ≤ MOST_LAYERS }
+    ensures { kept.new.items ≡ images.now }
 {
-    shown.number = frame.number;
-    shown.time = frame.time;
-    shown.layers.clear();
+    kept.clear();
+    for image in images {
+        kept.push(*image);
+    }
 }
 
-/// What refuses the time, in ns of device time, and the blend mode of a frame.
-fn check_frame(time: &i64, blend: Blend) -> Result<(), Code>
-    ensures { result ≡ or_refused (first_of (form_checks time.now blend [])) tt }
+/// One frame more uses each of these images.
+fn pin_all<C: Cells>(cells: &mut C, images: &[Image])
+    requires { MayCall C.may C.does cells.old (pin_calls images.now) }
+    ensures { Leads C.does cells.old (pin_calls images.now) cells.new }
 {
-    if *time <= 0 {
-        return Err(Code::TimeInvalid);
-    }
-    match blend {
-        Blend::Opaque => Ok(()),
-        Blend::Additive | Blend::Alpha => Err(Code::EnvironmentBlendModeUnsupported),
+    for image in images {
+        cells.pin(*image);
     }
 }
 
 impl Parts {
     pub(crate) fn frame_call(&mut self, call: &Call<'_>) -> Result<Reply, Halt>
-        requires ended { self.old.ended < 2 ^ 44 }
         requires group { IsFrameCall (request_of call.now) }
         ensures { Decides self.old (request_of call.now) self.new result }
     {
         match call {
             Call::WaitFrame { session } => self.wait_frame(*session),
             Call::BeginFrame { session } => self.begin_frame(*session),
-            Call::EndFrame {
-                session,
-                time,
-                blend,
-                layers: _,
-            } => self.end_frame(*session, time, *blend),
             _ => unreachable!(),
         }
     }
@@ -157,13 +153,45 @@ impl Parts {
         }
     }
 
-    /// What refuses the end of a frame, or what its success is answered as.
-    fn may_end_frame(&self, session: u64, time: &i64, blend: Blend) -> Result<Code, Code>
-        ensures { result ≡ or_refused (first_of (refusals (end_frame_rule self.now session time.now blend []))) (code_on (loss_of (life_of self.now session)) Code.Success) }
+    /// What refuses the end of a frame by its time, in ns of device time, its blend mode and its layers. Where nothing does the
+    /// frame has that time, these layers and their images.
+    fn check_frame(
+        &self,
+        time: &i64,
+        blend: Blend,
+        layers: &[Layer],
+        frame: &mut Frame,
+    ) -> Result<(), Code>
+        ensures checks { result ≡ or_refused (first_of (frame_checks (look_of self.now) time.now blend layers.now)) tt }
+        ensures frame { result ≡ Ok tt → frame.new ≡ record (new_frame self.now time.now layers.now) { number = frame.old.number } }
+    {
+        let sight = Sight {
+            handles: &self.handles,
+            chains: &self.chains,
+        };
+        match check(*time, blend, layers, &sight, frame) {
+            Code::Success => Ok(()),
+            code => Err(code),
+        }
+    }
+
+    /// What refuses the end of a frame, or what its success is answered as. Where nothing refuses it the frame is the one that
+    /// is submitted.
+    fn may_end_frame(
+        &self,
+        session: u64,
+        time: &i64,
+        blend: Blend,
+        layers: &[Layer],
+        frame: &mut Frame,
+    ) -> Result<Code, Code>
+        requires number { frame.old.number ≡ self.now.ended + 1 }
+        ensures checks { result ≡ or_refused (first_of (refusals (end_frame_rule self.now session time.now blend layers.now))) (code_on (loss_of (life_of self.now session)) Code.Success) }
+        ensures frame { first_of (refusals (end_frame_rule self.now session time.now blend layers.now)) ≡ None → frame.new ≡ new_frame self.now time.now layers.now }
     {
         let success = self.may_frame(session)?;
         self.has_begun()?;
-        check_frame(time, blend)?;
+        self.check_frame(time, blend, layers, frame)?;
         Ok(success)
     }
 
@@ -183,32 +211,42 @@ impl Parts {
         );
     }
 
-    /// The frame that is begun is pending from now on, without layers so far, with its time in ns of device time.
-    fn submit(&mut self, time: &i64)
+    /// The frame that is begun is pending from now on.
+    fn submit(&mut self, frame: Frame)
         requires ended { self.old.ended < 2 ^ 44 }
         requires begun { self.old.frames.frame_loop.has_begun ≡ true }
         ensures { self.new ≡ record self.old {
-          frames = record { frame_loop = ended_loop self.old.frames.frame_loop; pending = self.old.frames.pending ++ new_frame self.old time.now [] ∷ [] };
+          frames = record { frame_loop = ended_loop self.old.frames.frame_loop; pending = self.old.frames.pending ++ frame ∷ [] };
           ended = self.old.ended + 1;
         } }
     {
         self.ended += 1;
-        self.frames.end(Frame {
-            number: self.ended,
-            time: *time,
-            layers: ArrayVec::new(),
-            images: ArrayVec::new(),
-        });
+        self.frames.end(frame);
     }
 
-    /// Ends a frame without layers.
-    fn end_frame(&mut self, session: u64, time: &i64, blend: Blend) -> Result<Reply, Halt>
+    /// Ends a frame, which uses the images of its layers from now on.
+    pub(crate) fn end_frame<C: Cells>(
+        &mut self,
+        cells: &mut C,
+        session: u64,
+        time: &i64,
+        blend: Blend,
+        layers: &[Layer],
+    ) -> Result<Reply, Halt>
         requires ended { self.old.ended < 2 ^ 44 }
-        ensures { Decides self.old (end_frame session time.now blend []) self.new result }
+        requires may { MayTouch C.may C.does self.old cells.old (end_frame session time.now blend layers.now) }
+        ensures { DecidesCells C.does self.old (end_frame session time.now blend layers.now) self.new result cells.old cells.new }
     {
-        let success = self.may_end_frame(session, time, blend)?;
+        let mut frame = Frame {
+            number: self.ended + 1,
+            time: 0,
+            layers: ArrayVec::new(),
+            images: ArrayVec::new(),
+        };
+        let success = self.may_end_frame(session, time, blend, layers, &mut frame)?;
+        pin_all(cells, frame.images.as_slice());
         self.sync(session);
-        self.submit(time);
+        self.submit(frame);
         done(success)
     }
 
@@ -220,31 +258,13 @@ impl Parts {
     }
 
     /// Takes the frame that is pending longest, where one is.
-    fn take(&mut self) -> Option<Frame>
-        requires bare { are_bare self.old.frames.pending ≡ true }
+    pub(crate) fn take(&mut self) -> Option<Frame>
         ensures frame { result ≡ slice_get self.old.frames.pending 0 }
         ensures kept { self.new ≡ with_frame_taken self.old }
     {
-        self.frames.pop()
-    }
-
-    /// Shows the frame that is pending longest, and takes it. Where none is the end is told, or the call waits until every
-    /// application has left.
-    pub(crate) fn next_frame(&mut self, shown: &mut Shown) -> Result<Reply, Halt>
-        requires bare { are_bare self.old.frames.pending ≡ true }
-        ensures { (who : Actor) → DecidesShowing who self.old next_frame self.new result shown.old shown.new }
-    {
-        match self.take() {
-            Some(frame) => {
-                show(&frame, shown);
-                giving(Code::Success, Gives::Shown)
-            }
-            None => {
-                if !self.all_left() {
-                    return Err(Halt::NotReady);
-                }
-                giving(Code::Success, Gives::Ended)
-            }
-        }
+        let frame = self.frames.pop()?;
+        keep_images(&mut self.shown, frame.images.as_slice());
+        self.sweep();
+        Some(frame)
     }
 }

@@ -1,17 +1,19 @@
 // The calls on instances, their systems and their events (OpenXR 1.0 chapters 2, 4 and 5).
-ghost use Rattle.std.specs.Prelude.{◌≡◌, ◌≢◌, ◌<◌, ◌^◌, length, true, false};
+ghost use Rattle.std.specs.Prelude.{◌≡◌, ◌≢◌, [], ◌<◌, ◌^◌, length, true, false};
 ghost use Rattle.xr_types.specs.declared.handles.Kind.TheVariants as kind;
+ghost use Rattle.xr_model.specs.machine.Events.{no_events};
 ghost use Rattle.xr_model.specs.machine.Handles.{has_room, was_given, with_handle};
 ghost use Rattle.xr_model.specs.machine.Refusals.{first_of};
 ghost use Rattle.xr_model.specs.machine.Request.{create_instance, destroy_instance, get_system, poll_event, request_of};
 ghost use Rattle.xr_model.specs.machine.Rule.{refusals};
 ghost use Rattle.xr_model.specs.machine.Rules.Instance.{create_instance_rule};
-ghost use Rattle.xr_core.specs.inside.Deciding.{Decides};
+ghost use Rattle.xr_core.specs.inside.Deciding.{Decides, DecidesCells, MayTouch};
 ghost use Rattle.xr_core.specs.inside.Groups.{IsInstanceCall};
 ghost use Rattle.xr_model.specs.machine.PartAnswers.{or_refused};
 
 use crate::halt::{Halt, done, giving, refused};
 use crate::parts::{Parts, give};
+use xr_model::Cells;
 use xr_types::{Call, Code, Form, Gives, Kind, Reply};
 
 /// The one system.
@@ -25,7 +27,6 @@ impl Parts {
     {
         match call {
             Call::CreateInstance { major, minor } => self.create_instance(*major, *minor),
-            Call::DestroyInstance { instance } => self.destroy_instance(*instance),
             Call::GetSystem { instance, form } => self.get_system(*instance, *form),
             Call::PollEvent { instance } => self.poll_event(*instance),
             _ => unreachable!(),
@@ -61,14 +62,26 @@ impl Parts {
         give(&mut self.handles, Kind::Instance, 0)
     }
 
-    fn destroy_instance(&mut self, instance: u64) -> Result<Reply, Halt>
-        ensures { Decides self.old (destroy_instance instance) self.new result }
+    pub(crate) fn destroy_instance<C: Cells>(
+        &mut self,
+        cells: &mut C,
+        instance: u64,
+    ) -> Result<Reply, Halt>
+        requires may { MayTouch C.may C.does self.old cells.old (destroy_instance instance) }
+        ensures { DecidesCells C.does self.old (destroy_instance instance) self.new result cells.old cells.new }
     {
         self.live(Kind::Instance, instance)?;
-        self.destroy(instance);
+        self.destroy_over(cells, instance);
+        self.forget_all();
+        done(Code::Success)
+    }
+
+    /// No path is an atom any more, and no event waits.
+    fn forget_all(&mut self)
+        ensures { self.new ≡ record self.old { atoms = []; events = no_events } }
+    {
         self.paths.clear();
         self.events.clear();
-        done(Code::Success)
     }
 
     fn get_system(&mut self, instance: u64, form: Form) -> Result<Reply, Halt>

@@ -8,7 +8,7 @@ ghost use Rattle.xr_model.specs.machine.Rule.{refusals};
 ghost use Rattle.xr_model.specs.machine.SessionLife.{started_session};
 ghost use Rattle.xr_model.specs.machine.Rules.Session.{life_of, with_session, create_session_rule};
 ghost use Rattle.xr_core.specs.inside.Changes.{place_at, life_request, changed_life, with_period, answer_to};
-ghost use Rattle.xr_core.specs.inside.Deciding.{Decides};
+ghost use Rattle.xr_core.specs.inside.Deciding.{Decides, DecidesCells, MayTouch};
 ghost use Rattle.xr_core.specs.inside.Groups.{IsSessionCall};
 ghost use Rattle.xr_model.specs.machine.PartAnswers.{or_refused};
 
@@ -16,6 +16,7 @@ use crate::calls::instance::SYSTEM;
 use crate::halt::{Halt, done, giving, refused};
 use crate::parts::{Parts, give};
 use crate::sessions::{LifeCall, Session, change_life, place_of, success_of};
+use xr_model::Cells;
 use xr_types::{Call, Code, Gives, Kind, Reply};
 
 impl Parts {
@@ -27,7 +28,6 @@ impl Parts {
     {
         match call {
             Call::CreateSession { instance, system } => self.create_session(*instance, *system),
-            Call::DestroySession { session } => self.destroy_session(*session),
             Call::BeginSession { session, view } => self.change_life(
                 *session,
                 LifeCall::Begin(*view),
@@ -78,11 +78,16 @@ impl Parts {
         handle
     }
 
-    fn destroy_session(&mut self, session: u64) -> Result<Reply, Halt>
-        ensures { Decides self.old (destroy_session session) self.new result }
+    pub(crate) fn destroy_session<C: Cells>(
+        &mut self,
+        cells: &mut C,
+        session: u64,
+    ) -> Result<Reply, Halt>
+        requires may { MayTouch C.may C.does self.old cells.old (destroy_session session) }
+        ensures { DecidesCells C.does self.old (destroy_session session) self.new result cells.old cells.new }
     {
         self.live(Kind::Session, session)?;
-        self.destroy(session);
+        self.destroy_over(cells, session);
         done(Code::Success)
     }
 

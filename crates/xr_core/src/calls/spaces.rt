@@ -113,7 +113,7 @@ impl Parts {
     }
 
     /// What a plain success on the session of a space is answered as, where the session isn't lost.
-    fn on_session_above(&self, space: u64) -> Result<Code, Code>
+    pub(crate) fn on_session_above(&self, space: u64) -> Result<Code, Code>
         ensures { result ≡ or_refused (first_of (is_lost (life_of self.now (session_above self.now.handles space)) ∷ [])) (code_on (loss_of (life_of self.now (session_above self.now.handles space))) Code.Success) }
     {
         self.on_session(session_above(&self.handles, space))

@@ -10,7 +10,7 @@ use Rattle.xr_types.specs.declared.handles.Kind.TheVariants.{Swapchain}
 use Rattle.xr_types.specs.declared.handles.TheConstants.{SWAPCHAINS}
 use Rattle.xr_types.specs.Frames.{PendingFrame}
 use Rattle.xr_model.specs.machine.Frames.{is_empty}
-use Rattle.xr_model.specs.machine.Handles.{Handles, is_live, is_among}
+use Rattle.xr_model.specs.machine.Handles.{Handles, is_live}
 use Rattle.xr_model.specs.machine.Refusals.{Refusal, when}
 
 -- ---- places
@@ -159,19 +159,6 @@ has_place place images = list_any (λ i. i.place == place) images
 -- a pending frame has an image of this place, or the one that was taken last
 abbrev pub is_place_used : List PendingFrame → List Image → ℕ → Bool
 is_place_used pending shown place = list_any (λ f. has_place place f.images) pending || has_place place shown
-
--- once its chain is destroyed, a place is kept where it is used, and is free where it isn't
-abbrev pub removed : Bool → Chain → Chain
-removed used c = if used then kept_place c.handle else free_place
-
--- a place that a destroyed chain kept is free once it isn't used any more
-abbrev pub swept_place : Bool → Chain → Chain
-swept_place used c = if c.is_destroyed && not used then free_place else c
-
--- the same of all places, counted from this one, where these are used
-abbrev pub swept : List ℕ → ℕ → List Chain → List Chain
-swept used place [] = []
-swept used place (c ∷ cs) = swept_place (is_among used place) c ∷ swept used (place + 1) cs
 
 -- What is left in a place where so many handles are live: a chain that isn't live goes, and keeps its place while that is used.
 abbrev pub left_in_place : Handles → Bool → Chain → Chain

@@ -49,6 +49,12 @@ pub record State : Type 0 where
   pub core : CoreState
   pub cells : Cells
 
+-- What a core has beside cells of any kind: what it keeps, and the images of the frame taken last that it knows as not given
+-- back, in order.
+pub record WholeCore : Type 0 where
+  pub kept : CoreState
+  pub held : List Image
+
 -- What a call is told of the cells: whether the image that it waits for is unused, which is where its count is 0;
 -- the stamps of the images that it shows; and the images that are held.
 pub record CellReads : Type 0 where

@@ -11,7 +11,8 @@ use Rattle.xr_types.specs.declared.names.CallName.{CallName}
 use Rattle.xr_types.specs.declared.names.CallName.TheVariants as call
 use Rattle.xr_model.specs.machine.Request.{Request, create_instance, destroy_instance, get_system, string_to_path, path_to_string, poll_event, create_session, destroy_session, begin_session, end_session, request_exit_session, create_reference_space, create_action_space, destroy_space, locate_space, create_action_set, destroy_action_set, create_action, destroy_action, suggest_bindings, attach_sets, sync_actions, get_boolean, get_float, get_vector, get_pose_active, create_swapchain, destroy_swapchain, acquire_image, wait_image, paint, release_image, wait_frame, begin_frame, end_frame, mark, await_mark, leave, device, next_frame, image_done, Entry, Exchange}
 use Rattle.xr_types.specs.Frames.{ShownFrame}
-use Rattle.xr_model.specs.machine.State.{Settings}
+use Rattle.xr_model.specs.machine.State.{Settings, State, opening}
+use Rattle.xr_model.specs.machine.Machine.{step}
 use Rattle.xr_model.specs.machine.History.{shown_if, calls_of}
 use Rattle.xr_model.specs.runs.Robin.{Agenda, script, events, compositor, next_call, in_round, is_ended}
 
@@ -109,7 +110,16 @@ abbrev pub events_in : List Exchange → List DeviceEvent
 events_in [] = []
 events_in (t ∷ ts) = event_in t.request ++ events_in ts
 
--- the next call of an actor of a run that can't go on
+-- for each image that was given back, how many locked calls were made before
+abbrev pub done_at : State → Request → List ℕ
+done_at s image_done = s.core.locked ∷ []
+done_at s _ = []
+
+abbrev pub done_from : State → List Entry → List ℕ
+done_from s [] = []
+done_from s (e ∷ es) = done_at s e.request ++ done_from (step s e).0 es
+
+-- the next call of an actor of a run that can't go on; the compositor waits for a frame, since it may always give back an image
 abbrev pub mark_awaited : DeviceEvent → ℕ
 mark_awaited (event.Await number) = number
 mark_awaited _ = 0
@@ -117,9 +127,9 @@ mark_awaited _ = 0
 abbrev pub waiting_of : Agenda → Waiting
 waiting_of (script app place ops values clock) = record { actor = App app; op = place; name = name_of (next_call (script app place ops values clock)) }
 waiting_of (events e es) = record { actor = Device; op = mark_awaited e; name = call.Await }
-waiting_of compositor = record { actor = Compositor; op = 0; name = call.NextFrame }
+waiting_of (compositor held) = record { actor = Compositor; op = 0; name = call.NextFrame }
 
--- The lists of a history in which no image is given back, and behind which these actors can't go on.
+-- The lists of a history behind which these actors can't go on.
 abbrev pub lists_of : Settings → List Entry → List Agenda → Lists
 lists_of settings history left = record {
   apps = lists_to settings settings.apps history;
@@ -127,7 +137,7 @@ lists_of settings history left = record {
   compositor = frames_in (calls_of settings Compositor history);
   ended = end_of (calls_of settings Compositor history);
   shown = replies_in (calls_of settings Compositor history);
-  done = [];
+  done = done_from (opening settings) history;
   events = events_in (calls_of settings Device history);
   next = map waiting_of (in_round settings.apps left);
 }

@@ -10,7 +10,7 @@ use Rattle.xr_types.specs.declared.calls.Gives.TheVariants.{Ended}
 use Rattle.xr_types.specs.declared.scenario.Op.{Op}
 use Rattle.xr_types.specs.declared.scenario.Scenario.{Scenario}
 use Rattle.xr_model.specs.device_text.DeviceText.{Ending, ends, garbled_at}
-use Rattle.xr_model.specs.machine.Request.{Request, wait_image, leave, device, next_frame, Entry, Outcome, is_actor, is_locked}
+use Rattle.xr_model.specs.machine.Request.{Request, wait_image, leave, device, next_frame, image_done, Entry, Outcome, is_actor, is_locked}
 use Rattle.xr_model.specs.machine.State.{Settings, State, opening}
 use Rattle.xr_model.specs.machine.Machine.{step, ready}
 use Rattle.xr_model.specs.runs.NameValues.{no_values, with_name_value}
@@ -18,16 +18,17 @@ use Rattle.xr_model.specs.runs.Scripts.{request_for}
 
 -- An unfinished actor and what it has still to do: an application its ops from a place of its script on
 -- and then `leave`, knowing the values that its calls gave and the clock after its last locked call; the device its
--- next event and those behind it; the compositor its turns until it is told the end.
+-- next event and those behind it; the compositor the images that it has still to give back, and then the next
+-- frame, until it is told the end.
 pub data Agenda : Type 0 where
   script : ℕ → ℕ → List Op → List ℕ → ℤ → Agenda  -- app, place, ops, values, clock
   events : DeviceEvent → List DeviceEvent → Agenda  -- next, later
-  compositor : Agenda
+  compositor : ℕ → Agenda  -- images to give back
 
 abbrev pub actor_of : Agenda → Actor
 actor_of (script app place ops values clock) = App app
 actor_of (events e es) = Device
-actor_of compositor = Compositor
+actor_of (compositor held) = Compositor
 
 -- a wait for an image begins at this clock
 abbrev pub with_start : ℤ → Request → Request
@@ -39,7 +40,8 @@ abbrev pub next_call : Agenda → Request
 next_call (script app place [] values clock) = leave
 next_call (script app place (o ∷ os) values clock) = with_start clock (request_for values o)
 next_call (events e es) = device e
-next_call compositor = next_frame
+next_call (compositor zero) = next_frame
+next_call (compositor (suc held)) = image_done
 
 abbrev pub is_ended : Gives → Bool
 is_ended Ended = true
@@ -60,7 +62,7 @@ agenda_after (script app place [] values clock) s outcome = []
 agenda_after (script app place (o ∷ os) values clock) s outcome =
     script app (place + 1) os (with_name_value values place o outcome.reply) (clock_behind clock (request_for values o) s) ∷ []
 agenda_after (events e es) s outcome = device_agendas es
-agenda_after compositor s outcome = if is_ended outcome.reply.gives then [] else compositor ∷ []
+agenda_after (compositor held) s outcome = if is_ended outcome.reply.gives then [] else compositor (length s.cells.held) ∷ []
 
 -- whether an actor's next call is ready; neither a handle nor want of memory decides that
 abbrev pub is_next_ready : State → Agenda → Bool
@@ -114,7 +116,7 @@ device_calls told ending = told ++ last_event ending
 
 -- the actors in the order of their turns, at the start
 abbrev pub first_agendas : Scenario → List DeviceEvent → List Agenda
-first_agendas scenario calls = script_agendas 1 scenario.scripts ++ device_agendas calls ++ compositor ∷ []
+first_agendas scenario calls = script_agendas 1 scenario.scripts ++ device_agendas calls ++ compositor 0 ∷ []
 
 -- the history is the round robin's of this scenario and these events of the device, with the handles and wants of
 -- memory that it has

@@ -6,7 +6,6 @@ use Rattle.xr_types.specs.declared.scenario.Op.TheVariants as op
 use Rattle.xr_types.specs.declared.scenario.Scenario.{Scenario}
 use Rattle.xr_types.specs.declared.status.Refusal.{Refusal}
 use Rattle.xr_types.specs.declared.status.Refusal.TheVariants.{Unbuilt}
-use Rattle.xr_model.specs.machine.Frames.{is_empty}
 use Rattle.xr_model.specs.scenario.Scenario.{scenario_of}
 
 abbrev pub is_built_op : Op → Bool
@@ -30,9 +29,15 @@ is_built_op (op.CreateAction set called kind subactions localized) = true
 is_built_op (op.DestroyAction action) = true
 is_built_op (op.SuggestBindings instance profile bindings) = true
 is_built_op (op.AttachSets session sets) = true
+is_built_op (op.CreateSwapchain session format width height fixed) = true
+is_built_op (op.DestroySwapchain chain) = true
+is_built_op (op.AcquireImage chain) = true
+is_built_op (op.WaitImage chain timeout) = true
+is_built_op (op.Paint chain stamp) = true
+is_built_op (op.ReleaseImage chain) = true
 is_built_op (op.WaitFrame session) = true
 is_built_op (op.BeginFrame session) = true
-is_built_op (op.EndFrame session time blend layers) = is_empty layers
+is_built_op (op.EndFrame session time blend layers) = true
 is_built_op (op.Mark number value) = true
 is_built_op (op.Await number) = true
 is_built_op _ = false

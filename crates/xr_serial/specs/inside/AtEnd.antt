@@ -32,7 +32,7 @@ apps_next number _ _ = []
 
 -- of all that haven't finished, in the order of a round
 abbrev pub next_calls : Scenario → RunState → List Waiting
-next_calls scenario run = apps_next 1 scenario.scripts run.apps ++ map waiting_of (device_part run.side.pending []) ++ map waiting_of (compositor_part run.compositor.ended)
+next_calls scenario run = apps_next 1 scenario.scripts run.apps ++ map waiting_of (device_part run.side.pending []) ++ map waiting_of (compositor_part run.compositor.ended 0)
 
 abbrev pub lists_at : Scenario → RunState → Lists
 lists_at scenario run = record {
@@ -41,7 +41,7 @@ lists_at scenario run = record {
   compositor = run.compositor.frames;
   ended = run.compositor.ended;
   shown = run.compositor.replies;
-  done = [];
+  done = run.compositor.done;
   events = run.side.events;
   next = next_calls scenario run;
 }

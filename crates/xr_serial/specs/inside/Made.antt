@@ -5,16 +5,13 @@ use Rattle.xr_types.specs.declared.calls.Gives.{Gives}
 use Rattle.xr_types.specs.declared.calls.Gives.TheVariants as gives
 use Rattle.xr_types.specs.Frames.{ShownFrame}
 use Rattle.xr_model.specs.machine.Request.{Request, next_frame, Entry, Outcome, Exchange, is_actor}
-use Rattle.xr_model.specs.machine.CoreCalls.{entry_of, is_built}
+use Rattle.xr_model.specs.machine.CoreCalls.{entry_of}
 use Rattle.xr_model.specs.machine.State.{State}
 use Rattle.xr_model.specs.machine.Machine.{IsAllowed, ready, step}
 use Rattle.xr_serial.specs.declared.calls.Answered.{Answered}
 
--- An answered call: it is built, and is made where no image is held; its entry is allowed and ready, and the outcome and the new
--- state are the machine's.
+-- An answered call: its entry is allowed and ready, and the outcome and the new state are the machine's.
 pub record IsAnswered (old new : State) (who : Actor) (what : Request) (outcome : Outcome) : Type 0 where
-  pub built : is_built what ≡ true
-  pub unheld : old.cells.held ≡ []
   pub allowed : IsAllowed old (entry_of who what outcome.reply)
   pub is_ready : ready old (entry_of who what outcome.reply) ≡ true
   pub leads : new ≡ (step old (entry_of who what outcome.reply)).0

@@ -3,11 +3,12 @@ use Rattle.std.specs.Prelude.{◌≡◌, ◌≤◌, ◌<◌, ℕ, ℤ, ◌+◌, 
 use Rattle.std.specs.List.{list_any, sum_by}
 use Rattle.xr_types.specs.declared.calls.Actor.{Actor}
 use Rattle.xr_types.specs.declared.calls.Actor.TheVariants.{App, Compositor, Device}
-use Rattle.xr_types.specs.declared.calls.Gives.TheVariants.{Ended, Shown}
+use Rattle.xr_types.specs.declared.calls.Gives.TheVariants.{Ended}
 use Rattle.xr_types.specs.declared.calls.Reply.{Reply}
 use Rattle.xr_types.specs.declared.device.DeviceEvent.{DeviceEvent}
 use Rattle.xr_types.specs.declared.scenario.Op.{Op}
 use Rattle.xr_types.specs.declared.scenario.Scenario.{Scenario}
+use Rattle.xr_types.specs.Frames.{PendingFrame}
 use Rattle.xr_io.specs.Outside.{Rose}
 use Rattle.xr_model.specs.machine.Request as request
 use Rattle.xr_model.specs.machine.Request.{Outcome, next_frame}
@@ -22,8 +23,8 @@ use Rattle.xr_serial.specs.inside.RunState.{AppState, SideState, CompositorState
 use Rattle.xr_device.specs.Prospect.{Prospect}
 use Rattle.xr_serial.specs.inside.Sides.{IsDone}
 use Rattle.xr_serial.specs.inside.Turns.{parts_of, pending_list}
-use Rattle.xr_serial.specs.inside.Past.{Standing}
-use Rattle.xr_serial.specs.Ran.{Gave, AreLineEvents}
+use Rattle.xr_serial.specs.inside.Past.{Trace, Standing}
+use Rattle.xr_serial.specs.Ran.{Gave, AreLineEvents, GoesOn}
 
 -- ---- an application
 
@@ -39,9 +40,8 @@ pub record AppKept (ops : List Op) (app : AppState) (calls : List request.Exchan
   pub front : app.has_left ≡ true → FollowsSoFar ops calls
 
 -- each of them, and the state knows who has left
-pub record AppsKept (scripts : List (List Op)) (s : State) (apps : List AppState) (clocks : List ℤ) (calls : Actor → List request.Exchange) : Type 0 where
+pub record AppsKept (scripts : List (List Op)) (s : State) (apps : List AppState) (calls : Actor → List request.Exchange) : Type 0 where
   pub count : length apps ≡ length scripts
-  pub timed : length clocks ≡ length scripts
   pub known : s.core.apps ≡ length scripts
   pub left : s.core.left ≡ map (λ app. app.has_left) apps
   pub each : (place : ℕ) (none : AppState) → place < length scripts → AppKept (slice_index_or scripts place []) (slice_index_or apps place none) (calls (App (place + 1)))
@@ -82,16 +82,16 @@ pub record DeviceKept (side : SideState) (calls : List request.Exchange) (start 
 
 -- ---- the compositor
 
--- these calls were each shown a frame
-abbrev pub WereShown : List request.Exchange → Type 0
-WereShown [] = Unit {0}
-WereShown (t ∷ ts) = (t.request ≡ next_frame) × (t.outcome.reply.gives ≡ Shown) × WereShown ts
+-- behind each of these calls it goes on
+abbrev pub AllGoOn : List request.Exchange → Type 0
+AllGoOn [] = Unit {0}
+AllGoOn (t ∷ ts) = GoesOn t × AllGoOn ts
 
 -- none of its calls was told the end, or the last was
 abbrev pub EndKept : Option Reply → List request.Exchange → Type 0
-EndKept None calls = WereShown calls
+EndKept None calls = AllGoOn calls
 EndKept (Some reply) calls =
-    (front : List request.Exchange) × (last : Outcome) × (calls ≡ front ++ exchange_of next_frame last ∷ []) × WereShown front × (last.reply ≡ reply) × (reply.gives ≡ Ended)
+    (front : List request.Exchange) × (last : Outcome) × (calls ≡ front ++ exchange_of next_frame last ∷ []) × AllGoOn front × (last.reply ≡ reply) × (reply.gives ≡ Ended)
 
 -- its frames and their replies are those of its calls
 pub record CompositorKept (c : CompositorState) (calls : List request.Exchange) : Type 0 where
@@ -101,10 +101,10 @@ pub record CompositorKept (c : CompositorState) (calls : List request.Exchange) 
 
 -- ---- all
 
--- How many calls an application still brings at most, `leave` among them: each op its own call, and the compositor's of the frame
--- that it may end.
+-- How many calls an application still brings at most, `leave` among them: each op its own call, and the compositor's by which it
+-- takes the frame that the op may end, of 32 layers at most, and gives back its images, two of a layer at most.
 abbrev pub app_work : List Op → AppState → ℕ
-app_work ops app = 2 * (length ops - app.made) + (if app.has_left then 0 else 1)
+app_work ops app = 66 * (length ops - app.made) + (if app.has_left then 0 else 1)
 
 abbrev pub apps_work : List (List Op) → List AppState → ℕ
 apps_work (ops ∷ scripts) (app ∷ apps) = app_work ops app + apps_work scripts apps
@@ -117,25 +117,40 @@ side_work side bound = (if is_some side.pending then 1 else 0) + (if side.over t
 abbrev pub end_work : Option Reply → ℕ
 end_work ended = if is_some ended then 0 else 1
 
+-- how many of the compositor by these frames: it takes each, and gives back its images
+abbrev pub frames_work : List PendingFrame → ℕ
+frames_work [] = 0
+frames_work (f ∷ fs) = 1 + length f.images + frames_work fs
+
 -- how many calls a run has at most
 abbrev pub most_calls : List (List Op) → ℕ
-most_calls scripts = 2 * sum_by length scripts + length scripts + 16777218
+most_calls scripts = 66 * sum_by length scripts + length scripts + 16777218
 
--- What a turn that makes no call keeps whole: what each actor has made, and how many calls are still to come at most, one for
--- each pending frame among them.
-pub record RunKept (scenario : Scenario) (s : State) (run : RunState) (clocks : List ℤ) (calls : Actor → List request.Exchange) (start now : Prospect) : Type 0 where
-  pub apps : AppsKept scenario.scripts s run.apps clocks calls
+-- how many calls were made: the locked ones, and the images given back
+abbrev pub calls_made : State → RunState → ℕ
+calls_made s run = s.core.locked + length run.compositor.done
+
+-- what the frames that are pending and the images that are held still bring
+abbrev pub shown_work : State → ℕ
+shown_work s = frames_work s.core.frames.pending + length s.cells.held
+
+-- What a turn that makes no call keeps whole: what each actor has made, and how many calls are still to come at most.
+pub record RunKept (scenario : Scenario) (s : State) (run : RunState) (calls : Actor → List request.Exchange) (start now : Prospect) : Type 0 where
+  pub apps : AppsKept scenario.scripts s run.apps calls
   pub device : DeviceKept run.side (calls Device) start now
   pub compositor : CompositorKept run.compositor (calls Compositor)
   pub counted : length run.side.calls ≤ s.core.locked
-  pub work : s.core.locked + (apps_work scenario.scripts run.apps + side_work run.side now.bound + end_work run.compositor.ended + length s.core.frames.pending) ≤ most_calls scenario.scripts
+  pub work : calls_made s run + (apps_work scenario.scripts run.apps + side_work run.side now.bound + end_work run.compositor.ended + shown_work s) ≤ most_calls scenario.scripts
 
 -- the events of the calls that the device has made, and what it has told beside them
 abbrev pub events_told : SideState → List request.Exchange → List DeviceEvent
 events_told side calls = events_in calls ++ pending_list side.pending
 
+-- what a run with these calls has made
+abbrev pub trace_of : RunState → (Actor → List request.Exchange) → Trace
+trace_of run calls = record { calls = calls; clocks = map (λ app. app.clock) run.apps; done = run.compositor.done }
+
 pub record RunInvariant (scenario : Scenario) (turn idle : ℕ) (s : State) (run : RunState) (start now : Prospect) : Type 0 where
   pub calls : Actor → List request.Exchange
-  pub clocks : List ℤ
-  pub standing : Standing scenario turn idle s run.side.over (events_told run.side (calls Device)) (parts_of scenario run clocks) calls
-  pub kept : RunKept scenario s run clocks calls start now
+  pub standing : Standing scenario turn idle s run.side.over (events_told run.side (calls Device)) (parts_of scenario s run) (trace_of run calls)
+  pub kept : RunKept scenario s run calls start now

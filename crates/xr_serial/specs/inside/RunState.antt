@@ -1,15 +1,17 @@
 -- What a run keeps of each actor, as contracts see it.
-use Rattle.std.specs.Prelude.{ℕ, Bool, List, Option}
+use Rattle.std.specs.Prelude.{ℕ, ℤ, Bool, List, Option}
 use Rattle.xr_types.specs.declared.calls.Reply.{Reply}
 use Rattle.xr_types.specs.declared.device.DeviceEvent.{DeviceEvent}
 use Rattle.xr_types.specs.declared.made.Made.{Made}
 use Rattle.xr_types.specs.Frames.{ShownFrame}
 
--- An application: how many ops of its script were made, what its names stand for, its calls, and whether it has left.
+-- An application: how many ops of its script were made, what its names stand for, its calls, the clock after its last one, and
+-- whether it has left.
 pub record AppState : Type 0 where
   pub made : ℕ
   pub names : List ℕ
   pub calls : List Made
+  pub clock : ℤ
   pub has_left : Bool
 
 -- The device: its next event, where that is known, whether nothing more will come behind it, and the events whose calls
@@ -20,10 +22,12 @@ pub record SideState : Type 0 where
   pub events : List DeviceEvent
   pub calls : List Made
 
--- The compositor: the frames that it was shown with the replies of these calls, and the reply that told it the end.
+-- The compositor: the frames that it was shown with the replies of these calls, for each image that it gave back how many locked
+-- calls came before, and the reply that told it the end.
 pub record CompositorState : Type 0 where
   pub frames : List ShownFrame
   pub replies : List Reply
+  pub done : List ℕ
   pub ended : Option Reply
 
 -- all actors

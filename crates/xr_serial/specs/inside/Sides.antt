@@ -1,5 +1,5 @@
 -- What a turn of an application, the device or the compositor does.
-use Rattle.std.specs.Prelude.{◌≡◌, ◌<◌, ◌≤◌, ℕ, ◌+◌, Bool, true, false, List, [], ◌∷◌, ◌++◌, length, drop, Option, Some, None}
+use Rattle.std.specs.Prelude.{◌≡◌, ◌<◌, ◌≤◌, ℕ, ℤ, pos, ◌+◌, Bool, true, false, List, [], ◌∷◌, ◌++◌, length, drop, Option, Some, None}
 use Rattle.xr_types.specs.declared.calls.Actor.TheVariants.{App, Compositor, Device}
 use Rattle.xr_types.specs.declared.device.DeviceEvent.{DeviceEvent}
 use Rattle.xr_types.specs.declared.device.DeviceEvent.TheVariants as event
@@ -13,9 +13,12 @@ use Rattle.xr_types.specs.declared.calls.Reply.{Reply}
 use Rattle.xr_types.specs.Frames.{ShownFrame}
 use Rattle.xr_types.specs.declared.scenario.Op.{Op}
 use Rattle.xr_types.specs.declared.scenario.Op.TheVariants as op
-use Rattle.xr_model.specs.machine.Request.{leave, device, next_frame, Outcome, Exchange}
+use Rattle.xr_model.specs.machine.Request.{Request, leave, device, next_frame, image_done, Outcome, Exchange}
 use Rattle.xr_model.specs.machine.State.{State}
+use Rattle.xr_model.specs.machine.Frames.{is_empty}
 use Rattle.xr_model.specs.scenario.Built.{is_built_op}
+use Rattle.xr_model.specs.scenario.ScriptForm.{IsInRange}
+use Rattle.xr_model.specs.runs.Robin.{with_start}
 use Rattle.xr_model.specs.machine.Machine.{ready}
 use Rattle.xr_model.specs.runs.NameValues.{with_name_value, no_values}
 use Rattle.xr_model.specs.runs.Scripts.{request_for}
@@ -29,32 +32,48 @@ abbrev pub op_mark : Op → ℕ
 op_mark (op.Await number) = number
 op_mark _ = 0
 
+-- when a wait begins, and 0 for other ops
+abbrev pub op_start : ℤ → Op → ℤ
+op_start clock (op.WaitImage chain timeout) = clock
+op_start clock _ = pos 0
+
 -- an application before its first call
 abbrev pub new_app : List Op → AppState
-new_app ops = record { made = 0; names = no_values (length ops); calls = []; has_left = false }
+new_app ops = record { made = 0; names = no_values (length ops); calls = []; clock = pos 0; has_left = false }
 
--- once the call of its next op was made
-abbrev pub app_with : AppState → Op → Exchange → AppState
-app_with app op t = record app { made = app.made + 1; names = with_name_value app.names (app.made + 1) op t.outcome.reply; calls = app.calls ++ made_at (app.made + 1) t ∷ [] }
+-- once the call of its next op was made, which the clock stands at
+abbrev pub app_with : AppState → Op → Exchange → ℤ → AppState
+app_with app op t clock = record {
+  made = app.made + 1;
+  names = with_name_value app.names (app.made + 1) op t.outcome.reply;
+  calls = app.calls ++ made_at (app.made + 1) t ∷ [];
+  clock = clock;
+  has_left = app.has_left;
+}
 
 -- once it has left
-abbrev pub app_left : AppState → Exchange → AppState
-app_left app t = record app { calls = app.calls ++ made_at (app.made + 1) t ∷ []; has_left = true }
+abbrev pub app_left : AppState → Exchange → ℤ → AppState
+app_left app t clock = record app { calls = app.calls ++ made_at (app.made + 1) t ∷ []; clock = clock; has_left = true }
+
+-- what the call of an op asks, where a wait begins at this clock
+abbrev pub op_request : AppState → Op → Request
+op_request app op = with_start app.clock (request_for app.names op)
 
 -- The call of its next op was made.
 pub record OpMade (number : ℕ) (ops : List Op) (old new : AppState) (s after : State) : Type 0 where
   pub op : Op
   pub outcome : Outcome
   pub here : drop old.made ops ≡ op ∷ drop (old.made + 1) ops
-  pub call : IsAnswered s after (App number) (request_for old.names op) outcome
-  pub app : new ≡ app_with old op (exchange_of (request_for old.names op) outcome)
+  pub built : is_built_op op ≡ true
+  pub ranged : IsInRange op
+  pub call : IsAnswered s after (App number) (op_request old op) outcome
+  pub app : new ≡ app_with old op (exchange_of (op_request old op) outcome) after.core.device.clock
 
 -- It has to wait, and all is as it was.
 pub record OpWaits (number : ℕ) (ops : List Op) (old new : AppState) (s after : State) : Type 0 where
   pub op : Op
   pub here : drop old.made ops ≡ op ∷ drop (old.made + 1) ops
-  pub built : is_built_op op ≡ true
-  pub waits : ready s (asked (App number) (request_for old.names op)) ≡ false
+  pub waits : ready s (asked (App number) (op_request old op)) ≡ false
   pub same : after ≡ s
   pub app : new ≡ old
 
@@ -66,7 +85,7 @@ OpTurn number ops old new s after false = OpWaits number ops old new s after
 pub record Leaves (number : ℕ) (old new : AppState) (s after : State) : Type 0 where
   pub outcome : Outcome
   pub call : IsAnswered s after (App number) leave outcome
-  pub app : new ≡ app_left old (exchange_of leave outcome)
+  pub app : new ≡ app_left old (exchange_of leave outcome) after.core.device.clock
 
 -- ---- the device
 
@@ -114,14 +133,16 @@ abbrev pub compositor_with : CompositorState → Reply → Option ShownFrame →
 compositor_with c reply None = record c { ended = Some reply }
 compositor_with c reply (Some frame) = record c { frames = c.frames ++ frame ∷ []; replies = c.replies ++ reply ∷ [] }
 
--- its call was made
+-- its call for a frame was made, and it holds no image
 pub record FrameMade (old new : CompositorState) (s after : State) : Type 0 where
   pub outcome : Outcome
+  pub unheld : s.cells.held ≡ []
   pub call : IsAnswered s after Compositor next_frame outcome
   pub compositor : new ≡ compositor_with old outcome.reply outcome.shown
 
--- it has to wait, and all is as it was
+-- it has to wait for a frame, holds no image, and all is as it was
 pub record FrameWaits (old new : CompositorState) (s after : State) : Type 0 where
+  pub unheld : s.cells.held ≡ []
   pub waits : ready s (asked Compositor next_frame) ≡ false
   pub same : after ≡ s
   pub compositor : new ≡ old
@@ -129,3 +150,10 @@ pub record FrameWaits (old new : CompositorState) (s after : State) : Type 0 whe
 abbrev pub FrameTurn : CompositorState → CompositorState → State → State → Bool → Type 0
 FrameTurn old new s after true = FrameMade old new s after
 FrameTurn old new s after false = FrameWaits old new s after
+
+-- it gave back one of the images that it holds
+pub record ImageReturned (old new : CompositorState) (s after : State) : Type 0 where
+  pub outcome : Outcome
+  pub holds : is_empty s.cells.held ≡ false
+  pub call : IsAnswered s after Compositor image_done outcome
+  pub compositor : new ≡ record old { done = old.done ++ s.core.locked ∷ [] }

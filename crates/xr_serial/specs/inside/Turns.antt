@@ -1,5 +1,5 @@
 -- What each actor has still to do, and in which order the agendas stand from turn to turn.
-use Rattle.std.specs.Prelude.{◌≡◌, ℕ, ℤ, ◌+◌, false, nat_lt, List, [], ◌∷◌, ◌++◌, length, drop, take, Option, Some, None, if◌then◌else◌}
+use Rattle.std.specs.Prelude.{◌≡◌, ℕ, ◌+◌, false, nat_lt, List, [], ◌∷◌, ◌++◌, length, drop, take, Option, Some, None, if◌then◌else◌}
 use Rattle.std.specs.List.{flat_map}
 use Rattle.xr_types.specs.declared.calls.Reply.{Reply}
 use Rattle.xr_types.specs.declared.device.DeviceEvent.{DeviceEvent}
@@ -11,14 +11,14 @@ use Rattle.xr_serial.specs.inside.RunState.{AppState, RunState}
 
 -- ---- what is left of each actor: its agenda, or nothing where it has finished
 
--- an application of this number, by its script and the clock after its last locked call
-abbrev pub script_part : ℕ → List Op → AppState → ℤ → List Agenda
-script_part number ops app clock = if app.has_left then [] else script number (app.made + 1) (drop app.made ops) app.names clock ∷ []
+-- an application of this number, by its script
+abbrev pub script_part : ℕ → List Op → AppState → List Agenda
+script_part number ops app = if app.has_left then [] else script number (app.made + 1) (drop app.made ops) app.names app.clock ∷ []
 
 -- the applications from this number on
-abbrev pub script_parts : ℕ → List (List Op) → List AppState → List ℤ → List (List Agenda)
-script_parts number (ops ∷ scripts) (app ∷ apps) (clock ∷ clocks) = script_part number ops app clock ∷ script_parts (number + 1) scripts apps clocks
-script_parts number _ _ _ = []
+abbrev pub script_parts : ℕ → List (List Op) → List AppState → List (List Agenda)
+script_parts number (ops ∷ scripts) (app ∷ apps) = script_part number ops app ∷ script_parts (number + 1) scripts apps
+script_parts number _ _ = []
 
 abbrev pub pending_list : Option DeviceEvent → List DeviceEvent
 pending_list None = []
@@ -28,14 +28,15 @@ pending_list (Some e) = e ∷ []
 abbrev pub device_part : Option DeviceEvent → List DeviceEvent → List Agenda
 device_part pending rest = device_agendas (pending_list pending ++ rest)
 
--- the compositor, unless it was told the end
-abbrev pub compositor_part : Option Reply → List Agenda
-compositor_part None = compositor ∷ []
-compositor_part (Some ended) = []
+-- the compositor by the images that it holds, unless it was told the end
+abbrev pub compositor_part : Option Reply → ℕ → List Agenda
+compositor_part None held = compositor held ∷ []
+compositor_part (Some ended) held = []
 
--- all actors in the order of a round
-abbrev pub parts_of : Scenario → RunState → List ℤ → List DeviceEvent → List (List Agenda)
-parts_of scenario run clocks rest = script_parts 1 scenario.scripts run.apps clocks ++ device_part run.side.pending rest ∷ compositor_part run.compositor.ended ∷ []
+-- all actors in the order of a round, in this state
+abbrev pub parts_of : Scenario → State → RunState → List DeviceEvent → List (List Agenda)
+parts_of scenario s run rest =
+    script_parts 1 scenario.scripts run.apps ++ device_part run.side.pending rest ∷ compositor_part run.compositor.ended (length s.cells.held) ∷ []
 
 -- ---- turns
 

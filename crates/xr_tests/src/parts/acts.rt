@@ -2,11 +2,36 @@
 // tells.
 ghost use Rattle.xr_model.specs.machine.CellCalls.{CellCall};
 
-use xr_chains::Chains;
+use xr_chains::{Chains, Standing};
 use xr_model::Cells;
 use xr_types::{Code, Image};
 
-/// What happens.
+/// What places are kept by: all swapchains are live but this one, and frames use the places from one number up to another.
+#[derive(Clone, Copy, Drop)]
+struct Left {
+    gone: u64,
+    used: u8,
+    unused: u8,
+}
+
+impl Standing for Left {
+    ghost use Rattle.std.specs.Prelude.{◌==◌, ◌&&◌, nat_le, nat_lt, not};
+
+    ghost is_live = { λ x h. not (h == x.gone) };
+
+    ghost is_used = { λ x place. nat_le x.used place && nat_lt place x.unused };
+
+    fn is_live(&self, handle: u64) -> bool {
+        handle != self.gone
+    }
+
+    fn is_used(&self, place: u8) -> bool {
+        self.used <= place && place < self.unused
+    }
+}
+
+/// What happens. A sweep is told the swapchain that isn't live, and which places are used: those from one number up to
+/// another.
 #[derive(Clone, Copy)]
 pub(super) enum Act {
     Add(u64),
@@ -20,17 +45,16 @@ pub(super) enum Act {
     Last(u64),
     Remove(u64),
     RemoveUsed(u64),
-    Sweep(&'static [u8]),
+    Sweep(u64, u8, u8),
     Peek(u8, u8),
 }
 
-/// What an act tells: a code, a number, whether something is so, an image by its place and its index, that there is nothing,
-/// that no image was released last, and that a frame uses the image.
+/// What an act tells: a code, a number, an image by its place and its index, that there is nothing, that no image was released
+/// last, and that a frame uses the image.
 #[derive(Clone, Copy, Debug, PartialEq, Eq)]
 pub(super) enum Told {
     Code(Code),
     Number(u64),
-    Is(bool),
     Image(u8, u8),
     None,
     Unreleased,
@@ -91,11 +115,16 @@ fn last(chains: &Chains, handle: u64) -> Told {
     }
 }
 
-/// Destroys a swapchain, whose place is used or not.
-fn remove<C: Cells>(chains: &mut Chains, cells: &mut C, handle: u64, used: bool) -> Told
+/// Destroys a swapchain. The places below this number are used.
+fn remove<C: Cells>(chains: &mut Chains, cells: &mut C, handle: u64, unused: u8) -> Told
     requires { (c : C) (x : CellCall) → C.may c x }
 {
-    chains.remove(cells, handle, used);
+    let left = Left {
+        gone: handle,
+        used: 0,
+        unused,
+    };
+    chains.remove(cells, &left);
     Told::None
 }
 
@@ -113,10 +142,10 @@ pub(super) fn carry_out<C: Cells>(chains: &mut Chains, cells: &mut C, act: Act) 
         Act::Paint(handle, stamp) => paint(chains, cells, handle, stamp),
         Act::Release(handle) => Told::Code(chains.release(cells, handle)),
         Act::Last(handle) => last(chains, handle),
-        Act::Remove(handle) => remove(chains, cells, handle, false),
-        Act::RemoveUsed(handle) => remove(chains, cells, handle, true),
-        Act::Sweep(used) => {
-            chains.sweep(used);
+        Act::Remove(handle) => remove(chains, cells, handle, 0),
+        Act::RemoveUsed(handle) => remove(chains, cells, handle, 16),
+        Act::Sweep(gone, used, unused) => {
+            chains.sweep(&Left { gone, used, unused });
             Told::None
         }
         Act::Peek(place, index) => Told::Number(cells.peek(Image { place, index })),

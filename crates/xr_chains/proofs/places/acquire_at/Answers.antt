@@ -1,5 +1,5 @@
 use Rattle.xr_model.specs.machine.Chains.{acquiring}
-use Rattle.xr_chains.proofs.Standing.{found_at, changed_unless}
+use Rattle.xr_chains.proofs.ChainPlaces.{found_at, changed_unless}
 use Rattle.xr_chains.proofs.places.acquire_at.Goals as goal
 
 pub returns-clause-places : goal.returns-clause-places

@@ -1,5 +1,5 @@
 use Rattle.xr_model.specs.machine.Chains.{waiting}
-use Rattle.xr_chains.proofs.Standing.{changed_at}
+use Rattle.xr_chains.proofs.ChainPlaces.{changed_at}
 use Rattle.xr_chains.proofs.places.wait_at.Goals as goal
 
 pub returns : goal.returns

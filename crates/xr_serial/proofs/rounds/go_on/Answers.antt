@@ -1,7 +1,7 @@
 use Rattle.std.proofs.Common.{◌≡◌, ◌≤◌, ◌<◌, ◌+◌, length, refl, ◌∙◌, arith}
 use Rattle.std.specs.Prelude.{if◌then◌else◌}
 use Rattle.xr_serial.specs.inside.Turns.{actors_of}
-use Rattle.xr_serial.specs.inside.RunInvariant.{most_calls}
+use Rattle.xr_serial.specs.inside.RunInvariant.{most_calls, calls_made}
 use Rattle.xr_serial.proofs.TurnOrder.{behind_within}
 use Rattle.xr_serial.proofs.Work.{made_less, passed_less}
 use Rattle.xr_serial.proofs.rounds.go_on.Goals.{then-went, else-went}
@@ -20,11 +20,11 @@ loop-idle-smaller g c =
     let work = (c.in_ok-went.ensures.kept c.loop-idle.idle start few (c.loop-idle.invariant.kept start c.requires.kept.1)).kept.work in
     let all = most_calls c.args.scenario.now.scripts in
     let actors = length c.as_slice.result.now + 2 in
-    let within : c.one_turn.new.machine.core.locked ≤ all = omega (arith, work) in
+    let within : calls_made c.one_turn.new.machine c.one_turn.new.run ≤ all = omega (arith, work) in
     let most : actors ≤ 10 = rw c.as_slice.ensures (let most = c.requires.most in omega (arith, most)) in
     elim c.if-went.branch [
-      | then-went w ↦ made_less all c.loop-idle.machine.core.locked c.one_turn.new.machine.core.locked actors c.loop-idle.idle c.if-went.idle (c.in_ok-went.ensures.counts ∙ rw w.if-went.true refl) within most c.loop-idle-test.true w.idle-is
-      | else-went w ↦ passed_less all c.loop-idle.machine.core.locked c.one_turn.new.machine.core.locked actors c.loop-idle.idle c.if-went.idle (c.in_ok-went.ensures.counts ∙ rw w.if-went.false refl) w.idle-is c.loop-idle-test.true
+      | then-went w ↦ made_less all (calls_made c.loop-idle.machine c.loop-idle.run) (calls_made c.one_turn.new.machine c.one_turn.new.run) actors c.loop-idle.idle c.if-went.idle (c.in_ok-went.ensures.counts ∙ rw w.if-went.true refl) within most c.loop-idle-test.true w.idle-is
+      | else-went w ↦ passed_less all (calls_made c.loop-idle.machine c.loop-idle.run) (calls_made c.one_turn.new.machine c.one_turn.new.run) actors c.loop-idle.idle c.if-went.idle (c.in_ok-went.ensures.counts ∙ rw w.if-went.false refl) w.idle-is c.loop-idle-test.true
     ]
 
 pub loop-idle-preserved : goal.loop-idle-preserved

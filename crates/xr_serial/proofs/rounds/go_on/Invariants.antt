@@ -1,6 +1,6 @@
 use Rattle.std.proofs.Common.{◌-◌, ◌≡◌, ◌≤◌, ◌<◌, ◌+◌, ◌*◌}
 use Rattle.xr_device.specs.Prospect.{Prospect}
-use Rattle.xr_serial.specs.inside.RunInvariant.{most_calls, RunInvariant}
+use Rattle.xr_serial.specs.inside.RunInvariant.{most_calls, calls_made, RunInvariant}
 use Rattle.xr_serial.proofs.rounds.go_on.Given as goal
 
 abbrev pub invariant-loop-idle : goal.invariant-loop-idle
@@ -16,4 +16,4 @@ invariant-loop-idle g l = record {
 
 -- a call that is made takes one of those that are to come; a round at most behind it makes none
 abbrev pub decreases-loop-idle : goal.decreases-loop-idle
-decreases-loop-idle g l = 11 * (most_calls l.scenario.scripts - l.machine.core.locked) + (l.actors - l.idle)
+decreases-loop-idle g l = 11 * (most_calls l.scenario.scripts - calls_made l.machine l.run) + (l.actors - l.idle)

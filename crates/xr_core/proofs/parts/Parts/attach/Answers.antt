@@ -9,4 +9,5 @@ invariant_of-self c = (
   c.self.invariant.1,
   rw c.seal.ensures (kept_sealed c.self.inside.spaces c.self.inside.sets c.self.inside.handles c.args.sets.now c.self.invariant.2),
   c.self.invariant.3,
+  c.self.invariant.4,
 )

@@ -1,37 +1,95 @@
-use Rattle.std.proofs.Common.{ap, sym, subst}
+use Rattle.std.proofs.Common.{rules, ap, sym, subst}
+use Rattle.xr_model.specs.machine.CoreCalls.{Lent}
 use Rattle.xr_model.specs.machine.Request.{Request, request_of}
-use Rattle.xr_core.specs.inside.Deciding.{Decides, DecidesShowing}
+use Rattle.xr_model.proofs.OverCells.{IsQuiet}
+use Rattle.xr_core.specs.inside.Deciding.{Decides, DecidesCells, MayTouch}
+use Rattle.xr_core.specs.inside.Groups.{IsInstanceCall, IsPathCall, IsSessionCall, IsSpaceCall, IsSetCall, IsFrameCall, IsOwnCall}
+use Rattle.xr_core.proofs.Along.{quiet_along}
+use Rattle.xr_core.proofs.Quiet.{quiet_instance, quiet_path, quiet_session, quiet_space, quiet_set, quiet_frame, quiet_own}
 use Rattle.xr_core.proofs.parts.Parts.decide.Goals as goal
 
 pub returns-in-CreateInstance : goal.returns-in-CreateInstance
-returns-in-CreateInstance c = c.instance_call.ensures c.args.who (record { text = c.args.text.now; frame = c.args.shown.now })
+returns-in-CreateInstance g c = λ held frame.
+    let group : IsInstanceCall (request_of c.args.call.now) = search rules in
+    let lent : Lent = record { text = c.args.text.now; frame = frame } in
+    quiet_along g.C.Cells.does c.args.self.now c.instance_call.new.self held c.args.cells.now c.args.who (request_of c.args.call.now) lent lent (quiet_instance (request_of c.args.call.now) group) c.instance_call.result (c.instance_call.ensures c.args.who lent)
 
 pub returns-in-CreateSession : goal.returns-in-CreateSession
-returns-in-CreateSession c = c.session_call.ensures c.args.who (record { text = c.args.text.now; frame = c.args.shown.now })
+returns-in-CreateSession g c = λ held frame.
+    let group : IsSessionCall (request_of c.args.call.now) = search rules in
+    let lent : Lent = record { text = c.args.text.now; frame = frame } in
+    quiet_along g.C.Cells.does c.args.self.now c.session_call.new.self held c.args.cells.now c.args.who (request_of c.args.call.now) lent lent (quiet_session (request_of c.args.call.now) group) c.session_call.result (c.session_call.ensures c.args.who lent)
 
 pub returns-in-CreateReferenceSpace : goal.returns-in-CreateReferenceSpace
-returns-in-CreateReferenceSpace c = c.space_call.ensures c.args.who (record { text = c.args.text.now; frame = c.args.shown.now })
+returns-in-CreateReferenceSpace g c = λ held frame.
+    let group : IsSpaceCall (request_of c.args.call.now) = search rules in
+    let lent : Lent = record { text = c.args.text.now; frame = frame } in
+    quiet_along g.C.Cells.does c.args.self.now c.space_call.new.self held c.args.cells.now c.args.who (request_of c.args.call.now) lent lent (quiet_space (request_of c.args.call.now) group) c.space_call.result (c.space_call.ensures c.args.who lent)
 
 pub returns-in-CreateActionSet : goal.returns-in-CreateActionSet
-returns-in-CreateActionSet c = c.set_call.ensures c.args.who (record { text = c.args.text.now; frame = c.args.shown.now })
-
-pub returns-in-StringToPath : goal.returns-in-StringToPath
-returns-in-StringToPath c = c.path_call.ensures c.args.shown.now
-
-pub returns-in-SuggestBindings : goal.returns-in-SuggestBindings
-returns-in-SuggestBindings c =
-    (subst (λ (r : Request). Decides c.args.self.now r c.suggest_bindings.new.self c.suggest_bindings.result) (sym (ap request_of c.in-SuggestBindings.is)) c.suggest_bindings.ensures) c.args.who (record { text = c.args.text.now; frame = c.args.shown.now })
-
-pub returns-in-Mark : goal.returns-in-Mark
-returns-in-Mark c = c.own_call.ensures (record { text = c.args.text.now; frame = c.args.shown.now })
+returns-in-CreateActionSet g c = λ held frame.
+    let group : IsSetCall (request_of c.args.call.now) = search rules in
+    let lent : Lent = record { text = c.args.text.now; frame = frame } in
+    quiet_along g.C.Cells.does c.args.self.now c.set_call.new.self held c.args.cells.now c.args.who (request_of c.args.call.now) lent lent (quiet_set (request_of c.args.call.now) group) c.set_call.result (c.set_call.ensures c.args.who lent)
 
 pub returns-in-WaitFrame : goal.returns-in-WaitFrame
-returns-in-WaitFrame c = c.frame_call.ensures c.args.who (record { text = c.args.text.now; frame = c.args.shown.now })
+returns-in-WaitFrame g c = λ held frame.
+    let group : IsFrameCall (request_of c.args.call.now) = search rules in
+    let lent : Lent = record { text = c.args.text.now; frame = frame } in
+    quiet_along g.C.Cells.does c.args.self.now c.frame_call.new.self held c.args.cells.now c.args.who (request_of c.args.call.now) lent lent (quiet_frame (request_of c.args.call.now) group) c.frame_call.result (c.frame_call.ensures c.args.who lent)
 
-pub returns-in-NextFrame : goal.returns-in-NextFrame
-returns-in-NextFrame c =
-    subst (λ (r : Request). DecidesShowing c.args.who c.args.self.now r c.next_frame.new.self c.next_frame.result c.args.shown.now c.next_frame.new.shown) (sym (ap request_of c.in-NextFrame.is)) (c.next_frame.ensures c.args.who) c.args.text.now
+pub returns-in-Mark : goal.returns-in-Mark
+returns-in-Mark g c = λ held frame.
+    let group : IsOwnCall (request_of c.args.call.now) = search rules in
+    let lent : Lent = record { text = c.args.text.now; frame = frame } in
+    quiet_along g.C.Cells.does c.args.self.now c.own_call.new.self held c.args.cells.now c.args.who (request_of c.args.call.now) lent lent (quiet_own (request_of c.args.call.now) group) c.own_call.result (c.own_call.ensures lent)
+
+pub returns-in-StringToPath : goal.returns-in-StringToPath
+returns-in-StringToPath g c = λ held frame.
+    let group : IsPathCall (request_of c.args.call.now) = search rules in
+    quiet_along g.C.Cells.does c.args.self.now c.path_call.new.self held c.args.cells.now c.args.who (request_of c.args.call.now) (record { text = c.args.text.now; frame = frame }) (record { text = c.path_call.new.out; frame = frame }) (quiet_path (request_of c.args.call.now) group) c.path_call.result (c.path_call.ensures frame)
+
+pub returns-in-SuggestBindings : goal.returns-in-SuggestBindings
+returns-in-SuggestBindings g c = λ held frame.
+    let lent : Lent = record { text = c.args.text.now; frame = frame } in
+    let is = ap request_of c.in-SuggestBindings.is in
+    let made = subst (λ (r : Request). Decides c.args.self.now r c.suggest_bindings.new.self c.suggest_bindings.result) (sym is) c.suggest_bindings.ensures in
+    quiet_along g.C.Cells.does c.args.self.now c.suggest_bindings.new.self held c.args.cells.now c.args.who (request_of c.args.call.now) lent lent (subst IsQuiet (sym is) tt) c.suggest_bindings.result (made c.args.who lent)
+
+pub returns-in-AcquireImage : goal.returns-in-AcquireImage
+returns-in-AcquireImage g c = λ held frame.
+    let lent : Lent = record { text = c.args.text.now; frame = frame } in
+    let is = ap request_of c.in-AcquireImage.is in
+    let made = subst (λ (r : Request). Decides c.args.self.now r c.acquire_image.new.self c.acquire_image.result) (sym is) c.acquire_image.ensures in
+    quiet_along g.C.Cells.does c.args.self.now c.acquire_image.new.self held c.args.cells.now c.args.who (request_of c.args.call.now) lent lent (subst IsQuiet (sym is) tt) c.acquire_image.result (made c.args.who lent)
 
 pub returns-in-Device : goal.returns-in-Device
-returns-in-Device c =
-    (subst (λ (r : Request). Decides c.args.self.now r c.device_event.new.self c.device_event.result) (sym (ap request_of c.in-Device.is)) c.device_event.ensures) c.args.who (record { text = c.args.text.now; frame = c.args.shown.now })
+returns-in-Device g c = λ held frame.
+    let lent : Lent = record { text = c.args.text.now; frame = frame } in
+    let is = ap request_of c.in-Device.is in
+    let made = subst (λ (r : Request). Decides c.args.self.now r c.device_event.new.self c.device_event.result) (sym is) c.device_event.ensures in
+    quiet_along g.C.Cells.does c.args.self.now c.device_event.new.self held c.args.cells.now c.args.who (request_of c.args.call.now) lent lent (subst IsQuiet (sym is) tt) c.device_event.result (made c.args.who lent)
+
+pub destroy_instance-requires : goal.destroy_instance-requires
+destroy_instance-requires g c = record { may = subst (λ (r : Request). MayTouch g.C.Cells.may g.C.Cells.does c.args.self.now c.args.cells.now r) (ap request_of c.in-DestroyInstance.is) c.requires.cells }
+
+pub returns-in-DestroyInstance : goal.returns-in-DestroyInstance
+returns-in-DestroyInstance g c = λ held frame.
+    (subst (λ (r : Request). DecidesCells g.C.Cells.does c.args.self.now r c.destroy_instance.new.self c.destroy_instance.result c.args.cells.now c.destroy_instance.new.cells) (sym (ap request_of c.in-DestroyInstance.is)) c.destroy_instance.ensures) c.args.who held (record { text = c.args.text.now; frame = frame })
+
+pub destroy_session-requires : goal.destroy_session-requires
+destroy_session-requires g c = record { may = subst (λ (r : Request). MayTouch g.C.Cells.may g.C.Cells.does c.args.self.now c.args.cells.now r) (ap request_of c.in-DestroySession.is) c.requires.cells }
+
+pub returns-in-DestroySession : goal.returns-in-DestroySession
+returns-in-DestroySession g c = λ held frame.
+    (subst (λ (r : Request). DecidesCells g.C.Cells.does c.args.self.now r c.destroy_session.new.self c.destroy_session.result c.args.cells.now c.destroy_session.new.cells) (sym (ap request_of c.in-DestroySession.is)) c.destroy_session.ensures) c.args.who held (record { text = c.args.text.now; frame = frame })
+
+pub end_frame-requires-clause-may : goal.end_frame-requires-clause-may
+end_frame-requires-clause-may g c = (subst (λ (r : Request). MayTouch g.C.Cells.may g.C.Cells.does c.args.self.now c.args.cells.now r) (ap request_of c.in-EndFrame.is) c.requires.cells)
+
+pub returns-in-EndFrame : goal.returns-in-EndFrame
+returns-in-EndFrame g c = λ held frame.
+    (subst (λ (r : Request). DecidesCells g.C.Cells.does c.args.self.now r c.end_frame.new.self c.end_frame.result c.args.cells.now c.end_frame.new.cells) (sym (ap request_of c.in-EndFrame.is)) c.end_frame.ensures) c.args.who held (record { text = c.args.text.now; frame = frame })
+
+pub returns-in-CreateSwapchain : goal.returns-in-CreateSwapchain
+returns-in-CreateSwapchain g c = λ held frame. c.chain_call.ensures c.args.who held (record { text = c.args.text.now; frame = frame })

@@ -24,4 +24,5 @@ invariant_of-self c =
       c.self.invariant.1,
       rw c.add_action.ensures (kept_action c.self.inside.spaces c.self.inside.sets c.self.inside.handles c.give-handle.new.handles _ c.args.action.set c.give-handle.result c.self.invariant.2 refl nonzero room c.give-handle.ensures.kept),
       c.self.invariant.3,
+      c.self.invariant.4,
     )

@@ -10,4 +10,5 @@ invariant_of-self c = (
   c.self.invariant.1,
   kept_same c.self.inside.spaces c.self.inside.sets c.self.inside.handles c.give.new.handles (with_handle c.self.inside.handles kind.Instance 0 c.give.result) c.give.ensures.kept refl refl refl c.self.invariant.2,
   c.self.invariant.3,
+  c.self.invariant.4,
 )

@@ -7,4 +7,5 @@ invariant_of-self c = (
   c.self.invariant.1,
   rw (c.remove.ensures, c.remove-2.ensures) (kept_alone c.self.inside.spaces c.self.inside.sets c.self.inside.handles c.args.space c.self.invariant.2),
   c.self.invariant.3,
+  c.self.invariant.4,
 )

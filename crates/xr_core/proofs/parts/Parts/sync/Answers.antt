@@ -1,5 +1,4 @@
-use Rattle.std.proofs.Common.{rules, ◌≡◌, [], take, Some, None, refl}
-use Rattle.xr_model.specs.machine.Chains.{no_chains}
+use Rattle.std.proofs.Common.{rules, ◌≡◌, take, Some, None, refl}
 use Rattle.xr_model.specs.machine.SessionLife.{synced_session}
 use Rattle.xr_model.specs.machine.State.{CoreState}
 use Rattle.xr_model.proofs.Listed.{listed_lives}
@@ -24,6 +23,7 @@ invariant_of-self c = (
   c.self.invariant.1,
   c.self.invariant.2,
   c.self.invariant.3,
+  c.self.invariant.4,
 )
 
 pub returns : goal.returns
@@ -41,8 +41,8 @@ returns c =
       spaces = c.self.inside.spaces;
       frames = c.self.inside.frames;
       ended = c.self.inside.ended;
-      chains = no_chains;
-      shown_images = [];
+      chains = c.self.inside.chains;
+      shown_images = c.self.inside.shown.items;
       device = c.self.inside.device;
       marks = c.self.inside.marks;
       apps = c.self.inside.apps;

@@ -1,6 +1,0 @@
-use Rattle.xr_model.specs.machine.Chains.{removed}
-use Rattle.xr_chains.proofs.Standing.{changed_at}
-use Rattle.xr_chains.proofs.places.remove_at.Goals as goal
-
-pub returns : goal.returns
-returns c = rw (c.remove.ensures, ← c.index-places-place.is) (changed_at c.args.places.now c.args.handle c.args.place c.index-places-place.result c.requires.found c.index-places-place.is (removed c.args.used))
