@@ -1,141 +1,38 @@
-//! `xr_bench` measures how many calls a second the core answers, beside how many ops a second `serde_json`
-//! reads of the same calls as a scenario, how often a second a space is located, how many frames a second go round, how many
-//! bindings a second are suggested, how many lines a second a device text is read, and how many calls and turns a second a
-//! run of eight scripts makes. A measure and no test. It touches the clock and standard output.
+//! `xr_bench` measures texts and runs: how many ops a second `serde_json` reads of a round of calls as a scenario, how many
+//! lines a second a device text is read, how many calls and turns a second a run of eight scripts makes, and how long three
+//! scenarios take to be read. A measure and no test. It touches the clock and standard output.
 #![tactic(auto)]
 
-mod frames;
 mod lines;
-mod locates;
-mod round;
+mod reading;
 mod runs;
-mod suggests;
 mod texts;
 
-use frames::{ask_five_often, frame_often, set_running};
 use lines::{read_lines, text_of_lines};
-use locates::{locate_often, set_out};
-use round::{CALLS, TEXT, round};
+use reading::{CALLS, read_rounds};
 use runs::{TURNS, text_of_frame_waits, text_of_passes, text_of_waits, time_runs};
-use serde_json::Value;
 use std::alloc::Global;
 use std::io::Print;
 use std::process::ExitCode;
 use std::time::{Clock, Instant};
 use std::{env, io};
-use suggests::{set_up, suggest_often};
 use texts::{text_of_marks, text_of_names, text_of_polls, time_readings};
-use xr_core::PlainCore;
-use xr_types::MOST_SUGGESTED;
 
 const HELP: &str = "\
 xr_bench ROUNDS
-Makes ROUNDS rounds of calls, 1 to 100000000, on a core of one application, and prints how many calls a
-second it answers. It locates a head in a room as often as there are rounds, and prints how often a
-second. It sends as many frames round, each waited for, begun, ended and taken, and prints how many a
-second, beside how often a second the system is asked for five times. It suggests as many bindings, 512
-at once, and prints how many a second are taken. Then it reads the calls of a round as a scenario with
-serde_json, a tenth as often and at most 100000 times, and prints how many ops a second are read; and then
-a device text of 16777208 bytes, and prints how many lines a second are read. Last it runs eight scripts
-that pass marks round, 20 times, and prints how many calls a second these make; and seven scripts that wait
-for an eighth, once for a mark and once for a frame, and prints how many turns a second there are. It reads
-three scenarios of 16001 ops, 10 times each, and prints how long that took, beside how long their JSON
-alone took to be read: of polls, of marks, and of names that differ at their ends alone.
+Reads the calls of a round as a scenario with serde_json, a tenth as often as there are ROUNDS, 1 to
+100000000, and at most 100000 times, and prints how many ops a second are read; and then a device text of
+16777208 bytes, and prints how many lines a second are read. It runs eight scripts that pass marks round, 20
+times, and prints how many calls a second these make; and seven scripts that wait for an eighth, once for a
+mark and once for a frame, and prints how many turns a second there are. It reads three scenarios of 16001
+ops, 10 times each, and prints how long that took, beside how long their JSON alone took to be read: of
+polls, of marks, and of names that differ at their ends alone.
 ";
 
 /// So many things in so many microseconds, a second.
 fn rate(count: u64, micros: u128) -> u128 {
     let spent = if micros == 0 { 1 } else { micros };
     (count as u128 * 1_000_000) / spent
-}
-
-/// Makes these rounds on a core.
-fn make_rounds(core: &mut PlainCore, rounds: u64) {
-    for _ in 0..rounds {
-        round(core);
-    }
-}
-
-/// Reads the scenario so often; whether each reading gave a value.
-fn read_rounds(alloc: Global, rounds: u64) -> bool {
-    for _ in 0..rounds {
-        if Value::from_slice(alloc, TEXT.as_bytes()).is_err() {
-            return false;
-        }
-    }
-    true
-}
-
-/// Measures the core.
-fn measure_core<R: Clock + Print>(rt: &R, alloc: Global, rounds: u64) -> io::Result<bool> {
-    let Ok(mut core) = PlainCore::start(alloc, 1) else {
-        return Ok(false);
-    };
-    let start = Instant::now(rt)?;
-    make_rounds(&mut core, rounds);
-    let spent = start.elapsed(rt)?.as_micros();
-    let calls = core.calls();
-    println!(rt;
-        "core: {calls} calls in {spent} microseconds, {} a second",
-        rate(calls, spent)
-    )?;
-    Ok(true)
-}
-
-/// Measures locating.
-fn measure_locating<R: Clock + Print>(rt: &R, alloc: Global, rounds: u64) -> io::Result<bool> {
-    let Ok(mut core) = PlainCore::start(alloc, 1) else {
-        return Ok(false);
-    };
-    let place = set_out(&mut core);
-    let start = Instant::now(rt)?;
-    let found = locate_often(&mut core, &place, rounds);
-    let spent = start.elapsed(rt)?.as_micros();
-    println!(rt;
-        "locating: {found} spaces in {spent} microseconds, {} a second",
-        rate(found, spent)
-    )?;
-    Ok(true)
-}
-
-/// Measures frames, beside as many times five calls that ask for the system.
-fn measure_frames<R: Clock + Print>(rt: &R, alloc: Global, rounds: u64) -> io::Result<bool> {
-    let Ok(mut core) = PlainCore::start(alloc, 1) else {
-        return Ok(false);
-    };
-    let running = set_running(&mut core);
-    let start = Instant::now(rt)?;
-    let frames = frame_often(&mut core, running, rounds);
-    let spent = start.elapsed(rt)?.as_micros();
-    println!(rt;
-        "frames: {frames} of four calls in {spent} microseconds, {} a second",
-        rate(frames, spent)
-    )?;
-    let start = Instant::now(rt)?;
-    let fives = ask_five_often(&mut core, running.instance, rounds);
-    let spent = start.elapsed(rt)?.as_micros();
-    println!(rt;
-        "get_system: {fives} times five calls in {spent} microseconds, {} fives a second",
-        rate(fives, spent)
-    )?;
-    Ok(true)
-}
-
-/// Measures suggesting: as many bindings as there are rounds, and at least as many as a profile has.
-fn measure_suggesting<R: Clock + Print>(rt: &R, alloc: Global, rounds: u64) -> io::Result<bool> {
-    let Ok(mut core) = PlainCore::start(alloc, 1) else {
-        return Ok(false);
-    };
-    let suggestions = set_up(&mut core);
-    let times = (rounds / MOST_SUGGESTED as u64).max(1);
-    let start = Instant::now(rt)?;
-    let taken = suggest_often(&mut core, &suggestions, times);
-    let spent = start.elapsed(rt)?.as_micros();
-    println!(rt;
-        "suggesting: {taken} bindings in {spent} microseconds, {} a second",
-        rate(taken, spent)
-    )?;
-    Ok(true)
 }
 
 /// Measures the reader.
@@ -247,16 +144,12 @@ fn measure_texts<R: Clock + Print>(rt: &R, alloc: Global) -> io::Result<bool> {
 /// Measures all of these; whether memory was found.
 fn measure<R: Clock + Print>(rt: &R, alloc: Global, rounds: u64) -> io::Result<bool> {
     let readings = (rounds / 10).min(100_000);
-    let core = measure_core(rt, alloc, rounds)?;
-    let locating = measure_locating(rt, alloc, rounds)?;
-    let frames = measure_frames(rt, alloc, rounds)?;
-    let suggesting = measure_suggesting(rt, alloc, rounds)?;
     let reading = measure_reading(rt, alloc, readings)?;
     let lines = measure_lines(rt, alloc)?;
     let runs = measure_runs(rt, alloc)?;
     let waits = measure_frame_waits(rt, alloc)?;
     let texts = measure_texts(rt, alloc)?;
-    Ok(core && locating && frames && suggesting && reading && lines && runs && waits && texts)
+    Ok(reading && lines && runs && waits && texts)
 }
 
 /// The rounds that the words ask for.

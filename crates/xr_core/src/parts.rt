@@ -14,6 +14,7 @@ ghost use Rattle.xr_model.specs.machine.SessionRule.{loss_of, code_on};
 ghost use Rattle.xr_model.specs.machine.Spaces.{without_spaces};
 ghost use Rattle.xr_model.specs.machine.Rules.Device.{with_changes};
 ghost use Rattle.xr_model.specs.machine.Rules.Session.{life_of};
+ghost use Rattle.xr_model.specs.machine.Rules.Spaces.{session_above};
 ghost use Rattle.xr_model.specs.machine.State.{with_apps, opening_core};
 ghost use Rattle.xr_model.specs.machine.Machine.{IsPresent};
 ghost use Rattle.xr_core.specs.inside.Changes.{change_by};
@@ -232,6 +233,15 @@ impl Parts {
         } else {
             Err(Code::HandleInvalid)
         }
+    }
+
+    /// The session of a space or a swapchain, which has to be live and of its kind.
+    pub(crate) fn session_of(&self, kind: Kind, handle: u64) -> Result<u64, Code>
+        ensures { result ≡ or_refused (first_of (no_handle self.now.handles kind handle ∷ [])) (session_above self.now.handles handle) }
+    {
+        self.handles
+            .parent_among(kind, handle)
+            .ok_or(Code::HandleInvalid)
     }
 
     /// A creation needs a free place of its kind.

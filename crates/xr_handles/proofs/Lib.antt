@@ -1,3 +1,5 @@
+pub mod Keeping
 pub mod Numbers
+pub mod Parents
 pub mod Places
 pub mod Sweeps

@@ -1,11 +1,12 @@
 // The rows of all kinds, and the calls on them.
-ghost use Rattle.std.specs.Prelude.{◌≡◌, ◌≢◌, ◌<◌, ◌^◌, [], ◌∷◌, false, length, is_some, IfSome};
+ghost use Rattle.std.specs.Prelude.{◌≡◌, ◌≢◌, ◌<◌, ◌^◌, [], ◌∷◌, false, length, is_some, None, IfSome, if◌then◌else◌};
 ghost use Rattle.xr_model.specs.machine.Handles as model;
 ghost use Rattle.xr_model.specs.machine.Handles.{no_handles, row_of, is_live, first_free, no_room, was_given, with_handle, without, without_alone};
 ghost use Rattle.xr_model.specs.machine.HandlePlaces.{limit_of};
 ghost use Rattle.xr_model.specs.machine.HandlePlaces.{kind_of, parent_of, place_of, place_among, handle_at};
 ghost use Rattle.xr_model.specs.machine.Refusals.{first_of, unless};
 ghost use Rattle.xr_model.specs.machine.PartAnswers.{answer_by};
+ghost use Rattle.xr_model.specs.laws.HandleLaws.{StandOnce};
 ghost use Rattle.xr_handles.specs.Numbers.{next_number};
 
 use crate::row;
@@ -32,6 +33,7 @@ pub struct Handles {
 impl Model for Handles {
     ghost use Rattle.xr_model.specs.machine.Handles as model;
     ghost use Rattle.xr_handles.specs.Numbers.{counted};
+    ghost use Rattle.xr_handles.specs.Kept.{IsKept};
 
     ghost Value = { model.Handles };
 
@@ -44,6 +46,16 @@ impl Model for Handles {
       spaces = h.spaces;
       chains = h.chains;
     } };
+
+    ghost invariant = { λ h. IsKept (record {
+      given = counted h.given;
+      instances = h.instances;
+      sessions = h.sessions;
+      sets = h.sets;
+      actions = h.actions;
+      spaces = h.spaces;
+      chains = h.chains;
+    }) };
 }
 
 impl Handles {
@@ -75,6 +87,7 @@ impl Handles {
     fn row(&self, kind: Kind) -> &[Slot]
         ensures row { result.now ≡ row_of self.now kind }
         ensures limit { length result.now ≡ limit_of kind }
+        ensures once { StandOnce self.now }
     {
         match kind {
             Kind::Instance => &self.instances,
@@ -85,6 +98,7 @@ impl Handles {
             Kind::Swapchain => &self.chains,
         }
     }
+
     /// Whether a handle is live and of this kind.
     pub fn is_live(&self, kind: Kind, handle: u64) -> bool
         ensures { result ≡ is_live self.now kind handle }
@@ -125,6 +139,18 @@ impl Handles {
             Some(kind) => row::parent_in(self.row(kind), handle),
             None => None,
         }
+    }
+
+    /// The parent of a handle of this kind, 0 for an instance, where it is live.
+    pub fn parent_among(&self, kind: Kind, handle: u64) -> Option<u64>
+        ensures parent { result ≡ (if is_live self.now kind handle then parent_of self.now handle else None) }
+        ensures live { is_some result ≡ is_live self.now kind handle }
+    {
+        let row = self.row(kind);
+        if handle == 0 {
+            return None;
+        }
+        row::parent_in(row, handle)
     }
 
     /// The place of a live handle in the row of its kind, from 0.

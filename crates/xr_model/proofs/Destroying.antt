@@ -7,7 +7,7 @@ use Rattle.xr_types.specs.declared.handles.Kind.TheVariants.{Instance, Session, 
 use Rattle.xr_types.specs.declared.handles.Slot.{Slot}
 use Rattle.xr_types.specs.declared.handles.TheConstants.{INSTANCES, SESSIONS, ACTION_SETS, ACTIONS, SPACES, SWAPCHAINS}
 use Rattle.xr_model.specs.machine.Request.{Entry}
-use Rattle.xr_model.specs.machine.Handles.{Handles, has, is_live, was_given, with_handle, destroyed_instances, destroyed_parents, without, without_alone}
+use Rattle.xr_model.specs.machine.Handles.{Handles, has, is_live, was_given, row_of, with_row, put_in, first_free, cleared, with_handle, destroyed_instances, destroyed_parents, without, without_alone}
 use Rattle.xr_model.specs.machine.HandlePlaces.{kind_of}
 use Rattle.xr_model.specs.machine.Refusals.{when, first_of}
 use Rattle.xr_model.specs.machine.State.{CoreState, Settings, State, opening}
@@ -55,62 +55,68 @@ absent_itself h handle nz = record {
   chains = cleared_away handle (destroyed_parents h handle) h.chains nz;
 }
 
+-- one row without the handle takes the place of another
+absent_row : (h : Handles) (kind : Kind) (row : List Slot) (handle : ℕ) → IsAbsent h handle → has row handle ≡ false → IsAbsent (with_row h kind row) handle
+absent_row h Instance row handle a none = record { instances = none; sessions = a.sessions; sets = a.sets; actions = a.actions; spaces = a.spaces; chains = a.chains }
+absent_row h Session row handle a none = record { instances = a.instances; sessions = none; sets = a.sets; actions = a.actions; spaces = a.spaces; chains = a.chains }
+absent_row h ActionSet row handle a none = record { instances = a.instances; sessions = a.sessions; sets = none; actions = a.actions; spaces = a.spaces; chains = a.chains }
+absent_row h Action row handle a none = record { instances = a.instances; sessions = a.sessions; sets = a.sets; actions = none; spaces = a.spaces; chains = a.chains }
+absent_row h Space row handle a none = record { instances = a.instances; sessions = a.sessions; sets = a.sets; actions = a.actions; spaces = none; chains = a.chains }
+absent_row h Swapchain row handle a none = record { instances = a.instances; sessions = a.sessions; sets = a.sets; actions = a.actions; spaces = a.spaces; chains = none }
+
+absent_in : (h : Handles) (kind : Kind) (handle : ℕ) → IsAbsent h handle → has (row_of h kind) handle ≡ false
+absent_in h Instance handle a = a.instances
+absent_in h Session handle a = a.sessions
+absent_in h ActionSet handle a = a.sets
+absent_in h Action handle a = a.actions
+absent_in h Space handle a = a.spaces
+absent_in h Swapchain handle a = a.chains
+
 -- nor where one handle of a row is taken out
-absent_alone : (h : Handles) (gone handle : ℕ) → (handle == 0) ≡ false → IsAbsent h handle → IsAbsent (without_alone h Space gone) handle
-absent_alone h gone handle nz a = record {
-  instances = a.instances;
-  sessions = a.sessions;
-  sets = a.sets;
-  actions = a.actions;
-  spaces = hasnt_cleared gone [] h.spaces handle nz a.spaces;
-  chains = a.chains;
-}
+absent_alone : (h : Handles) (kind : Kind) (gone handle : ℕ) → (handle == 0) ≡ false → IsAbsent h handle → IsAbsent (without_alone h kind gone) handle
+absent_alone h kind gone handle nz a = absent_row h kind (cleared gone [] (row_of h kind)) handle a (hasnt_cleared gone [] (row_of h kind) handle nz (absent_in h kind handle a))
 
-module _ (h : Handles) (parent given handle : ℕ) (other : (given == handle) ≡ false) (a : IsAbsent h handle) where
-  slot : Slot
-  slot = record { handle = given; parent = parent }
-
-  -- nor where another handle is given
-  absent_instance : IsAbsent (with_handle h Instance parent given) handle
-  unfolding slot
-  absent_instance = record { instances = hasnt_put slot h.instances handle a.instances other; sessions = a.sessions; sets = a.sets; actions = a.actions; spaces = a.spaces; chains = a.chains }
-
-  absent_session : IsAbsent (with_handle h Session parent given) handle
-  unfolding slot
-  absent_session = record { instances = a.instances; sessions = hasnt_put slot h.sessions handle a.sessions other; sets = a.sets; actions = a.actions; spaces = a.spaces; chains = a.chains }
-
-  absent_set : IsAbsent (with_handle h ActionSet parent given) handle
-  unfolding slot
-  absent_set = record { instances = a.instances; sessions = a.sessions; sets = hasnt_put slot h.sets handle a.sets other; actions = a.actions; spaces = a.spaces; chains = a.chains }
-
-  absent_action : IsAbsent (with_handle h Action parent given) handle
-  unfolding slot
-  absent_action = record { instances = a.instances; sessions = a.sessions; sets = a.sets; actions = hasnt_put slot h.actions handle a.actions other; spaces = a.spaces; chains = a.chains }
-
-  absent_space : IsAbsent (with_handle h Space parent given) handle
-  unfolding slot
-  absent_space = record { instances = a.instances; sessions = a.sessions; sets = a.sets; actions = a.actions; spaces = hasnt_put slot h.spaces handle a.spaces other; chains = a.chains }
-
-  absent_chain : IsAbsent (with_handle h Swapchain parent given) handle
-  unfolding slot
-  absent_chain = record { instances = a.instances; sessions = a.sessions; sets = a.sets; actions = a.actions; spaces = a.spaces; chains = hasnt_put slot h.chains handle a.chains other }
+-- nor where another handle is given
+absent_put : (h : Handles) (kind : Kind) (parent given handle : ℕ) → (given == handle) ≡ false → IsAbsent h handle → IsAbsent (with_handle h kind parent given) handle
+absent_put h kind parent given handle other a =
+    let slot : Slot = record { handle = given; parent = parent } in
+    let b = absent_row h kind (put_in (row_of h kind) slot (first_free (row_of h kind))) handle a (hasnt_put slot (row_of h kind) handle (absent_in h kind handle a) other) in
+    record { instances = b.instances; sessions = b.sessions; sets = b.sets; actions = b.actions; spaces = b.spaces; chains = b.chains }
 
 -- ---- each live handle was given
 
 abbrev pub AreKnown : Handles → Type 0
 AreKnown h = (handle : ℕ) → (handle == 0) ≡ false → was_given h handle ≡ false → IsAbsent h handle
 
+pub known_put : (h : Handles) (kind : Kind) (parent given : ℕ) → AreKnown h → AreKnown (with_handle h kind parent given)
+known_put h kind parent given known handle nz new =
+    let two = neither_of (given == handle) (was_given h handle) new in absent_put h kind parent given handle two.0 (known handle nz two.1)
+
+pub known_without : (h : Handles) (top : ℕ) → AreKnown h → AreKnown (without h top)
+known_without h top known handle nz new = absent_without h top handle nz (known handle nz new)
+
+pub known_alone : (h : Handles) (kind : Kind) (gone : ℕ) → AreKnown h → AreKnown (without_alone h kind gone)
+known_alone h kind gone known handle nz new = absent_alone h kind gone handle nz (known handle nz (same_given kind new))
+  where
+    same_given : (k : Kind) → was_given (without_alone h k gone) handle ≡ false → was_given h handle ≡ false
+    same_given Instance new = new
+    same_given Session new = new
+    same_given ActionSet new = new
+    same_given Action new = new
+    same_given Space new = new
+    same_given Swapchain new = new
+
 pub known_step : (s : State) (e : Entry) → AreKnown s.core.handles → AreKnown (step s e).0.core.handles
 known_step s e known = kept_by_step AreKnown s.core (reads_of s e.request) e (record {
   same = known;
-  instance = λ gives handle nz new. let two = neither_of (e.given == handle) (was_given s.core.handles handle) new in absent_instance s.core.handles 0 e.given handle two.0 (known handle nz two.1);
-  session = λ gives instance live handle nz new. let two = neither_of (e.given == handle) (was_given s.core.handles handle) new in absent_session s.core.handles instance e.given handle two.0 (known handle nz two.1);
-  set = λ gives instance live handle nz new. let two = neither_of (e.given == handle) (was_given s.core.handles handle) new in absent_set s.core.handles instance e.given handle two.0 (known handle nz two.1);
-  action = λ gives set live handle nz new. let two = neither_of (e.given == handle) (was_given s.core.handles handle) new in absent_action s.core.handles set e.given handle two.0 (known handle nz two.1);
-  space = λ gives session live handle nz new. let two = neither_of (e.given == handle) (was_given s.core.handles handle) new in absent_space s.core.handles session e.given handle two.0 (known handle nz two.1);
-  chain = λ is gives session live handle nz new. let two = neither_of (e.given == handle) (was_given s.core.handles handle) new in absent_chain s.core.handles session e.given handle two.0 (known handle nz two.1);
-  without = λ gone handle nz new. absent_without s.core.handles gone handle nz (known handle nz new);
-  alone = λ gone handle nz new. absent_alone s.core.handles gone handle nz (known handle nz new);
+  instance = λ gives. known_put s.core.handles Instance 0 e.given known;
+  session = λ gives instance live. known_put s.core.handles Session instance e.given known;
+  set = λ gives instance live. known_put s.core.handles ActionSet instance e.given known;
+  action = λ gives set live. known_put s.core.handles Action set e.given known;
+  space = λ gives session live. known_put s.core.handles Space session e.given known;
+  chain = λ is gives session live. known_put s.core.handles Swapchain session e.given known;
+  without = λ top. known_without s.core.handles top known;
+  alone = λ space. known_alone s.core.handles Space space known;
 })
 
 pub known_after : (s : State) (es : List Entry) → AreKnown s.core.handles → AreKnown (after s es).core.handles
@@ -151,19 +157,19 @@ over_step : (s : State) (e : Entry) (handle : ℕ) → IsAllowed s e → IsOver 
 over_step s e handle allowed over = kept_by_step (IsOver handle) s.core (reads_of s e.request) e (record {
   same = over;
   instance = λ gives. let other = is_other s.core.handles handle e.given (gives_handle s.core (reads_of s e.request) e) over allowed.handle gives in
-      record { some = over.some; given = or_given (e.given == handle) (was_given s.core.handles handle) over.given; absent = absent_instance s.core.handles 0 e.given handle other over.absent };
+      record { some = over.some; given = or_given (e.given == handle) (was_given s.core.handles handle) over.given; absent = absent_put s.core.handles Instance 0 e.given handle other over.absent };
   session = λ gives instance live. let other = is_other s.core.handles handle e.given (gives_handle s.core (reads_of s e.request) e) over allowed.handle gives in
-      record { some = over.some; given = or_given (e.given == handle) (was_given s.core.handles handle) over.given; absent = absent_session s.core.handles instance e.given handle other over.absent };
+      record { some = over.some; given = or_given (e.given == handle) (was_given s.core.handles handle) over.given; absent = absent_put s.core.handles Session instance e.given handle other over.absent };
   set = λ gives instance live. let other = is_other s.core.handles handle e.given (gives_handle s.core (reads_of s e.request) e) over allowed.handle gives in
-      record { some = over.some; given = or_given (e.given == handle) (was_given s.core.handles handle) over.given; absent = absent_set s.core.handles instance e.given handle other over.absent };
+      record { some = over.some; given = or_given (e.given == handle) (was_given s.core.handles handle) over.given; absent = absent_put s.core.handles ActionSet instance e.given handle other over.absent };
   action = λ gives set live. let other = is_other s.core.handles handle e.given (gives_handle s.core (reads_of s e.request) e) over allowed.handle gives in
-      record { some = over.some; given = or_given (e.given == handle) (was_given s.core.handles handle) over.given; absent = absent_action s.core.handles set e.given handle other over.absent };
+      record { some = over.some; given = or_given (e.given == handle) (was_given s.core.handles handle) over.given; absent = absent_put s.core.handles Action set e.given handle other over.absent };
   space = λ gives session live. let other = is_other s.core.handles handle e.given (gives_handle s.core (reads_of s e.request) e) over allowed.handle gives in
-      record { some = over.some; given = or_given (e.given == handle) (was_given s.core.handles handle) over.given; absent = absent_space s.core.handles session e.given handle other over.absent };
+      record { some = over.some; given = or_given (e.given == handle) (was_given s.core.handles handle) over.given; absent = absent_put s.core.handles Space session e.given handle other over.absent };
   chain = λ is gives session live. let other = is_other s.core.handles handle e.given (gives_handle s.core (reads_of s e.request) e) over allowed.handle gives in
-      record { some = over.some; given = or_given (e.given == handle) (was_given s.core.handles handle) over.given; absent = absent_chain s.core.handles session e.given handle other over.absent };
+      record { some = over.some; given = or_given (e.given == handle) (was_given s.core.handles handle) over.given; absent = absent_put s.core.handles Swapchain session e.given handle other over.absent };
   without = λ gone. record { some = over.some; given = over.given; absent = absent_without s.core.handles gone handle over.some over.absent };
-  alone = λ gone. record { some = over.some; given = over.given; absent = absent_alone s.core.handles gone handle over.some over.absent };
+  alone = λ gone. record { some = over.some; given = over.given; absent = absent_alone s.core.handles Space gone handle over.some over.absent };
 })
 
 pub over_after : (s : State) (clocks : List ℤ) (es : List Entry) (handle : ℕ) → IsLegalFrom s clocks es → IsOver handle s.core.handles → IsOver handle (after s es).core.handles

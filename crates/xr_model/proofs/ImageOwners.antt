@@ -17,7 +17,7 @@ use Rattle.xr_model.specs.machine.Rules.Swapchains.{is_up}
 use Rattle.xr_model.specs.machine.Machine.{rule, step, reads_of, ready, IsAllowed}
 use Rattle.xr_model.specs.machine.History.{after, opening_clocks, clocks_after, IsLegal, IsLegalFrom}
 use Rattle.xr_model.specs.laws.HandleLaws.{AreUnder, StandOnce}
-use Rattle.xr_model.specs.laws.ImageLaws.{did_at, has_index, is_had, count_now, NoTwoOwners, WaitedImageIsNobodys, OwnersAreInTheState, ImagesStep, CountsAreFew, ChainsArePlaced, PlacesAreOwn, FreePlacesAreUnused}
+use Rattle.xr_model.specs.laws.ImageLaws.{IsPlaced, did_at, has_index, is_had, count_now, OwnersFit, NoTwoOwners, WaitedImageIsNobodys, OwnersAreInTheState, ImagesStep, CountsAreFew, ChainsArePlaced, PlacesAreOwn, FreePlacesAreUnused}
 use Rattle.xr_model.specs.laws.Owners.{has_image, has_behind, is_applications, times_used, times_returned}
 use Rattle.xr_model.specs.laws.Past.{Decided, decided, past_from, past_of}
 use Rattle.xr_model.proofs.Histories.{fronts_are_legal}
@@ -111,12 +111,15 @@ none_had zero p k = refl
 none_had (suc n) zero k = refl
 none_had (suc n) (suc p) k = none_had n p k
 
-pub owners_are_in_the_state : OwnersAreInTheState
-owners_are_in_the_state settings es i legal placed =
+pub owners_fit : (settings : Settings) (es : List Entry) (i : Image) → IsLegal settings es → IsPlaced i → OwnersFit settings es i
+owners_fit settings es i legal placed =
     let says = says_after i (opening settings) (opening_clocks settings) [] es legal
     (record { sound = sound_opening settings; once = none_once; under = no_orphans settings []; known = known_opening settings })
     (record { application = sym (none_had SWAPCHAINS i.place i.index); count = refl }) in
     record { application = says.application; count = says.count }
+
+pub owners_are_in_the_state : OwnersAreInTheState
+owners_are_in_the_state = owners_fit
 
 -- an image that an application has isn't used
 had_unused : (s : State) (i : Image) → StateIsSound s → is_had s.core i ≡ true → count_now s i ≡ 0
@@ -133,7 +136,7 @@ none_more u r n e z = grind (arith, nat_tests, e, z)
 
 pub no_two_owners : NoTwoOwners
 no_two_owners settings es i legal placed owned =
-    let fits = owners_are_in_the_state settings es i legal placed in
+    let fits = owners_fit settings es i legal placed in
     none_more (times_used i (past_of settings es)) (times_returned i (past_of settings es)) (count_now (after (opening settings) es) i) fits.count
     (had_unused (after (opening settings) es) i (sound_history settings es legal) (sym fits.application ∙ owned))
 
@@ -177,7 +180,7 @@ pub waited_image_is_nobodys : WaitedImageIsNobodys
 waited_image_is_nobodys settings es e i legal placed claimed =
     let front = fronts_are_legal (opening settings) (opening_clocks settings) es (e ∷ []) legal in
     let last = legal_behind (opening settings) (opening_clocks settings) es (e ∷ []) legal in
-    let fits = owners_are_in_the_state settings es i front placed in
+    let fits = owners_fit settings es i front placed in
     let none = claims_nobodys (after (opening settings) es) e i last.2 claimed in
     (fits.application ∙ none.0, none_more (times_used i (past_of settings es)) (times_returned i (past_of settings es)) (count_now (after (opening settings) es) i) fits.count none.1)
 

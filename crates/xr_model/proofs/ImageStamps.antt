@@ -27,7 +27,7 @@ use Rattle.xr_model.proofs.ChainPlaces.{found_good, found_at, any_found, suc_apa
 use Rattle.xr_model.proofs.FrameImages.{IsBelow, each_left, times_elsewhere}
 use Rattle.xr_model.proofs.SoundImages.{AreSound, StateIsSound, IsIdle, is_taken, effect_kept, paint_some, sound_history}
 use Rattle.xr_model.proofs.ImageSteps.{was_waited}
-use Rattle.xr_model.proofs.ImageOwners.{owners_are_in_the_state}
+use Rattle.xr_model.proofs.ImageOwners.{owners_fit}
 
 -- ---- stamps that are set
 
@@ -125,5 +125,5 @@ some_more u r n e less z = absurd (omega (arith, e, z, below r u less))
 pub stamps_stay : StampsStay
 stamps_stay settings es e i legal placed owned =
     let front = fronts_are_legal (opening settings) (opening_clocks settings) es (e ∷ []) legal in
-    let fits = owners_are_in_the_state settings es i front placed in
+    let fits = owners_fit settings es i front placed in
     used_stamp_stays (after (opening settings) es) e i (sound_history settings es front) (some_more (times_used i (past_of settings es)) (times_returned i (past_of settings es)) (count_now (after (opening settings) es) i) fits.count owned)

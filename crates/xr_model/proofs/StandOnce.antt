@@ -6,7 +6,7 @@ use Rattle.xr_types.specs.declared.handles.Kind.TheVariants.{Instance, Session, 
 use Rattle.xr_types.specs.declared.handles.Slot.{Slot}
 use Rattle.xr_types.specs.declared.handles.TheConstants.{INSTANCES, SESSIONS, ACTION_SETS, ACTIONS, SPACES, SWAPCHAINS}
 use Rattle.xr_model.specs.machine.Request.{Entry, Request, create_instance, create_session, create_reference_space, create_action_set, create_action, create_swapchain}
-use Rattle.xr_model.specs.machine.Handles.{Handles, free, has, is_live, was_given, first_free, put_in, cleared, goes, destroyed_instances, destroyed_parents, with_handle, without, without_alone, no_handles}
+use Rattle.xr_model.specs.machine.Handles.{Handles, free, has, is_live, was_given, row_of, with_row, first_free, put_in, cleared, goes, destroyed_instances, destroyed_parents, with_handle, without, without_alone, no_handles}
 use Rattle.xr_model.specs.laws.HandleLaws.{count_in, places_with, StandOnce, HandlesStandOnce, CreatingAdds}
 use Rattle.xr_model.specs.machine.Refusals.{Refusal}
 use Rattle.xr_model.specs.machine.Rule.{Effect, refusal, told_on, unless_refused}
@@ -126,8 +126,16 @@ module _ (h : Handles) (given : ℕ) (fresh : was_given h given ≡ false) (nonz
       let more = count_put (record { handle = given; parent = parent }) h.chains k nz in
       put_once 0 k nz (places_with (with_handle h Swapchain parent given) k) (omega (arith, more))
 
-without_once : (h : Handles) (top : ℕ) → StandOnce h → StandOnce (without h top)
-without_once h top once k nz =
+pub once_put : (h : Handles) (kind : Kind) (parent given : ℕ) → (given ≢ 0) × (was_given h given ≡ false) → AreKnown h → StandOnce h → StandOnce (with_handle h kind parent given)
+once_put h Instance parent given new known once = instance_once h given new.1 new.0 known once parent
+once_put h Session parent given new known once = session_once h given new.1 new.0 known once parent
+once_put h ActionSet parent given new known once = set_once h given new.1 new.0 known once parent
+once_put h Action parent given new known once = action_once h given new.1 new.0 known once parent
+once_put h Space parent given new known once = space_once h given new.1 new.0 known once parent
+once_put h Swapchain parent given new known once = chain_once h given new.1 new.0 known once parent
+
+pub once_without : (h : Handles) (top : ℕ) → StandOnce h → StandOnce (without h top)
+once_without h top once k nz =
     let all = once k nz in
     let a = count_cleared top [] h.instances k nz in
     let b = count_cleared top (destroyed_instances h top) h.sessions k nz in
@@ -137,23 +145,32 @@ without_once h top once k nz =
     let f = count_cleared top (destroyed_parents h top) h.chains k nz in
     omega (arith, all, a, b, c, d, e, f)
 
-alone_once : (h : Handles) (space : ℕ) → StandOnce h → StandOnce (without_alone h Space space)
-alone_once h space once k nz =
+-- a row in which the handle stands no oftener takes the place of another
+places_fewer : (h : Handles) (kind : Kind) (row : List Slot) (k : ℕ) → count_in row k ≤ count_in (row_of h kind) k → places_with (with_row h kind row) k ≤ places_with h k
+places_fewer h Instance row k fewer = omega (arith, fewer)
+places_fewer h Session row k fewer = omega (arith, fewer)
+places_fewer h ActionSet row k fewer = omega (arith, fewer)
+places_fewer h Action row k fewer = omega (arith, fewer)
+places_fewer h Space row k fewer = omega (arith, fewer)
+places_fewer h Swapchain row k fewer = omega (arith, fewer)
+
+pub once_alone : (h : Handles) (kind : Kind) (gone : ℕ) → StandOnce h → StandOnce (without_alone h kind gone)
+once_alone h kind gone once k nz =
     let all = once k nz in
-    let e = count_cleared space [] h.spaces k nz in
-    omega (arith, all, e)
+    let fewer = places_fewer h kind (cleared gone [] (row_of h kind)) k (count_cleared gone [] (row_of h kind) k nz) in
+    omega (arith, all, fewer)
 
 pub once_step : (s : State) (e : Entry) → IsAllowed s e → AreKnown s.core.handles → StandOnce s.core.handles → StandOnce (step s e).0.core.handles
 once_step s e allowed known once = kept_by_step StandOnce s.core (reads_of s e.request) e (record {
   same = once;
-  instance = λ gives. let new = given_one (gives_handle s.core (reads_of s e.request) e) s.core.handles e.given gives allowed.handle in instance_once s.core.handles e.given new.1 new.0 known once 0;
-  session = λ gives instance live. let new = given_one (gives_handle s.core (reads_of s e.request) e) s.core.handles e.given gives allowed.handle in session_once s.core.handles e.given new.1 new.0 known once instance;
-  set = λ gives instance live. let new = given_one (gives_handle s.core (reads_of s e.request) e) s.core.handles e.given gives allowed.handle in set_once s.core.handles e.given new.1 new.0 known once instance;
-  action = λ gives set live. let new = given_one (gives_handle s.core (reads_of s e.request) e) s.core.handles e.given gives allowed.handle in action_once s.core.handles e.given new.1 new.0 known once set;
-  space = λ gives session live. let new = given_one (gives_handle s.core (reads_of s e.request) e) s.core.handles e.given gives allowed.handle in space_once s.core.handles e.given new.1 new.0 known once session;
-  chain = λ is gives session live. let new = given_one (gives_handle s.core (reads_of s e.request) e) s.core.handles e.given gives allowed.handle in chain_once s.core.handles e.given new.1 new.0 known once session;
-  without = λ top. without_once s.core.handles top once;
-  alone = λ space. alone_once s.core.handles space once;
+  instance = λ gives. once_put s.core.handles Instance 0 e.given (given_one (gives_handle s.core (reads_of s e.request) e) s.core.handles e.given gives allowed.handle) known once;
+  session = λ gives instance live. once_put s.core.handles Session instance e.given (given_one (gives_handle s.core (reads_of s e.request) e) s.core.handles e.given gives allowed.handle) known once;
+  set = λ gives instance live. once_put s.core.handles ActionSet instance e.given (given_one (gives_handle s.core (reads_of s e.request) e) s.core.handles e.given gives allowed.handle) known once;
+  action = λ gives set live. once_put s.core.handles Action set e.given (given_one (gives_handle s.core (reads_of s e.request) e) s.core.handles e.given gives allowed.handle) known once;
+  space = λ gives session live. once_put s.core.handles Space session e.given (given_one (gives_handle s.core (reads_of s e.request) e) s.core.handles e.given gives allowed.handle) known once;
+  chain = λ is gives session live. once_put s.core.handles Swapchain session e.given (given_one (gives_handle s.core (reads_of s e.request) e) s.core.handles e.given gives allowed.handle) known once;
+  without = λ top. once_without s.core.handles top once;
+  alone = λ space. once_alone s.core.handles Space space once;
 })
 
 once_after : (s : State) (clocks : List ℤ) (es : List Entry) → IsLegalFrom s clocks es → AreKnown s.core.handles → StandOnce s.core.handles → StandOnce (after s es).core.handles

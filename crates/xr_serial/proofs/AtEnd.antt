@@ -57,7 +57,7 @@ follows_so_far ops app calls kept = by app.has_left refl
 -- behind such a call it isn't told the end
 not_the_end : (t : request.Exchange) → GoesOn t → is_ended t.outcome.reply.gives ≡ false
 not_the_end t (a_frame is gives) = rw gives refl
-not_the_end t (an_image is gives) = rw gives refl
+not_the_end t (an_image is good gives) = rw gives refl
 
 none_ended : (calls : List request.Exchange) → AllGoOn calls → end_of calls ≡ None
 none_ended [] were = refl

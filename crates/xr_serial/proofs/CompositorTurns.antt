@@ -5,6 +5,7 @@ use Rattle.xr_types.specs.declared.calls.Actor.TheVariants.{Compositor, Device}
 use Rattle.xr_types.specs.declared.calls.Actor.{Actor}
 use Rattle.xr_types.specs.declared.device.DeviceEvent.{DeviceEvent}
 use Rattle.xr_types.specs.declared.calls.Gives.TheVariants.{Ended, Nothing, Shown}
+use Rattle.xr_types.specs.declared.code.Code.TheVariants.{Success}
 use Rattle.xr_types.specs.declared.calls.Reply.{Reply}
 use Rattle.xr_types.specs.declared.scenario.Scenario.{Scenario}
 use Rattle.xr_types.specs.Frames.{PendingFrame, ShownFrame}
@@ -79,6 +80,7 @@ told s after o unheld call =
 -- It gave back an image, which it doesn't hold from now on.
 pub record Returned (s after : State) (o : Outcome) : Type 0 where
   pub shown : o.shown ≡ None
+  pub good : o.reply.code ≡ Success
   pub gives : o.reply.gives ≡ Nothing
   pub less : shown_work after + 1 ≡ shown_work s
 
@@ -89,6 +91,7 @@ returned s after o holds call = by s.core s.cells.stamps s.cells.held holds call
     by k stamps [] holds leads comes = absurd (true≢false holds)
     by k stamps (i ∷ held) holds leads comes = record {
       shown = sym (ap (λ (x : Outcome). x.shown) comes);
+      good = sym (ap (λ (x : Outcome). x.reply.code) comes);
       gives = sym (ap (λ (x : Outcome). x.reply.gives) comes);
       less = rw leads (omega arith);
     }
@@ -162,11 +165,11 @@ module _ (c : CompositorState) (calls : List request.Exchange) (o : Outcome) (un
   kept_more s after (shows frame shown gives fewer) = subst (λ (x : Option ShownFrame). CompositorKept (compositor_with c o.reply x) (calls ++ exchange_of next_frame o ∷ [])) (sym shown) (with_frame frame shown gives)
   kept_more s after (ends shown gives same) = subst (λ (x : Option ShownFrame). CompositorKept (compositor_with c o.reply x) (calls ++ exchange_of next_frame o ∷ [])) (sym shown) (with_end shown gives)
 
-  with_image : (done : List ℕ) → o.shown ≡ None → o.reply.gives ≡ Nothing → CompositorKept (record c { done = done }) (calls ++ exchange_of image_done o ∷ [])
-  with_image done shown gives = record {
+  with_image : (done : List ℕ) → o.shown ≡ None → o.reply.code ≡ Success → o.reply.gives ≡ Nothing → CompositorKept (record c { done = done }) (calls ++ exchange_of image_done o ∷ [])
+  with_image done shown good gives = record {
     frames_are = frames_same (exchange_of image_done o) shown;
     replies_are = replies_same (exchange_of image_done o) shown;
-    end = end_more (exchange_of image_done o) (an_image refl gives);
+    end = end_more (exchange_of image_done o) (an_image refl good gives);
   }
 
 -- a frame, or the end, is no image given back
@@ -275,7 +278,7 @@ module _ (scenario : Scenario) (idle : ℕ) (s after : State) (run : RunState) (
         kept = record {
           apps = others_more scenario.scripts s after run.apps kept.calls (calls_with kept.calls Compositor t) kept.kept.apps (rw m.call.leads refl) (rw m.call.leads (call_keeps s (entry_of Compositor image_done m.outcome.reply) tt)) (λ place. refl);
           device = kept.kept.device;
-          compositor = with_image run.compositor (kept.calls Compositor) m.outcome unended kept.kept.compositor new.done came.shown came.gives;
+          compositor = with_image run.compositor (kept.calls Compositor) m.outcome unended kept.kept.compositor new.done came.shown came.good came.gives;
           counted = omega (arith, counted, locks);
           work = omega (arith, work, locks, less, done);
         };

@@ -2,6 +2,7 @@
 use Rattle.std.specs.Prelude.{◌≡◌, ◌<◌, ◌≤◌, ◌+◌, ℕ, true, false, List, [], ◌∷◌, ◌++◌, length, slice_index_or, Option, Some, None}
 use Rattle.xr_types.specs.declared.calls.Actor.TheVariants.{App, Compositor, Device}
 use Rattle.xr_types.specs.declared.calls.Gives.TheVariants.{Ended, Nothing, Shown}
+use Rattle.xr_types.specs.declared.code.Code.TheVariants.{Success}
 use Rattle.xr_types.specs.declared.device.DeviceEvent.{DeviceEvent}
 use Rattle.xr_types.specs.declared.made.Lists.{Lists}
 use Rattle.xr_types.specs.declared.scenario.Op.{Op}
@@ -58,7 +59,7 @@ OfEachScript scenario history P =
 -- A call of the compositor behind which it goes on: it was shown a frame, or gave back an image.
 pub data GoesOn (t : request.Exchange) : Type 0 where
   a_frame : t.request ≡ next_frame → t.outcome.reply.gives ≡ Shown → GoesOn t
-  an_image : t.request ≡ image_done → t.outcome.reply.gives ≡ Nothing → GoesOn t
+  an_image : t.request ≡ image_done → t.outcome.reply.code ≡ Success → t.outcome.reply.gives ≡ Nothing → GoesOn t
 
 -- it went on so, and then was told the end
 abbrev pub IsEnd : List request.Exchange → Type 0

@@ -4,7 +4,6 @@ ghost use Rattle.xr_model.specs.machine.Handles.{has_room, was_given};
 ghost use Rattle.xr_model.specs.machine.Refusals.{first_of};
 ghost use Rattle.xr_model.specs.machine.Request.{create_reference_space, destroy_space, locate_space, request_of};
 ghost use Rattle.xr_model.specs.machine.Rule.{refusals};
-ghost use Rattle.xr_model.specs.machine.SessionLife.{is_lost};
 ghost use Rattle.xr_model.specs.machine.SessionRule.{loss_of, code_on};
 ghost use Rattle.xr_model.specs.machine.Spaces.{reference_checks};
 ghost use Rattle.xr_model.specs.machine.Rules.Session.{life_of};
@@ -15,16 +14,8 @@ ghost use Rattle.xr_model.specs.machine.PartAnswers.{or_refused};
 
 use crate::halt::{Halt, done, giving};
 use crate::parts::{Parts, give};
-use xr_handles::Handles;
 use xr_spaces::check_reference;
 use xr_types::{Call, Code, Gives, Kind, Location, RefKind, Reply, Root};
-
-/// The session of a space, 0 where there is none.
-fn session_above(handles: &Handles, space: u64) -> u64
-    ensures { result ≡ session_above handles.now space }
-{
-    handles.parent_of(space).unwrap_or(0)
-}
 
 impl Parts {
     pub(crate) fn space_call(&mut self, call: &Call<'_>) -> Result<Reply, Halt>
@@ -112,20 +103,13 @@ impl Parts {
         done(Code::Success)
     }
 
-    /// What a plain success on the session of a space is answered as, where the session isn't lost.
-    pub(crate) fn on_session_above(&self, space: u64) -> Result<Code, Code>
-        ensures { result ≡ or_refused (first_of (is_lost (life_of self.now (session_above self.now.handles space)) ∷ [])) (code_on (loss_of (life_of self.now (session_above self.now.handles space))) Code.Success) }
-    {
-        self.on_session(session_above(&self.handles, space))
-    }
-
     /// What refuses locating a space in a base, or what its success is answered as.
     fn may_locate_space(&self, space: u64, base: u64, time: &i64) -> Result<Code, Code>
         ensures { result ≡ or_refused (first_of (refusals (locate_space_rule self.now space base time.now))) (code_on (loss_of (life_of self.now (session_above self.now.handles space))) Code.Success) }
     {
-        self.live(Kind::Space, space)?;
+        let session = self.session_of(Kind::Space, space)?;
         self.live(Kind::Space, base)?;
-        let success = self.on_session_above(space)?;
+        let success = self.on_session(session)?;
         if *time <= 0 {
             return Err(Code::TimeInvalid);
         }

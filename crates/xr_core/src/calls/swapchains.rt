@@ -74,8 +74,8 @@ impl Parts {
     fn may_use_images(&self, chain: u64) -> Result<Code, Code>
         ensures { result ≡ or_refused (first_of (ahead (acquire_image_rule self.now chain))) (code_on (loss_of (life_of self.now (session_above self.now.handles chain))) Code.Success) }
     {
-        self.live(Kind::Swapchain, chain)?;
-        self.on_session_above(chain)
+        let session = self.session_of(Kind::Swapchain, chain)?;
+        self.on_session(session)
     }
 
     /// Acquires the next image, and gives its index.

@@ -1,36 +1,18 @@
 // A core with a head that moves, and how it is located.
-ghost use Rattle.std.specs.Prelude.{IsTrue};
-ghost use Rattle.xr_types.specs.declared.calls.Actor.TheVariants.{Device};
-ghost use Rattle.xr_model.specs.machine.Request.{request_of};
-ghost use Rattle.xr_model.specs.machine.CoreCalls.{MayAsk};
-
-use crate::round::{ask, handle, has_places};
+use crate::asking::{ask, handle, tell};
 use xr_core::PlainCore;
-use xr_types::{Actor, Call, DeviceEvent, Gives, Location, Origin, RefKind, Shown};
-
-/// Whether the device may tell this: a pose whose numbers are in range.
-fn is_pose(call: &Call<'_>) -> bool
-    ensures { IsTrue result → MayAsk Device (request_of call.now) 0 }
-{
-    match call {
-        Call::Device(event) => match event {
-            DeviceEvent::Pose { .. } => event.check(),
-            _ => false,
-        },
-        _ => false,
-    }
-}
+use xr_types::{Call, DeviceEvent, Gives, Location, Origin, RefKind};
 
 /// Tells a pose.
-fn tell(core: &mut PlainCore, origin: Origin, time: i64) {
-    let call = Call::Device(DeviceEvent::Pose {
-        origin,
-        time,
-        pose: 1,
-    });
-    if is_pose(&call) && has_places(core) {
-        let _ = core.apply(Actor::Device, &call, &mut [], &mut Shown::default());
-    }
+fn tell_pose(core: &mut PlainCore, origin: Origin, time: i64) {
+    tell(
+        core,
+        DeviceEvent::Pose {
+            origin,
+            time,
+            pose: 1,
+        },
+    );
 }
 
 /// What is located, and in what.
@@ -51,8 +33,8 @@ pub(crate) fn set_out(core: &mut PlainCore) -> Place {
         },
     ));
     for time in 1..17_i64 {
-        tell(core, Origin::View, time);
-        tell(core, Origin::Local, time);
+        tell_pose(core, Origin::View, time);
+        tell_pose(core, Origin::Local, time);
     }
     let space = handle(ask(
         core,

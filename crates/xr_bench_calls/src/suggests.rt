@@ -1,5 +1,5 @@
 // A core with an action, and how bindings are suggested for it.
-use crate::round::{answer, ask, handle};
+use crate::asking::{answer, ask, handle};
 use xr_core::PlainCore;
 use xr_types::{ActionType, Binding, Call, Code, Gives, MOST_SUGGESTED};
 
