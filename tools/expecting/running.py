@@ -1,0 +1,99 @@
+"""Runs the program over a scenario, and reads its report."""
+from __future__ import annotations
+
+import os
+import signal
+import subprocess
+import tempfile
+from typing import IO, NamedTuple
+
+from checking.files import reason_of
+from checking.places import one_line, visible
+from reporting.ends import Refused, complain, shown
+from reporting.report import NoReport, Report, read_report
+from reporting.scenario import NoScenario, Scripts, check_scenario, read_scenario
+
+PROGRAM = "./xrsim"
+FRONT = "xrsim: "
+WITH_REPORT = (0, 5, 6, 7)
+SCENARIO_REFUSED = 4
+
+
+class Run(NamedTuple):
+    """How the program ended: its status, its line on standard error, and the report and the scripts where it printed one."""
+
+    status: int
+    line: str
+    report: Report | None = None
+    scripts: Scripts | None = None
+
+    @property
+    def words(self) -> str:
+        """The status, and the program's line without its front."""
+        line = self.line[len(FRONT) :] if self.line.startswith(FRONT) else self.line
+        return f"{self.status} {line}".rstrip()
+
+
+def program() -> str:
+    return os.environ.get("XRSIM") or PROGRAM
+
+
+def last_line(errors: IO[bytes]) -> str:
+    """The last line on standard error. Those before it, as of the program being built, are passed on as they come."""
+    last = b""
+    for line in errors:
+        if last:
+            complain(last.decode("utf-8", "replace").rstrip("\n"))
+        last = line
+    return visible(last.decode("utf-8", "replace").strip())
+
+
+def ran(words: list[str]) -> tuple[int, str, bytes]:
+    """The program's status, its last line on standard error, and what it printed."""
+    with tempfile.TemporaryFile() as output:
+        begun = subprocess.Popen(
+            [program(), *words], stdin=subprocess.DEVNULL, stdout=output, stderr=subprocess.PIPE, close_fds=False
+        )
+        try:
+            line = last_line(begun.stderr)  # type: ignore[arg-type]
+            status = begun.wait()
+        finally:
+            begun.kill()
+        output.seek(0)
+        return status, line, output.read()
+
+
+def untold(status: int, line: str) -> Refused:
+    """Why nothing can be compared where the program printed no whole report."""
+    how = f"status {status}"
+    if status < 0:
+        names = {it.value: it.name for it in signal.Signals}
+        how = f"the signal {names.get(-status, -status)}"
+    said = f" and said: {one_line(line)}" if line else ""
+    return Refused(f"nothing was run: {shown(program())} ended with {how}{said}")
+
+
+def run_scenario(name: str, data: bytes, device: str | None) -> Run:
+    """Runs the program over the scenario of this name, whose text this is, and reads its report."""
+    words = ["serial"] + ([f"--device={device}"] if device is not None else []) + ["--", name]
+    try:
+        status, line, printed = ran(words)
+    except (OSError, ValueError) as e:
+        why = reason_of(e) if isinstance(e, OSError) else str(e)
+        raise Refused(f"nothing was run: the program {shown(program())} can't be run: {why}; XRSIM names it") from None
+    if status == SCENARIO_REFUSED:
+        return Run(status, line)
+    if status not in WITH_REPORT:
+        raise untold(status, line)
+    try:
+        report = read_report(printed)
+        if report.status != status:
+            raise NoReport(f"its status is {report.status}, and the program ended with {status}")
+        scripts = read_scenario(data)
+        check_scenario(report, scripts)
+    except NoReport as e:
+        what = f"what {shown(program())} printed is no report of {shown(name)}"
+        raise Refused(f"nothing can be compared: {what}: {e}") from None
+    except NoScenario as e:
+        raise Refused(f"nothing can be compared: {shown(name)} is no scenario: {e}; tools/check says more") from None
+    return Run(status, line, report, scripts)
