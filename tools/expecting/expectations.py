@@ -260,6 +260,8 @@ def calls_wanted(found: list[Wanted], scripts: Scripts) -> tuple[dict[tuple[int,
             twice = next((it for it in places if it in here), None)
             if twice:
                 why = 1, f"op {twice[1]} of script {twice[0]} is in the range of line {here[twice].line} already"
+            elif places and all(it in calls for it in places):
+                why = 1, "nothing is left for this range: each call in it has a line that goes before it"
             if why:
                 wrong.append(Wrong(wanted.line, wanted.front[why[0]].column, why[1]))
             here.update(dict.fromkeys(places, wanted))
