@@ -45,8 +45,8 @@ class WrongLine(Exception):
 
 class Wanted(NamedTuple):
     """What a line expects: `what` is call, frame, frames, ended, event, events, garbled, fault, stuck or status. `number` is
-    the first op, the frame, the event, the count, the garbled line or the status. A range of ops has the last one too,
-    which is 0 where it goes to the script's end. `words` are to be compared, for a call its code and what it gives; `front` has the
+    the first op, the frame, the event, the count, the garbled line or the status. A range of ops has the last one too, and 0
+    where it goes to the script's end. `words` are to be compared, for a call its code and what it gives, and `front` are the
     words before them."""
 
     what: str

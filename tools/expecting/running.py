@@ -59,6 +59,7 @@ def ran(words: list[str]) -> tuple[int, str, bytes]:
             status = begun.wait()
         finally:
             begun.kill()
+            begun.wait()
         output.seek(0)
         return status, line, output.read()
 
@@ -80,7 +81,8 @@ def run_scenario(name: str, data: bytes, device: str | None) -> Run:
         status, line, printed = ran(words)
     except (OSError, ValueError) as e:
         why = reason_of(e) if isinstance(e, OSError) else str(e)
-        raise Refused(f"nothing was run: the program {shown(program())} can't be run: {why}; XRSIM names it") from None
+        name = f"the program {shown(program())}"
+        raise Refused(f"nothing was run: {name} can't be run: {why}; the variable XRSIM may name another") from None
     if status == SCENARIO_REFUSED:
         return Run(status, line)
     if status not in WITH_REPORT:

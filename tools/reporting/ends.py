@@ -70,6 +70,15 @@ def is_same_file(one: str, other: str) -> bool:
     return False
 
 
+def fill_streams() -> None:
+    """Puts nothing in the place of each standard stream that is closed, so that no other file has its number."""
+    for stream in range(3):
+        try:
+            os.fstat(stream)
+        except OSError:
+            os.open(os.devnull, os.O_RDWR)
+
+
 def complain(line: str) -> None:
     """Says a line on standard error. One that is closed or full changes nothing."""
     with contextlib.suppress(OSError):
@@ -91,6 +100,7 @@ def say(lines: list[str]) -> None:
 
 def ended(name: str, main: Callable[[list[str]], int]) -> int:
     """The status of a tool of this name."""
+    fill_streams()
     try:
         return main(sys.argv[1:])
     except Refused as e:
