@@ -64,14 +64,15 @@ def ran(words: list[str]) -> tuple[int, str, bytes]:
         return status, line, output.read()
 
 
-def untold(status: int, line: str) -> Refused:
-    """Why nothing can be compared where the program printed no whole report."""
-    how = f"status {status}"
-    if status < 0:
+def untold(run: Run, scenario: str) -> Refused:
+    """Why nothing can be compared where the program printed no whole report of a scenario."""
+    how = f"status {run.status}"
+    if run.status < 0:
         names = {it.value: it.name for it in signal.Signals}
-        how = f"the signal {names.get(-status, -status)}"
-    said = f" and said: {one_line(line)}" if line else ""
-    return Refused(f"nothing was run: {shown(program())} ended with {how}{said}")
+        how = f"the signal {names.get(-run.status, -run.status)}"
+    said = f" and said: {one_line(run.line)}" if run.line else ""
+    more = f"; tools/check {shown(scenario)} says why" if run.status == SCENARIO_REFUSED else ""
+    return Refused(f"nothing was run: {shown(program())} ended with {how}{said}{more}")
 
 
 def run_scenario(name: str, data: bytes, device: str | None) -> Run:
@@ -86,7 +87,7 @@ def run_scenario(name: str, data: bytes, device: str | None) -> Run:
     if status == SCENARIO_REFUSED:
         return Run(status, line)
     if status not in WITH_REPORT:
-        raise untold(status, line)
+        raise untold(Run(status, line), name)
     try:
         report = read_report(printed)
         if report.status != status:

@@ -4,6 +4,7 @@ from __future__ import annotations
 import argparse
 import contextlib
 import os
+import signal
 import sys
 from collections.abc import Callable
 from typing import BinaryIO, NoReturn
@@ -99,9 +100,11 @@ def say(lines: list[str]) -> None:
 
 
 def ended(name: str, main: Callable[[list[str]], int]) -> int:
-    """The status of a tool of this name."""
+    """The status of a tool of this name. Ctrl-C, which ended it silently while its parts were read in, is told from here."""
     fill_streams()
     try:
+        if signal.getsignal(signal.SIGINT) is signal.SIG_DFL:
+            signal.signal(signal.SIGINT, signal.default_int_handler)
         return main(sys.argv[1:])
     except Refused as e:
         complain(f"{name}: {e}")
