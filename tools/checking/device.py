@@ -1,13 +1,13 @@
 """What stands in a device's text: its events, or the lines that are garbled, and why."""
 from __future__ import annotations
 
+import heapq
 import re
-import sys
 from collections.abc import Iterator
 from dataclasses import dataclass, field
 from typing import NamedTuple
 
-from .places import MOST_SHOWN, Finding, count, encoding_of, listed, nearest
+from .places import MOST_SHOWN, Finding, count, encoding_of, listed, near_hint, nearest
 
 MOST_TEXT = 16_777_216
 MOST_LINE = 255
@@ -33,48 +33,89 @@ FORMS = {
 }
 UNRUN = ("profile", "input")
 
+# what begins a comment elsewhere
+COMMENTS = ("//", ";", "--", "/*", "%")
+
 DIGITS = re.compile(r"0|[1-9][0-9]*")
+BEHIND_WORDS = re.compile(r"(\S)[ \t]+(?:#|//|;)")
 ESCAPES = {"\t": "\\t", "\r": "\\r", "\0": "\\0", "\\": "\\\\"}
 
-# most of the lines that tell an event, so that long texts are read quickly; the others are looked at word by word
-SURE = re.compile(
-    rb"(?:mark|await) (?:[1-9]|[1-5][0-9])|clock [1-9][0-9]{0,17}|grid [1-9][0-9]{0,17} [1-9][0-9]{0,8}"
-    rb"|wish (?:rest|ready|visible|focused)|loss|lost|stage (?:on|off)"
-)
+
+def numbers_up_to(most: int) -> str:
+    """A pattern of the numbers from 1 to this one, without leading zeros."""
+    digits = str(most)
+    parts = [f"[1-9][0-9]{{0,{len(digits) - 2}}}"] if len(digits) > 1 else []
+    for place, digit in enumerate(digits):
+        least = 0 if place else 1
+        if int(digit) > least:
+            parts.append(f"{digits[:place]}[{least}-{int(digit) - 1}][0-9]{{{len(digits) - place - 1}}}")
+    return "|".join([*parts, digits])
+
+
+def pattern_of(first: str) -> str:
+    """A pattern of the lines that begin with this word."""
+    ranges = {place: (least, most) for place, least, most in NUMBERS.get(first, ())}
+    words = [first]
+    for place in range(1, FORMS[first].count(" ") + 1):
+        if place in ranges:
+            least, most = ranges[place]
+            words.append(f"(?:{numbers_up_to(most)}{'' if least else '|0'})")
+        else:
+            words.append(f"(?:{'|'.join(map(re.escape, WORDS[first]))})")
+    return " ".join(words)
+
+
+# lines are looked for behind a line feed, which stands before the first one too
+END = r"(?=\n|\Z)"
+EVENT = "|".join(map(pattern_of, FORMS))
+GARBLED = re.compile(rf"\n(?![\n#]|\Z|(?:{EVENT}){END})".encode())
+LONG_COMMENT = re.compile(rf"\n#[^\n]{{{MOST_LINE}}}".encode())
+NEXT_EVENT = re.compile(rb"\n(?=[a-z])")
+FIRST_LETTERS = {b"\n" + it[:1].encode() for it in FORMS}
 
 
 class Told(NamedTuple):
-    """An event: the first word of its line, the words behind it, and the number of its line."""
+    """An event: the first word of its line, the words behind it, and where its line begins."""
 
     name: str
     words: str
-    line: int
+    at: int
 
 
 @dataclass
 class DeviceFound:
-    """What was found: how many lines the text has up to its first garbled line, the events that they tell, and the number
-    of that line, if there is one."""
+    """What was found: the good lines before the first garbled one, behind a line feed; how many these are; the number of that
+    line, if there is one."""
 
+    text: bytes = b""
     lines: int = 0
-    events: list[Told] = field(default_factory=list)
     garbled: int | None = None
     findings: list[Finding] = field(default_factory=list)
 
+    @property
+    def events(self) -> int:
+        """How many events the good lines tell. Each begins with a letter."""
+        return sum(map(self.text.count, FIRST_LETTERS))
 
-def lines_of(text: bytes) -> Iterator[tuple[bytes, int]]:
-    """The lines of a text without their line feeds, each with the count of bytes up to its end."""
-    at = 0
-    while at < len(text):
-        end = text.find(b"\n", at)
-        behind = len(text) if end < 0 else end + 1
-        yield text[at : len(text) if end < 0 else end], behind
-        at = behind
+    def event(self, at: int) -> Told | None:
+        """The first event at or behind a place."""
+        found = NEXT_EVENT.search(self.text, at)
+        if found is None:
+            return None
+        end = self.text.find(b"\n", found.end())
+        name, _, words = self.text[found.end() : end if end > 0 else None].decode().partition(" ")
+        return Told(name, words, found.start())
+
+    def line_of(self, event: Told) -> int:
+        return self.text.count(b"\n", 0, event.at + 1)
 
 
-def wrong_number(words: list[str], place: int, least: int, most: int) -> str | None:
+# why something is wrong, and at which byte of its line
+Why = tuple[int, str]
+
+
+def wrong_number(word: str, least: int, most: int) -> str | None:
     """Why a word is no number of a range, if it is none."""
-    word = words[place]
     if DIGITS.fullmatch(word) is None:
         if re.fullmatch(r"0[0-9]+", word):
             return f"the number `{word}` has a leading zero"
@@ -86,59 +127,79 @@ def wrong_number(words: list[str], place: int, least: int, most: int) -> str | N
     return None
 
 
-def wrong_words(words: list[str]) -> str | None:
-    """Why these words are no line, if they are none."""
-    first = words[0]
+def wrong_first(first: str) -> str | None:
+    """Why this word begins no line, if it begins none."""
     if first in UNRUN:
         return f"a line with `{first}` isn't run yet, and until then such a line is garbled"
-    if first not in FORMS:
-        near = nearest(first.lower(), FORMS)
-        hint = f"; did you mean `{near}`?" if near else f": a line begins with one of {listed(FORMS)}"
-        return f"`{first}` begins no line{hint}"
-    wanted = FORMS[first].count(" ") + 1
+    if first in FORMS:
+        return None
+    if first.startswith(COMMENTS):
+        return "a comment begins with `#`, the first byte of its line"
+    near = nearest(first.lower(), FORMS)
+    hint = f"; did you mean `{near}`?" if near else f": a line begins with one of {listed(FORMS)}"
+    return f"`{first}` begins no line{hint}"
+
+
+def wrong_words(line: str) -> Why | None:
+    """Why the words of a line are none of an event, if they are none."""
+    words = line.split(" ")
+    places = [0, *(it.end() for it in re.finditer(" ", line))]
+    why = wrong_first(words[0])
+    if why:
+        return 0, why
+    form = FORMS[words[0]]
+    wanted = form.count(" ") + 1
     if len(words) != wanted:
-        return f"the line has {count(len(words), 'word')}, and `{FORMS[first]}` has {wanted}"
-    if first in WORDS and words[1] not in WORDS[first]:
-        near = nearest(words[1].lower(), WORDS[first])
-        hint = f"; did you mean `{near}`?" if near else ""
-        return f"`{words[1]}` is none of {listed(WORDS[first])}{hint}"
-    found = (wrong_number(words, *it) for it in NUMBERS.get(first, ()))
-    return next(filter(None, found), None)
+        at = places[wanted] if len(words) > wanted else len(line)
+        return at, f"the line has {count(len(words), 'word')}, and `{form}` has {wanted}"
+    known = WORDS.get(words[0])
+    if known and words[1] not in known:
+        return places[1], f"`{words[1]}` is none of {listed(known)}{near_hint(words[1], known, '`')}"
+    for place, least, most in NUMBERS.get(words[0], ()):
+        why = wrong_number(words[place], least, most)
+        if why:
+            return places[place], why
+    return None
 
 
-def wrong_blanks(line: str) -> str | None:
+def wrong_comment(line: str) -> Why | None:
+    """Where a comment stands behind words, if one does."""
+    found = BEHIND_WORDS.search(line)
+    if found is None or line.startswith("#"):
+        return None
+    why = f"a comment stands behind `{line[: found.end(1)]}`: a comment has a line of its own, which begins with `#`"
+    return len(line[: found.end()].rstrip("#/;")), why
+
+
+def wrong_blanks(line: str) -> Why | None:
     """Why the blanks of a line make it none, if they do."""
     if line.startswith("\xef\xbb\xbf"):
-        return "a byte-order mark (EF BB BF) stands before it"
+        return 0, "a byte-order mark (EF BB BF) stands before it"
     if line.endswith("\r"):
-        return "a carriage return stands at its end: lines end in a line feed alone, without one before it"
+        return len(line) - 1, "a carriage return stands at its end: lines end in a line feed alone, without one before it"
     if "\t" in line:
-        return "a tab stands in it: words stand apart by single spaces"
-    strange = next((it for it in line if not " " <= it <= "~"), None)
-    if strange is not None:
-        return f"the byte 0x{ord(strange):02X} stands in it, which no line has"
+        return line.index("\t"), "a tab stands in it: words stand apart by single spaces"
+    strange = re.search(r"[^ -~]", line)
+    if strange:
+        return strange.start(), f"the byte 0x{ord(strange[0]):02X} stands in it, which no line has"
     if line.startswith(" "):
-        return "a space stands before its first word"
+        is_comment = line.strip(" ").startswith("#")
+        return 0, "a space stands before its first word" + (": `#` is the first byte of a comment" if is_comment else "")
     if line.endswith(" "):
-        return "a space stands behind its last word"
-    return "two spaces stand together: words stand apart by single spaces" if "  " in line else None
+        return len(line.rstrip(" ")), "a space stands behind its last word"
+    if "  " in line:
+        return line.index("  ") + 1, "two spaces stand together: words stand apart by single spaces"
+    return None
 
 
-def why_garbled(line: bytes, behind: int) -> str:
-    """Why a line is none."""
-    if behind > MOST_TEXT:
-        return f"it goes past the {MOST_TEXT} bytes that a device's text may have"
+def why_garbled(line: bytes, left: int) -> Why:
+    """Why a line is none, where so many bytes are left for it and its line feed."""
+    if left < len(line):
+        return left, f"it goes past the {MOST_TEXT} bytes that a device's text may have"
     if len(line) > MOST_LINE:
-        return f"it has {len(line)} bytes, and {MOST_LINE} are the most, also where it begins with `#`"
+        return MOST_LINE, f"it has {len(line)} bytes, and {MOST_LINE} are the most, also where it begins with `#`"
     shown = line.decode("latin-1")
-    return wrong_blanks(shown) or wrong_words(shown.split(" ")) or "it is no line of the format"
-
-
-def is_event(line: bytes) -> bool:
-    """Whether a line that is neither empty nor a comment tells an event."""
-    if SURE.fullmatch(line):
-        return True
-    return all(32 <= it < 127 for it in line) and wrong_words(line.decode().split(" ")) is None
+    return wrong_comment(shown) or wrong_blanks(shown) or wrong_words(shown) or (0, "it is no line of the format")
 
 
 def shown_line(line: bytes) -> str:
@@ -149,30 +210,41 @@ def shown_line(line: bytes) -> str:
     return f'"{shown}{" .." if len(line) > MOST_SHOWN else ""}"'
 
 
+def garbled_lines(text: bytes) -> Iterator[int]:
+    """Where the lines begin that are garbled. One that goes past the limit is the last."""
+    is_long = len(text) > MOST_TEXT
+    limit = text.rfind(b"\n", 0, MOST_TEXT) + 1 if is_long else len(text)
+    whole = b"\n" + text
+    places = (map(re.Match.start, it.finditer(whole, 0, limit + 1)) for it in (GARBLED, LONG_COMMENT))
+    yield from heapq.merge(*places)
+    if is_long:
+        yield limit
+
+
 def read_device(text: bytes) -> DeviceFound:
     """What stands in a device's text, up to its end or to enough garbled lines."""
-    found = DeviceFound()
-    for number, (line, behind) in enumerate(lines_of(text), 1):
-        is_short = len(line) <= MOST_LINE and behind <= MOST_TEXT
-        is_skipped = is_short and (not line or line[0] == 35)
-        if is_skipped or is_short and is_event(line):
-            if found.garbled is None:
-                keep_line(found, line, number, not is_skipped)
-            continue
+    found, good = DeviceFound(), len(text)
+    for at in garbled_lines(text):
+        good = min(good, at)
+        number = text.count(b"\n", 0, at) + 1
         found.garbled = found.garbled or number
-        other = encoding_of(text[:64]) if number == 1 else None
-        why = f"the text looks like {other}" if other else why_garbled(line, behind)
-        words = f"{shown_line(line)} is garbled: {why}"
-        found.findings.append(Finding(number, None, words))
-        if len(found.findings) == MOST_FINDINGS and behind < len(text):
-            found.findings[-1].more.append("The text isn't looked at behind this line.")
-        if len(found.findings) == MOST_FINDINGS or behind > MOST_TEXT:
+        end = text.find(b"\n", at) + 1 or len(text)
+        found.findings.append(finding_of(text, at, end, number))
+        if len(found.findings) == MOST_FINDINGS:
+            if end < len(text):
+                found.findings[-1].more.append("The text isn't looked at behind this line.")
             break
+    found.text = b"\n" + text[:good]
+    found.lines = found.text.count(b"\n") - found.text.endswith(b"\n")
     return found
 
 
-def keep_line(found: DeviceFound, line: bytes, number: int, is_event: bool) -> None:
-    found.lines += 1
-    if is_event:
-        name, _, words = line.decode().partition(" ")
-        found.events.append(Told(sys.intern(name), words, number))
+def finding_of(text: bytes, at: int, end: int, number: int) -> Finding:
+    """What is wrong of the line that ends before a byte. Its column counts characters."""
+    line = text[at:end].removesuffix(b"\n")
+    other = encoding_of(text) if number == 1 else None
+    # its line feed counts, where it has one
+    left = MOST_TEXT - at - (end - at - len(line))
+    place, why = (0, f"the text looks like {other}") if other else why_garbled(line, left)
+    column = len(line[:place].decode("utf-8", "replace")) + 1
+    return Finding(number, column, f"{shown_line(line)} is garbled: {why}")

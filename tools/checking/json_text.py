@@ -1,10 +1,17 @@
-"""Reads JSON and keeps the place of each value. It takes just the texts that serde_json takes."""
+"""Reads JSON and keeps the place of each value. It takes just the texts that serde_json takes.
+
+Most of a text is read by Python's own reader, which keeps no places and takes some texts more. Where it may have done so, or
+where a place is asked for, a value is read once more by this one.
+"""
 from __future__ import annotations
 
 import re
-from typing import NoReturn
+from collections.abc import Callable
+from json import JSONDecoder
+from typing import Any, NoReturn
 
 MOST_DEPTH = 127
+MOST_REPEATED = 5
 BLANKS = re.compile(r"[ \t\n\r]*")
 NUMBER = re.compile(r"-?(?:0|[1-9][0-9]*)(?:\.[0-9]+)?(?:[eE][+-]?[0-9]+)?")
 LIKE_NUMBER = re.compile(r"[-+.0-9][-+.0-9A-Za-z_]*")
@@ -24,6 +31,12 @@ STRANGE = {
 }
 
 
+# escapes of which Python's own reader takes too many, and what stands between values
+SURROGATE = re.compile(r"\\u[dD][89a-fA-F]")
+BRACKET = re.compile(r'"[^"\\]*(?:\\.[^"\\]*)*"|([\[{])|([\]}])')
+BEHIND = re.compile(r"[ \t\n\r]*([,\]}]?)[ \t\n\r]*")
+
+
 class JsonFault(Exception):
     """Where a text stops to be JSON, and why."""
 
@@ -35,7 +48,8 @@ class JsonFault(Exception):
 
 class Node:
     """A value and its place. The value is None, a bool, an int that is whole and has 64 bits, a float for any other number,
-    a str, a list of nodes, or a dict from each key to the place of the key and the node."""
+    a str, a list of nodes, or a dict from each key to the place of the key and the node. One that was only skimmed has plain
+    values in its list or dict."""
 
     __slots__ = ("value", "start", "end")
 
@@ -57,6 +71,63 @@ def number_of(text: str, at: int) -> int | float:
     return value
 
 
+def plain(node: Node) -> Any:
+    """A value without the places of what stands in it."""
+    if isinstance(node.value, list):
+        return [plain(it) for it in node.value]
+    return {key: plain(it) for key, (_, it) in node.value.items()} if isinstance(node.value, dict) else node.value
+
+
+def refuse_word(word: str) -> NoReturn:
+    raise ValueError(word)
+
+
+def is_deep(text: str, most: int) -> bool:
+    """Whether more arrays and objects than this stand in one another in a value."""
+    depth = 0
+    for found in BRACKET.finditer(text):
+        depth += (found[1] is not None) - (found[2] is not None)
+        if depth > most:
+            return True
+    return False
+
+
+class Skimmer:
+    """Skims the values of one text, each with all that is in it. `has_repeated` is set where an object has a key
+    twice. A ValueError says that Reader has to look."""
+
+    def __init__(self, text: str) -> None:
+        self.text = text
+        self.has_surrogates = SURROGATE.search(text) is not None
+        brackets = re.sub(r"[^\[\]{}]+", "", text)
+        for _ in range(MOST_DEPTH - 3):
+            brackets = brackets.replace("[]", "").replace("{}", "")
+        self.may_be_deep = bool(brackets)
+        self.has_repeated = False
+        decoder = JSONDecoder(
+            object_pairs_hook=self.members,
+            parse_int=lambda it: int(it) if len(it) < 19 and it != "-0" else number_of(it, 0),
+            parse_float=lambda it: number_of(it, 0),
+            parse_constant=refuse_word,
+        )
+        self.scan = decoder.scan_once
+
+    def members(self, pairs: list[tuple[str, Any]]) -> dict[str, Any]:
+        found = dict(pairs)
+        if len(found) != len(pairs):
+            self.has_repeated = True
+        return found
+
+    def skim(self, at: int, depth: int) -> tuple[Any, int]:
+        """The value at a place that so many arrays and objects are around, and the place behind it."""
+        value, end = self.scan(self.text, at)
+        if self.has_surrogates and SURROGATE.search(self.text, at, end):
+            raise ValueError
+        if self.may_be_deep and is_deep(self.text[at:end], MOST_DEPTH - depth):
+            raise ValueError
+        return value, end
+
+
 class Reader:
     """Reads one text. `repeated` has the keys that stand more than once in an object, with their last places."""
 
@@ -65,8 +136,11 @@ class Reader:
         self.repeated: list[tuple[str, int]] = []
 
     def read(self) -> Node:
-        """The value of the whole text."""
-        node = self.value(self.skip(0), 0)
+        """The value of the whole text. What stands in the arrays of the top object's key `scripts` is skimmed, and so are the
+        other values of the top object."""
+        self.skimmer = Skimmer(self.text)
+        at = self.skip(0)
+        node = self.object(at, self.top_value) if self.text[at : at + 1] == "{" else self.skimmed(at, 0)
         at = self.skip(node.end)
         if at < len(self.text):
             raise JsonFault(at, f"the value has ended, and {self.seen(at)} stands behind it")
@@ -97,7 +171,9 @@ class Reader:
         if first == "{" or first == "[":
             if depth == MOST_DEPTH:
                 raise JsonFault(at, f"more than {MOST_DEPTH} arrays and objects stand in one another here")
-            return self.object(at, depth + 1) if first == "{" else self.array(at, depth + 1)
+            if first == "[":
+                return self.array(at, lambda place: self.value(place, depth + 1))
+            return self.object(at, lambda _, place: self.value(place, depth + 1))
         if first and first in "-0123456789":
             return self.number(at)
         return self.literal(at)
@@ -132,44 +208,67 @@ class Reader:
             raise JsonFault(at, f"`{shown}` is no value of JSON: {why}")
         self.refuse(at, "a value")
 
+    def top_value(self, key: str, at: int) -> Node:
+        """A value of the top object."""
+        is_list = key == "scripts" and self.text[at : at + 1] == "["
+        return self.array(at, self.script) if is_list else self.skimmed(at, 1)
+
+    def script(self, at: int) -> Node:
+        return self.array(at, lambda place: self.skimmed(place, 3)) if self.text[at : at + 1] == "[" else self.skimmed(at, 2)
+
+    def skimmed(self, at: int, depth: int) -> Node:
+        """A value that has no places in it. Where Python's own reader may be wrong of it, it is read here."""
+        try:
+            value, end = self.skimmer.skim(at, depth)
+        except (ValueError, StopIteration, RecursionError, JsonFault):
+            node = self.value(at, depth)
+            return Node(plain(node), at, node.end)
+        if self.skimmer.has_repeated:
+            self.skimmer.has_repeated = False
+            if len(self.repeated) < MOST_REPEATED:
+                self.value(at, depth)
+        return Node(value, at, end)
+
     def behind_item(self, at: int, close: str) -> tuple[bool, int]:
         """Whether the array or object ends behind an item, and the place of what follows."""
-        place = self.skip(at)
-        after = self.text[place : place + 1]
-        if after == close:
-            return True, place + 1
-        if after != ",":
-            self.refuse(place, f"`,` or `{close}`")
-        return False, self.skip(place + 1)
+        found = BEHIND.match(self.text, at)
+        if found[1] == close:
+            return True, found.end(1)
+        if found[1] != ",":
+            self.refuse(found.start(1), f"`,` or `{close}`")
+        return False, found.end()
 
-    def array(self, at: int, depth: int) -> Node:
+    def array(self, at: int, item: Callable[[int], Node]) -> Node:
+        """An array, whose items are read by this."""
         text, items, place = self.text, [], self.skip(at + 1)
         if text[place : place + 1] == "]":
             return Node(items, at, place + 1)
         while True:
             if items and text[place : place + 1] == "]":
                 raise JsonFault(place, "a comma stands before this `]`, with no value behind it")
-            item = self.value(place, depth)
-            items.append(item)
-            has_ended, place = self.behind_item(item.end, "]")
+            found = item(place)
+            items.append(found)
+            has_ended, place = self.behind_item(found.end, "]")
             if has_ended:
                 return Node(items, at, place)
 
-    def object(self, at: int, depth: int) -> Node:
+    def object(self, at: int, value: Callable[[str, int], Node]) -> Node:
+        """An object, whose values are read by this."""
         text, members, place = self.text, {}, self.skip(at + 1)
         if text[place : place + 1] == "}":
             return Node(members, at, place + 1)
         while True:
-            key, key_at, item = self.member(place, depth, bool(members))
+            key, key_at, place = self.key(place, bool(members))
+            found = value(key, place)
             if key in members:
                 self.repeated.append((key, key_at))
-            members[key] = (key_at, item)
-            has_ended, place = self.behind_item(item.end, "}")
+            members[key] = (key_at, found)
+            has_ended, place = self.behind_item(found.end, "}")
             if has_ended:
                 return Node(members, at, place)
 
-    def member(self, at: int, depth: int, is_behind_comma: bool) -> tuple[str, int, Node]:
-        """A key, its place, and its value."""
+    def key(self, at: int, is_behind_comma: bool) -> tuple[str, int, int]:
+        """A key, its place, and the place of its value."""
         first = self.text[at : at + 1]
         if first == "}" and is_behind_comma:
             raise JsonFault(at, "a comma stands before this `}`, with no key behind it")
@@ -179,7 +278,7 @@ class Reader:
         colon = self.skip(end)
         if self.text[colon : colon + 1] != ":":
             self.refuse(colon, "`:`")
-        return key, at, self.value(self.skip(colon + 1), depth)
+        return key, at, self.skip(colon + 1)
 
     def string(self, at: int) -> tuple[str, int]:
         """The string that begins at this quote, and the place behind it."""

@@ -5,6 +5,8 @@ A handle is a number from 1 here, in the order of their creation. Those of actio
 """
 from __future__ import annotations
 
+import re
+
 from states import LAST, MOST_FRAMES, next_state
 
 from .images import Chain, Fields, Frames, images_of, may_make
@@ -243,3 +245,34 @@ class Machine:
             self.session.state = "LOSS_PENDING"
         elif self.session and name == "wish":
             self.session.settle(self.wish)
+
+    def tell_all(self, text: bytes) -> None:
+        """What the lines of a device do that stand each behind a line feed, as if they were told one by one. None of them is
+        `lost` while a session could be lost by it."""
+        for mark in [mark for mark, value in self.marks.items() if value]:
+            if f"\nmark {mark}\n".encode() in text + b"\n":
+                self.marks[mark] = 0
+        if b"\nclock " in text:
+            times = re.findall(rb"\nclock ([0-9]+)", text)
+            longest = max(map(len, times))
+            self.clock = max(self.clock, int(max(it for it in times if len(it) == longest)))
+        for name in ("grid", "stage") if self.session else ("grid", "stage", "wish"):
+            last = text.rfind(f"\n{name} ".encode())
+            if last >= 0:
+                self.tell(name, text[last + len(name) + 2 :].partition(b"\n")[0].decode())
+        if self.session and (b"\nwish " in text or b"\nloss" in text):
+            self.tell_states(self.session, re.findall(rb"\n(?:wish ([a-z]+)|loss)", text))
+
+    def tell_states(self, session: Session, wishes: list[bytes]) -> None:
+        """The wishes and losses of a device in their order; a loss is empty here. A step that was made once is made again
+        without following it."""
+        made: dict[tuple[str, bytes], str] = {}
+        for wish in wishes:
+            if session.state in LAST:
+                break
+            step = session.state, wish
+            if step not in made:
+                self.tell("wish" if wish else "loss", wish.decode())
+                made[step] = session.state
+            session.state = made[step]
+        self.wish = next((it.decode() for it in reversed(wishes) if it), self.wish)

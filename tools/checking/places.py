@@ -2,13 +2,20 @@
 from __future__ import annotations
 
 import difflib
+import json
 import re
 from collections.abc import Iterable
 from dataclasses import dataclass, field
 
 MOST_SHOWN = 160
-UTF16_NAMES = ("UTF-16, little end first", "UTF-16, big end first")
-UTF16_MARKS = ((b"\xff\xfe", UTF16_NAMES[0]), (b"\xfe\xff", UTF16_NAMES[1]))
+MOST_LOOKED = 1024
+UTF16_MARKS = (
+    (b"\xff\xfe", "UTF-16, little end first", "utf-16-le"),
+    (b"\xfe\xff", "UTF-16, big end first", "utf-16-be"),
+)
+
+# bytes that no text has
+CONTROLS = re.compile(rb"[\x00-\x08\x0e-\x1a\x1c-\x1f\x7f]")
 
 
 @dataclass
@@ -16,13 +23,20 @@ class Finding:
     """One thing that is wrong in a text, or that is to be known of it: its place, its words, and lines that say more."""
 
     line: int
-    column: int | None
+    column: int
     words: str
     more: list[str] = field(default_factory=list)
+    is_warning: bool = False
 
     def lines(self, file: str) -> list[str]:
-        column = "" if self.column is None else f", column {self.column}"
-        return [f"{file}, line {self.line}{column}: {self.words}", *(f"  {it}" for it in self.more)]
+        """The finding as editors read it."""
+        kind = "warning: " if self.is_warning else ""
+        return [f"{file}:{self.line}:{self.column}: {kind}{self.words}", *(f"  {it}" for it in self.more)]
+
+    def as_json(self, file: str) -> str:
+        kind = "warning" if self.is_warning else "error"
+        place = {"kind": kind, "file": file, "line": self.line, "column": self.column}
+        return json.dumps({**place, "words": self.words, "more": self.more})
 
 
 def line_and_column(text: str, at: int) -> tuple[int, int]:
@@ -31,14 +45,20 @@ def line_and_column(text: str, at: int) -> tuple[int, int]:
 
 
 def encoding_of(text: bytes) -> str | None:
-    """Another encoding that a text seems to have."""
-    for mark, name in UTF16_MARKS:
-        if text.startswith(mark):
+    """What a text seems to be, where it seems to be no UTF-8."""
+    for mark, name, codec in UTF16_MARKS:
+        front = text[:MOST_LOOKED].removeprefix(mark)
+        has_zeros = front[0 if mark == b"\xfe\xff" else 1 :: 2].count(0) * 2 > len(front) // 2
+        if len(front) > 1 and (text.startswith(mark) or has_zeros) and is_readable(front, codec):
             return name
-    for name, zeros in zip(UTF16_NAMES, (text[1:64:2], text[0:64:2])):
-        if len(text) >= 4 and zeros.count(0) * 2 > len(zeros):
-            return name
-    return None
+    controls, front = len(CONTROLS.findall(text[:MOST_LOOKED])), len(text[:MOST_LOOKED])
+    return "a binary file, and no text" if controls > max(1, front // 20) else None
+
+
+def is_readable(text: bytes, codec: str) -> bool:
+    """Whether a text can be read in this encoding and has no control characters then."""
+    found = text[: len(text) & ~1].decode(codec, "replace")
+    return "\ufffd" not in found[:-1] and CONTROLS.search(found.encode()) is None
 
 
 def clipped(text: str) -> str:
@@ -50,9 +70,9 @@ def visible(text: str) -> str:
     return "".join(it if it.isprintable() else it.encode("unicode_escape", "replace").decode() for it in text)
 
 
-def one_line(json: str) -> str:
+def one_line(piece: str) -> str:
     """A piece of JSON on one line. A line feed in it stands between values, since no string has one."""
-    return visible(clipped(re.sub(r" *[\t\n\r][ \t\n\r]*", " ", json[: 4 * MOST_SHOWN])))
+    return visible(clipped(re.sub(r" *[\t\n\r][ \t\n\r]*", " ", piece[: 4 * MOST_SHOWN])))
 
 
 def quoted(text: str) -> str:
@@ -71,3 +91,9 @@ def nearest(word: str, known: Iterable[str]) -> str | None:
     """The known word that a word is most like, if it is like one."""
     found = difflib.get_close_matches(word[:64], sorted(set(known))[:2000], n=1, cutoff=0.5)
     return found[0] if found else None
+
+
+def near_hint(word: str, known: Iterable[str], quote: str = '"') -> str:
+    """Asks whether a known word was meant, if one is like this word."""
+    near = nearest(word.lower(), known)
+    return f"; did you mean {quote}{near}{quote}?" if near else ""

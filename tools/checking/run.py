@@ -6,11 +6,12 @@ isn't up. Each other op that is run so far is answered at once.
 """
 from __future__ import annotations
 
-from collections.abc import Callable
+import re
+from collections.abc import Callable, Container
 from dataclasses import dataclass
 from typing import Any
 
-from .device import DeviceFound
+from .device import END, DeviceFound, Told
 from .images import Fields
 from .machine import Machine
 from .places import line_and_column
@@ -23,8 +24,13 @@ CANNOT_READ = "xrsim: cannot read the scenario"
 DEVICE_FAILED = "xrsim: device failed"
 STUCK = "xrsim: stuck"
 
+MOST_MARK = 64
+
+# a pattern that fits nothing
+NOTHING = "(?!)"
+
 # the fields that may have names whose values decide who waits
-USES = ("instance", "session", "space", "chain", "system", "time", "value", "layers")
+USES = frozenset(("instance", "session", "space", "chain", "system", "time", "value", "layers"))
 
 
 @dataclass
@@ -44,6 +50,7 @@ class Script:
         self.made = 0
         self.clock = 0
         self.values: dict[str, int] = {}
+        self.known: Fields | None = None
 
     @property
     def is_done(self) -> bool:
@@ -62,9 +69,12 @@ class Script:
         return {key: self.named(it) for key, it in value.items()} if isinstance(value, dict) else value
 
     def fields(self) -> Fields:
-        """The fields of the next op, with values in the place of names."""
-        fields = self.next.fields
-        return {**fields, **{key: self.named(fields[key]) for key in USES if key in fields}}
+        """The fields of the next op, with values in the place of names. They stay as long as it waits."""
+        if self.known is None:
+            self.known = dict(self.next.fields)
+            for key in USES & self.known.keys():
+                self.known[key] = self.named(self.known[key])
+        return self.known
 
     def turn(self, machine: Machine) -> bool:
         """Makes the next call, unless it has to wait or there is none."""
@@ -77,6 +87,7 @@ class Script:
         if "as" in fields:
             self.values[fields["as"]] = given
         self.made += 1
+        self.known = None
         self.clock = machine.clock
         return True
 
@@ -85,43 +96,60 @@ class Script:
         return next((place for place, it in enumerate(self.steps[self.made :], self.made + 1) if does(it)), 0)
 
 
+def unset(marks: Container[int]) -> str:
+    """A pattern of the marks that aren't set."""
+    tens: dict[str, list[str]] = {}
+    for mark in range(1, MOST_MARK + 1):
+        if mark not in marks:
+            tens.setdefault(str(mark)[:-1], []).append(str(mark)[-1])
+    return "|".join(f"{ten}[{''.join(ones)}]" for ten, ones in tens.items()) or NOTHING
+
+
 class Teller:
     """The device on its way: its events, and then its fault or its garbled line, if it has one."""
 
     def __init__(self, device: DeviceFound, is_failing: bool) -> None:
-        self.events = device.events
-        self.is_cut = is_failing or device.garbled is not None
-        self.told = 0
+        self.device = device
+        self.next = device.event(0)
+        self.ends_early = is_failing or device.garbled is not None
 
     @property
     def is_done(self) -> bool:
-        return self.told == len(self.events) + self.is_cut
+        return self.next is None and not self.ends_early
 
     def turn(self, machine: Machine) -> bool:
         """Tells the next event, unless it has to wait or there is none."""
-        if self.is_done:
-            return False
-        if self.told == len(self.events):
-            machine.tell("lost", "")
-        elif not self.tell(machine):
-            return False
-        self.told += 1
-        return True
-
-    def is_quiet(self, machine: Machine) -> bool:
-        """Whether the next event is there and releases nobody who waits for a mark or a frame. A mark may, where it isn't set
-        yet, and a loss may."""
-        if self.told >= len(self.events):
-            return False
-        event = self.events[self.told]
-        return event.name != "lost" and (event.name not in ("mark", "await") or int(event.words) in machine.marks)
-
-    def tell(self, machine: Machine) -> bool:
-        event = self.events[self.told]
+        event = self.next
+        if event is None:
+            had_more, self.ends_early = self.ends_early, False
+            if had_more:
+                machine.tell("lost", "")
+            return had_more
         if event.name == "await":
-            return int(event.words) in machine.marks
-        machine.tell(event.name, event.words)
+            if int(event.words) not in machine.marks:
+                return False
+        else:
+            machine.tell(event.name, event.words)
+        self.next = self.device.event(event.at + 1)
         return True
+
+    def tell_quiet(self, machine: Machine) -> None:
+        """Tells all events up to the first one that may release somebody who waits for a mark or a frame. A mark may, where it
+        isn't set yet, and a loss may. At an `await` of a mark that isn't set the device waits itself."""
+        if self.next is None:
+            return
+        lost = "lost|" if machine.session and not machine.session.is_lost else ""
+        stop = re.compile(rf"\n(?:{lost}(?:mark|await) (?:{unset(machine.marks)})){END}".encode())
+        found = stop.search(self.device.text, self.next.at)
+        end = found.start() if found else len(self.device.text)
+        machine.tell_all(self.device.text[self.next.at : end])
+        self.next = self.device.event(end)
+
+    def setter(self, mark: int) -> Told | None:
+        """The event that would set a mark, of those that weren't told."""
+        at = self.next.at if self.next else len(self.device.text)
+        found = re.compile(rf"\nmark {mark}{END}".encode()).search(self.device.text, at)
+        return self.device.event(found.start()) if found else None
 
 
 def would_be(done: str, does: str, found: list[str]) -> str:
@@ -144,8 +172,8 @@ class Run:
         """A turn for each; whether anybody made a call. Where all others wait the device goes on until it may release one:
         nobody waits for an image then, since no frame uses any."""
         has_moved = any([it.turn(machine) for it in self.scripts])
-        while not has_moved and machine.frames.are_done and self.device.is_quiet(machine):
-            self.device.turn(machine)
+        if not has_moved and machine.frames.are_done:
+            self.device.tell_quiet(machine)
         has_told = self.device.turn(machine)
         return machine.frames.turn() or has_moved or has_told
 
@@ -157,8 +185,8 @@ class Run:
     def setters(self, mark: int) -> str:
         """Who would set a mark."""
         found = self.left(lambda it: it.op == "mark" and it.fields["mark"] == mark)
-        left = self.device.events[self.device.told :]
-        found += [f"the device's line {it.line}" for it in left if it.name == "mark" and int(it.words) == mark][:1]
+        event = self.device.setter(mark)
+        found += [f"the device's line {self.device.device.line_of(event)}"] if event else []
         return would_be("set", "sets", found)
 
     def why(self, step: Step) -> str:
@@ -177,9 +205,10 @@ class Run:
                 line, column = line_and_column(text, script.next.at)
                 place = f"script {number} op {script.made + 1} (line {line}, column {column})"
                 lines.append(f"{place} waits {self.why(script.next)}")
-        if not self.device.is_done:
-            event = self.device.events[self.device.told]
-            lines.append(f"the device's line {event.line} waits for mark {event.words}: {self.setters(int(event.words))}")
+        event = self.device.next
+        if event:
+            line = self.device.device.line_of(event)
+            lines.append(f"the device's line {line} waits for mark {event.words}: {self.setters(int(event.words))}")
         return lines
 
 

@@ -5,12 +5,16 @@ from dataclasses import dataclass, field
 from typing import Any, NamedTuple
 
 from .json_text import JsonFault, Node, Reader
+from .quick import Quick
 from .places import Finding, count, encoding_of, line_and_column, listed, nearest, one_line, quoted
 from .schema import Check, Part, Schema
 
 MOST_BYTES = 1_048_576
 MOST_HANDLE_MARK = 32
 MOST_FINDINGS = 5
+
+# an op stands in a script, which stands in the scripts of the top object
+DEPTH_OF_OPS = 3
 
 # the ops that a run makes so far; .ci/check compares this with the program
 RUN_OPS = frozenset(
@@ -136,13 +140,14 @@ def top_wrong(schema: Schema, text: str, key: str, node: Node) -> str | None:
 
 def read_scripts(found: ScenarioFound, schema: Schema, scripts: list[Node]) -> None:
     """Reads the scripts, until there are enough wrong places."""
+    quick = Quick(schema)
     for number, script in enumerate(scripts, 1):
         if not isinstance(script.value, list):
             more = ["A script may be: " + schema.whole["properties"]["scripts"]["items"]["description"]]
             said = f"script {number} op 0 script"
             found.refuse(said, script.start, f"{said}: the script is no array", more)
             continue
-        reader = ScriptReader(found, schema, number, scripts)
+        reader = ScriptReader(found, quick, number, scripts)
         for place, node in enumerate(script.value, 1):
             if found.wrong == MOST_FINDINGS:
                 found.findings[-1].more.append("The text isn't looked at behind this place.")
@@ -169,13 +174,6 @@ def find_unrun(found: ScenarioFound) -> None:
     found.refuse("unbuilt", step.at, words, more)
 
 
-def plain(node: Node) -> Any:
-    """A value without the places of what stands in it."""
-    if isinstance(node.value, list):
-        return [plain(it) for it in node.value]
-    return {key: plain(it) for key, (_, it) in node.value.items()} if isinstance(node.value, dict) else node.value
-
-
 def sort_given(op: str, mark: object) -> str | None:
     """The sort of the name that an op gives."""
     if op.startswith("create_"):
@@ -188,33 +186,33 @@ def sort_given(op: str, mark: object) -> str | None:
 class ScriptReader:
     """Reads the ops of one script, with the names that they give."""
 
-    def __init__(self, found: ScenarioFound, schema: Schema, number: int, scripts: list[Node]) -> None:
+    def __init__(self, found: ScenarioFound, quick: Quick, number: int, scripts: list[Node]) -> None:
         self.found = found
-        self.schema = schema
+        self.schema = schema = quick.schema
         self.number = number
         self.scripts = scripts
         self.names: dict[str, Given] = {}
         self.steps: list[Step] = []
+        self.quick = quick
         self.check = Check(schema, found.text, self.name_wrong)
 
-    def read_op(self, place: int, node: Node) -> None:
+    def read_op(self, place: int, skimmed: Node) -> None:
         """Reads an op: which one it is, its fields in order, and that it has no other key."""
-        op = self.op_of(place, node)
+        op = self.quick.op_of(skimmed.value, self.names)
         if op is None:
-            self.keep_unknown(place, node)
-            return
-        members, row = node.value, self.schema.row(op)
-        wrong = self.wrong_field(op, row, node) or self.extra_key(op, row, members)
-        if wrong:
-            self.refuse(place, node, *wrong)
-        self.keep_name(place, op, members, members["mark"][1].value if "mark" in members else 0)
-        self.steps.append(Step(op, node.start, {key: plain(it) for key, (_, it) in members.items() if key != "op"}))
-
-    def keep_unknown(self, place: int, node: Node) -> None:
-        """Keeps the name that no known op gives, so that the ops that use it aren't wrong for it."""
-        named = node.value["as"][1].value if isinstance(node.value, dict) and "as" in node.value else None
-        if isinstance(named, str):
-            self.names[named] = Given(place, "no known op", None)
+            node = Reader(self.found.text).value(skimmed.start, DEPTH_OF_OPS)
+            op = self.op_of(place, node)
+            if op is None:
+                self.keep_name(place, "no known op", skimmed.value, None)
+                return
+            row = self.schema.row(op)
+            wrong = self.wrong_field(op, row, node) or self.extra_key(op, row, node.value)
+            if wrong:
+                self.refuse(place, node, *wrong)
+        fields = skimmed.value
+        if "as" in self.schema.names_of_fields(op):
+            self.keep_name(place, op, fields, sort_given(op, fields.get("mark", 0)))
+        self.steps.append(Step(op, skimmed.start, fields))
 
     def refuse(self, place: int, node: Node, part: str, at: int, why: str, may_be: list[str]) -> None:
         said = f"script {self.number} op {place} {part}"
@@ -283,13 +281,11 @@ class ScriptReader:
             return WrongKey("extra key", at, why, [f"The fields of {op} are {listed(fields)}{may}."])
         return None
 
-    def keep_name(self, place: int, op: str, members: dict[str, Any], mark: object) -> None:
+    def keep_name(self, place: int, op: str, members: Any, sort: str | None) -> None:
         """Keeps the name that an op gives. Behind a wrong op it is kept too, so that the ops that use it aren't wrong."""
-        if "as" not in members or "as" not in self.schema.fields(op):
-            return
-        name = members["as"][1].value
+        name = members.get("as") if isinstance(members, dict) else None
         if isinstance(name, str):
-            self.names[name] = Given(place, op, sort_given(op, mark))
+            self.names[name] = Given(place, op, sort)
 
     def name_wrong(self, node: Node, sort: str) -> str | None:
         """What is wrong of a name that has to stand for a value of a sort."""
@@ -308,7 +304,7 @@ class ScriptReader:
         for number, script in enumerate(self.scripts, 1):
             ops = script.value if isinstance(script.value, list) else []
             for place, op in enumerate(ops, 1):
-                if isinstance(op.value, dict) and "as" in op.value and op.value["as"][1].value == name:
+                if isinstance(op.value, dict) and op.value.get("as") == name:
                     is_mine = number == self.number
                     rule = "doesn't stand before this one" if is_mine else "gives it to its own script alone"
                     return f"{'' if is_mine else f'script {number} '}op {place} does, and {rule}"

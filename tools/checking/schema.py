@@ -76,6 +76,13 @@ class Schema:
         """The fields of an op, in the order of its row."""
         return [name for name in self.row(op)["properties"] if name != "op"]
 
+    def names_of_fields(self, op: str) -> frozenset[str]:
+        return self.fields_by_op[op]
+
+    @cached_property
+    def fields_by_op(self) -> dict[str, frozenset[str]]:
+        return {op: frozenset(self.fields(op)) for op in self.ops}
+
     def part_of(self, reference: Part) -> Part:
         return self.parts[reference["$ref"].rpartition("/")[2]] if "$ref" in reference else reference
 
