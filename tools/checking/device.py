@@ -230,6 +230,8 @@ def read_device(text: bytes) -> DeviceFound:
         found.garbled = found.garbled or number
         end = text.find(b"\n", at) + 1 or len(text)
         found.findings.append(finding_of(text, at, end, number))
+        if number == 1 and encoding_of(text):
+            break
         if len(found.findings) == MOST_FINDINGS:
             if end < len(text):
                 found.findings[-1].more.append("The text isn't looked at behind this line.")

@@ -7,7 +7,7 @@ from typing import Any, NamedTuple
 from .json_text import JsonFault, Node, Reader
 from .quick import Quick
 from .places import Finding, count, encoding_of, line_and_column, listed, nearest, one_line, quoted
-from .schema import Check, Part, Schema
+from .schema import Check, Part, Schema, in_quotes
 
 MOST_BYTES = 1_048_576
 MOST_HANDLE_MARK = 32
@@ -15,15 +15,6 @@ MOST_FINDINGS = 5
 
 # an op stands in a script, which stands in the scripts of the top object
 DEPTH_OF_OPS = 3
-
-# the ops that a run makes so far; .ci/check compares this with the program
-RUN_OPS = frozenset(
-    "create_instance destroy_instance get_system string_to_path path_to_string poll_event create_session destroy_session "
-    "begin_session end_session request_exit_session create_reference_space destroy_space locate_space create_action_set "
-    "destroy_action_set create_action destroy_action suggest_bindings attach_sets create_swapchain destroy_swapchain "
-    "acquire_image wait_image paint release_image wait_frame begin_frame end_frame mark await".split()
-)
-
 
 class Step(NamedTuple):
     """An op: its name, its place in the text, and its fields."""
@@ -67,9 +58,9 @@ class ScenarioFound:
         self.wrong += 1
         self.find(at, words, more)
 
-    def find(self, at: int, words: str, more: list[str] | None = None) -> None:
+    def find(self, at: int, words: str, more: list[str] | None = None, is_warning: bool = False) -> None:
         line, column = line_and_column(self.text, at)
-        self.findings.append(Finding(line, column, words, more or []))
+        self.findings.append(Finding(line, column, words, more or [], is_warning))
 
 
 def encoding_words(text: bytes, e: UnicodeDecodeError) -> str:
@@ -93,7 +84,7 @@ def read_scenario(text: bytes, schema: Schema) -> ScenarioFound:
         found.refuse("json", len(found.text), encoding_words(text, e))
         return found
     if encoding_of(text):
-        found.refuse("json", 0, f"the text isn't UTF-8: it looks like {encoding_of(text)}")
+        found.refuse("json", 0, f"this is no JSON: the text looks like {encoding_of(text)}")
         return found
     if found.text.startswith("\ufeff"):
         found.refuse("json", 0, "the text begins with a byte-order mark (EF BB BF), which no scenario has")
@@ -105,7 +96,7 @@ def read_scenario(text: bytes, schema: Schema) -> ScenarioFound:
         found.refuse("json", e.at, f"this is no JSON: {e.why}")
         return found
     for key, at in reader.repeated[:MOST_FINDINGS]:
-        found.find(at, f"the key {quoted(key)} stands here once more in its object; the last one counts")
+        found.find(at, f"the key {quoted(key)} stands here once more in its object; the last one counts", is_warning=True)
     read_top(found, schema, top)
     return found
 
@@ -155,13 +146,13 @@ def read_scripts(found: ScenarioFound, schema: Schema, scripts: list[Node]) -> N
             reader.read_op(place, node)
         found.scripts.append(reader.steps)
     if found.refusal is None:
-        find_unrun(found)
+        find_unrun(found, frozenset(schema.unrun))
 
 
-def find_unrun(found: ScenarioFound) -> None:
+def find_unrun(found: ScenarioFound, unrun_ops: frozenset[str]) -> None:
     """The first op that is read and not run so far."""
     ops = [(s, o, it) for s, steps in enumerate(found.scripts, 1) for o, it in enumerate(steps, 1)]
-    unrun = [it for it in ops if it[2].op not in RUN_OPS]
+    unrun = [it for it in ops if it[2].op in unrun_ops]
     if not unrun:
         return
     script, place, step = unrun[0]
@@ -292,6 +283,10 @@ class ScriptReader:
         name, given = quoted(node.value), self.names.get(node.value)
         if given is None:
             hint = self.elsewhere(node.value) or self.near(node.value, sort)
+            number = in_quotes(node.value)
+            if number:
+                may = "" if sort != "handle" or node.value == "0" else ", and 0 is the only number that a handle may be"
+                return f"{name} {number}{may}; between quotes it is a name, which no earlier op of script {self.number} gives"
             return f"no earlier op of script {self.number} gives the name {name}; {hint}"
         if given.sort in (sort, None):
             return None

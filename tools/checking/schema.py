@@ -9,12 +9,16 @@ from pathlib import Path
 from typing import Any, NamedTuple
 
 from .json_text import Node
-from .places import listed, one_line, quoted
+from .places import count, listed, near_hint, nearest, one_line, quoted
 
 Part = dict[str, Any]
 
 # the sort of a name is that of the innermost of these parts that it stands in, and else it is a number's
 SORT_OF_PART = {"handle": "handle", "atom": "atom"}
+# the description of an op that isn't run yet has these words; .ci/check compares them with the program
+NOT_RUN = "Not run yet"
+
+QUOTED_NUMBER = re.compile(r"-?(?:0|[1-9][0-9]{0,18})")
 TYPES = {
     "null": "null",
     "boolean": "true or false",
@@ -53,6 +57,15 @@ def as_json(value: object) -> str:
     return json.dumps(value, ensure_ascii=False)
 
 
+def in_quotes(value: object) -> str | None:
+    """Says of a string that its quotes should go, where it would be a number or a truth value without them."""
+    if isinstance(value, str) and QUOTED_NUMBER.fullmatch(value):
+        return f"is a number between quotes; without them it is the number {value}"
+    if value in ("true", "false"):
+        return f"is a truth value between quotes; without them it is {value}"
+    return None
+
+
 class Schema:
     """The schema, as it was read from its file."""
 
@@ -67,6 +80,11 @@ class Schema:
     @cached_property
     def ops(self) -> list[str]:
         return self.parts["op"]["properties"]["op"]["enum"]
+
+    @cached_property
+    def unrun(self) -> list[str]:
+        """The ops that are read and not run yet, as their descriptions say."""
+        return [op for op in self.ops if NOT_RUN in self.row(op)["description"]]
 
     def row(self, op: str) -> Part:
         """What the schema says of an op."""
@@ -140,7 +158,9 @@ class Check:
         wanted = [wanted] if isinstance(wanted, str) else wanted
         if type_of(node.value) in wanted:
             return None
-        return f"{self.shown(node)} is {self.kind(node)}, and {' or '.join(TYPES[it] for it in wanted)} is wanted"
+        kind = in_quotes(node.value) if set(wanted) & {"integer", "boolean"} else None
+        words = kind or f"is {self.kind(node)}"
+        return f"{self.shown(node)} {words}, and {' or '.join(TYPES[it] for it in wanted)} is wanted"
 
     def kind(self, node: Node) -> str:
         if not isinstance(node.value, float):
@@ -154,9 +174,11 @@ class Check:
 
     def wrong_word(self, part: Part, node: Node) -> str | None:
         if "const" in part and not is_same(node.value, part["const"]):
-            return f"{self.shown(node)} stands here, and {as_json(part['const'])} is wanted"
+            kind = in_quotes(node.value)
+            return f"{self.shown(node)} {kind}" if kind else f"{self.shown(node)} stands here, and {as_json(part['const'])} is wanted"
         if "enum" in part and not any(is_same(node.value, it) for it in part["enum"]):
-            return f"{self.shown(node)} is none of {listed(as_json(it) for it in part['enum'])}"
+            near = near_hint(node.value, part["enum"]) if isinstance(node.value, str) else ""
+            return f"{self.shown(node)} is none of {listed(as_json(it) for it in part['enum'])}{near}"
         if "pattern" in part and isinstance(node.value, str) and not re.fullmatch(part["pattern"], node.value):
             return f"{self.shown(node)} isn't made as a name is"
         return None
@@ -169,8 +191,11 @@ class Check:
             size = len(value.encode("utf-8"))
             if size > part["maxLength"]:
                 return f"the string has {size} bytes, and {part['maxLength']} are the most"
-        if isinstance(value, list) and not part.get("minItems", 0) <= len(value) <= self.most_items(part):
-            return f"the array has {len(value)} items"
+        if isinstance(value, list):
+            least, most = part.get("minItems", 0), self.most_items(part)
+            if not least <= len(value) <= most:
+                wanted = f"{least} are wanted" if least == most else f"{least} to {most} are wanted"
+                return f"the array has {count(len(value), 'item')}, and {wanted}"
         return None
 
     @staticmethod
@@ -204,10 +229,12 @@ class Check:
         members, known = node.value, part.get("properties", {})
         for key in part.get("required", []):
             if key not in members:
-                return Wrong(node.start, f"the key {quoted(key)} is missing in this object")
+                near = nearest(key, [it for it in members if it not in known])
+                hint = f"; is it written {quoted(near)}?" if near else ""
+                return Wrong(node.start, f"the key {quoted(key)} is missing in this object{hint}")
         for key, (at, item) in members.items():
             if part.get("additionalProperties") is False and key not in known:
-                return Wrong(at, f"{quoted(key)} is no key of this object, which has {listed(known)}")
+                return Wrong(at, f"{quoted(key)} is no key of this object, which has {listed(known)}{near_hint(key, known)}")
             found = self.wrong(known[key], item, sort) if key in known else None
             if found:
                 return found

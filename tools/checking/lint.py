@@ -1,0 +1,268 @@
+"""What is legal in a scenario and still suspicious. Nothing is run: what is told stands in the texts."""
+from __future__ import annotations
+
+import re
+from collections.abc import Iterator
+from dataclasses import dataclass
+from typing import Any
+
+from .device import END, DeviceFound, Told
+from .json_text import Reader
+from .places import Finding, count, line_and_column, quoted
+from .scenario import DEPTH_OF_OPS, MOST_HANDLE_MARK, ScenarioFound, Step
+
+MOST_WARNINGS = 100
+MARKS = re.compile(rf"\n(mark|await) ([0-9]+){END}".encode())
+
+# what a name stands for by the op that gives it, and what is wanted in a field or as a part of one
+GIVEN = {
+    **{f"create_{it}": it for it in ("instance", "session", "action", "swapchain")},
+    **{"create_action_set": "action set", "create_reference_space": "space", "create_action_space": "space"},
+    **{"get_system": "system", "wait_frame": "time"},
+}
+WANTED = {
+    **{it: it for it in ("instance", "session", "space", "action", "system", "time")},
+    **{"base": "space", "set": "action set", "chain": "swapchain", "projection": "space", "quad": "space"},
+}
+
+# the field that names what a thing of a kind is made from
+MADE_FROM = {"session": "instance", "action set": "instance", "action": "set", "space": "session", "swapchain": "session"}
+ENDING = "end_session", "destroy_session", "destroy_instance"
+
+Path = tuple[Any, ...]
+
+
+@dataclass(eq=False)
+class Thing:
+    """What a name stands for: its kind where that is known, what it is made from, the op that destroys it, the op that begins
+    it where it is a session, and whether it goes from script to script."""
+
+    kind: str | None
+    parent: Thing | None = None
+    destroyed: str = ""
+    begun: Step | None = None
+    begun_at: int = 0
+    is_handed: bool = False
+
+    def gone(self) -> Thing | None:
+        """The thing whose end is its end too, if it has come to an end."""
+        return self if self.destroyed else self.parent.gone() if self.parent else None
+
+
+def with_article(kind: str) -> str:
+    return f"{'an' if kind[0] in 'aeiou' else 'a'} {kind}"
+
+
+def uses_of(step: Step) -> Iterator[tuple[Path, str, str | None]]:
+    """The names that an op uses for what has a kind: where each stands in the op, and the kind that is wanted there."""
+    for key, value in step.fields.items():
+        if key == "sets":
+            found = [((key, at), it, "action set") for at, it in enumerate(value)]
+        elif key in ("bindings", "active"):
+            kind = "action" if key == "bindings" else "action set"
+            found = [((key, at, 0), it[0], kind) for at, it in enumerate(value)]
+        elif key == "layers":
+            found = [use for at, it in enumerate(value) for use in uses_of_layer((key, at), it)]
+        else:
+            found = [((key,), value, WANTED.get(key))] if key in WANTED or key == "value" else []
+        yield from (it for it in found if isinstance(it[1], str))
+
+
+def uses_of_layer(path: Path, layer: dict[str, Any]) -> Iterator[tuple[Path, Any, str]]:
+    for key in layer.keys() & {"projection", "quad"}:
+        yield (*path, key), layer[key], "space"
+    if "image" in layer:
+        yield (*path, "image", 0), layer["image"][0], "swapchain"
+    for at, view in enumerate(layer.get("views", ())):
+        yield (*path, "views", at, 0), view[0], "swapchain"
+
+
+def kinds_of_marks(scripts: list[list[Step]]) -> dict[int, set[str | None]]:
+    """The kinds of what the scripts hand over by each mark. They follow from each other, so this goes on until they stay."""
+    known: dict[int, set[str | None]] = {}
+    for _ in range(MOST_HANDLE_MARK + 1):
+        found: dict[int, set[str | None]] = {}
+        for steps in scripts:
+            kinds: dict[str, str | None] = {}
+            for step in steps:
+                value = step.fields.get("value")
+                if step.op == "mark" and isinstance(value, str):
+                    found.setdefault(step.fields["mark"], set()).add(kinds.get(value))
+                if "as" in step.fields:
+                    kinds[step.fields["as"]] = kind_given(step, known)
+        if found == known:
+            break
+        known = found
+    return known
+
+
+def kind_given(step: Step, marks: dict[int, set[str | None]]) -> str | None:
+    """The kind of what an op gives, where there is one kind that it may be of."""
+    kinds = marks.get(step.fields["mark"], set()) if step.op == "await" else {GIVEN.get(step.op)}
+    return next(iter(kinds)) if len(kinds) == 1 else None
+
+
+class Lint:
+    """Looks through the scripts. `device` has the first line of the device's text for each mark that is set or awaited; it is
+    None where a text was given that can't be read, so that nobody knows what it sets."""
+
+    def __init__(self, found: ScenarioFound, device: dict[tuple[str, int], Told] | None, has_device: bool) -> None:
+        self.found = found
+        self.device = device
+        self.has_device = has_device
+        self.warnings: dict[int, Finding] = {}
+        self.more = 0
+        self.kinds = kinds_of_marks(found.scripts)
+        self.setters: dict[int, list[tuple[int, int]]] = {}
+        for number, steps in enumerate(found.scripts, 1):
+            for place, step in enumerate(steps, 1):
+                if step.op == "mark":
+                    self.setters.setdefault(step.fields["mark"], []).append((number, place))
+
+    def warn(self, step: Step, said: str, words: str, path: Path = ()) -> None:
+        """Keeps a warning of an op, at a value in it."""
+        if len(self.warnings) == MOST_WARNINGS:
+            self.more += 1
+            return
+        node = Reader(self.found.text).value(step.at, DEPTH_OF_OPS) if path else None
+        for part in path:
+            node = node.value[part][1] if isinstance(part, str) else node.value[part]
+        at = node.start if node else step.at
+        line, column = line_and_column(self.found.text, at)
+        self.warnings.setdefault(at, Finding(line, column, f"{said}: {words}", [], True))
+
+    def others_end(self, number: int) -> bool:
+        """Whether a script that isn't this one ends or destroys a session."""
+        scripts = enumerate(self.found.scripts, 1)
+        return any(step.op in ENDING for other, steps in scripts if other != number for step in steps)
+
+    def look(self, unrun: list[str]) -> list[Finding]:
+        """All warnings, in the order of their places."""
+        self.look_at_unrun(unrun)
+        for number, steps in enumerate(self.found.scripts, 1):
+            ScriptLint(self, number).look(steps)
+        found = [it for _, it in sorted(self.warnings.items())]
+        if self.more:
+            found[-1].more.append(f"{count(self.more, 'more warning')} can be given.")
+        return found
+
+    def look_at_unrun(self, unrun: list[str]) -> None:
+        """The ops that aren't run yet, each name once. The first of them is told as the reason why the text is refused."""
+        steps = ((s, o, it) for s, steps in enumerate(self.found.scripts, 1) for o, it in enumerate(steps, 1))
+        first = {}
+        for number, place, step in steps:
+            if step.op in unrun:
+                first.setdefault(step.op, (number, place, step))
+        for number, place, step in list(first.values())[1:]:
+            self.warn(step, f"script {number} op {place} op", f"{step.op} isn't run yet", ("op",))
+
+
+class ScriptLint:
+    """Looks through one script, with what its names stand for."""
+
+    def __init__(self, lint: Lint, number: int) -> None:
+        self.lint = lint
+        self.number = number
+        self.names: dict[str, Thing] = {}
+        self.things: list[Thing] = []
+        self.said: set[tuple[str, ...]] = set()
+
+    def warn(self, step: Step, place: int, words: str, path: Path) -> None:
+        self.lint.warn(step, f"script {self.number} op {place} {path[0]}", words, path)
+
+    def look(self, steps: list[Step]) -> None:
+        for place, step in enumerate(steps, 1):
+            for path, name, kind in uses_of(step):
+                if name in self.names:
+                    self.look_at_use(step, place, path, name, kind)
+            if step.op == "await":
+                self.look_at_await(step, place)
+            self.follow(step, place)
+        for thing in self.things:
+            if thing.begun and not thing.gone() and not (thing.is_handed and self.lint.others_end(self.number)):
+                words = f"{quoted(thing.begun.fields['session'])} is begun here, and nothing behind this op ends or destroys it"
+                self.warn(thing.begun, thing.begun_at, words, ("session",))
+
+    def look_at_use(self, step: Step, place: int, path: Path, name: str, kind: str | None) -> None:
+        """Whether a name may stand where it is used."""
+        thing = self.names[name]
+        gone = thing.gone()
+        if kind and thing.kind and thing.kind != kind:
+            self.warn(step, place, f"{quoted(name)} is {with_article(thing.kind)}, and {with_article(kind)} is wanted here", path)
+        elif gone and (name, gone.destroyed) not in self.said:
+            self.said.add((name, gone.destroyed))
+            what = "it" if gone is thing else f"the {gone.kind} that it was made from"
+            self.warn(step, place, f"{quoted(name)} is used behind {gone.destroyed}, which destroys {what}", path)
+
+    def look_at_await(self, step: Step, place: int) -> None:
+        """Whether a mark may be set before the script comes to wait for it."""
+        mark, device = step.fields["mark"], self.lint.device
+        setters = self.lint.setters.get(mark, [])
+        is_set = any(number != self.number or at < place for number, at in setters)
+        if device is None or is_set or ("mark", mark) in device or ("await", str(mark)) in self.said:
+            return
+        self.said.add(("await", str(mark)))
+        if setters:
+            words = f"mark {mark} is set by op {setters[0][1]} of this script alone, which stands behind this one"
+        else:
+            other = "the device's text has no such line" if self.lint.has_device else "no device's text is given"
+            words = f"nobody sets mark {mark}: no script has such an op, and {other}"
+        self.warn(step, place, words, ("mark",))
+
+    def thing(self, step: Step, field: str) -> Thing | None:
+        """What a field of an op names."""
+        name = step.fields.get(field)
+        return self.names.get(name) if isinstance(name, str) else None
+
+    def follow(self, step: Step, place: int) -> None:
+        """What an op does to what its names stand for."""
+        used = self.thing(step, next((it for it in step.fields if it in WANTED or it == "value"), ""))
+        if used and step.op.startswith("destroy_"):
+            used.destroyed = used.destroyed or f"op {place} ({step.op})"
+        elif used and step.op == "begin_session":
+            used.begun, used.begun_at = step, place
+        elif used and step.op == "end_session":
+            used.begun = None
+        elif used and step.op == "mark":
+            used.is_handed = True
+        if "as" in step.fields:
+            kind = kind_given(step, self.lint.kinds)
+            parent = self.thing(step, MADE_FROM.get(kind or "", ""))
+            thing = Thing(kind, parent, is_handed=step.op == "await")
+            self.names[step.fields["as"]] = thing
+            self.things.append(thing)
+
+
+def marks_of(device: DeviceFound) -> dict[tuple[str, int], Told]:
+    """The first line of a device's text for each mark that is set or awaited."""
+    first: dict[tuple[str, int], Told] = {}
+    for found in MARKS.finditer(device.text):
+        key = found[1].decode(), int(found[2])
+        if key not in first:
+            first[key] = Told(key[0], found[2].decode(), found.start())
+    return first
+
+
+def lint_device(device: DeviceFound, marks: dict[tuple[str, int], Told], setters: dict[int, Any]) -> list[Finding]:
+    """What is suspicious in a device's text: an `await` of a mark that nobody sets before."""
+    found = []
+    for (name, mark), told in sorted(marks.items(), key=lambda it: it[1].at):
+        setter = marks.get(("mark", mark))
+        if name == "mark" or mark in setters or setter and setter.at < told.at:
+            continue
+        words = f"nobody sets mark {mark}: no script has such an op, and the device's text has no such line"
+        if setter:
+            words = f"mark {mark} is set by line {device.line_of(setter)} alone, which stands behind this one"
+        found.append(Finding(device.line_of(told), len("await ") + 1, words, [], True))
+    return found
+
+
+def lint(
+    scenario: ScenarioFound, device: DeviceFound | None, is_known: bool, unrun: list[str]
+) -> tuple[list[Finding], list[Finding]]:
+    """The warnings of a scenario, and those of a device's text; `is_known` is false where such a text was given and not
+    read."""
+    marks = marks_of(device) if device else {}
+    looked = Lint(scenario, marks if is_known else None, device is not None)
+    warnings = looked.look(unrun)
+    return warnings, lint_device(device, marks, looked.setters) if device else []
