@@ -9,10 +9,10 @@ from typing import Any
 from .device import END, DeviceFound, Told
 from .json_text import Reader
 from .places import Finding, count, line_and_column, quoted
+from .run import unset
 from .scenario import DEPTH_OF_OPS, MOST_HANDLE_MARK, ScenarioFound, Step
 
 MOST_WARNINGS = 100
-MARKS = re.compile(rf"\n(mark|await) ([0-9]+){END}".encode())
 
 # what a name stands for by the op that gives it, and what is wanted in a field or as a part of one
 GIVEN = {
@@ -180,7 +180,8 @@ class ScriptLint:
             self.follow(step, place)
         for thing in self.things:
             if thing.begun and not thing.gone() and not (thing.is_handed and self.lint.others_end(self.number)):
-                words = f"{quoted(thing.begun.fields['session'])} is begun here, and nothing behind this op ends or destroys it"
+                name = quoted(thing.begun.fields["session"])
+                words = f"{name} is begun here, and nothing behind this op ends or destroys it"
                 self.warn(thing.begun, thing.begun_at, words, ("session",))
 
     def look_at_use(self, step: Step, place: int, path: Path, name: str, kind: str | None) -> None:
@@ -188,7 +189,8 @@ class ScriptLint:
         thing = self.names[name]
         gone = thing.gone()
         if kind and thing.kind and thing.kind != kind:
-            self.warn(step, place, f"{quoted(name)} is {with_article(thing.kind)}, and {with_article(kind)} is wanted here", path)
+            words = f"{quoted(name)} is {with_article(thing.kind)}, and {with_article(kind)} is wanted here"
+            self.warn(step, place, words, path)
         elif gone and (name, gone.destroyed) not in self.said:
             self.said.add((name, gone.destroyed))
             what = "it" if gone is thing else f"the {gone.kind} that it was made from"
@@ -236,11 +238,15 @@ class ScriptLint:
 def marks_of(device: DeviceFound) -> dict[tuple[str, int], Told]:
     """The first line of a device's text for each mark that is set or awaited."""
     first: dict[tuple[str, int], Told] = {}
-    for found in MARKS.finditer(device.text):
-        key = found[1].decode(), int(found[2])
-        if key not in first:
-            first[key] = Told(key[0], found[2].decode(), found.start())
-    return first
+    at = 0
+    while True:
+        new = (f"{name} (?:{unset([mark for it, mark in first if it == name])})" for name in ("mark", "await"))
+        found = re.compile(rf"\n(?:{'|'.join(new)}){END}".encode()).search(device.text, at)
+        told = device.event(found.start()) if found else None
+        if told is None:
+            return first
+        first[told.name, int(told.words)] = told
+        at = told.at + 1
 
 
 def lint_device(device: DeviceFound, marks: dict[tuple[str, int], Told], setters: dict[int, Any]) -> list[Finding]:

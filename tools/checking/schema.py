@@ -15,7 +15,7 @@ Part = dict[str, Any]
 
 # the sort of a name is that of the innermost of these parts that it stands in, and else it is a number's
 SORT_OF_PART = {"handle": "handle", "atom": "atom"}
-# the description of an op that isn't run yet has these words; .ci/check compares them with the program
+# the description of an op that isn't run yet has these words; .ci/lint compares them with the program
 NOT_RUN = "Not run yet"
 
 QUOTED_NUMBER = re.compile(r"-?(?:0|[1-9][0-9]{0,18})")
@@ -174,8 +174,8 @@ class Check:
 
     def wrong_word(self, part: Part, node: Node) -> str | None:
         if "const" in part and not is_same(node.value, part["const"]):
-            kind = in_quotes(node.value)
-            return f"{self.shown(node)} {kind}" if kind else f"{self.shown(node)} stands here, and {as_json(part['const'])} is wanted"
+            found = in_quotes(node.value) or f"stands here, and {as_json(part['const'])} is wanted"
+            return f"{self.shown(node)} {found}"
         if "enum" in part and not any(is_same(node.value, it) for it in part["enum"]):
             near = near_hint(node.value, part["enum"]) if isinstance(node.value, str) else ""
             return f"{self.shown(node)} is none of {listed(as_json(it) for it in part['enum'])}{near}"
