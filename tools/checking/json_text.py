@@ -15,6 +15,7 @@ MOST_REPEATED = 5
 BLANKS = re.compile(r"[ \t\n\r]*")
 NUMBER = re.compile(r"-?(?:0|[1-9][0-9]*)(?:\.[0-9]+)?(?:[eE][+-]?[0-9]+)?")
 LIKE_NUMBER = re.compile(r"[-+.0-9][-+.0-9A-Za-z_]*")
+IN_NUMBER = re.compile(r"[-+.0-9A-Za-z_]")
 LIKE_WORD = re.compile(r"\w+")
 PLAIN = re.compile(r'[^"\\\x00-\x1f]*')
 HEX = re.compile(r"[0-9a-fA-F]{4}")
@@ -121,6 +122,8 @@ class Skimmer:
     def skim(self, at: int, depth: int) -> tuple[Any, int]:
         """The value at a place that so many arrays and objects are around, and the place behind it."""
         value, end = self.scan(self.text, at)
+        if type(value) in (int, float) and IN_NUMBER.match(self.text, end):
+            raise ValueError
         if self.has_surrogates and SURROGATE.search(self.text, at, end):
             raise ValueError
         if self.may_be_deep and is_deep(self.text[at:end], MOST_DEPTH - depth):

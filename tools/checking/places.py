@@ -15,7 +15,7 @@ UTF16_MARKS = (
 )
 
 # bytes that no text has
-CONTROLS = re.compile(rb"[\x00-\x08\x0e-\x1a\x1c-\x1f\x7f]")
+CONTROLS = re.compile(rb"[\x00-\x08\x0e-\x1a\x1c-\x1f]")
 
 
 @dataclass
@@ -49,7 +49,7 @@ def encoding_of(text: bytes) -> str | None:
     for mark, name, codec in UTF16_MARKS:
         front = text[:MOST_LOOKED].removeprefix(mark)
         has_zeros = front[0 if mark == b"\xfe\xff" else 1 :: 2].count(0) * 2 > len(front) // 2
-        if len(front) > 1 and (text.startswith(mark) or has_zeros) and is_readable(front, codec):
+        if len(front) > 3 and (text.startswith(mark) or has_zeros) and is_readable(front, codec):
             return name
     controls, front = len(CONTROLS.findall(text[:MOST_LOOKED])), len(text[:MOST_LOOKED])
     return "a binary file, and no text" if controls > max(1, front // 20) else None
