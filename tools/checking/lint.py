@@ -218,7 +218,11 @@ class ScriptLint:
 
     def follow(self, step: Step, place: int) -> None:
         """What an op does to what its names stand for."""
-        used = self.thing(step, next((it for it in step.fields if it in WANTED or it == "value"), ""))
+        field = next((it for it in step.fields if it in WANTED or it == "value"), "")
+        used = self.thing(step, field)
+        if used and used.kind not in (None, WANTED.get(field, used.kind)):
+            # a call with a handle of another kind is refused
+            used = None
         if used and step.op.startswith("destroy_"):
             used.destroyed = used.destroyed or f"op {place} ({step.op})"
         elif used and step.op == "begin_session":
