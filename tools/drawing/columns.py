@@ -23,7 +23,7 @@ _TELLING = frozenset(
 )
 
 
-@dataclass(slots=True)
+@dataclass
 class Column:
     """A place, or the places from the first to the last; x is its middle in its piece."""
 
@@ -36,7 +36,7 @@ class Column:
         return self.last > self.first
 
 
-@dataclass(slots=True)
+@dataclass
 class Piece:
     """Some columns that are drawn side by side, from their places to what is right of the last."""
 

@@ -8,7 +8,7 @@ from drawing.report import COMPOSITOR, DEVICE, Call, Report
 from states import LAST, MOST_FRAMES, next_state
 
 
-@dataclass(slots=True)
+@dataclass
 class Change:
     """What a session is from a place on: the states that it goes through there, and what is told of it in a drawing."""
 
@@ -19,7 +19,7 @@ class Change:
     is_lost: bool
 
 
-@dataclass(slots=True)
+@dataclass
 class Session:
     """A session as the rules of docs/MACHINE.md have it: derived, since a report prints only what was polled."""
 
@@ -53,7 +53,7 @@ class Session:
             self.changes.append(Change(place, passed, told, self.is_running, self.is_lost))
 
 
-@dataclass(slots=True)
+@dataclass
 class Wait:
     """A bar: an actor waits from its previous place to its own, or for ever where the run is stuck."""
 
@@ -63,7 +63,7 @@ class Wait:
     text: str
 
 
-@dataclass(slots=True)
+@dataclass
 class Arrow:
     """From the mark that released an await to it, or from where a frame ended to where it was taken.
 

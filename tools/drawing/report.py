@@ -55,7 +55,7 @@ class Unreadable(Exception):
     """What is wrong with an input, in one line."""
 
 
-@dataclass(slots=True)
+@dataclass
 class Call:
     """A call with its reply: of a script, of the device (an event), or of the compositor (a frame or the end)."""
 
@@ -81,7 +81,7 @@ class Call:
         return self.code in MET
 
 
-@dataclass(slots=True)
+@dataclass
 class Waiter:
     """Who waits when the run is stuck: the next call of an unfinished actor."""
 
@@ -91,7 +91,7 @@ class Waiter:
     mark: int | None = None
 
 
-@dataclass(slots=True)
+@dataclass
 class Report:
     """A whole report: the calls of each actor, who is stuck, and the status."""
 

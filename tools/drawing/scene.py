@@ -25,7 +25,7 @@ MEANINGS = {
 }
 
 
-@dataclass(slots=True)
+@dataclass
 class Node:
     """What is drawn at one column of one lane: a call, a few getters behind one, or a sum."""
 
@@ -42,7 +42,7 @@ class Node:
         return sum(call.code == "XR_SESSION_LOSS_PENDING" for call in self.calls)
 
 
-@dataclass(slots=True)
+@dataclass
 class Lane:
     """A row of the drawing: an actor's calls, or a session's states."""
 
