@@ -15,6 +15,7 @@ sys.dont_write_bytecode = True
 import browser  # noqa: E402
 import refusals  # noqa: E402
 import runs  # noqa: E402
+import truth  # noqa: E402
 from common import Tally  # noqa: E402
 
 USAGE = "timeline PROGRAM"
@@ -32,13 +33,21 @@ def main() -> int:
         runs.examples(tally, program, room)
         runs.pictures(tally, room)
         runs.lives(tally)
-        runs.marks(tally)
         runs.by_hand(tally)
         runs.held(tally)
         runs.pieces(tally)
         runs.long_runs(tally)
+        truth.held_back(tally, program, room)
+        truth.gives_back(tally)
+        truth.faults(tally, program, room)
+        truth.rows(tally)
+        truth.otherwise(tally, room)
+        truth.colours(tally)
+        truth.legend_states(tally, program, room)
+        truth.boxes(tally)
         inputs = runs.cases(tally, program)
         refusals.refuses(tally, room)
+        refusals.outputs(tally, room)
         refusals.fuzz(tally, inputs)
         browser.browser(tally, room)
     for words in tally.failed[:12]:

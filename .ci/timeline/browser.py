@@ -1,6 +1,7 @@
 """Pages in a headless Chromium."""
 from __future__ import annotations
 
+import json
 import re
 import shutil
 import struct
@@ -8,7 +9,10 @@ import subprocess
 import zlib
 from pathlib import Path
 
-from common import Tally
+from common import Tally, scene_of
+from truth import eight_stuck
+
+from drawing.page import page
 
 CHROMIUMS = ("chromium", "chromium-browser", "google-chrome")
 COUNT_SEEN = """
@@ -28,21 +32,59 @@ def pixels_of(png: bytes) -> bytes:
     return zlib.decompress(packed)
 
 
+LOOK = """
+const box = document.querySelector(".scroll"), found = {top: Math.round(box.getBoundingClientRect().top + scrollY)};
+const placeIsSeen = () => {
+  const place = document.querySelector("text.place").getBoundingClientRect();
+  const lane = [...document.querySelectorAll(".lane-name")].at(-1).getBoundingClientRect();
+  const over = document.elementFromPoint(place.left + place.width / 2, place.top + place.height / 2);
+  const isOver = over?.closest("svg") === document.querySelector("text.place").closest("svg");
+  return place.top >= 0 && place.bottom <= innerHeight && lane.top > place.bottom && isOver;
+};
+box.scrollTop = box.scrollHeight;
+found.inside = placeIsSeen();
+box.scrollTop = 0;
+scrollTo(0, found.top + 150);
+dispatchEvent(new Event("scroll"));
+found.above = placeIsSeen();
+found.wide = document.documentElement.scrollWidth <= innerWidth;
+document.body.dataset.found = JSON.stringify(found);
+"""
+SIZES = (400, 1280, 1920)
+HIGHEST = {400: 480, 1280: 330, 1920: 330}
+FLAGS = ("--headless=new", "--no-sandbox", "--disable-gpu", "--disable-dev-shm-usage", "--enable-logging=stderr", "--v=0")
+
+
+class Chromium:
+    """A headless Chromium, where one is installed."""
+
+    def __init__(self, room: Path) -> None:
+        self.room = room
+        self.program = next(filter(None, map(shutil.which, CHROMIUMS)), None)
+
+    def run(self, file: Path, size: str, *words: str) -> subprocess.CompletedProcess | None:
+        data = f"--user-data-dir={self.room / 'browser'}"
+        command = [str(self.program), *FLAGS, f"--window-size={size}", data, *words, file.as_uri()]
+        try:
+            return subprocess.run(command, capture_output=True, timeout=60)
+        except subprocess.TimeoutExpired:
+            return None
+
+    def dumped(self, html: str, script: str, size: str, *words: str) -> subprocess.CompletedProcess | None:
+        """A page with a script behind its own: what it is then."""
+        opened = self.room / "opened.html"
+        opened.write_text(html.replace("</body>", f"<script>{script}</script></body>"), encoding="utf-8")
+        return self.run(opened, size, "--dump-dom", *words)
+
+
 def browser(tally: Tally, room: Path) -> None:
-    """A page in a headless Chromium: no error on the console, a script that ran, and calls that can be seen."""
-    found = next(filter(None, map(shutil.which, CHROMIUMS)), None)
-    if not found:
+    """Pages in a headless Chromium: no error on the console, a script that ran, calls that can be seen, and places that stay
+    in sight."""
+    chromium = Chromium(room)
+    if not chromium.program:
         return print("timeline: skipped: no Chromium, so no page was opened")
     html = (room / "life.html").read_text(encoding="utf-8")
-    opened, image = room / "opened.html", room / "page.png"
-    opened.write_text(html.replace("</body>", f"<script>{COUNT_SEEN}</script></body>"), encoding="utf-8")
-    flags = ["--headless=new", "--no-sandbox", "--disable-gpu", "--disable-dev-shm-usage", "--window-size=900,900"]
-    words = [found, *flags, f"--user-data-dir={room / 'browser'}", "--enable-logging=stderr", "--v=0"]
-    try:
-        dumped = subprocess.run([*words, "--dump-dom", opened.as_uri()], capture_output=True, timeout=60)
-        subprocess.run([*words, f"--screenshot={image}", opened.as_uri()], capture_output=True, timeout=60)
-    except subprocess.TimeoutExpired:
-        dumped = None
+    dumped = chromium.dumped(html, COUNT_SEEN, "900,900")
     if not dumped or dumped.returncode or b"</html>" not in dumped.stdout:
         return print("timeline: skipped: Chromium doesn't start here, so no page was opened")
     errors = [line for line in dumped.stderr.decode("utf-8", "replace").splitlines() if "CONSOLE" in line]
@@ -53,5 +95,24 @@ def browser(tally: Tally, room: Path) -> None:
     if seen:
         tally.check(int(seen[1]) == drawn, f"{seen[1].decode()} calls of {drawn} can be seen")
         tally.check(int(seen[2]) == drawn, f"the page's script named {seen[2].decode()} calls of {drawn}")
+    image = room / "page.png"
+    chromium.run(room / "opened.html", "900,900", f"--screenshot={image}")
     rows = pixels_of(image.read_bytes()) if image.exists() else b""
-    return tally.check(len(set(rows)) > 30, "the page is blank")
+    tally.check(len(set(rows)) > 30, "the page is blank")
+    return looks(tally, chromium)
+
+
+def looks(tally: Tally, chromium: Chromium) -> None:
+    """Of eight who are stuck, narrow and wide: the picture is near the top, and its places stay in sight."""
+    html = page(scene_of(*eight_stuck()))
+    for width in SIZES:
+        dumped = chromium.dumped(html, LOOK, f"{width},800")
+        found = re.search(r'data-found="([^"]*)"', dumped.stdout.decode() if dumped else "")
+        if not found:
+            tally.check(False, f"{width} pixels: the page wasn't looked at")
+            continue
+        told = json.loads(found[1].replace("&quot;", '"'))
+        tally.check(told["top"] <= HIGHEST[width], f"{width} pixels: the picture begins at {told['top']}")
+        tally.check(told["inside"], f"{width} pixels: the places go out of sight where one scrolls in the picture")
+        tally.check(told["above"], f"{width} pixels: the places go out of sight where one scrolls the page")
+        tally.check(told["wide"], f"{width} pixels: the page is wider than its window")

@@ -60,7 +60,11 @@ def title_of(element: xml.Element) -> str:
 
 
 def is_refused(line: str) -> bool:
-    return " XR_ERROR_" in line or line.startswith(("fault", "garbled"))
+    return " XR_ERROR_" in line
+
+
+def is_fault(line: str) -> bool:
+    return line.startswith(("fault", "garbled"))
 
 
 def scene_of(report: bytes, scenario: bytes | None, title: str = "report") -> Scene:
@@ -76,7 +80,8 @@ def check_table(tally: Tally, name: str, html: str, calls: list[str]) -> None:
     """A row for each line of a call, and refusals that stand out there too."""
     tally.check(html.count("<tr") - 1 == len(calls), f"{name}: the table has other rows than the report has calls")
     marked = html.count("<tr class=r>")
-    tally.check(marked == sum(map(is_refused, calls)), f"{name}: {marked} rows are marked as refused")
+    bad = sum(is_refused(line) or is_fault(line) for line in calls)
+    tally.check(marked == bad, f"{name}: {marked} rows are marked as refused")
 
 
 def check_page(tally: Tally, name: str, html: str, report: bytes) -> None:
@@ -109,8 +114,9 @@ def check_page(tally: Tally, name: str, html: str, report: bytes) -> None:
         len(having(roots, "frame-arrow")) == frames,
         f"{name}: {frames} frames were taken, and so many lines aren't drawn",
     )
-    refused = sum(map(is_refused, calls))
-    tally.check((len(having(roots, "refused")) > 0) == (refused > 0), f"{name}: refusals don't stand out")
+    for kind, is_so in (("refused", is_refused), ("fault", is_fault)):
+        is_there = any(map(is_so, calls))
+        tally.check((len(having(roots, kind)) > 0) == is_there, f"{name}: what is {kind} doesn't stand out")
     waiting = lines[lines.index("stuck") + 1 : -1] if "stuck" in lines else []
     tally.check(
         len(having(roots, "open")) == len(waiting),

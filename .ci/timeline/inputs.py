@@ -3,6 +3,8 @@ from __future__ import annotations
 
 import re
 
+QUAD = {"quad": 0, "image": [0, 0, 0, 1, 1], "pose": 1}
+PROJECTION = {"projection": 0, "views": [[0, 0, 0, 1, 1]] * 2}
 FRAMES = {
     "version": 1,
     "scripts": [
@@ -13,10 +15,10 @@ FRAMES = {
             {"op": "wait_frame", "session": "s", "as": "t"},
             {"op": "begin_frame", "session": "s"},
             {"op": "end_frame", "session": "s", "time": 0, "blend": "opaque", "layers": []},
-            {"op": "end_frame", "session": "s", "time": "t", "blend": "opaque", "layers": []},
+            {"op": "end_frame", "session": "s", "time": "t", "blend": "opaque", "layers": [QUAD, PROJECTION]},
             {"op": "get_boolean", "session": "s", "action": 0, "sub": 0},
             {"op": "get_float", "session": "s", "action": 0, "sub": 0},
-            {"op": "end_frame", "session": "s", "time": "t", "blend": "opaque", "layers": []},
+            {"op": "end_frame", "session": "s", "time": 33333333, "blend": "opaque", "layers": []},
         ]
     ],
 }
@@ -55,7 +57,12 @@ LATE = {
             {"op": "wait_frame", "session": "s"},
             {"op": "wait_frame", "session": "s"},
         ],
-        [{"op": "await", "mark": 1, "as": "s"}, {"op": "mark", "mark": 2}, {"op": "begin_frame", "session": "s"}],
+        [
+            {"op": "await", "mark": 1, "as": "s"},
+            {"op": "mark", "mark": 2},
+            {"op": "mark", "mark": 3},
+            {"op": "begin_frame", "session": "s"},
+        ],
     ],
 }
 LATE_REPORT = b"""xrsim report 1
@@ -65,12 +72,13 @@ thread 1
 3 mark XR_SUCCESS @4
 4 begin_session XR_SUCCESS @6
 5 wait_frame XR_SUCCESS time 11111111 period 11111111 render 0 @8
-6 wait_frame XR_SUCCESS time 22222222 period 11111111 render 0 @10
+6 wait_frame XR_SUCCESS time 22222222 period 11111111 render 0 @11
 thread 2
 1 await XR_SUCCESS @5
 2 mark XR_SUCCESS @7
-3 begin_frame XR_SUCCESS @9
-4 leave XR_SUCCESS @11
+3 mark XR_SUCCESS @9
+4 begin_frame XR_SUCCESS @10
+5 leave XR_SUCCESS @12
 compositor
 device
 1 wish ready @2
@@ -80,24 +88,34 @@ compositor next_frame
 status 7
 """
 # a script waits for an image while the device tells of three clocks, then until its time is up, and then for ever
-HELD_WAITS = [{"op": "wait_image", "chain": 0, "timeout": timeout} for timeout in ("inf", 0, 2, "inf")]
-HELD = {"version": 1, "scripts": [[{"op": "acquire_image", "chain": 0}, *HELD_WAITS]]}
+HELD_WAITS = [{"op": "wait_image", "chain": "c", "timeout": timeout} for timeout in ("inf", 0, 2, "inf")]
+CHAIN = {"format": 1, "width": 64, "height": 64, "static": False}
+HELD_STARTS = [
+    {"op": "create_instance", "major": 1, "minor": 0, "as": "i"},
+    {"op": "create_session", "instance": "i", "system": 1, "as": "s"},
+    {"op": "create_swapchain", "session": "s", **CHAIN, "as": "c"},
+    {"op": "acquire_image", "chain": "c"},
+]
+HELD = {"version": 1, "scripts": [[*HELD_STARTS, *HELD_WAITS]]}
 HELD_REPORT = b"""xrsim report 1
 thread 1
-1 acquire_image XR_SUCCESS 0 @1
-2 wait_image XR_SUCCESS @5
-3 wait_image XR_TIMEOUT_EXPIRED @7
-4 wait_image XR_TIMEOUT_EXPIRED @10
+1 create_instance XR_SUCCESS @1
+2 create_session XR_SUCCESS @2
+3 create_swapchain XR_SUCCESS @3
+4 acquire_image XR_SUCCESS 0 @4
+5 wait_image XR_SUCCESS @8
+6 wait_image XR_TIMEOUT_EXPIRED @10
+7 wait_image XR_TIMEOUT_EXPIRED @13
 compositor
 device
-1 clock 1 @2
-2 clock 2 @3
-3 clock 3 @4
-4 clock 4 @6
-5 clock 5 @8
-6 clock 6 @9
+1 clock 1 @5
+2 clock 2 @6
+3 clock 3 @7
+4 clock 4 @9
+5 clock 5 @11
+6 clock 6 @12
 stuck
-thread 1 5 wait_image
+thread 1 8 wait_image
 compositor next_frame
 status 7
 """
@@ -131,6 +149,16 @@ device
 1 clock 5 @5
 status 0
 """
+GOOD_STUCK = b"""xrsim report 1
+thread 1
+1 mark XR_SUCCESS @1
+compositor
+device
+stuck
+thread 1 2 await
+compositor next_frame
+status 7
+"""
 GOOD_SCENARIO = b'{"version":1,"scripts":[[{"op":"mark","mark":1},{"op":"await","mark":1}]]}'
 
 
@@ -144,6 +172,15 @@ def changed(old: bytes, new: bytes) -> bytes:
 BAD = (
     ("nothing", b"", None, "the report is empty"),
     ("random bytes", bytes(range(256)), None, "this is no report: its first line isn't `xrsim report 1`"),
+    (
+        "carriage returns",
+        GOOD.replace(b"\n", b"\r\n"),
+        None,
+        "the report's line 1 has a carriage return: a report's lines end in a line feed alone",
+    ),
+    ("a carriage return", changed(b"@2", b"@2\r"), None, "the report's line 4 has a carriage return"),
+    ("a byte order mark", b"\xef\xbb\xbf" + GOOD, None, "the report has a byte order mark in front"),
+    ("UTF-16", GOOD.decode().encode("utf-16"), None, "the report was written over as UTF-16"),
     ("another version", GOOD.replace(b"report 1", b"report 2"), None, "this is no report"),
     (
         "no places",
@@ -251,6 +288,18 @@ BAD = (
         GOOD,
         GOOD_SCENARIO.replace(b'"await","mark":1', b'"await","mark":40'),
         "the report is another scenario's: call 2 of script 1 is of another mark, and the scenario has mark 40",
+    ),
+    (
+        "another scenario's unset mark",
+        GOOD,
+        GOOD_SCENARIO.replace(b'"await","mark":1', b'"await","mark":2'),
+        "the report is another scenario's: call 2 of script 1, `await`, came to XR_SUCCESS, which the scenario's mark",
+    ),
+    (
+        "stuck at a mark that is set",
+        GOOD_STUCK,
+        GOOD_SCENARIO,
+        "the report is another scenario's: script 1 is stuck at mark 1, which was set",
     ),
 )
 

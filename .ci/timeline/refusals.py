@@ -5,10 +5,14 @@ import json
 import os
 import random
 import re
+import signal
+import subprocess
+import sys
+import time
 import xml.etree.ElementTree as xml
 from pathlib import Path
 
-from common import Tally, scene_of, svgs_of, tool
+from common import TOOL, Tally, scene_of, svgs_of, tool
 from inputs import BAD, FRAMES, FRAMES_REPORT
 
 from drawing.page import page
@@ -53,6 +57,40 @@ def refuses(tally: Tally, room: Path) -> None:
     )
     helped = tool(["--help"])
     tally.check(helped.returncode == 0 and b"examples:" in helped.stdout and not helped.stderr, "--help is no help")
+
+
+def outputs(tally: Tally, room: Path) -> None:
+    """Closed and full outputs, and Ctrl-C: one line, no traceback, and a status that isn't 0."""
+    report = str(room / "life.report")
+    for name, words in (("a page", [report]), ("--help", ["--help"])):
+        for way, shell in (("a full output", '"$@" >/dev/full'), ("a closed output", '"$@" >&-')):
+            ran = in_shell(shell, words)
+            is_said = re.fullmatch(r"timeline: cannot write: [^\n]+\n", ran.stderr.decode())
+            tally.check(ran.returncode == 2 and is_said, f"{name} to {way}: {ran.returncode}, {ran.stderr!r}")
+        ran = in_shell('"$@" | true; echo "${PIPESTATUS[0]}" >&2', words)
+        is_said = re.fullmatch(r"(timeline: cannot write: [^\n]+\n2|0)\n", ran.stderr.decode())
+        tally.check(is_said, f"{name} to a pipe that nobody reads: {ran.stderr!r}")
+    for name, words in (("no words", []), ("an unknown word", ["--png"]), ("no report", ["none"])):
+        for way, shell in (("a full error", '"$@" 2>/dev/full'), ("a closed error", '"$@" 2>&-')):
+            ran = in_shell(shell, words)
+            tally.check((ran.returncode, ran.stderr) == (2, b""), f"{name} to {way}: {ran.returncode}, {ran.stderr!r}")
+    full = in_shell('"$@"', [report, "-o", "/dev/full"])
+    tally.check(full.returncode == 2 and full.stderr.count(b"\n") == 1, f"-o /dev/full: {full.stderr!r}")
+    before = sorted(os.listdir(room))
+    asked = subprocess.Popen(
+        [sys.executable, TOOL, "-", "-o", str(room / "late.html")], stdin=subprocess.PIPE, stderr=subprocess.PIPE
+    )
+    time.sleep(1.5)
+    asked.send_signal(signal.SIGINT)
+    said = asked.communicate(timeout=60)[1]
+    tally.check((asked.returncode, said) == (130, b"timeline: interrupted\n"), f"Ctrl-C: {asked.returncode}, {said!r}")
+    tally.check(sorted(os.listdir(room)) == before, "Ctrl-C: something was written")
+
+
+def in_shell(shell: str, words: list[str]) -> subprocess.CompletedProcess:
+    """Runs the tool in a shell, which has it as its arguments."""
+    command = ["bash", "-c", shell, "bash", sys.executable, str(TOOL), *words]
+    return subprocess.run(command, stdin=subprocess.DEVNULL, capture_output=True, timeout=60)
 
 
 def mutated(random_source: random.Random, text: bytes) -> bytes:

@@ -10,7 +10,7 @@ from common import EXTERNAL, ROOT, Tally, check_page, having, made, scene_of, sv
 from inputs import FRAMES, FRAMES_REPORT, HELD, HELD_REPORT, LATE, LATE_REPORT, LIVES, OPS, STRANGE, STRANGE_REPORT
 
 from drawing.page import page
-from drawing.replay import arrows_of, sessions_of
+from drawing.replay import sessions_of
 from drawing.report import Call, Report, Unreadable
 
 PICTURES = ("life", "frames", "handover", "stuck")
@@ -123,15 +123,6 @@ def lives(tally: Tally) -> None:
         tally.check(derived == states, f"{life}: {derived}")
 
 
-def marks(tally: Tally) -> None:
-    """An arrow comes from the first call that set a mark, and is early where the awaiting actor called since then."""
-    made = (("script 1", "mark", 1), ("device", "mark", 2), ("script 1", "mark", 1), ("device", "await", 1))
-    made += (("script 2", "await", 1), ("script 1", "await", 2), ("device", "await", 3))
-    calls = [Call(actor, i, name, "", str(mark), i, {"mark": mark}) for i, (actor, name, mark) in enumerate(made, 1)]
-    drawn = [(it.source.place, it.target.place, it.is_early) for it in arrows_of(calls)]
-    tally.check(drawn == [(1, 4, True), (1, 5, False), (2, 6, True)], f"marks: the arrows are {drawn}")
-
-
 def by_hand(tally: Tally) -> None:
     """Frames with layers, waits for frames, and texts of strangers."""
     html = page(scene_of(FRAMES_REPORT, json.dumps(FRAMES).encode()))
@@ -150,7 +141,7 @@ def by_hand(tally: Tally) -> None:
     check_page(tally, "late", late, LATE_REPORT)
     waits = [title_of(it) for it in having(svgs_of(late), "wait") if "frames" in title_of(it)]
     tally.check(
-        waits == ["script 1 waits for the frames before its own, from place 8 to 10"],
+        waits == ["script 1 waits for the frames before its own, from place 8 to 11"],
         f"late: waits for frames are drawn as {waits}",
     )
     tally.check(
@@ -176,9 +167,9 @@ def held(tally: Tally) -> None:
     html = page(scene_of(HELD_REPORT, json.dumps(HELD).encode()))
     check_page(tally, "held", html, HELD_REPORT)
     waits = [title_of(it) for it in having(svgs_of(html), "wait") if "image" in title_of(it)]
-    said = [f"script 1 waits for an image, from place {first} to {last}" for first, last in ((1, 5), (7, 10))]
+    said = [f"script 1 waits for an image, from place {first} to {last}" for first, last in ((4, 8), (10, 13))]
     tally.check(waits == said, f"held: waits for images are drawn as {waits}")
-    is_said = "<b>script 1</b> waits for an image in its call 5." in html
+    is_said = "<b>script 1</b> waits for an image in its call 8." in html
     tally.check(is_said, "held: it isn't said what the stuck script waits for")
 
 
@@ -199,7 +190,7 @@ def pieces(tally: Tally) -> None:
     roots = svgs_of(page(scene))
     drawn = len(having(roots, "mark-arrow")), sum("place " in title_of(it) for it in having(roots, "call"))
     tally.check(len(scene.pieces) == 2, f"pieces: there are {len(scene.pieces)}")
-    tally.check(drawn == (60 + 1, 183), f"pieces: {drawn} arrows and calls are drawn")  # one more is in the legend
+    tally.check(drawn == (60 + 2, 183), f"pieces: {drawn} arrows and calls are drawn")  # two more are in the legend
 
 
 def long_runs(tally: Tally) -> None:

@@ -11,11 +11,13 @@ from drawing.scene import (
     AXIS_HEIGHT,
     BOLD,
     CLOCK_HEIGHT,
+    HEAD_HEIGHT,
     MORE_SIZE,
     NAME_SIZE,
     Lane,
     Node,
     Scene,
+    faults_of,
     label_of,
     reach,
     said_of,
@@ -30,6 +32,7 @@ SHAPES = {
     "end": '<path class="shape" d="M0-8V8"/>',
     "pending": '<path class="shape" d="M0-8.5L8.5 0L0 8.5L-8.5 0Z"/><path class="inner" d="M0-4V1.5M0 3.4V4"/>',
     "refused": '<path class="shape" d="M0-8.5L9 7.5H-9Z"/>',
+    "fault": '<path class="shape" d="M-3.5-8.5H3.5L8.5-3.5V3.5L3.5 8.5H-3.5L-8.5 3.5V-3.5Z"/><path class="inner" d="M-4-4L4 4M4-4L-4 4"/>',
 }
 DEFS = """<defs>
 <pattern id="hatch" width="4" height="4" patternUnits="userSpaceOnUse" patternTransform="rotate(45)">
@@ -41,6 +44,8 @@ DEFS = """<defs>
 <pattern id="loss" width="6" height="6" patternUnits="userSpaceOnUse" patternTransform="rotate(-45)">
 <path class="h-loss" d="M0 0V6"/>
 </pattern>
+<pattern id="stopping" width="8" height="4" patternUnits="userSpaceOnUse"><path class="h-state" d="M0 2H8"/></pattern>
+<pattern id="exiting" width="5" height="14" patternUnits="userSpaceOnUse"><path class="h-state" d="M2.5 0V14"/></pattern>
 <pattern id="lost" width="7" height="7" patternUnits="userSpaceOnUse">
 <path class="h-lost" d="M0 0L7 7M7 0L0 7"/>
 </pattern>
@@ -50,6 +55,7 @@ DEFS = """<defs>
  markerUnits="userSpaceOnUse" orient="auto"><path class="frame-head" d="M0 0L8 4L0 8Z"/></marker>
 </defs>"""
 NEAR_EDGE = 12
+PATTERNS = {"STOPPING": "stopping", "LOSS_PENDING": "loss", "EXITING": "exiting"}
 
 
 def num(value: float) -> str:
@@ -64,8 +70,8 @@ def titled(words: str) -> str:
 
 def kind_of(call: Call) -> str:
     """The shape that a call is drawn by."""
-    if call.is_refused:
-        return "refused"
+    if call.is_bad:
+        return "fault" if call.is_fault else "refused"
     if call.code == "XR_SESSION_LOSS_PENDING":
         return "pending"
     if call.name in ("leave", "ended"):
@@ -89,6 +95,17 @@ def summed(calls: list[Call]) -> str:
     lines = [f"{text.number(count)} \u00d7 {kind}" for kind, count in kinds.most_common(6)]
     left = len(kinds) - len(lines)
     return "\n".join(lines + ([f"and {text.counted(left, 'other kind')}"] if left > 0 else []))
+
+
+def state_bar(state: str | None, width: float, is_running: bool = False, is_lost: bool = False) -> str:
+    """A piece of a session's bar: its state by a colour and, where it is on its way out, a pattern of its own."""
+    size = f'y="-8" width="{num(width)}" height="14"'
+    bar = f'<rect class="shape s-{state or "none"}" {size}/>'
+    if state in PATTERNS:
+        bar += f'<rect class="{PATTERNS[state]}" {size}/>'
+    if is_lost:
+        bar += f'<rect class="lost" {size}/>'
+    return bar + (f'<path class="running" d="M0 10h{num(width)}"/>' if is_running else "")
 
 
 class Chart:
@@ -140,7 +157,7 @@ class Chart:
     def backs(self) -> list[str]:
         """Lanes' backgrounds, and a fine line at each column."""
         out = [back_of(lane, i, self.right) for i, lane in enumerate(self.scene.lanes)]
-        lines = "".join(f"M{num(column.x)} {AXIS_HEIGHT}V{num(self.scene.height)}" for column in self.piece.columns)
+        lines = "".join(f"M{num(column.x)} {HEAD_HEIGHT}V{num(self.scene.height)}" for column in self.piece.columns)
         return out + [f'<path class="grid" d="{lines}"/>'] if lines else out
 
     def axis(self) -> list[str]:
@@ -245,17 +262,17 @@ class Chart:
             said = f"{text.counted(len(node.calls), 'getter')} of {lane.name}\n" + "\n".join(
                 f"{it.name} {it.code} {it.values}".strip() for it in node.calls[:8]
             )
-        kind = "refused" if node.refused else kind_of(call)
+        kind = "refused" if node.refused and len(node.calls) > 1 else kind_of(call)
         return f'<g class="call {kind}" tabindex="0" {at}>{titled(said)}{SHAPES[kind]}{slanted(label)}</g>'
 
     def _sum(self, lane: Lane, node: Node, column: Column) -> str:
         """A block for many calls, with their number and how many were refused."""
         width, names = BIN_WIDTH - 10, {call.name for call in node.calls}
-        count = len(node.calls)
-        words = text.counted(count, "call" if node.calls[0].code else "event")
+        count, faults = len(node.calls), faults_of(node.calls)
+        words = text.counted(count - len(faults), "call" if node.calls[0].code else "event")
         name = node.calls[0].name if len(names) == 1 else f"{len(names)} kinds"
         bad = [f"{text.number(node.refused)} refused"] if node.refused else []
-        bad += [f"{text.number(node.pending)} loss pending"] if node.pending else []
+        bad += faults + ([f"{text.number(node.pending)} loss pending"] if node.pending else [])
         place = f"places {text.number(column.first)} to {text.number(column.last)} \u00b7 {lane.name}"
         said = titled(f"{place}\n{', '.join([words] + bad)}\n{summed(node.calls)}")
         back = f'<rect class="shape" x="{num(-width / 2)}" y="-9" width="{width}" height="18" rx="4"/>'
@@ -290,18 +307,13 @@ class Chart:
     def _state(self, lane: Lane, session: Session, changes: list[Change], drawn: tuple[str, int, int, str]) -> str:
         state, start, end, label = drawn
         change, x = changes[-1], self.x_of(start)
-        width = num(max(self.x_of(end) - x, 2))
+        width = max(self.x_of(end) - x, 2)
         flags = [it for it, on in (("running", change.is_running), ("device lost", change.is_lost)) if on]
         is_open = session.ended is None and end > len(self.scene.ordered)
         until = "on" if is_open else f"to {end}"
         said = f"session {session.ordinal}: {', '.join([state] + flags)}\nfrom place {start} {until}"
         said += "".join(f"\nat place {it.place}: {', then '.join(it.told[:9])}" for it in changes[:6] if it.told)
-        bar = f'<rect class="shape s-{state}" y="-8" width="{width}" height="14"/>'
-        if state == "LOSS_PENDING" or change.is_lost:
-            kind = "lost" if change.is_lost else "loss"
-            bar += f'<rect class="{kind}" y="-8" width="{width}" height="14"/>'
-        if change.is_running:
-            bar += f'<path class="running" d="M0 10h{width}"/>'
+        bar = state_bar(state, width, change.is_running, change.is_lost)
         words = f'<g transform="translate(0 -6)">{slanted((label, ""))}</g>' if label else ""
         at = f'transform="translate({num(x)} {num(lane.line)})"'
         return f'<g class="state" tabindex="0" {at}>{titled(said)}{bar}{words}</g>'
@@ -309,9 +321,13 @@ class Chart:
     def states(self) -> list[str]:
         return [it for lane in self.scene.lanes for session in lane.sessions for it in self.session(lane, session)]
 
+    def head(self) -> str:
+        """The places and the clock."""
+        return "\n".join(self.axis() + self.clock())
+
     def body(self) -> str:
-        """All elements, the hindmost first."""
-        parts = (self.backs(), self.axis(), self.clock(), self.waits(), self.states(), self.arrows(), self.nodes())
+        """All elements of the lanes, the hindmost first."""
+        parts = (self.backs(), self.waits(), self.states(), self.arrows(), self.nodes())
         return "\n".join(it for part in parts for it in part)
 
 
@@ -321,11 +337,16 @@ def back_of(lane: Lane, number: int, width: float) -> str:
     return f'<rect class="lane{odd}" y="{num(lane.top)}" {size}/>'
 
 
+def names_of_axis(width: int) -> str:
+    """What stands left of the places and of the clock."""
+    place = '<text class="axis-name" x="12" y="16">place</text>'
+    clock = f'<text class="axis-name" x="12" y="{AXIS_HEIGHT + 13}">device clock</text>'
+    return f'<rect class="names" width="{width}" height="{HEAD_HEIGHT}"/>\n{place}\n{clock}'
+
+
 def names_of_lanes(scene: Scene, width: int) -> str:
     """The column of lanes' names, which stays where it is when one scrolls sideways."""
-    out = [f'<rect class="names" width="{width}" height="{num(scene.height)}"/>']
-    out.append('<text class="axis-name" x="12" y="16">place</text>')
-    out.append(f'<text class="axis-name" x="12" y="{AXIS_HEIGHT + 13}">device clock</text>')
+    out = [f'<rect class="names" y="{HEAD_HEIGHT}" width="{width}" height="{num(scene.height - HEAD_HEIGHT)}"/>']
     for i, lane in enumerate(scene.lanes):
         parts = lane.more.split(", ")
         y = lane.line + 5 - 13 * len(parts)

@@ -29,6 +29,16 @@
   document.addEventListener("focusout", () => show(null));
   document.addEventListener("keydown", event => event.key === "Escape" && show(null));
   document.addEventListener("scroll", () => show(ownerOf(document.activeElement)), true);
+  // the places stay in sight where the top of a chart is above the window
+  const boxes = [...document.querySelectorAll(".scroll")];
+  const keepPlaces = () => {
+    for (const box of boxes) {
+      const above = Math.min(-box.getBoundingClientRect().top, box.clientHeight - 120);
+      box.style.setProperty("--above", Math.max(0, above) + "px");
+    }
+  };
+  addEventListener("scroll", keepPlaces, {passive: true});
+  addEventListener("resize", keepPlaces);
   // one stop of the Tab key a chart; in it the arrow keys go from call to call, and from lane to lane
   for (const chart of document.querySelectorAll(".chart")) {
     const stops = [...chart.querySelectorAll("[tabindex]")];

@@ -3,7 +3,7 @@ from __future__ import annotations
 
 from pathlib import Path
 
-from drawing.chart import DEFS, Chart, names_of_lanes, num
+from drawing.chart import DEFS, Chart, names_of_axis, names_of_lanes, num
 from drawing.scene import MEANINGS, Scene
 from drawing.text import escaped, width_of
 
@@ -28,9 +28,11 @@ def picture(scene: Scene) -> str:
 <text class="title" x="12" y="22">{escaped(scene.title)}</text>
 <text class="subtitle" x="12" y="40">{escaped(meaning)}</text>
 <g transform="translate({NAMES_WIDTH} {HEAD})">
+{chart.head()}
 {chart.body()}
 </g>
 <g transform="translate(0 {HEAD})">
+{names_of_axis(NAMES_WIDTH)}
 {names_of_lanes(scene, NAMES_WIDTH)}
 </g>
 </svg>

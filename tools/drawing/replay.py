@@ -5,7 +5,12 @@ from collections.abc import Iterable
 from dataclasses import dataclass, field
 
 from drawing.report import COMPOSITOR, DEVICE, Call, Report
-from states import LAST, MOST_FRAMES, next_state
+from states import LAST, next_state
+
+STATES = ("IDLE", "READY", "SYNCHRONIZED", "VISIBLE", "FOCUSED", "STOPPING", "EXITING", "LOSS_PENDING")
+
+# the calls that may have to wait; `frame` and `ended` are what `next_frame` told
+MAY_WAIT = frozenset(("await", "wait_frame", "wait_image", "frame", "ended"))
 
 
 @dataclass
@@ -55,7 +60,7 @@ class Session:
 
 @dataclass
 class Wait:
-    """A bar: an actor waits from its previous place to its own, or for ever where the run is stuck."""
+    """A bar: an actor was held back from its previous place to its own, or is for ever where the run is stuck."""
 
     actor: str
     start: int
@@ -67,7 +72,7 @@ class Wait:
 class Arrow:
     """From the mark that released an await to it, or from where a frame ended to where it was taken.
 
-    It is early where the mark was set before the awaiting actor's previous call, so that nothing was held back.
+    It is early where the mark was set when the awaiting actor had its turn, so that nothing was held back.
     """
 
     source: Call
@@ -145,10 +150,10 @@ def mark_of(call: Call) -> int | None:
     return call.args["mark"] if call.args else None
 
 
-def arrows_of(ordered: Iterable[Call]) -> list[Arrow]:
+def arrows_of(ordered: Iterable[Call], waits: Iterable[Wait]) -> list[Arrow]:
     """An arrow for each await whose mark is known, from the call that set it first, and one for each frame."""
+    held_back = {(wait.actor, wait.end) for wait in waits}
     first: dict[int, Call] = {}
-    last: dict[str, int] = {}
     ends: list[Call] = []
     arrows = []
     for call in ordered:
@@ -160,64 +165,68 @@ def arrows_of(ordered: Iterable[Call]) -> list[Arrow]:
             text = (
                 f"mark {mark}: set by {source.actor} at place {source.place}, awaited by {call.actor} at {call.place}"
             )
-            arrows.append(Arrow(source, call, text, is_early=source.place <= last.get(call.actor, 0)))
+            arrows.append(Arrow(source, call, text, is_early=(call.actor, call.place) not in held_back))
         elif call.name == "end_frame" and call.is_met:
             ends.append(call)
         elif call.name == "frame" and call.index <= len(ends):
             source = ends[call.index - 1]
             text = f"frame {call.index}: ended at place {source.place}, taken at {call.place}"
             arrows.append(Arrow(source, call, text, is_frame=True))
-        last[call.actor] = call.place
     return arrows
 
 
-def held_back_until(ordered: Iterable[Call]) -> list[int]:
-    """For each place the last one up to it behind which a `wait_frame` would have to wait, or -1."""
-    has_waited = has_begun = False
-    pending = 0
-    found = [-1]
-    for call in ordered:
-        if call.name == "frame":
-            pending -= 1
-        elif call.name == "begin_frame" and (call.is_met or call.code == "XR_FRAME_DISCARDED"):
-            has_waited, has_begun = False, True
-        elif call.is_met and call.name in ("create_session", "begin_session", "end_session"):
-            has_waited = has_begun = False
-        elif call.is_met and call.name == "wait_frame":
-            has_waited = True
-        elif call.is_met and call.name == "end_frame":
-            has_begun = False
-            pending += 1
-        found.append(call.place if has_waited or pending + has_begun > MOST_FRAMES else found[-1])
-    return found
+class _Turns:
+    """Whose turn it was when: turns go round by the scripts in order, the device and the compositor."""
+
+    def __init__(self, report: Report) -> None:
+        self.order = {actor: i for i, actor in enumerate((*report.scripts, DEVICE, COMPOSITOR))}
+        self.ordered = report.ordered()
+        self.first_marks: dict[int, int] = {}
+        for call in self.ordered:
+            mark = mark_of(call) if call.name == "mark" else None
+            if mark:
+                self.first_marks.setdefault(mark, call.place)
+
+    def passed(self, actor: str, start: int, end: int) -> int:
+        """How many turns of an actor went by at least between its calls at these places; place 0 is the start.
+
+        Others make at most a call each until its next turn, in the order of turns behind its own.
+        """
+        own, count = self.order[actor], len(self.order)
+        last = 0 if start else count - 1 - own
+        passed = 0
+        for call in self.ordered[start : end - 1]:
+            behind = (self.order[call.actor] - own) % count
+            passed += behind <= last
+            last = behind
+        return passed
+
+    def waits(self, actor: str, calls: list[Call]) -> Iterable[Wait]:
+        """The bars of an actor: a call that could have been made at its first turn has none."""
+        last = unseen = 0
+        for call in calls:
+            mark = mark_of(call)
+            is_set = mark is not None and self.first_marks.get(mark, last + 1) <= last
+            if call.name in MAY_WAIT and not is_set and self.passed(actor, last, call.place) > unseen:
+                what = "the next frame" if actor == COMPOSITOR else awaited(call.name, mark)
+                yield Wait(actor, last, call.place, f"{actor} waits for {what}")
+            last, unseen = (call.place, _give_backs(call)) if call.is_counted else (last, unseen + 1)
 
 
-def is_passed_over(ordered: list[Call], start: int, end: int) -> bool:
-    """Whether somebody made two calls between these places. Turns go round, so whose calls these are had a turn in between,
-    and its call wasn't ready."""
-    between = [call.actor for call in ordered[start : end - 1]]
-    return len(set(between)) < len(between)
+def _give_backs(call: Call) -> int:
+    """In how many turns behind a frame, at most, the compositor gives back an image, which has no place."""
+    layers = call.values.split(" ")[4:] if call.name == "frame" else []
+    return sum(layer.count(",") + 1 for layer in layers)
 
 
 def waits_of(report: Report) -> list[Wait]:
-    """The bars of all actors: awaits, waits for frames and images, and who is stuck."""
-    waits = []
-    last = {actor: 0 for actor in report.actors}
-    ordered = report.ordered()
-    held_back = held_back_until(ordered)
-    for actor, calls in report.actors.items():
-        for call in calls:
-            is_late = call.name == "wait_frame" and call.is_met and held_back[call.place - 1] >= last[actor]
-            is_late |= call.name == "wait_image" and is_passed_over(ordered, last[actor], call.place)
-            if call.name == "await" or actor == COMPOSITOR or is_late:
-                mark = mark_of(call)
-                what = "the next frame" if actor == COMPOSITOR else awaited(call.name, mark)
-                waits.append(Wait(actor, last[actor], call.place, f"{actor} waits for {what}"))
-            if call.is_counted:
-                last[actor] = call.place
+    """The bars of all actors: who was held back until when, and who is stuck."""
+    turns = _Turns(report)
+    waits = [wait for actor, calls in report.actors.items() for wait in turns.waits(actor, calls)]
     for waiter in report.stuck:
+        places = [call.place for call in report.actors[waiter.actor] if call.is_counted]
         what = awaited(waiter.name, waiter.mark)
-        waits.append(Wait(waiter.actor, last[waiter.actor], None, f"waits for {what}"))
+        waits.append(Wait(waiter.actor, places[-1] if places else 0, None, f"waits for {what}"))
     return waits
 
 

@@ -16,6 +16,7 @@ OPS = frozenset(
 )
 GETTERS = frozenset(("get_boolean", "get_float", "get_vector", "get_pose_active"))
 MET = ("XR_SUCCESS", "XR_SESSION_LOSS_PENDING")
+FAULTS = ("fault", "garbled")
 MOST_SCRIPTS = 8
 
 _N = r"\d{1,20}"
@@ -74,7 +75,16 @@ class Call:
 
     @property
     def is_refused(self) -> bool:
-        return self.code.startswith("XR_ERROR_") or self.name in ("fault", "garbled")
+        return self.code.startswith("XR_ERROR_")
+
+    @property
+    def is_fault(self) -> bool:
+        """Whether this is no event of the device but its end: it couldn't be read on, or a line is malformed."""
+        return self.name in FAULTS
+
+    @property
+    def is_bad(self) -> bool:
+        return self.is_refused or self.is_fault
 
     @property
     def is_met(self) -> bool:
@@ -109,6 +119,21 @@ class Report:
         return sorted(counted, key=lambda call: call.place)
 
 
+def _carriage_return(line: int) -> str:
+    return f"the report's line {line} has a carriage return: a report's lines end in a line feed alone; tr -d '\\r' mends it"
+
+
+def _no_report(data: bytes) -> str:
+    """Why a text has another first line; one that a shell or an editor has rewritten is told apart from no report."""
+    if data.startswith(b"xrsim report 1\r"):
+        return _carriage_return(1)
+    if data.startswith(b"\xef\xbb\xbfxrsim report 1"):
+        return "the report has a byte order mark in front, which a report hasn't"
+    if data.startswith((b"\xff\xfex\x00r\x00", b"\xfe\xff\x00x\x00r")):
+        return "the report was written over as UTF-16, as some shells do at `>`; a report is UTF-8"
+    return "this is no report: its first line isn't `xrsim report 1`"
+
+
 class _Lines:
     """The lines of a text, one after another."""
 
@@ -116,13 +141,15 @@ class _Lines:
         if not data:
             raise Unreadable("the report is empty")
         if not data.startswith(b"xrsim report 1\n"):
-            raise Unreadable("this is no report: its first line isn't `xrsim report 1`")
+            raise Unreadable(_no_report(data))
         try:
             text = data.decode("utf-8")
         except UnicodeDecodeError as wrong:
             raise Unreadable(f"the report's line {data.count(10, 0, wrong.start) + 1} isn't UTF-8") from None
         if not text.endswith("\n"):
             raise Unreadable(f"the report is cut: its last line, {text.count(chr(10)) + 1}, has no line feed")
+        if "\r" in text:
+            raise Unreadable(_carriage_return(text.count("\n", 0, text.index("\r")) + 1))
         self.lines = text.split("\n")[:-1]
         self.at = 1
 

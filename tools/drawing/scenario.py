@@ -4,6 +4,7 @@ from __future__ import annotations
 import json
 from typing import Any
 
+from drawing.agree import check_arguments
 from drawing.report import MOST_SCRIPTS, OPS, Report, Unreadable
 
 MOST_BYTES = 1_048_576
@@ -70,6 +71,7 @@ def join(report: Report, scripts: list[list[Op]]) -> None:
                 if op["op"] != waiter.name:
                     raise _differs(actor, waiter.index, f"`{waiter.name}`", f"`{op['op']}`")
                 waiter.mark = op.get("mark")
+    check_arguments(report)
 
 
 def setters(report: Report, scripts: list[list[Op]], mark: int) -> list[tuple[str, int]]:

@@ -13,6 +13,7 @@ SIN, COS = sin(radians(SLANT)), cos(radians(SLANT))
 NAME_SIZE, MORE_SIZE, BOLD = 11.5, 10.5, 1.08
 MOST_SESSION_LANES = 6
 AXIS_HEIGHT, CLOCK_HEIGHT = 24, 24
+HEAD_HEIGHT = AXIS_HEIGHT + CLOCK_HEIGHT
 
 GIVEN = {"string_to_path": "atom ", "acquire_image": "image ", "path_to_string": "size "}
 UNTOLD = ("await", "get_system")
@@ -86,12 +87,21 @@ def way_of(states: list[str]) -> str:
     return " \u2192 ".join(states if len(states) < 4 else [states[0], "\u2026", states[-1]])
 
 
+def faults_of(calls: list[Call]) -> list[str]:
+    """Words for what isn't an event but the end of a device's text."""
+    words = {"fault": "fault", "garbled": "garbled line"}
+    return [f"1 {words[call.name]}" for call in calls if call.is_fault]
+
+
 def said_of(call: Call) -> str:
     """What is shown of a call where one points at it: place, actor, name, arguments, code, values."""
     number = f" {text.number(call.index)}" if call.index else ""
     what = {DEVICE: "event", COMPOSITOR: "turn"}.get(call.actor, "call")
     place = f"place {text.number(call.place)}" if call.is_counted else f"publication {text.number(call.place)}"
-    front = f"{place} \u00b7 {call.actor}, {what}{number}"
+    front = f"{place} \u00b7 {call.actor}" + ("" if call.is_fault else f", {what}{number}")
+    if call.is_fault:
+        why = f"line {call.values} of its text is malformed" if call.values else "its text couldn't be read on"
+        return f"{front}\n{call.name} {call.values}".strip() + f"\n{why}; the run went on without the device"
     if call.name == "clock":
         return f"{front}\nclock {call.values}\n{replay.in_units(int(call.values))} of device time"
     args = text.arguments(call.args) if call.args else call.values if not call.code else ""
@@ -112,7 +122,7 @@ class Scene:
         self.ordered = report.ordered()
         self.sessions = replay.sessions_of(self.ordered)
         self.waits = replay.waits_of(report)
-        self.arrows = replay.arrows_of(self.ordered)
+        self.arrows = replay.arrows_of(self.ordered, self.waits)
         self.clock = replay.clock_of(report)
         self.columns = cols.columns_of(self.ordered)
         self.index = cols.index_of(self.columns, len(self.ordered))
@@ -141,8 +151,10 @@ class Scene:
     def _lane(self, actor: str) -> Lane:
         calls = self.report.actors[actor]
         refused = sum(call.is_refused for call in calls)
+        faults = faults_of(calls)
         what = {DEVICE: "event", COMPOSITOR: "turn"}.get(actor, "call")
-        lane = Lane(actor, text.counted(len(calls), what) + (f", {text.number(refused)} refused" if refused else ""))
+        more = [text.counted(len(calls) - len(faults), what), *([f"{text.number(refused)} refused"] if refused else [])]
+        lane = Lane(actor, ", ".join(more + faults))
         last = 0
         for call in calls:
             column = self.index[call.place if call.is_counted else last] if self.columns else 0
@@ -179,7 +191,7 @@ class Scene:
         return max(heights, default=20.0)
 
     def _place_lanes(self) -> float:
-        top: float = AXIS_HEIGHT + CLOCK_HEIGHT
+        top: float = HEAD_HEIGHT
         for lane in self.lanes:
             lane.top = top
             lane.line = round(top + max(self._label_height(lane), 24) + 12)
