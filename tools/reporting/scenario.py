@@ -38,6 +38,11 @@ def text_at(text: str, at: int) -> str:
     return one_line(text[at : min(end, at + MOST_SHOWN)])
 
 
+def arguments_in(fields: dict[str, Any]) -> dict[str, Any]:
+    """The fields of an op without its name."""
+    return {key: value for key, value in fields.items() if key != "op"}
+
+
 def read_scenario(data: bytes) -> Scripts:
     """The ops of a scenario's scripts, also where some of them aren't run yet."""
     try:
@@ -47,7 +52,7 @@ def read_scenario(data: bytes) -> Scripts:
     found = look_at(data, schema)
     if found.refusal not in (None, "unbuilt"):
         raise NoScenario(found.refusal)
-    return [[Op(it.op, it.fields, text_at(found.text, it.at)) for it in steps] for steps in found.scripts]
+    return [[Op(it.op, arguments_in(it.fields), text_at(found.text, it.at)) for it in steps] for steps in found.scripts]
 
 
 def op_at(scripts: Scripts, script: int, number: int) -> Op | None:
