@@ -1,4 +1,4 @@
-"""What tools/check and tools/timeline both know of docs/MACHINE.md: the table of states, and the limit of frames."""
+"""What the tools know of docs/MACHINE.md: the table of states, which tools/check and tools/timeline share, and the limit of frames."""
 from __future__ import annotations
 
 # a wait for a frame is held back while more than these are pending or begun
