@@ -12,31 +12,60 @@ from .places import MOST_SHOWN, Finding, count, encoding_of, listed, near_hint, 
 MOST_TEXT = 16_777_216
 MOST_LINE = 255
 MOST_FINDINGS = 5
+MOST_LISTED = 10
 LAST_TIME = 2**62 - 1
 
-# the lines that are run so far, by their first word: the words that may be its second, and its numbers, each with its place
-# and range; .ci/check compares them with the program
-ORIGINS = ("view", "local", "stage") + tuple(
-    f"/user/hand/{hand}/input/{pose}/pose" for hand in ("left", "right") for pose in ("grip", "aim")
+HANDS = ("/user/hand/left", "/user/hand/right")
+USERS = (*HANDS, "/user/head", "/user/gamepad", "/user/treadmill")
+PROFILES = ("khr/simple_controller", "oculus/touch_controller", "htc/vive_controller", "microsoft/xbox_controller")
+INPUTS = tuple(
+    """select/click menu/click system/click view/click a/click a/touch b/click b/touch x/click x/touch y/click y/touch
+    squeeze/click squeeze/value trigger/click trigger/value trigger/touch thumbstick/x thumbstick/y thumbstick/click
+    thumbstick/touch thumbrest/touch trackpad/x trackpad/y trackpad/click trackpad/touch dpad_up/click dpad_down/click
+    dpad_left/click dpad_right/click shoulder_left/click shoulder_right/click thumbstick_left/x thumbstick_left/y
+    thumbstick_left/click thumbstick_right/x thumbstick_right/y thumbstick_right/click trigger_left/value
+    trigger_right/value""".split()
 )
-WORDS = {"wish": ("rest", "ready", "visible", "focused"), "stage": ("on", "off"), "pose": ORIGINS}
+ORIGINS = ("view", "local", "stage", *(f"{hand}/input/{pose}/pose" for hand in HANDS for pose in ("grip", "aim")))
+
+# the lines by their first word: the words that may stand at a place behind it, and its numbers, each with its place and range;
+# .ci/check compares them with the program
+WORDS = {
+    "wish": {1: ("rest", "ready", "visible", "focused")},
+    "stage": {1: ("on", "off")},
+    "profile": {1: USERS, 2: (*PROFILES, "none")},
+    "input": {1: tuple(f"{user}/input/{name}" for user in USERS for name in INPUTS)},
+    "pose": {1: ORIGINS},
+}
 NUMBERS = {
     "clock": ((1, 0, LAST_TIME),),
     "grid": ((1, 0, LAST_TIME), (2, 1, 1_000_000_000)),
+    "input": ((2, -32768, 32768),),
     "pose": ((2, 0, LAST_TIME), (3, 1, 2**63 - 1)),
     "mark": ((1, 1, 64),),
     "await": ((1, 1, 64),),
 }
 FORMS = {
     it.partition(" ")[0]: it
-    for it in ("clock T", "grid B P", "wish W", "loss", "lost", "stage S", "pose O T N", "mark M", "await M")
+    for it in (
+        "clock T",
+        "grid B P",
+        "wish W",
+        "loss",
+        "lost",
+        "stage S",
+        "profile USER NAME",
+        "input USER/input/ENTRY V",
+        "pose O T N",
+        "mark M",
+        "await M",
+    )
 }
-UNRUN = ("profile", "input")
 
 # what begins a comment elsewhere
 COMMENTS = ("//", ";", "--", "/*", "%")
 
-DIGITS = re.compile(r"0|[1-9][0-9]*")
+DIGITS = re.compile(r"0|-?[1-9][0-9]*")
 BEHIND_WORDS = re.compile(r"(\S)[ \t]+(?:#|//|;)")
 ESCAPES = {"\t": "\\t", "\r": "\\r", "\0": "\\0", "\\": "\\\\"}
 
@@ -52,16 +81,21 @@ def numbers_up_to(most: int) -> str:
     return "|".join([*parts, digits])
 
 
+def numbers_between(least: int, most: int) -> str:
+    """A pattern of the numbers of a range whose ends are on either side of zero, or that begins at 0 or 1."""
+    below = f"|-(?:{numbers_up_to(-least)})" if least < 0 else ""
+    return f"{numbers_up_to(most)}{below}{'' if least > 0 else '|0'}"
+
+
 def pattern_of(first: str) -> str:
     """A pattern of the lines that begin with this word."""
     ranges = {place: (least, most) for place, least, most in NUMBERS.get(first, ())}
     words = [first]
     for place in range(1, FORMS[first].count(" ") + 1):
         if place in ranges:
-            least, most = ranges[place]
-            words.append(f"(?:{numbers_up_to(most)}{'' if least else '|0'})")
+            words.append(f"(?:{numbers_between(*ranges[place])})")
         else:
-            words.append(f"(?:{'|'.join(map(re.escape, WORDS[first]))})")
+            words.append(f"(?:{'|'.join(map(re.escape, WORDS[first][place]))})")
     return " ".join(words)
 
 
@@ -117,11 +151,15 @@ Why = tuple[int, str]
 def wrong_number(word: str, least: int, most: int) -> str | None:
     """Why a word is no number of a range, if it is none."""
     if DIGITS.fullmatch(word) is None:
-        if re.fullmatch(r"0[0-9]+", word):
+        if word == "-0":
+            return "the number `-0` is written `0`"
+        if re.fullmatch(r"-?0[0-9]+", word):
             return f"the number `{word}` has a leading zero"
-        if re.fullmatch(r"[-+][0-9]+", word):
-            return f"the number `{word}` has a sign"
-        return f"`{word}` is no number: a number is decimal digits"
+        if re.fullmatch(r"[+][0-9]+", word):
+            return f"the number `{word}` has a plus"
+        return f"`{word}` is no number: a number is decimal digits{', behind a minus where it is below 0' * (least < 0)}"
+    if least >= 0 and word.startswith("-"):
+        return f"the number `{word}` has a sign"
     if len(word) > 19 or not least <= int(word) <= most:
         return f"the number `{word}` is out of range: it may be {least} to {most}"
     return None
@@ -129,8 +167,6 @@ def wrong_number(word: str, least: int, most: int) -> str | None:
 
 def wrong_first(first: str) -> str | None:
     """Why this word begins no line, if it begins none."""
-    if first in UNRUN:
-        return f"a line with `{first}` isn't run yet, and until then such a line is garbled"
     if first in FORMS:
         return None
     if first.startswith(COMMENTS):
@@ -138,6 +174,14 @@ def wrong_first(first: str) -> str | None:
     near = nearest(first.lower(), FORMS)
     hint = f"; did you mean `{near}`?" if near else f": a line begins with one of {listed(FORMS)}"
     return f"`{first}` begins no line{hint}"
+
+
+def wrong_word(word: str, known: tuple[str, ...]) -> str:
+    """Why a word is none of these. A long list is told by what is near the word."""
+    near = near_hint(word, known, "`")
+    if len(known) <= MOST_LISTED:
+        return f"`{word}` is none of {listed(known)}{near}"
+    return f"`{word}` is no input: one is a user path, `/input/` and an entry, as `{known[0]}`{near}"
 
 
 def wrong_words(line: str) -> Why | None:
@@ -152,9 +196,9 @@ def wrong_words(line: str) -> Why | None:
     if len(words) != wanted:
         at = places[wanted] if len(words) > wanted else len(line)
         return at, f"the line has {count(len(words), 'word')}, and `{form}` has {wanted}"
-    known = WORDS.get(words[0])
-    if known and words[1] not in known:
-        return places[1], f"`{words[1]}` is none of {listed(known)}{near_hint(words[1], known, '`')}"
+    for place, known in WORDS.get(words[0], {}).items():
+        if words[place] not in known:
+            return places[place], wrong_word(words[place], known)
     for place, least, most in NUMBERS.get(words[0], ()):
         why = wrong_number(words[place], least, most)
         if why:

@@ -1,5 +1,5 @@
 //! `xr_bench_calls` measures calls on a core of one application: rounds of calls, locating, frames without and with images,
-//! waits in vain, and suggestions. A measure and no test. It touches the clock and standard output.
+//! waits in vain, suggestions, and syncs. A measure and no test. It touches the clock and standard output.
 #![tactic(auto)]
 
 mod asking;
@@ -9,6 +9,7 @@ mod locates;
 mod measures;
 mod round;
 mod suggests;
+mod syncs;
 
 use measures::measure_each;
 use std::env;
@@ -22,7 +23,8 @@ second it answers. It locates a head in a room as often as there are rounds. It 
 each waited for, begun, ended and taken, beside asking for the system five times. It paints as many images,
 each acquired, waited for, painted and released, beside asking for the system six times; shows as many
 frames of two images, and as many that are painted anew; and waits as often in vain for an image, and for a
-mark. It suggests as many bindings, 512 at once. Of each it prints how many a second there are.
+mark. It suggests as many bindings, 512 at once. It syncs one action with one binding as often, and 64 actions
+with 512 bindings a 64th as often. Of each it prints how many a second there are.
 ";
 
 /// The rounds that the words ask for.

@@ -8,6 +8,7 @@ use crate::images::{
 use crate::locates::{locate_often, set_out};
 use crate::round::round_often;
 use crate::suggests::{set_up, suggest_often};
+use crate::syncs::sync_often;
 use std::alloc::Global;
 use std::io;
 use std::io::Print;
@@ -123,7 +124,18 @@ fn tell_suggesting<R: Clock + Print>(rt: &R, core: &mut PlainCore, rounds: u64) 
     tell(rt, start, "suggesting", taken, "bindings")
 }
 
-/// What is measured on a core of its own.
+/// Measures syncs: of one action with one binding, and, a 64th as often, of 64 actions with 512.
+fn tell_syncs<R: Clock + Print>(rt: &R, rounds: u64) -> io::Result<()> {
+    let start = Instant::now(rt)?;
+    let _ = sync_often(false, rounds);
+    tell(rt, start, "syncing one action", rounds, "times")?;
+    let times = (rounds / 64).max(1);
+    let start = Instant::now(rt)?;
+    let _ = sync_often(true, times);
+    tell(rt, start, "syncing all actions", times, "times")
+}
+
+/// What is measured on a core of its own; syncs need none.
 #[derive(Clone, Copy)]
 enum Measure {
     Calls,
@@ -133,6 +145,7 @@ enum Measure {
     Images,
     Waits,
     Suggesting,
+    Syncs,
 }
 
 /// Takes this measure on a core that is new.
@@ -150,6 +163,7 @@ fn take<R: Clock + Print>(
         Measure::Images => tell_images(rt, core, rounds),
         Measure::Waits => tell_waits(rt, core, rounds),
         Measure::Suggesting => tell_suggesting(rt, core, rounds),
+        Measure::Syncs => tell_syncs(rt, rounds),
     }
 }
 
@@ -167,6 +181,7 @@ pub(crate) fn measure_each<R: Clock + Print>(
         Measure::Images,
         Measure::Waits,
         Measure::Suggesting,
+        Measure::Syncs,
     ] {
         let Ok(mut core) = PlainCore::start(alloc, 1) else {
             return Ok(false);

@@ -1,4 +1,5 @@
-// How one call is decided but for the compositor's: by the group that it belongs to, a file of `calls` each.
+// How one call is decided but for the compositor's: by the group that it belongs to, a file of `calls` each. No group is
+// inlined here, so that a call pays for the locals of its own group alone.
 ghost use Rattle.std.specs.Prelude.{◌≡◌, ◌<◌, ◌^◌, true, length, List};
 ghost use Rattle.xr_types.specs.declared.frames.Image.{Image};
 ghost use Rattle.xr_types.specs.Frames.{ShownFrame};

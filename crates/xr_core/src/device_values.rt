@@ -1,16 +1,26 @@
 // What the device has told of itself.
-ghost use Rattle.std.specs.Prelude.{◌≡◌, ◌≤ℤ◌, pos};
+ghost use Rattle.std.specs.Prelude.{◌≡◌, ◌≤◌, ◌≤ℤ◌, pos, slice_set};
 ghost use Rattle.xr_model.specs.machine.Device.{first_device};
+ghost use Rattle.xr_model.specs.machine.Inputs.{with_value, without_values};
 ghost use Rattle.xr_model.specs.machine.Rules.Device.{later_of};
+ghost use Rattle.xr_types.specs.declared.limits.TheConstants.{MOST_ROW};
+ghost use Rattle.xr_types.specs.Users.{user_place};
 
 use std::marker::Model;
-use xr_types::Wish;
+use xr_fixed::{clamp, pressed};
+use xr_types::{Inputs, Profile, ROWS, USERS, User, Wish, is_digital, user_place};
 
 /// The period of frames until the device tells another, in ns.
 const FIRST_PERIOD: i64 = 11_111_111;
 
+/// Every input is 0, and none is pressed.
+const NO_INPUTS: Inputs = Inputs {
+    values: [[0; ROWS]; USERS],
+    pressed: [[false; ROWS]; USERS],
+};
+
 /// The device's clock, the base and the period of frames, all in ns of device time, the state that it wishes sessions to
-/// be in, and whether it has a stage.
+/// be in, whether it has a stage, the profile that is connected at each user path, and what its inputs show.
 #[derive(Drop)]
 pub(crate) struct DeviceValues {
     clock: i64,
@@ -18,6 +28,8 @@ pub(crate) struct DeviceValues {
     period: i64,
     wish: Wish,
     stage: bool,
+    profiles: [Option<Profile>; USERS],
+    inputs: Inputs,
 }
 
 impl Model for DeviceValues {
@@ -28,7 +40,7 @@ impl Model for DeviceValues {
 
     ghost invariant = { λ d. (pos 0 ≤ℤ d.clock) × (pos 1 ≤ℤ d.period) };
 
-    ghost view = { λ d. record { clock = d.clock; base = d.base; period = d.period; wish = d.wish; stage = d.stage } };
+    ghost view = { λ d. record { clock = d.clock; base = d.base; period = d.period; wish = d.wish; stage = d.stage; profiles = d.profiles; inputs = d.inputs } };
 }
 
 impl DeviceValues {
@@ -42,6 +54,8 @@ impl DeviceValues {
             period: FIRST_PERIOD,
             wish: Wish::Rest,
             stage: false,
+            profiles: [None; USERS],
+            inputs: NO_INPUTS,
         }
     }
 
@@ -106,5 +120,31 @@ impl DeviceValues {
         ensures { self.new ≡ record self.old { stage = stage } }
     {
         self.stage = stage;
+    }
+
+    /// A profile is connected at a user path, or none: its inputs are 0 from then on.
+    pub(crate) fn connect(&mut self, user: User, profile: Option<Profile>)
+        ensures { self.new ≡ record self.old { profiles = slice_set self.old.profiles (user_place user) profile; inputs = without_values self.old.inputs user } }
+    {
+        let place = user_place(user);
+        self.profiles[place] = profile;
+        self.inputs.values[place] = [0; ROWS];
+        self.inputs.pressed[place] = [false; ROWS];
+    }
+
+    /// An input shows this value, from -32768 to 32768. Rows are 1 to 40.
+    pub(crate) fn set_input(&mut self, user: User, row: u8, value: i32)
+        requires first { 1 ≤ row }
+        requires last { row ≤ MOST_ROW }
+        ensures { self.new ≡ record self.old { inputs = with_value self.old.inputs user row value } }
+    {
+        let user = user_place(user);
+        let place = row as usize - 1;
+        let stored = clamp(row, value);
+        self.inputs.values[user][place] = stored;
+        if !is_digital(row) {
+            let before = self.inputs.pressed[user][place];
+            self.inputs.pressed[user][place] = pressed(before, stored);
+        }
     }
 }

@@ -7,8 +7,7 @@ ghost use Rattle.xr_model.specs.machine.PartAnswers.{or_refused};
 
 use xr_paths::Paths;
 use xr_profiles::user_of;
-use xr_sets::{USERS, user_place};
-use xr_types::Code;
+use xr_types::{Code, USERS, user_place};
 
 /// For each user path, whether it is among those of these atoms. Refused is the first that is no atom (`PathInvalid`), or
 /// is no user path or stood there before (`PathUnsupported`).

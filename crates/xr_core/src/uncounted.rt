@@ -99,6 +99,7 @@ impl Uncounted {
 
     /// Shows the frame that is pending longest, and takes it. Where none is the end is told, or the call waits until every
     /// application has left. It is refused while an image is held.
+    #[inline(never)]
     fn next_frame<C: Cells>(&mut self, cells: &mut C, shown: &mut Shown) -> Result<Reply, Halt>
         requires may { self.old.held ≡ [] → (stamps : List ℕ) → MayCall C.may C.does cells.old (peek_calls (first_images self.old.kept.frames.pending) stamps) }
         ensures { (who : Actor) (text : List ℕ) → DecidesAlong C.does (record { core = self.old; cells = cells.old; lent = record { text = text; frame = shown.old } }) (record { core = self.new; cells = cells.new; lent = record { text = text; frame = shown.new } }) who next_frame result }
@@ -131,6 +132,7 @@ impl Uncounted {
     }
 
     /// Gives the first image back that is held.
+    #[inline(never)]
     fn image_done<C: Cells>(&mut self, cells: &mut C) -> Result<Reply, Halt>
         requires may { MayCall C.may C.does cells.old (return_calls (take 1 self.old.held)) }
         ensures { (who : Actor) (lent : Lent) → DecidesAlong C.does (record { core = self.old; cells = cells.old; lent = lent }) (record { core = self.new; cells = cells.new; lent = lent }) who image_done result }

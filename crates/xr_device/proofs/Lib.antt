@@ -1,5 +1,6 @@
 pub mod FirstBytes
 pub mod Digits
+pub mod Inputs
 pub mod Poses
 pub mod TextLines
 pub mod HeldBytes

@@ -10,7 +10,7 @@ use std::marker::Model;
 use xr_types::DeviceEvent;
 
 /// Whether a device may tell an event: its numbers are in range, it is none of the two ways in which a device ends early,
-/// its part is built, and its pose is one that a line tells.
+/// and its pose is one that a line tells.
 pub fn may_tell(event: &DeviceEvent) -> bool
     ensures { result ≡ may_tell event.now }
 {
@@ -23,6 +23,8 @@ pub fn may_tell(event: &DeviceEvent) -> bool
                 | DeviceEvent::Loss
                 | DeviceEvent::Lost
                 | DeviceEvent::Stage(_)
+                | DeviceEvent::Profile { .. }
+                | DeviceEvent::Input { .. }
                 | DeviceEvent::Pose {
                     pose: 0..=GREATEST,
                     ..

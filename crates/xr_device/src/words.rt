@@ -1,15 +1,15 @@
 // What one line says: its words and its event.
-ghost use Rattle.std.specs.Prelude.{◌≡◌, ◌≤◌, true, [], ◌∷◌, Some, MatchOption, IfSome, option_map};
-ghost use Rattle.xr_model.specs.device_text.DeviceText.{words_of, number_of, integer_of, grid_by, switch_of, pose_by, event_by, if_checked, event_of, meaning_of};
-ghost use Rattle.xr_types.specs.Printed.{origin_name, all_origins};
+ghost use Rattle.std.specs.Prelude.{◌≡◌, ◌≤◌, pos, negsuc, true, [], ◌∷◌, Some, MatchOption, IfSome, option_map};
+ghost use Rattle.xr_model.specs.device_text.DeviceText.{words_of, number_of, integer_of, grid_by, switch_of, connected_of, profile_by, input_at, input_among, input_by, pose_by, event_by, if_checked, event_of, meaning_of};
+ghost use Rattle.xr_types.specs.Printed.{origin_name, all_origins, user_path, all_users};
 ghost use Rattle.xr_types.specs.Words.{named};
 ghost use Rattle.xr_model.specs.laws.DeviceLaws.{is_of_line};
-ghost use Rattle.xr_device.specs.inside.Said.{ranged, meaning, IsSaidTold};
+ghost use Rattle.xr_device.specs.inside.Said.{ranged, whole, meaning, IsSaidTold};
 ghost use Rattle.xr_types.specs.declared.device.DeviceEvent.TheVariants as event;
 
 use crate::bytes::place_of;
 use crate::numbers::{GREATEST, integer_in, number_in};
-use xr_types::{DeviceEvent, MOST_MARK, Origin, named};
+use xr_types::{DeviceEvent, MOST_MARK, Origin, Profile, User, Word, behind, named, row_of};
 
 /// What a line says.
 #[derive(Clone, Copy)]
@@ -25,6 +25,10 @@ pub(crate) enum Said {
 const LAST_TIME: i64 = (1 << 62) - 1;
 
 const MOST_PERIOD: i64 = 1_000_000_000;
+
+const LEAST_VALUE: i64 = -32_768;
+
+const MOST_VALUE: i64 = 32_768;
 
 /// The mark that a word is.
 fn mark(word: &[u8]) -> Option<u8>
@@ -115,6 +119,91 @@ fn pose(origin: &[u8], time: &[u8], pose: &[u8]) -> Option<DeviceEvent>
     pose_of(named(origin), time, pose)
 }
 
+/// The profile that is connected, or none.
+fn connected(word: &[u8]) -> Option<Option<Profile>>
+    ensures { result ≡ connected_of word.now }
+{
+    if word == b"none".as_slice() {
+        return Some(None);
+    }
+    match named(word) {
+        Some(profile) => Some(Some(profile)),
+        None => None,
+    }
+}
+
+fn profile(user: &[u8], name: &[u8]) -> Option<DeviceEvent>
+    ensures value { result ≡ if_checked (profile_by (named user_path all_users user.now) (connected_of name.now)) }
+    ensures line { IfSome result (λ e. is_of_line e ≡ true) }
+{
+    let Some(user) = named(user) else {
+        return None;
+    };
+    let Some(profile) = connected(name) else {
+        return None;
+    };
+    Some(DeviceEvent::Profile { user, profile })
+}
+
+/// The input that a word names at a user path, by its row.
+fn input_at(word: &[u8], user: User) -> Option<(User, u8)>
+    ensures { result ≡ input_at word.now user }
+{
+    let below = behind(user.word().as_bytes(), word)?;
+    let name = behind(b"/input/", below)?;
+    let row = row_of(name)?;
+    Some((user, row))
+}
+
+/// The user path of an input that a word names, and its row.
+fn source_of(word: &[u8]) -> Option<(User, u8)>
+    ensures { result ≡ input_among word.now all_users }
+{
+    for user in User::all() {
+        if let Some(source) = input_at(word, *user) {
+            return Some(source);
+        }
+    }
+    None
+}
+
+/// An input's value, where that is in its range and the row is one.
+fn checked_input(user: User, row: u8, value: i32) -> Option<DeviceEvent>
+    ensures value { result ≡ if_checked (Some (event.Input user row value)) }
+    ensures line { IfSome result (λ e. is_of_line e ≡ true) }
+{
+    let event = DeviceEvent::Input { user, row, value };
+    if event.check() { Some(event) } else { None }
+}
+
+/// The value that a word is.
+fn input_value(word: &[u8]) -> Option<i32>
+    ensures { result ≡ whole (negsuc 32767) (pos 32768) (integer_of word.now) }
+{
+    match integer_in(word, LEAST_VALUE, MOST_VALUE) {
+        Some(value) => Some(value as i32),
+        None => None,
+    }
+}
+
+/// The value of an input that was read.
+#[tactic(auto, using(crate::proofs::Inputs::inputs))]
+fn value_of(source: Option<(User, u8)>, value: &[u8]) -> Option<DeviceEvent>
+    ensures value { result ≡ if_checked (input_by source (integer_of value.now)) }
+    ensures line { IfSome result (λ e. is_of_line e ≡ true) }
+{
+    let (user, row) = source?;
+    let value = input_value(value)?;
+    checked_input(user, row, value)
+}
+
+fn input(source: &[u8], value: &[u8]) -> Option<DeviceEvent>
+    ensures value { result ≡ if_checked (input_by (input_among source.now all_users) (integer_of value.now)) }
+    ensures line { IfSome result (λ e. is_of_line e ≡ true) }
+{
+    value_of(source_of(source), value)
+}
+
 /// The event of a line of two words.
 fn event_of_two(word: &[u8], a: &[u8]) -> Option<DeviceEvent>
     ensures value { result ≡ if_checked (event_by (word.now ∷ a.now ∷ [])) }
@@ -157,6 +246,12 @@ fn event_of_three(word: &[u8], a: &[u8], b: &[u8]) -> Option<DeviceEvent>
 {
     if word == b"grid".as_slice() {
         return grid(a, b);
+    }
+    if word == b"profile".as_slice() {
+        return profile(a, b);
+    }
+    if word == b"input".as_slice() {
+        return input(a, b);
     }
     None
 }

@@ -7,14 +7,16 @@ use Rattle.xr_types.specs.declared.calls.Actor.TheVariants as actor
 use Rattle.xr_types.specs.declared.device.DeviceEvent.{DeviceEvent}
 use Rattle.xr_types.specs.declared.device.DeviceEvent.TheVariants as event
 use Rattle.xr_types.specs.declared.device.Wish.{Wish}
+use Rattle.xr_types.specs.declared.input.Profile.{Profile}
+use Rattle.xr_types.specs.declared.input.User.{User}
 use Rattle.xr_types.specs.declared.spaces.Origin.{Origin}
 use Rattle.xr_types.specs.declared.made.Lists.{Lists}
 use Rattle.xr_types.specs.declared.scenario.Scenario.{Scenario}
 use Rattle.xr_types.specs.declared.limits.TheConstants.{MOST_LINE, MOST_DEVICE}
 use Rattle.xr_types.specs.Device.{checks}
-use Rattle.xr_types.specs.Printed.{wish_name, all_wishes, origin_name, all_origins}
+use Rattle.xr_types.specs.Printed.{wish_name, all_wishes, origin_name, all_origins, user_path, all_users}
 use Rattle.xr_types.specs.Words.{named}
-use Rattle.xr_model.specs.device_text.DeviceText.{Line, lines_in, line_size, is_word, Meaning, skipped, tells, malformed, event_or_none, meaning_of, words_of, number_of, integer_of, grid_by, switch_of, most_pose, pose_by, event_by, if_checked, event_of, Ending, ends, garbled_at, DeviceStream, nothing_more, told_by, told_from, told_in}
+use Rattle.xr_model.specs.device_text.DeviceText.{Line, lines_in, line_size, is_word, Meaning, skipped, tells, malformed, event_or_none, meaning_of, words_of, number_of, integer_of, grid_by, switch_of, connected_of, profile_by, input_among, input_by, most_pose, pose_by, event_by, if_checked, event_of, Ending, ends, garbled_at, DeviceStream, nothing_more, told_by, told_from, told_in}
 use Rattle.xr_model.specs.machine.History.{calls_of}
 use Rattle.xr_model.specs.runs.Lists.{events_in}
 use Rattle.xr_model.specs.report.RunEnding.{is_garbled}
@@ -53,9 +55,22 @@ two_clean false false false false true t None w s = tt
 two_clean false false false false true t (Some n) w s = refl
 two_clean false false false false false t n w s = tt
 
-three_clean : (grid : Bool) (base period : Option ℤ) → IsCleanIfSome (if grid then grid_by base period else None)
-three_clean true base period = grid_clean base period
-three_clean false base period = tt
+profile_clean : (who : Option User) (profile : Option (Option Profile)) → IsCleanIfSome (profile_by who profile)
+profile_clean None profile = tt
+profile_clean (Some who) None = tt
+profile_clean (Some who) (Some profile) = refl
+
+input_clean : (source : Option (User × ℕ)) (value : Option ℤ) → IsCleanIfSome (input_by source value)
+input_clean None value = tt
+input_clean (Some source) None = tt
+input_clean (Some source) (Some value) = refl
+
+three_clean : (grid profile input : Bool) (base period : Option ℤ) (who : Option User) (connected : Option (Option Profile)) (source : Option (User × ℕ))
+    → IsCleanIfSome (if grid then grid_by base period else (if profile then profile_by who connected else (if input then input_by source period else None)))
+three_clean true profile input base period who connected source = grid_clean base period
+three_clean false true input base period who connected source = profile_clean who connected
+three_clean false false true base period who connected source = input_clean source period
+three_clean false false false base period who connected source = tt
 
 pose_clean : (o : Option Origin) (t : Option ℤ) (n : Option ℕ) → IsCleanIfSome (pose_by o t n)
 pose_clean None t n = tt
@@ -75,7 +90,8 @@ by_clean : (words : List (List ℕ)) → IsCleanIfSome (event_by words)
 by_clean [] = tt
 by_clean (word ∷ []) = one_clean (is_word word (codes "loss")) (is_word word (codes "lost"))
 by_clean (word ∷ a ∷ []) = two_clean (is_word word (codes "clock")) (is_word word (codes "wish")) (is_word word (codes "stage")) (is_word word (codes "mark")) (is_word word (codes "await")) (integer_of a) (number_of a) (named wish_name all_wishes a) (switch_of a)
-by_clean (word ∷ a ∷ b ∷ []) = three_clean (is_word word (codes "grid")) (integer_of a) (integer_of b)
+by_clean (word ∷ a ∷ b ∷ []) =
+    three_clean (is_word word (codes "grid")) (is_word word (codes "profile")) (is_word word (codes "input")) (integer_of a) (integer_of b) (named user_path all_users a) (connected_of b) (input_among a all_users)
 by_clean (word ∷ a ∷ b ∷ c ∷ []) = four_clean (is_word word (codes "pose")) (named origin_name all_origins a) (integer_of b) (number_of c)
 by_clean (word ∷ a ∷ b ∷ c ∷ d ∷ ws) = tt
 

@@ -1,21 +1,17 @@
--- A line of a device's text, printed from its event, reads back as that event.
-use Rattle.std.proofs.Common.{◌≡◌, ◌<◌, ◌≤◌, ◌+◌, ◌-◌, ◌*◌, ◌/◌, ◌%◌, ◌==◌, ◌^◌, ℕ, pos, negsuc, Bool, true, false, List, [], ◌∷◌, ◌++◌, length, get_or, Option, Some, None, option_map, option_and_then, refl, sym, ap, ◌∙◌, arith, append_assoc, true≢false}
+-- Words and numbers of a device's text, printed, read back.
+use Rattle.std.proofs.Common.{◌≡◌, ◌<◌, ◌≤◌, ◌+◌, ◌-◌, ◌*◌, ◌/◌, ◌%◌, ◌==◌, ◌^◌, ℕ, pos, Bool, true, false, List, [], ◌∷◌, ◌++◌, length, get_or, Option, Some, None, option_map, option_and_then, refl, sym, ap, ◌∙◌, arith, append_assoc}
 use Rattle.std.specs.List.{list_all}
-use Rattle.std.specs.Prelude.{◌&&◌, not, nat_le, codes, decimal, if◌then◌else◌}
+use Rattle.std.specs.Prelude.{not, nat_le, codes, decimal, if◌then◌else◌}
 use Rattle.std.proofs.lemmas.Fmt.{decimal_by_steps, decimal_nonempty, first_decimal, length-decimal-le_succ}
 use Rattle.std.proofs.lemmas.Bool.Decides.{nat_tests}
 use Rattle.xr_types.specs.declared.device.DeviceEvent.{DeviceEvent}
 use Rattle.xr_types.specs.declared.device.DeviceEvent.TheVariants as event
-use Rattle.xr_types.specs.declared.device.Wish.TheVariants as wish
-use Rattle.xr_types.specs.declared.input.User.TheVariants as user
 use Rattle.xr_types.specs.declared.spaces.Origin.{Origin}
-use Rattle.xr_types.specs.declared.spaces.Origin.TheVariants as origin
-use Rattle.xr_types.specs.Device.{checks, is_time, is_mark, is_hand, in_range}
+use Rattle.xr_types.specs.Device.{checks, is_time, is_mark, in_range}
 use Rattle.xr_types.specs.Printed.{origin_name, all_origins}
 use Rattle.xr_types.specs.Words.{named}
 use Rattle.xr_model.specs.device_text.DeviceText.{words_of, is_digit, digits_behind, number_of, below_0, integer_of, most_pose, event_by, if_checked}
 use Rattle.xr_model.specs.device_text.DeviceLines.{line_of}
-use Rattle.xr_model.specs.laws.DeviceLaws.{LinesReadBack}
 use Rattle.xr_model.proofs.Rows.{both_of, not_true, same_key}
 
 -- ---- numbers
@@ -35,7 +31,7 @@ digits_more k (d ∷ ds) b m e digit = by (is_digit d) e (λ more. digits_more (
     by false e later = cc
 
 -- no byte of a number is a space
-abbrev NoSpace : List ℕ → Type 0
+abbrev pub NoSpace : List ℕ → Type 0
 NoSpace [] = Unit {0}
 NoSpace (b ∷ bs) = ((b == 32) ≡ false) × NoSpace bs
 
@@ -43,10 +39,10 @@ no_space_more : (ds : List ℕ) (b : ℕ) → NoSpace ds → (b == 32) ≡ false
 no_space_more [] b none other = (other, tt)
 no_space_more (d ∷ ds) b none other = (none.0, no_space_more ds b none.1 other)
 
-abbrev Reads : ℕ → List ℕ → Type 0
+abbrev pub Reads : ℕ → List ℕ → Type 0
 Reads n ds = (digits_behind 0 ds ≡ Some n) × NoSpace ds
 
-reads : (n : ℕ) → n < 2 ^ 64 → Reads n (decimal n)
+pub reads : (n : ℕ) → n < 2 ^ 64 → Reads n (decimal n)
 reads = decimal_by_steps Reads one more
   where
     is_one : (n : ℕ) → n < 10 → is_digit (48 + n) ≡ true
@@ -77,11 +73,11 @@ number_by n (b ∷ c ∷ bs) e some first short = by (b == 48) refl
         let large = first many in
         absurd (omega (arith, zero, large))
 
-number_reads : (n : ℕ) → n < 2 ^ 64 → number_of (decimal n) ≡ Some n
+pub number_reads : (n : ℕ) → n < 2 ^ 64 → number_of (decimal n) ≡ Some n
 number_reads n small = number_by n (decimal n) (reads n small).0 (decimal_nonempty n small) (λ some. first_decimal n some small) (length-decimal-le_succ n small)
 
 -- no number begins with `-`
-no_sign : (b : ℕ) (bs : List ℕ) → (b == 45) ≡ true → number_of (b ∷ bs) ≡ None
+pub no_sign : (b : ℕ) (bs : List ℕ) → (b == 45) ≡ true → number_of (b ∷ bs) ≡ None
 no_sign b [] sign = rw (same_key b 45 sign) refl
 no_sign b (c ∷ bs) sign = rw (same_key b 45 sign) refl
 
@@ -97,48 +93,48 @@ integer_by n (b ∷ bs) e = by (b == 45) refl
         none_is_not e = cc
     by false is = ap (option_map pos) e
 
-integer_reads : (n : ℕ) → n < 2 ^ 64 → integer_of (decimal n) ≡ Some (pos n)
+pub integer_reads : (n : ℕ) → n < 2 ^ 64 → integer_of (decimal n) ≡ Some (pos n)
 integer_reads n small = integer_by n (decimal n) (number_reads n small)
 
 -- ---- words
 
-words_alone : (ds : List ℕ) → NoSpace ds → words_of ds ≡ ds ∷ []
+pub words_alone : (ds : List ℕ) → NoSpace ds → words_of ds ≡ ds ∷ []
 words_alone [] none = refl
 words_alone (b ∷ bs) none = rw (none.0, words_alone bs none.1) refl
 
-words_then : (ds rest : List ℕ) → NoSpace ds → words_of (ds ++ 32 ∷ rest) ≡ ds ∷ words_of rest
+pub words_then : (ds rest : List ℕ) → NoSpace ds → words_of (ds ++ 32 ∷ rest) ≡ ds ∷ words_of rest
 words_then [] rest none = refl
 words_then (b ∷ bs) rest none = rw (none.0, words_then bs rest none.1) refl
 
 -- a word and a number
-word_number : (word : List ℕ) (n : ℕ) → NoSpace word → n < 2 ^ 64 → words_of ((word ++ 32 ∷ []) ++ decimal n) ≡ word ∷ decimal n ∷ []
+pub word_number : (word : List ℕ) (n : ℕ) → NoSpace word → n < 2 ^ 64 → words_of ((word ++ 32 ∷ []) ++ decimal n) ≡ word ∷ decimal n ∷ []
 word_number word n none small = ap words_of (append_assoc word (32 ∷ []) (decimal n)) ∙ words_then word (decimal n) none ∙ ap (λ (ws : List (List ℕ)). word ∷ ws) (words_alone (decimal n) (reads n small).1)
 
 -- ---- numbers in range
 
-small_time : (n : ℕ) → is_time (pos n) ≡ true → n < 2 ^ 64
+pub small_time : (n : ℕ) → is_time (pos n) ≡ true → n < 2 ^ 64
 small_time n e = grind (arith, nat_tests, e)
 
-small_mark : (n : ℕ) → is_mark n ≡ true → n < 2 ^ 64
+pub small_mark : (n : ℕ) → is_mark n ≡ true → n < 2 ^ 64
 small_mark n e = grind (arith, nat_tests, e)
 
-small_pose : (n : ℕ) → nat_le n most_pose ≡ true → n < 2 ^ 64
+pub small_pose : (n : ℕ) → nat_le n most_pose ≡ true → n < 2 ^ 64
 small_pose n e = grind (arith, nat_tests, e)
 
-small_period : (n : ℕ) → in_range (pos n) (pos 1) (pos 1000000000) ≡ true → n < 2 ^ 64
+pub small_period : (n : ℕ) → in_range (pos n) (pos 1) (pos 1000000000) ≡ true → n < 2 ^ 64
 small_period n e = grind (arith, nat_tests, e)
 
 -- ---- events
 
 -- the words of a grid
-grid_words : (base period : ℕ) → base < 2 ^ 64 → period < 2 ^ 64 → words_of (((codes "grid " ++ decimal base) ++ codes " ") ++ decimal period) ≡ codes "grid" ∷ decimal base ∷ decimal period ∷ []
+pub grid_words : (base period : ℕ) → base < 2 ^ 64 → period < 2 ^ 64 → words_of (((codes "grid " ++ decimal base) ++ codes " ") ++ decimal period) ≡ codes "grid" ∷ decimal base ∷ decimal period ∷ []
 grid_words base period small few =
     ap words_of (append_assoc (codes "grid " ++ decimal base) (codes " ") (decimal period) ∙ append_assoc (codes "grid ") (decimal base) (codes " " ++ decimal period))
     ∙ words_then (codes "grid") (decimal base ++ (codes " " ++ decimal period)) (refl, (refl, (refl, (refl, tt))))
     ∙ ap (λ (ws : List (List ℕ)). codes "grid" ∷ ws) (words_then (decimal base) (decimal period) (reads base small).1 ∙ ap (λ (ws : List (List ℕ)). decimal base ∷ ws) (words_alone (decimal period) (reads period few).1))
 
 -- the words of a pose
-no_space_by : (ds : List ℕ) → list_all (λ b. not (b == 32)) ds ≡ true → NoSpace ds
+pub no_space_by : (ds : List ℕ) → list_all (λ b. not (b == 32)) ds ≡ true → NoSpace ds
 no_space_by [] none = tt
 no_space_by (b ∷ bs) none = let two = both_of (not (b == 32)) (list_all (λ b. not (b == 32)) bs) none in (not_true (b == 32) two.0, no_space_by bs two.1)
 
@@ -155,59 +151,12 @@ pose_words name time pose none small few =
     ∙ ap (λ (ws : List (List ℕ)). decimal time ∷ ws) (words_alone (decimal pose) (reads pose few).1)))
 
 -- a pose of an origin that has a word of its own
-pose_back : (o : Origin) (time pose : ℕ) → list_all (λ b. not (b == 32)) (origin_name o) ≡ true → named origin_name all_origins (origin_name o) ≡ Some o
+pub pose_back : (o : Origin) (time pose : ℕ) → list_all (λ b. not (b == 32)) (origin_name o) ≡ true → named origin_name all_origins (origin_name o) ≡ Some o
     → nat_le pose most_pose ≡ true → is_time (pos time) ≡ true → event_by (words_of (line_of (event.Pose o (pos time) pose))) ≡ Some (event.Pose o (pos time) pose)
 pose_back o time pose none own line good =
     let small = small_time time good in
     let few = small_pose pose line in
     rw (pose_words (origin_name o) time pose (no_space_by (origin_name o) none) small few, own, integer_reads time small, number_reads pose few, line) refl
 
-checked : (e : DeviceEvent) (found : Option DeviceEvent) → found ≡ Some e → checks e ≡ true → if_checked found ≡ Some e
+pub checked : (e : DeviceEvent) (found : Option DeviceEvent) → found ≡ Some e → checks e ≡ true → if_checked found ≡ Some e
 checked e found is good = rw (is, good) refl
-
-pub lines_read_back : LinesReadBack
-lines_read_back (event.Clock (pos n)) line good =
-    let small = small_time n good in
-    checked (event.Clock (pos n)) (event_by (words_of (line_of (event.Clock (pos n))))) (rw (word_number (codes "clock") n (refl, (refl, (refl, (refl, (refl, tt))))) small, integer_reads n small) refl) good
-lines_read_back (event.Clock (negsuc n)) line good = absurd (true≢false (sym good))
-lines_read_back (event.Grid (pos base) (pos period)) line good =
-    let parts = both_of (is_time (pos base)) (in_range (pos period) (pos 1) (pos 1000000000)) good in
-    let small = small_time base parts.0 in
-    let few = small_period period parts.1 in
-    checked (event.Grid (pos base) (pos period)) (event_by (words_of (line_of (event.Grid (pos base) (pos period))))) (rw (grid_words base period small few, integer_reads base small, integer_reads period few) refl) good
-lines_read_back (event.Grid (negsuc base) period) line good = absurd (true≢false (sym good))
-lines_read_back (event.Grid (pos base) (negsuc period)) line good = absurd (true≢false (sym (both_of (is_time (pos base)) false good).1))
-lines_read_back (event.Mark n) line good =
-    let small = small_mark n good in
-    checked (event.Mark n) (event_by (words_of (line_of (event.Mark n)))) (rw (word_number (codes "mark") n (refl, (refl, (refl, (refl, tt)))) small, number_reads n small) refl) good
-lines_read_back (event.Await n) line good =
-    let small = small_mark n good in
-    checked (event.Await n) (event_by (words_of (line_of (event.Await n)))) (rw (word_number (codes "await") n (refl, (refl, (refl, (refl, (refl, tt))))) small, number_reads n small) refl) good
-lines_read_back (event.Wish wish.Rest) line good = refl
-lines_read_back (event.Wish wish.Ready) line good = refl
-lines_read_back (event.Wish wish.Visible) line good = refl
-lines_read_back (event.Wish wish.Focused) line good = refl
-lines_read_back (event.Stage true) line good = refl
-lines_read_back (event.Stage false) line good = refl
-lines_read_back (event.Pose o (pos time) pose) line good = by o (both_of (is_hand o) (is_time (pos time)) (both_of (is_hand o && is_time (pos time)) (nat_le 1 pose) good).0).0 good
-  where
-    back : (o : Origin) → list_all (λ b. not (b == 32)) (origin_name o) ≡ true → named origin_name all_origins (origin_name o) ≡ Some o → checks (event.Pose o (pos time) pose) ≡ true
-        → if_checked (event_by (words_of (line_of (event.Pose o (pos time) pose)))) ≡ Some (event.Pose o (pos time) pose)
-    back o none own good =
-        checked (event.Pose o (pos time) pose) (event_by (words_of (line_of (event.Pose o (pos time) pose))))
-        (pose_back o time pose none own line (both_of (is_hand o) (is_time (pos time)) (both_of (is_hand o && is_time (pos time)) (nat_le 1 pose) good).0).1) good
-
-    by : (o : Origin) → is_hand o ≡ true → checks (event.Pose o (pos time) pose) ≡ true → if_checked (event_by (words_of (line_of (event.Pose o (pos time) pose)))) ≡ Some (event.Pose o (pos time) pose)
-    by origin.View hand good = back origin.View refl refl good
-    by origin.Local hand good = back origin.Local refl refl good
-    by origin.Stage hand good = back origin.Stage refl refl good
-    by (origin.Grip user.Left) hand good = back (origin.Grip user.Left) refl refl good
-    by (origin.Grip user.Right) hand good = back (origin.Grip user.Right) refl refl good
-    by (origin.Aim user.Left) hand good = back (origin.Aim user.Left) refl refl good
-    by (origin.Aim user.Right) hand good = back (origin.Aim user.Right) refl refl good
-    by (origin.Grip _) hand good = absurd (true≢false (sym hand))
-    by (origin.Aim _) hand good = absurd (true≢false (sym hand))
-lines_read_back (event.Pose o (negsuc time) pose) line good = absurd (true≢false (sym (both_of (is_hand o) false (both_of (is_hand o && false) (nat_le 1 pose) good).0).1))
-lines_read_back event.Loss line good = refl
-lines_read_back event.Lost line good = refl
-lines_read_back _ line good = absurd (true≢false (sym line))

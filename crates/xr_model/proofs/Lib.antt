@@ -23,6 +23,8 @@ pub mod Listed
 pub mod SessionSteps
 pub mod LostSessions
 pub mod DeviceLines
+pub mod DeviceInputs
+pub mod LinesBack
 pub mod StandOnce
 pub mod DestroyingTakes
 pub mod SessionAnswers
@@ -71,3 +73,6 @@ pub mod ImageStamps
 pub mod ShownFrames
 pub mod OverCells
 pub mod CellCounts
+pub mod SyncFinds
+pub mod SyncColumns
+pub mod PickRanges

@@ -19,3 +19,4 @@ pub mod Past
 pub mod OrderLaws
 pub mod Owners
 pub mod ImageLaws
+pub mod SyncLaws

@@ -8,11 +8,13 @@ pub mod Events
 pub mod SessionLife
 pub mod LiveSessions
 pub mod Marks
+pub mod Inputs
 pub mod Device
 pub mod Paths
 pub mod Sets
 pub mod Profiles
 pub mod Bindings
+pub mod Sync
 pub mod Spaces
 pub mod Frames
 pub mod Chains

@@ -20,6 +20,7 @@ ghost use Rattle.xr_model.specs.laws.EventLaws.{EventsAddUp, StatesAreTold, Even
 ghost use Rattle.xr_model.specs.laws.SessionLifeLaws.{ClockNeverFalls, SessionsHaveSettled, LostStaysLost, OnlyItsCallAsksForTheEnd, RunningIsBegunAndNotEnded};
 ghost use Rattle.xr_model.specs.laws.SpaceLaws.{SampleTimesFall, PoseIsTheNewestNotLater, SamplesAreTheirOrigins, OriginsHaveTheirPlaces, LaterPosesAreTaken};
 ghost use Rattle.xr_model.specs.laws.StateLaws.{NoRowFits};
+ghost use Rattle.xr_model.specs.laws.SyncLaws.{BooleansAreDownOnce, FloatsAreLargest, VectorsAreLongest, PosesAreTheFirst, NothingIsInactive, ChangedIsActive, FirstColumnIsOfAll, UndeclaredIsInactive, PicksAreInRange};
 
 mod cells;
 
@@ -121,7 +122,7 @@ pub fn pending_losses()
 {}
 
 /// The line that a report prints for an event of a device's text reads back as that event.
-#[tactic(auto, using(crate::proofs::DeviceLines::lines_read_back))]
+#[tactic(auto, using(crate::proofs::LinesBack::lines_read_back))]
 pub fn lines_read_back()
     ensures { LinesReadBack }
 {}
@@ -463,4 +464,58 @@ pub fn held_images_are_aside()
 #[tactic(auto, using(crate::proofs::GivingBack::giving_back_keeps_ready))]
 pub fn giving_back_keeps_ready()
     ensures { GivingBackKeepsReady }
+{}
+
+/// A boolean is down after a sync exactly where one of its live bindings is.
+#[tactic(auto, using(crate::proofs::SyncFinds::booleans_are_down_once))]
+pub fn booleans_are_down_once()
+    ensures { BooleansAreDownOnce }
+{}
+
+/// A float is the value of one of its live bindings, the first of those that are furthest from zero.
+#[tactic(auto, using(crate::proofs::SyncFinds::floats_are_largest))]
+pub fn floats_are_largest()
+    ensures { FloatsAreLargest }
+{}
+
+/// A vector is the value of one of its live bindings, the first of those that are longest.
+#[tactic(auto, using(crate::proofs::SyncFinds::vectors_are_longest))]
+pub fn vectors_are_longest()
+    ensures { VectorsAreLongest }
+{}
+
+/// A pose is that of the first live binding.
+#[tactic(auto, using(crate::proofs::SyncFinds::poses_are_the_first))]
+pub fn poses_are_the_first()
+    ensures { PosesAreTheFirst }
+{}
+
+/// A column without a live binding is inactive, and shows nothing of what it showed.
+#[tactic(auto, using(crate::proofs::SyncColumns::nothing_is_inactive))]
+pub fn nothing_is_inactive()
+    ensures { NothingIsInactive }
+{}
+
+/// What changes is active.
+#[tactic(auto, using(crate::proofs::SyncColumns::changed_is_active))]
+pub fn changed_is_active()
+    ensures { ChangedIsActive }
+{}
+
+/// The column of all user paths is active exactly where some binding of the action is live.
+#[tactic(auto, using(crate::proofs::SyncColumns::first_column_is_of_all))]
+pub fn first_column_is_of_all()
+    ensures { FirstColumnIsOfAll }
+{}
+
+/// The column of a user path that the action doesn't declare is inactive.
+#[tactic(auto, using(crate::proofs::SyncColumns::undeclared_is_inactive))]
+pub fn undeclared_is_inactive()
+    ensures { UndeclaredIsInactive }
+{}
+
+/// What a path picks is one of thirty identifiers and outputs, and rows of inputs, or of poses.
+#[tactic(auto, using(crate::proofs::PickRanges::picks_are_in_range))]
+pub fn picks_are_in_range()
+    ensures { PicksAreInRange }
 {}

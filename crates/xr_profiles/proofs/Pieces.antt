@@ -1,28 +1,17 @@
 -- Texts compared in pieces, and what stands behind a beginning.
-use Rattle.std.proofs.Common.{◌≡◌, ◌==◌, ◌&&◌, ◌||◌, ◌≤◌, ℕ, ◌+◌, Bool, not, true, false, List, [], ◌∷◌, ◌++◌, length, map, codes, take, drop, take_all, one-add, arith, ◌∙◌, cond, nat_eq, Some, None, refl, sym, ap}
+use Rattle.std.proofs.Common.{◌≡◌, ◌==◌, ◌&&◌, ◌||◌, ◌≤◌, ℕ, ◌+◌, Bool, not, true, false, List, [], ◌∷◌, ◌++◌, length, map, codes, take, take_all, one-add, arith, ◌∙◌, cond, Some, None, refl, sym, ap}
 use Rattle.std.specs.Borrow.{Bor}
-use Rattle.std.specs.Prelude.{Option, MatchOption, option_and_then, nat_lt}
-use Rattle.std.specs.Option.{option_map_or, option_copied}
-use Rattle.std.specs.Cmp.Lexicographic.{pointwise}
+use Rattle.std.specs.Prelude.{Option, option_and_then, nat_lt}
+use Rattle.std.specs.Option.{option_map_or}
 use Rattle.std.specs.List.{find, list_any, position, position_or_len}
 use Rattle.std.proofs.lemmas.Bool.Decides.{nat_tests}
 use Rattle.std.specs.Str.{bytes_eq}
-use Rattle.xr_model.specs.machine.Profiles.{profile_of, behind, before_slash}
+use Rattle.xr_types.specs.Words.{behind}
+use Rattle.xr_model.specs.machine.Profiles.{profile_of, before_slash}
 use Rattle.xr_types.specs.Printed.{profile_name, all_profiles}
 
 eqb-sym : (a b : ℕ) → (a == b) ≡ (b == a)
 eqb-sym a b = grind (arith, nat_tests)
-
--- by the test of slices
-behind-strip : (p s : List ℕ) → behind p s ≡ cond (pointwise nat_eq (take (length p) s) p) (Some (drop (length p) s)) None
-behind-strip [] s = refl
-behind-strip (b ∷ p) [] = refl
-behind-strip (b ∷ p) (c ∷ s) = rw (eqb-sym b c) (by (c == b) (behind-strip p s))
-  where
-    by : (t : Bool) → behind p s ≡ cond (pointwise nat_eq (take (length p) s) p) (Some (drop (length p) s)) None
-        → cond t (behind p s) None ≡ cond (t && pointwise nat_eq (take (length p) s) p) (Some (drop (length p) s)) None
-    by true more = more
-    by false more = refl
 
 -- one beginning behind another
 behind-append : (p q s : List ℕ) → behind (p ++ q) s ≡ option_and_then (behind q) (behind p s)
@@ -88,13 +77,6 @@ before_slash-place bs = before_slash-take bs ∙ by (nat_lt (position_or_len (λ
     by false e =
         let past : length bs ≤ position_or_len (λ b. b == 47) bs = grind (arith, nat_tests) in
         take_all _ bs past
-
--- what `strip_prefix` gives
-pub behind_is : (p s : List ℕ) (r : Option (Bor (List ℕ)))
-    → MatchOption r (pointwise nat_eq (take (length p) s) p ≡ false) (λ x. (pointwise nat_eq (take (length p) s) p ≡ true) × (x.now ≡ drop (length p) s) × (length x.now + length p ≡ length s))
-    → option_copied r ≡ behind p s
-behind_is p s None e = sym (behind-strip p s ∙ ap (λ t. cond t (Some (drop (length p) s)) None) e)
-behind_is p s (Some x) h = ap Some h.1 ∙ sym (behind-strip p s ∙ ap (λ t. cond t (Some (drop (length p) s)) None) h.0)
 
 -- one beginning behind another, by what stands behind the first
 module _ (p q s : List ℕ) where

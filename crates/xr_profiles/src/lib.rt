@@ -10,8 +10,7 @@ mod table;
 mod texts;
 
 use crate::picks::pick_at;
-use crate::texts::behind;
-use xr_types::{ActionType, Pick, Profile, User, Word, named};
+use xr_types::{ActionType, Pick, Profile, User, Word, behind, named};
 
 /// The interaction profile of a path's text: `/interaction_profiles/` and the profile's name. `None` comes for any other
 /// text, of any length. OpenXR 1.0 section 6.4.

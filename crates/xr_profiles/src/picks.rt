@@ -3,13 +3,12 @@
 ghost use Rattle.std.specs.Prelude.{◌≡◌, codes, map, option_and_then};
 ghost use Rattle.std.specs.List.{filter, list_any};
 ghost use Rattle.std.specs.Str.{bytes_eq};
-ghost use Rattle.xr_model.specs.machine.Profiles.{row_named, row_alone, is_input, is_pose, part_of, first_some, both, picked, picked_output, behind, pick_by, rows_at, outputs_at, pick_at};
+ghost use Rattle.xr_types.specs.Words.{behind};
+ghost use Rattle.xr_model.specs.machine.Profiles.{row_named, row_alone, is_input, is_pose, part_of, first_some, both, picked, picked_output, pick_by, rows_at, outputs_at, pick_at};
 
-use crate::table::{
-    entry_name, identifier_place, is_digital, is_input, is_pose, outputs_at, rows_at,
-};
-use crate::texts::{before_slash, behind, is_made_of};
-use xr_types::{ActionType, Part, Pick, Profile, User, Word};
+use crate::table::{entry_name, identifier_place, is_input, is_pose, outputs_at, rows_at};
+use crate::texts::{before_slash, is_made_of};
+use xr_types::{ActionType, Part, Pick, Profile, User, Word, behind, is_digital};
 
 /// The input among these rows that an entry names with its component.
 fn input_named(rows: &[u8], entry: &[u8]) -> Option<u8>

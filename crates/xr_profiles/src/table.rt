@@ -3,7 +3,7 @@
 ghost use Rattle.std.specs.Prelude.{◌≡◌, ◌<◌, length, map, IfSome};
 ghost use Rattle.std.specs.List.{position};
 ghost use Rattle.std.specs.Str.{bytes_eq};
-ghost use Rattle.xr_model.specs.machine.Profiles.{entry_name, rows_at, outputs_at, identifier_place, is_input, is_pose, is_digital};
+ghost use Rattle.xr_model.specs.machine.Profiles.{entry_name, rows_at, outputs_at, identifier_place, is_input, is_pose};
 
 use xr_types::{MOST_ROW, Profile, User, input_name};
 
@@ -43,12 +43,6 @@ const OF_GAMEPAD: [&str; 4] = [
     "haptic_right",
     "haptic_left_trigger",
     "haptic_right_trigger",
-];
-
-/// The rows of clicks and touches. The inputs of the other rows are values and axes.
-const DIGITAL: [u8; 28] = [
-    1, 2, 3, 4, 5, 6, 7, 8, 9, 10, 11, 12, 13, 15, 17, 20, 21, 22, 25, 26, 27, 28, 29, 30, 31, 32,
-    35, 38,
 ];
 
 /// All identifiers and outputs, each by its place.
@@ -108,13 +102,6 @@ pub(crate) fn is_pose(row: u8) -> bool
     ensures { result ≡ is_pose row }
 {
     row == GRIP || row == AIM
-}
-
-/// Whether a row is that of a click or a touch.
-pub(crate) fn is_digital(row: u8) -> bool
-    ensures { result ≡ is_digital row }
-{
-    DIGITAL.contains(&row)
 }
 
 /// The rows that a profile has at a user path, in the order of the standard's lists.

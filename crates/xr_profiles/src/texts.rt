@@ -1,16 +1,10 @@
 // Parts of path texts.
 ghost use Rattle.std.specs.Prelude.{◌≡◌, ◌==◌, ◌<◌, ◌++◌, codes, length, IfSome};
 ghost use Rattle.std.specs.List.{position};
-ghost use Rattle.std.specs.Option.{option_copied};
 ghost use Rattle.std.specs.Str.{bytes_eq};
-ghost use Rattle.xr_model.specs.machine.Profiles.{behind, before_slash};
+ghost use Rattle.xr_model.specs.machine.Profiles.{before_slash};
 
-/// The text behind this beginning, where it begins so.
-pub(crate) fn behind<'a>(beginning: &[u8], text: &'a [u8]) -> Option<&'a [u8]>
-    ensures { option_copied result ≡ behind beginning.now text.now }
-{
-    text.strip_prefix(beginning)
-}
+use xr_types::behind;
 
 /// The place of the first `/` of an entry.
 fn slash_place(entry: &[u8]) -> Option<usize>

@@ -8,7 +8,6 @@ use Rattle.xr_types.specs.declared.device.DeviceEvent.TheVariants as event
 use Rattle.xr_io.specs.Outside.{Rose}
 use Rattle.xr_model.specs.machine.Request as request
 use Rattle.xr_model.specs.machine.Request.{Outcome, device}
-use Rattle.xr_model.specs.machine.Device.{is_built_event}
 use Rattle.xr_model.specs.laws.DeviceLaws.{is_of_line}
 use Rattle.xr_model.specs.device_text.DeviceText.{DeviceStream, Ending, ends, garbled_at}
 use Rattle.xr_model.specs.report.RunEnding.{is_fault, is_garbled}
@@ -35,12 +34,6 @@ made_length place (t ∷ calls) = ap suc (made_length (place + 1) calls)
 
 -- ---- events of lines
 
-line_built : (e : DeviceEvent) → is_of_line e ≡ true → is_built_event e ≡ true
-line_built event.Fault h = absurd (true≢false (sym h))
-line_built (event.Garbled line) h = absurd (true≢false (sym h))
-line_built (event.Pose origin time pose) h = refl
-line_built _ h = h
-
 line_faultless : (e : DeviceEvent) → is_of_line e ≡ true → is_fault e ≡ false
 line_faultless event.Fault h = absurd (true≢false (sym h))
 line_faultless _ h = refl
@@ -50,14 +43,14 @@ line_formed (event.Garbled line) h = absurd (true≢false (sym h))
 line_formed _ h = refl
 
 line_event : (e : DeviceEvent) → IsTold e → IsLineEvent e
-line_event e t = record { checked = t.checked; built = line_built e t.line; faultless = line_faultless e t.line; formed = line_formed e t.line }
+line_event e t = record { checked = t.checked; faultless = line_faultless e t.line; formed = line_formed e t.line }
 
 one_more : (given : List DeviceEvent) (e : DeviceEvent) → AreLineEvents given → IsLineEvent e → AreLineEvents (given ++ e ∷ [])
 one_more [] e all one = (one, tt)
 one_more (x ∷ given) e all one = (all.0, one_more given e all.1 one)
 
 pub told_done : (e : DeviceEvent) → IsTold e → IsDone e
-told_done e t = record { checked = t.checked; built = line_built e t.line }
+told_done e t = record { checked = t.checked }
 
 none_more : (given : List DeviceEvent) (e : DeviceEvent) → list_any is_fault given ≡ false → is_fault e ≡ false → list_any is_fault (given ++ e ∷ []) ≡ false
 none_more given e none this = list_any-append is_fault given (e ∷ []) ∙ rw (none, this) refl
@@ -159,11 +152,11 @@ module _ (side : SideState) (calls : List request.Exchange) (start now now2 : Pr
 
   pub tells_garbled : (line : ℕ) → Tells now.remaining now2.remaining (next.Garbled line) → now2.faults ≡ now.faults → now2.given ≡ now.given → DeviceKept (side_asked side (Some (event.Garbled line)) true) calls start now2
   tells_garbled line tells same count =
-      closes (event.Garbled line) (Some (garbled_at line)) (record { checked = refl; built = refl }) count (gives_garbled start.remaining now.remaining now2.remaining d.given line d.came.0 tells) refl (λ e. absurd (true≢false (sym e))) (λ e. same_faults same)
+      closes (event.Garbled line) (Some (garbled_at line)) (record { checked = refl }) count (gives_garbled start.remaining now.remaining now2.remaining d.given line d.came.0 tells) refl (λ e. absurd (true≢false (sym e))) (λ e. same_faults same)
 
   pub tells_fault : Rose now.faults now2.faults → now2.given ≡ now.given → DeviceKept (side_asked side (Some event.Fault) true) calls start now2
   tells_fault rose count =
-      closes event.Fault None (record { checked = refl; built = refl }) count (gives_front start.remaining now.remaining d.given d.came.0) refl (λ e. rose_later start.faults now.faults now2.faults d.later rose) (λ e. absurd (true≢false e))
+      closes event.Fault None (record { checked = refl }) count (gives_front start.remaining now.remaining d.given d.came.0) refl (λ e. rose_later start.faults now.faults now2.faults d.later rose) (λ e. absurd (true≢false e))
 
 -- the call of its next event was made
 pub event_kept : (side : SideState) (calls : List request.Exchange) (start now : Prospect) (e : DeviceEvent) (outcome : Outcome) → side.pending ≡ Some e → DeviceKept side calls start now

@@ -10,7 +10,6 @@ use Rattle.xr_types.specs.declared.scenario.Scenario.{Scenario}
 use Rattle.xr_model.specs.machine.Request as request
 use Rattle.xr_model.specs.machine.Request.{next_frame, image_done, Entry}
 use Rattle.xr_types.specs.Device.{checks}
-use Rattle.xr_model.specs.machine.Device.{is_built_event}
 use Rattle.xr_model.specs.machine.State.{Settings, with_apps, opening}
 use Rattle.xr_model.specs.machine.History.{IsLegal, calls_of}
 use Rattle.xr_model.specs.runs.Scripts.{Follows, FollowsSoFar}
@@ -32,11 +31,9 @@ Gave None count events ending = length events ≡ count
 Gave (Some t) count events None = (rest : List DeviceEvent) × (t.events ≡ events ++ rest) × (length events ≡ count)
 Gave (Some t) count events (Some ending) = (t.events ≡ events) × (t.ending ≡ ending) × (count ≤ length events)
 
--- an event that a line of the device's text tells: its numbers are in range, it is built, and it is neither a fault nor a
--- malformed line
+-- an event that a line of the device's text tells: its numbers are in range, and it is neither a fault nor a malformed line
 pub record IsLineEvent (e : DeviceEvent) : Type 0 where
   pub checked : checks e ≡ true
-  pub built : is_built_event e ≡ true
   pub faultless : is_fault e ≡ false
   pub formed : is_garbled e ≡ false
 

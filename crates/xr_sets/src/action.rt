@@ -2,10 +2,9 @@
 ghost use Rattle.std.specs.Prelude.{◌≡◌};
 ghost use Rattle.xr_model.specs.machine.Sets.{is_declared};
 
-use crate::users::{USERS, user_place};
 use arrayvec::ArrayVec;
 use std::marker::Model;
-use xr_types::{ActionType, MOST_LOCALIZED, MOST_NAME, User};
+use xr_types::{ActionType, MOST_LOCALIZED, MOST_NAME, USERS, User, user_place};
 
 /// An action by its handle: its set, its name, its localized name, its type, and for each user path whether it
 /// declares it. Contracts see the machine's action.

@@ -6,7 +6,5 @@ mod action;
 mod set;
 mod sets;
 mod texts;
-mod users;
 
 pub use sets::{NewAction, Sets};
-pub use users::{USERS, user_place};

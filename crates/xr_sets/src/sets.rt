@@ -9,10 +9,9 @@ ghost use Rattle.xr_model.specs.machine.Sets.{no_sets, same_text, set_at, action
 use crate::action::Action;
 use crate::set::{Set, named_among, seal_sets};
 use crate::texts::{check_new_label, check_new_name, copied};
-use crate::users::USERS;
 use arrayvec::ArrayVec;
 use std::marker::Model;
-use xr_types::{ACTION_SETS, ACTIONS, ActionType, Code, User};
+use xr_types::{ACTION_SETS, ACTIONS, ActionType, Code, USERS, User};
 
 /// An action that is to be created: its handle and that of its set, its name and its localized name, its type, and for
 /// each user path, at its `user_place`, whether it declares it.

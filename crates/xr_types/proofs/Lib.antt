@@ -1,1 +1,3 @@
+pub mod Beginnings
 mod InputNames
+pub mod RowSorts

@@ -1,5 +1,6 @@
 -- The inputs of controllers by their rows, as paths name them: an identifier and its component (OpenXR 1.0 section 6.3).
-use Rattle.std.specs.Prelude.{◌≡◌, ℕ, ◌+◌, ◌-◌, ◌&&◌, nat_le, List, [], ◌∷◌, map, codes, slice_index_or, Option, Some, None, refl, if◌then◌else◌}
+use Rattle.std.specs.Prelude.{◌≡◌, ℕ, ◌+◌, ◌-◌, ◌==◌, ◌&&◌, nat_le, Bool, List, [], ◌∷◌, map, codes, slice_index_or, Option, Some, None, refl, if◌then◌else◌}
+use Rattle.std.specs.List.{list_any}
 use Rattle.std.specs.Str.{bytes_eq}
 use Rattle.xr_types.specs.declared.limits.TheConstants.{MOST_ROW}
 
@@ -19,6 +20,22 @@ input_names =
 -- the input of a row; rows are 1 to 40
 abbrev pub input_name : ℕ → List ℕ
 input_name row = if nat_le 1 row && nat_le row MOST_ROW then slice_index_or input_names (row - 1) [] else []
+
+-- the component of an input: what stands behind the first `/` of its name
+abbrev pub behind_slash : List ℕ → List ℕ
+behind_slash [] = []
+behind_slash (b ∷ bs) = if b == 47 then bs else behind_slash bs
+
+abbrev pub has_component : List (List ℕ) → ℕ → Bool
+has_component names row = list_any (λ name. bytes_eq (behind_slash (input_name row)) name) names
+
+-- Clicks and touches are digital: something is down or touched, or it isn't. Values and axes are analogue (section 6.3).
+abbrev pub is_digital : ℕ → Bool
+is_digital = has_component (codes "click" ∷ codes "touch" ∷ [])
+
+-- a value goes from 0 up, as that of a trigger
+abbrev pub is_value : ℕ → Bool
+is_value = has_component (codes "value" ∷ [])
 
 abbrev pub row_from : ℕ → List (List ℕ) → List ℕ → Option ℕ
 row_from row [] name = None

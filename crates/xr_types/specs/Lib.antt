@@ -3,8 +3,10 @@ pub mod Device
 pub mod Field
 pub mod Frames
 pub mod InputNames
+pub mod InputValues
 pub mod Name
 pub mod Op
 pub mod Printed
 pub mod OpNumber
+pub mod Users
 pub mod Words

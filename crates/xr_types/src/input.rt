@@ -2,7 +2,7 @@
 ghost use Rattle.std.specs.Prelude.{◌≡◌, Some, refl};
 ghost use Rattle.xr_types.specs.Printed.{action_type_name, all_action_types, user_path, all_users, profile_name, all_profiles};
 
-use crate::{Origin, Word};
+use crate::{Origin, USERS, Word};
 use std::fmt;
 
 /// What an action gives (OpenXR 1.0 chapter 11, XrActionType).
@@ -205,6 +205,46 @@ pub struct Pick {
 pub struct Bound {
     pub action: u64,
     pub pick: Pick,
+}
+
+/// How many inputs there are: rows 1 to 40.
+pub const ROWS: usize = 40;
+
+/// What the inputs of a device show: for each user path, at its `user_place`, and for each row, one before its number, the value,
+/// and whether an analogue input counts as pressed.
+#[derive(Clone, Copy)]
+pub struct Inputs {
+    pub values: [[i32; ROWS]; USERS],
+    pub pressed: [[bool; ROWS]; USERS],
+}
+
+/// An action set that a sync hears (chapter 11, XrActiveActionSet), for all user paths or for one.
+#[derive(Clone, Copy)]
+pub struct Heard {
+    pub set: u64,
+    pub user: Option<User>,
+}
+
+/// A suggestion for a controller that is connected, with what is known of its action: its place among the 64, its set, the
+/// priority of that, its type, and for each user path, at its `user_place`, whether the action declares it.
+#[derive(Clone, Copy)]
+pub struct Ranked {
+    pub bound: Bound,
+    pub place: u8,
+    pub set: u64,
+    pub priority: u32,
+    pub kind: ActionType,
+    pub declared: [bool; USERS],
+}
+
+/// What the live bindings of a column find: a value in `x`, and in `y` for a vector, whether there is one at all, and the origin
+/// of a pose.
+#[derive(Clone, Copy)]
+pub struct Found {
+    pub x: i32,
+    pub y: i32,
+    pub active: bool,
+    pub origin: Option<Origin>,
 }
 
 /// What a sync found for an action at a user path: its value in `x`, and in `y` for a vector; when it

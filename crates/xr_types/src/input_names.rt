@@ -1,6 +1,6 @@
 // The inputs of controllers by their names, in the order of their rows (OpenXR 1.0 section 6.3).
 ghost use Rattle.std.specs.Prelude.{◌≡◌, ◌≤◌, map, length};
-ghost use Rattle.xr_types.specs.InputNames.{input_name, row_from, row_of};
+ghost use Rattle.xr_types.specs.InputNames.{input_name, row_from, row_of, is_digital, is_value};
 
 use crate::MOST_ROW;
 
@@ -57,6 +57,31 @@ pub fn input_name(row: u8) -> &'static str
     } else {
         ""
     }
+}
+
+/// The rows of clicks and touches.
+const DIGITAL: [u8; 28] = [
+    1, 2, 3, 4, 5, 6, 7, 8, 9, 10, 11, 12, 13, 15, 17, 20, 21, 22, 25, 26, 27, 28, 29, 30, 31, 32,
+    35, 38,
+];
+
+/// The rows of values.
+const VALUES: [u8; 4] = [14, 16, 39, 40];
+
+/// Whether a row is that of a click or a touch.
+#[tactic(auto, using(crate::proofs::RowSorts::digital_rows))]
+pub fn is_digital(row: u8) -> bool
+    ensures { result ≡ is_digital row }
+{
+    DIGITAL.contains(&row)
+}
+
+/// Whether a row is that of a value, which goes from 0 up.
+#[tactic(auto, using(crate::proofs::RowSorts::value_rows))]
+pub fn is_value(row: u8) -> bool
+    ensures { result ≡ is_value row }
+{
+    VALUES.contains(&row)
 }
 
 /// The row of a name among these, which begin with row 1.

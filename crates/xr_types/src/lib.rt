@@ -19,36 +19,116 @@ mod scenario;
 mod session;
 mod spaces;
 mod status;
+mod users;
 mod words;
 
-pub use calls::{Actor, Answer, Call, Gives, NoMemory, Reply, Step};
+pub use calls::Actor;
+pub use calls::Answer;
+pub use calls::Call;
+pub use calls::Gives;
+pub use calls::NoMemory;
+pub use calls::Reply;
+pub use calls::Step;
 pub use code::Code;
-pub use device::{DeviceEvent, Wish};
+pub use device::DeviceEvent;
+pub use device::Wish;
 pub use fields::FieldName;
-pub use frames::{
-    Blend, ChainInfo, Frame, FrameLayer, Image, Layer, MOST_LAYERS, Shown, ShownLayer, SubImage,
-};
-pub use handles::{
-    ACTION_SETS, ACTIONS, INSTANCES, Kind, MOST_HANDLES, SESSIONS, SPACES, SWAPCHAINS, Slot,
-};
-pub use input::{
-    ActionType, ActiveSet, Binding, BoolState, Bound, Column, FloatState, Part, Pick, Profile,
-    States, User, VectorState,
-};
-pub use input_names::{input_name, row_of};
-pub use limits::{
-    MOST_ACTIVE, MOST_ATTACHED, MOST_BINDINGS, MOST_CAPACITY, MOST_DEVICE, MOST_GIVEN,
-    MOST_HANDLE_MARK, MOST_LINE, MOST_LISTED, MOST_LOCALIZED, MOST_MARK, MOST_NAME, MOST_ROW,
-    MOST_SCENARIO, MOST_SCRIPTS, MOST_SUBACTIONS, MOST_SUGGESTED, MOST_TEXT, MOST_VIEWS, VERSION,
-};
-pub use lists::{Bytes, Several};
-pub use made::{Lists, Made, MadeList, Waiting};
+pub use frames::Blend;
+pub use frames::ChainInfo;
+pub use frames::Frame;
+pub use frames::FrameLayer;
+pub use frames::Image;
+pub use frames::Layer;
+pub use frames::MOST_LAYERS;
+pub use frames::Shown;
+pub use frames::ShownLayer;
+pub use frames::SubImage;
+pub use handles::ACTION_SETS;
+pub use handles::ACTIONS;
+pub use handles::INSTANCES;
+pub use handles::Kind;
+pub use handles::MOST_HANDLES;
+pub use handles::SESSIONS;
+pub use handles::SPACES;
+pub use handles::SWAPCHAINS;
+pub use handles::Slot;
+pub use input::ActionType;
+pub use input::ActiveSet;
+pub use input::Binding;
+pub use input::BoolState;
+pub use input::Bound;
+pub use input::Column;
+pub use input::FloatState;
+pub use input::Found;
+pub use input::Heard;
+pub use input::Inputs;
+pub use input::Part;
+pub use input::Pick;
+pub use input::Profile;
+pub use input::ROWS;
+pub use input::Ranked;
+pub use input::States;
+pub use input::User;
+pub use input::VectorState;
+pub use input_names::input_name;
+pub use input_names::is_digital;
+pub use input_names::is_value;
+pub use input_names::row_of;
+pub use limits::MOST_ACTIVE;
+pub use limits::MOST_ATTACHED;
+pub use limits::MOST_BINDINGS;
+pub use limits::MOST_CAPACITY;
+pub use limits::MOST_DEVICE;
+pub use limits::MOST_GIVEN;
+pub use limits::MOST_HANDLE_MARK;
+pub use limits::MOST_LINE;
+pub use limits::MOST_LISTED;
+pub use limits::MOST_LOCALIZED;
+pub use limits::MOST_MARK;
+pub use limits::MOST_NAME;
+pub use limits::MOST_ROW;
+pub use limits::MOST_SCENARIO;
+pub use limits::MOST_SCRIPTS;
+pub use limits::MOST_SUBACTIONS;
+pub use limits::MOST_SUGGESTED;
+pub use limits::MOST_TEXT;
+pub use limits::MOST_VIEWS;
+pub use limits::VERSION;
+pub use lists::Bytes;
+pub use lists::Several;
+pub use made::Lists;
+pub use made::Made;
+pub use made::MadeList;
+pub use made::Waiting;
 pub use names::CallName;
-pub use scenario::{
-    ActiveSetUse, AtomUse, BindingUse, HandleUse, LayerUse, Op, Scenario, Script, Sort,
-    SubImageUse, Use,
-};
-pub use session::{Event, Form, FrameState, SessionState, ViewConfig};
-pub use spaces::{Location, ORIGINS, Origin, RefKind, Root, SAMPLES};
-pub use status::{Failed, Refusal, Status, What};
-pub use words::{Word, named};
+pub use scenario::ActiveSetUse;
+pub use scenario::AtomUse;
+pub use scenario::BindingUse;
+pub use scenario::HandleUse;
+pub use scenario::LayerUse;
+pub use scenario::Op;
+pub use scenario::Scenario;
+pub use scenario::Script;
+pub use scenario::Sort;
+pub use scenario::SubImageUse;
+pub use scenario::Use;
+pub use session::Event;
+pub use session::Form;
+pub use session::FrameState;
+pub use session::SessionState;
+pub use session::ViewConfig;
+pub use spaces::Location;
+pub use spaces::ORIGINS;
+pub use spaces::Origin;
+pub use spaces::RefKind;
+pub use spaces::Root;
+pub use spaces::SAMPLES;
+pub use status::Failed;
+pub use status::Refusal;
+pub use status::Status;
+pub use status::What;
+pub use users::USERS;
+pub use users::user_place;
+pub use words::Word;
+pub use words::behind;
+pub use words::named;

@@ -1,8 +1,9 @@
-// Values that the formats name by a word each, and the search for the value that a word names.
+// Values that the formats name by a word each, the search for the value that a word names, and what stands behind a beginning.
 ghost use Rattle.std.specs.Prelude.{◌≡◌, List, ℕ, map, Some};
 ghost use Rattle.std.specs.List.{find};
 ghost use Rattle.std.specs.Str.{bytes_eq};
-ghost use Rattle.xr_types.specs.Words.{named};
+ghost use Rattle.std.specs.Option.{option_copied};
+ghost use Rattle.xr_types.specs.Words.{named, behind};
 
 /// Values that the formats name by a word each. `printed` is the word of a value. `listed` are the values that have a word
 /// of their own, in the order of the format: by the law `own` the search for the word of each of them finds it.
@@ -34,4 +35,11 @@ pub fn named<W: Word>(word: &[u8]) -> Option<W>
         }
     }
     None
+}
+
+/// The text behind this beginning, where it begins so.
+pub fn behind<'a>(beginning: &[u8], text: &'a [u8]) -> Option<&'a [u8]>
+    ensures { option_copied result ≡ behind beginning.now text.now }
+{
+    text.strip_prefix(beginning)
 }

@@ -2,7 +2,6 @@
 ghost use Rattle.std.specs.Prelude.{◌≡◌, true};
 ghost use Rattle.xr_types.specs.Device.{checks};
 ghost use Rattle.xr_model.specs.machine.Request as request;
-ghost use Rattle.xr_model.specs.machine.Device.{is_built_event};
 ghost use Rattle.xr_model.specs.machine.Rules.Device.{is_awaiting, behind_event};
 ghost use Rattle.xr_core.specs.inside.Deciding.{Decides};
 
@@ -29,9 +28,11 @@ impl Parts {
                 Change::Lost,
             ),
             DeviceEvent::Stage(stage) => self.device.set_stage(stage),
+            DeviceEvent::Profile { user, profile } => self.device.connect(user, profile),
+            DeviceEvent::Input { user, row, value } => self.device.set_input(user, row, value),
             DeviceEvent::Pose { origin, time, pose } => self.spaces.sample(origin, time, pose),
             DeviceEvent::Mark(mark) => self.set_mark(mark, 0),
-            _ => {}
+            DeviceEvent::Await(_) => {}
         }
     }
 
@@ -45,9 +46,9 @@ impl Parts {
         }
     }
 
+    #[inline(never)]
     pub(crate) fn device_event(&mut self, event: DeviceEvent) -> Result<Reply, Halt>
         requires checks { checks event ≡ true }
-        requires built { is_built_event event ≡ true }
         ensures { Decides self.old (request.device event) self.new result }
     {
         if self.is_waiting(event) {

@@ -49,6 +49,7 @@ fn pin_all<C: Cells>(cells: &mut C, images: &[Image])
 }
 
 impl Parts {
+    #[inline(never)]
     pub(crate) fn frame_call(&mut self, call: &Call<'_>) -> Result<Reply, Halt>
         requires group { IsFrameCall (request_of call.now) }
         ensures { Decides self.old (request_of call.now) self.new result }
@@ -225,6 +226,7 @@ impl Parts {
     }
 
     /// Ends a frame, which uses the images of its layers from now on.
+    #[inline(never)]
     pub(crate) fn end_frame<C: Cells>(
         &mut self,
         cells: &mut C,

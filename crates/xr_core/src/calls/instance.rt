@@ -62,6 +62,7 @@ impl Parts {
         give(&mut self.handles, Kind::Instance, 0)
     }
 
+    #[inline(never)]
     pub(crate) fn destroy_instance<C: Cells>(
         &mut self,
         cells: &mut C,

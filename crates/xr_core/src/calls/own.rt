@@ -16,6 +16,7 @@ use crate::parts::Parts;
 use xr_types::{Actor, Call, Code, Gives, Reply};
 
 impl Parts {
+    #[inline(never)]
     pub(crate) fn own_call(&mut self, who: Actor, call: &Call<'_>) -> Result<Reply, Halt>
         requires group { IsOwnCall (request_of call.now) }
         requires present { IsPresent self.old who }

@@ -12,6 +12,7 @@ use xr_types::{Actor, Call, Code, Gives, Kind, Reply};
 
 impl Parts {
     /// `out` is the buffer that `path_to_string` is lent; the other call leaves it.
+    #[inline(never)]
     pub(crate) fn path_call(
         &mut self,
         alloc: Global,

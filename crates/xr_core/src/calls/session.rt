@@ -20,6 +20,7 @@ use xr_model::Cells;
 use xr_types::{Call, Code, Gives, Kind, Reply};
 
 impl Parts {
+    #[inline(never)]
     pub(crate) fn session_call(&mut self, call: &Call<'_>) -> Result<Reply, Halt>
         requires given { length self.old.handles.given < 2 ^ 44 }
         requires created { self.old.created < 2 ^ 44 }
@@ -78,6 +79,7 @@ impl Parts {
         handle
     }
 
+    #[inline(never)]
     pub(crate) fn destroy_session<C: Cells>(
         &mut self,
         cells: &mut C,

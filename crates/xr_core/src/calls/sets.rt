@@ -21,8 +21,8 @@ use crate::parts::{Parts, give};
 use crate::sessions::{attach_at, place_of, session_at};
 use crate::subactions::declared_by;
 use xr_handles::Handles;
-use xr_sets::{NewAction, USERS};
-use xr_types::{ActionType, Call, Code, Gives, Kind, Reply};
+use xr_sets::NewAction;
+use xr_types::{ActionType, Call, Code, Gives, Kind, Reply, USERS};
 
 /// Whether all of these are live action sets.
 fn are_sets(handles: &Handles, sets: &[u64]) -> bool
@@ -33,6 +33,7 @@ fn are_sets(handles: &Handles, sets: &[u64]) -> bool
 }
 
 impl Parts {
+    #[inline(never)]
     pub(crate) fn set_call(&mut self, call: &Call<'_>) -> Result<Reply, Halt>
         requires given { length self.old.handles.given < 2 ^ 44 }
         requires group { IsSetCall (request_of call.now) }

@@ -18,6 +18,7 @@ use xr_spaces::check_reference;
 use xr_types::{Call, Code, Gives, Kind, Location, RefKind, Reply, Root};
 
 impl Parts {
+    #[inline(never)]
     pub(crate) fn space_call(&mut self, call: &Call<'_>) -> Result<Reply, Halt>
         requires given { length self.old.handles.given < 2 ^ 44 }
         requires group { IsSpaceCall (request_of call.now) }

@@ -40,6 +40,7 @@ fn is_up(clock: i64, timeout: &i64, start: &i64) -> bool
 }
 
 impl Parts {
+    #[inline(never)]
     pub(crate) fn chain_call<C: Cells>(
         &mut self,
         cells: &mut C,
@@ -87,6 +88,7 @@ impl Parts {
         self.chains.acquire(chain)
     }
 
+    #[inline(never)]
     pub(crate) fn acquire_image(&mut self, chain: u64) -> Result<Reply, Halt>
         ensures { Decides self.old (acquire_image chain) self.new result }
     {

@@ -1,14 +1,18 @@
 -- Device texts: which lines give which events, and where the first line stands that is none. The format is this
--- project's own. A line whose part isn't built yet is none.
+-- project's own.
 use Rattle.std.specs.Prelude.{ℕ, ℤ, pos, negsuc, ◌+◌, ◌-◌, ◌*◌, ◌^◌, ◌&&◌, ◌||◌, ◌==◌, Bool, true, false, nat_eq, nat_lt, nat_le, List, [], ◌∷◌, length, codes, Option, Some, None, option_map, option_and_then, if◌then◌else◌}
 use Rattle.std.specs.Cmp.Lexicographic.{pointwise}
 use Rattle.xr_types.specs.declared.device.DeviceEvent.{DeviceEvent}
 use Rattle.xr_types.specs.declared.device.DeviceEvent.TheVariants as event
+use Rattle.xr_types.specs.declared.input.Profile.{Profile}
+use Rattle.xr_types.specs.declared.input.User.{User}
 use Rattle.xr_types.specs.declared.limits.TheConstants.{MOST_LINE, MOST_DEVICE}
 use Rattle.xr_types.specs.declared.spaces.Origin.{Origin}
 use Rattle.xr_types.specs.Device.{checks}
-use Rattle.xr_types.specs.Printed.{wish_name, all_wishes, origin_name, all_origins}
-use Rattle.xr_types.specs.Words.{named}
+use Rattle.xr_types.specs.Printed.{wish_name, all_wishes, origin_name, all_origins, user_path, all_users, profile_name, all_profiles}
+use Rattle.xr_types.specs.InputNames.{row_of}
+use Rattle.xr_types.specs.Words.{named, behind}
+use Rattle.xr_model.specs.machine.Profiles.{first_some}
 
 -- ---- lines
 
@@ -78,6 +82,26 @@ grid_by _ _ = None
 abbrev pub switch_of : List ℕ → Option Bool
 switch_of word = if is_word word (codes "on") then Some true else (if is_word word (codes "off") then Some false else None)
 
+-- the profile that is connected, or none
+abbrev pub connected_of : List ℕ → Option (Option Profile)
+connected_of word = if is_word word (codes "none") then Some None else option_map (λ profile. Some profile) (named profile_name all_profiles word)
+
+abbrev pub profile_by : Option User → Option (Option Profile) → Option DeviceEvent
+profile_by (Some who) (Some profile) = Some (event.Profile who profile)
+profile_by _ _ = None
+
+-- an input at a user path: that, `/input/`, and its identifier and component
+abbrev pub input_at : List ℕ → User → Option (User × ℕ)
+input_at word who = option_and_then (λ name. option_map (λ row. (who, row)) (row_of name)) (option_and_then (behind (codes "/input/")) (behind (user_path who) word))
+
+abbrev pub input_among : List ℕ → List User → Option (User × ℕ)
+input_among word [] = None
+input_among word (who ∷ more) = first_some (input_at word who) (input_among word more)
+
+abbrev pub input_by : Option (User × ℕ) → Option ℤ → Option DeviceEvent
+input_by (Some source) (Some value) = Some (event.Input source.0 source.1 value)
+input_by _ _ = None
+
 -- the greatest pose that a line tells
 abbrev pub most_pose : ℕ
 most_pose = 2 ^ 63 - 1
@@ -100,7 +124,11 @@ event_by (word ∷ a ∷ []) =
     else (if is_word word (codes "mark") then option_map (λ n. event.Mark n) (number_of a)
     else (if is_word word (codes "await") then option_map (λ n. event.Await n) (number_of a)
     else None))))
-event_by (word ∷ a ∷ b ∷ []) = if is_word word (codes "grid") then grid_by (integer_of a) (integer_of b) else None
+event_by (word ∷ a ∷ b ∷ []) =
+    if is_word word (codes "grid") then grid_by (integer_of a) (integer_of b)
+    else (if is_word word (codes "profile") then profile_by (named user_path all_users a) (connected_of b)
+    else (if is_word word (codes "input") then input_by (input_among a all_users) (integer_of b)
+    else None))
 event_by (word ∷ a ∷ b ∷ c ∷ []) = if is_word word (codes "pose") then pose_by (named origin_name all_origins a) (integer_of b) (number_of c) else None
 event_by (word ∷ a ∷ b ∷ c ∷ d ∷ ws) = None
 

@@ -9,7 +9,6 @@ use Rattle.xr_types.specs.declared.calls.Call.{Call}
 use Rattle.xr_types.specs.declared.calls.Step.{Step}
 use Rattle.xr_types.specs.declared.calls.Step.TheVariants.{Done, NotReady}
 use Rattle.xr_types.specs.Frames.{ShownFrame}
-use Rattle.xr_model.specs.machine.Device.{is_built_event}
 use Rattle.xr_model.specs.machine.Rule.{Rule, is_by}
 use Rattle.xr_model.specs.machine.Request.{Request, create_instance, destroy_instance, get_system, string_to_path, path_to_string, poll_event, create_session, destroy_session, begin_session, end_session, request_exit_session, create_reference_space, destroy_space, locate_space, create_action_set, destroy_action_set, create_action, destroy_action, suggest_bindings, attach_sets, create_swapchain, destroy_swapchain, acquire_image, wait_image, paint, release_image, wait_frame, begin_frame, end_frame, mark, await_mark, leave, device, next_frame, image_done, Entry, Outcome, request_of}
 use Rattle.xr_model.specs.machine.State.{CoreState, State, CellReads, with_apps, opening_core}
@@ -80,7 +79,7 @@ is_built (end_frame session time blend layers) = true
 is_built (mark number value) = true
 is_built (await_mark number) = true
 is_built leave = true
-is_built (device what) = is_built_event what
+is_built (device what) = true
 is_built next_frame = true
 is_built image_done = true
 is_built _ = false

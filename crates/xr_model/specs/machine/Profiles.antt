@@ -14,7 +14,8 @@ use Rattle.xr_types.specs.declared.input.Profile.TheVariants as profile
 use Rattle.xr_types.specs.declared.input.User.{User}
 use Rattle.xr_types.specs.declared.input.User.TheVariants as user
 use Rattle.xr_types.specs.declared.limits.TheConstants.{MOST_ROW}
-use Rattle.xr_types.specs.InputNames.{input_name}
+use Rattle.xr_types.specs.InputNames.{input_name, is_digital}
+use Rattle.xr_types.specs.Words.{behind}
 use Rattle.xr_types.specs.Printed.{user_path, all_users, profile_name, all_profiles}
 use Rattle.xr_types.specs.Words.{named}
 
@@ -129,11 +130,6 @@ abbrev pub before_slash : List ℕ → List ℕ
 before_slash [] = []
 before_slash (b ∷ bs) = if b == 47 then [] else b ∷ before_slash bs
 
--- its component: what stands behind that
-abbrev pub behind_slash : List ℕ → List ℕ
-behind_slash [] = []
-behind_slash (b ∷ bs) = if b == 47 then bs else behind_slash bs
-
 -- ---- what an entry picks
 
 -- the row among these of an identifier with its component
@@ -149,14 +145,6 @@ is_input row = nat_le row MOST_ROW
 
 abbrev pub is_pose : ℕ → Bool
 is_pose row = row == grip || row == aim
-
--- clicks and touches are digital; values and axes are analogue
-abbrev pub digital_components : List (List ℕ)
-digital_components = codes "click" ∷ codes "touch" ∷ []
-
--- an input is digital where its component is one of these
-abbrev pub is_digital : ℕ → Bool
-is_digital row = list_any (λ name. bytes_eq (behind_slash (input_name row)) name) digital_components
 
 abbrev pub part_of : ℕ → Part
 part_of row = if is_digital row then part.Digital row else part.Analogue row
@@ -186,12 +174,6 @@ picked_output type.Vibration outputs entry = if list_any (λ name. bytes_eq entr
 picked_output _ outputs entry = None
 
 -- ---- what a path picks
-
--- the text behind this beginning, where it begins so
-abbrev pub behind : List ℕ → List ℕ → Option (List ℕ)
-behind [] text = Some text
-behind (p ∷ ps) [] = None
-behind (p ∷ ps) (c ∷ cs) = if p == c then behind ps cs else None
 
 -- a pick at a user path, by its entry
 abbrev pub pick_by : User → List ℕ → Option Part → Option Pick

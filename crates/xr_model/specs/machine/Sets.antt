@@ -6,20 +6,12 @@ use Rattle.std.specs.List.{find, filter, list_all, list_any}
 use Rattle.xr_types.specs.declared.code.Code.TheVariants.{ValidationFailure, PathFormatInvalid, NameDuplicated, NameInvalid, ActionsetsAlreadyAttached, LocalizedNameDuplicated, LocalizedNameInvalid}
 use Rattle.xr_types.specs.declared.input.ActionType.{ActionType}
 use Rattle.xr_types.specs.declared.input.User.{User}
-use Rattle.xr_types.specs.declared.input.User.TheVariants as user
+use Rattle.xr_types.specs.Users.{user_place}
 use Rattle.xr_types.specs.Name.{is_name_byte, has_name_size, is_localized}
 use Rattle.xr_model.specs.machine.Handles.{is_among}
 use Rattle.xr_model.specs.machine.Refusals.{Refusal, when}
 
 -- ---- user paths
-
--- the place of a user path among the five
-abbrev pub user_place : User → ℕ
-user_place user.Left = 0
-user_place user.Right = 1
-user_place user.Head = 2
-user_place user.Gamepad = 3
-user_place user.Treadmill = 4
 
 -- none of the five is declared
 abbrev pub no_users : List Bool

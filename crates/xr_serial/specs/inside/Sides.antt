@@ -5,7 +5,6 @@ use Rattle.xr_types.specs.declared.device.DeviceEvent.{DeviceEvent}
 use Rattle.xr_types.specs.declared.device.DeviceEvent.TheVariants as event
 use Rattle.xr_types.specs.Device.{checks}
 use Rattle.xr_io.specs.Outside.{Rose}
-use Rattle.xr_model.specs.machine.Device.{is_built_event}
 use Rattle.xr_device.specs.Prospect.{Prospect}
 use Rattle.xr_device.specs.Answers.{Tells, IsTold}
 use Rattle.xr_device.specs.declared.Next.TheVariants as next
@@ -89,10 +88,9 @@ pub record Leaves (number : ℕ) (old new : AppState) (s after : State) : Type 0
 
 -- ---- the device
 
--- a device's call that the core may be asked: its numbers are in range, and its part is built
+-- a device's call that the core may be asked: its numbers are in range
 pub record IsDone (e : DeviceEvent) : Type 0 where
   pub checked : checks e ≡ true
-  pub built : is_built_event e ≡ true
 
 -- What the device was asked for its next event came to: an event, its end, a line that is none, or a fault.
 abbrev pub Fetched : Prospect → Prospect → Option DeviceEvent → Bool → Type 0

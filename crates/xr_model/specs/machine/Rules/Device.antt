@@ -1,12 +1,13 @@
 -- What happens at the device. Its events are this project's own and no statement about the standard.
-use Rattle.std.specs.Prelude.{ℤ, int_le, not, Bool, false, if◌then◌else◌}
+use Rattle.std.specs.Prelude.{ℤ, int_le, not, slice_set, Bool, false, if◌then◌else◌}
 use Rattle.xr_types.specs.declared.device.DeviceEvent.{DeviceEvent}
 use Rattle.xr_types.specs.declared.device.DeviceEvent.TheVariants as event
 use Rattle.xr_types.specs.declared.calls.Gives.TheVariants.{Nothing}
 use Rattle.xr_model.specs.machine.SessionLife.{Life, Changed, unchanged, settled_session, losing_session, lost_session}
 use Rattle.xr_model.specs.machine.LiveSessions.{each_changed, told_changes}
 use Rattle.xr_types.specs.Device.{checks}
-use Rattle.xr_model.specs.machine.Device.{is_built_event}
+use Rattle.xr_types.specs.Users.{user_place}
+use Rattle.xr_model.specs.machine.Inputs.{with_value, without_values}
 use Rattle.xr_model.specs.machine.Marks.{is_set, with_mark}
 use Rattle.xr_model.specs.machine.Spaces.{sampled}
 use Rattle.xr_model.specs.machine.State.{CoreState}
@@ -31,6 +32,9 @@ behind_event s (event.Wish wish) = with_changes (record s { device = record s.de
 behind_event s event.Loss = with_changes s losing_session
 behind_event s event.Lost = with_lost s
 behind_event s (event.Stage on) = record s { device = record s.device { stage = on } }
+behind_event s (event.Profile who profile) =
+    record s { device = record s.device { profiles = slice_set s.device.profiles (user_place who) profile; inputs = without_values s.device.inputs who } }
+behind_event s (event.Input who row value) = record s { device = record s.device { inputs = with_value s.device.inputs who row value } }
 behind_event s (event.Pose origin time pose) = record s { spaces = sampled s.spaces origin time pose }
 behind_event s (event.Mark mark) = record s { marks = with_mark s.marks mark 0 }
 behind_event s event.Fault = with_lost s
@@ -44,7 +48,6 @@ is_awaiting s _ = false
 
 abbrev pub device_rule : CoreState → DeviceEvent → Rule
 device_rule s what = record (ordinary s) {
-  is_there = is_built_event what;
   caller = device;
   in_range = checks what;
   waits = is_awaiting s what;

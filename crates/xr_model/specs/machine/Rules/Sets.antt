@@ -11,7 +11,8 @@ use Rattle.xr_model.specs.machine.LiveSessions.{with_session_at, with_attached, 
 use Rattle.xr_model.specs.machine.Profiles.{user_of}
 use Rattle.xr_model.specs.machine.Refusals.{Refusal, when}
 use Rattle.xr_model.specs.machine.Sets as sets
-use Rattle.xr_model.specs.machine.Sets.{set_checks, action_checks, action_label_checks, attach_checks, no_users, user_place, is_declared, with_set, with_action, sets_named, with_sealed}
+use Rattle.xr_types.specs.Users.{user_place}
+use Rattle.xr_model.specs.machine.Sets.{set_checks, action_checks, action_label_checks, attach_checks, no_users, is_declared, with_set, with_action, sets_named, with_sealed}
 use Rattle.xr_model.specs.machine.State.{CoreState}
 use Rattle.xr_model.specs.machine.Destroyed.{without_handle}
 use Rattle.xr_model.specs.machine.SessionRule.{loss_of}

@@ -1,5 +1,5 @@
-use Rattle.xr_profiles.proofs.Pieces.{behind_is}
-use Rattle.xr_profiles.proofs.texts.behind.Goals as goal
+use Rattle.xr_types.proofs.Beginnings.{behind_is}
+use Rattle.xr_types.proofs.words.behind.Goals as goal
 
 pub returns : goal.returns
 returns c = behind_is c.args.beginning.now c.args.text.now c.strip_prefix.result c.strip_prefix.ensures.cases

@@ -1,8 +1,8 @@
-// The user paths that an action declares.
+// The five user paths by their places.
 ghost use Rattle.std.specs.Prelude.{◌≡◌, ◌<◌};
-ghost use Rattle.xr_model.specs.machine.Sets.{user_place};
+ghost use Rattle.xr_types.specs.Users.{user_place};
 
-use xr_types::User;
+use crate::User;
 
 /// How many user paths there are (OpenXR 1.0 section 6.3.1).
 pub const USERS: usize = 5;

@@ -1,9 +1,9 @@
--- The rows of clicks and touches, by the table of the code.
+-- The rows of clicks, touches and values, by the tables of the code.
 use Rattle.std.proofs.Common.{◌≡◌, ◌==◌, ◌&&◌, ◌||◌, ◌<◌, ℕ, zero, suc, Bool, true, false, not, List, [], ◌∷◌, refl, sym, subst, ◌∙◌, arith, true≢false}
 use Rattle.std.specs.Prelude.{nat_le}
 use Rattle.std.specs.List.{list_any, list_all}
 use Rattle.std.proofs.lemmas.Bool.Decides.{nat_tests}
-use Rattle.xr_model.specs.machine.Profiles.{is_digital}
+use Rattle.xr_types.specs.InputNames.{is_digital, is_value}
 
 -- two tests answer alike
 abbrev alike : Bool → Bool → Bool
@@ -17,11 +17,11 @@ alike_is false true same = same
 alike_is false false same = refl
 
 -- a test of each number below this
-abbrev each_under : (ℕ → Bool) → ℕ → Bool
+abbrev pub each_under : (ℕ → Bool) → ℕ → Bool
 each_under p zero = true
 each_under p (suc n) = p n && each_under p n
 
-under_each : (p : ℕ → Bool) (n k : ℕ) → each_under p n ≡ true → k < n → p k ≡ true
+pub under_each : (p : ℕ → Bool) (n k : ℕ) → each_under p n ≡ true → k < n → p k ≡ true
 under_each p zero k each under = absurd (omega arith)
 under_each p (suc n) k each under = by (k == n) refl (p n) refl each (λ rest less. under_each p n k rest less)
   where
@@ -57,3 +57,20 @@ digital_rows row = by (nat_le row 40) refl
     by false eb =
         let first : nat_le 1 row ≡ true = grind (arith, nat_tests) in
         none_past 40 row digital refl (grind (arith, nat_tests)) ∙ rw (first, eb) refl
+
+-- the rows of the code's list of values
+abbrev values : List ℕ
+values = 14 ∷ 16 ∷ 39 ∷ 40 ∷ []
+
+abbrev among_values : ℕ → Bool
+among_values row = list_any (λ r. r == row) values
+
+-- they are those whose component is a value
+pub value_rows : (row : ℕ) → among_values row ≡ is_value row
+value_rows row = by (nat_le row 40) refl
+  where
+    by : (b : Bool) → nat_le row 40 ≡ b → among_values row ≡ is_value row
+    by true eb = alike_is (among_values row) (is_value row) (under_each (λ k. alike (among_values k) (is_value k)) 41 row refl (grind (arith, nat_tests)))
+    by false eb =
+        let first : nat_le 1 row ≡ true = grind (arith, nat_tests) in
+        none_past 40 row values refl (grind (arith, nat_tests)) ∙ rw (first, eb) refl

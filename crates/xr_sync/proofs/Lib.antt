@@ -1,0 +1,4 @@
+pub mod Tops
+pub mod Rows
+pub mod Quiet
+pub mod ColumnTables

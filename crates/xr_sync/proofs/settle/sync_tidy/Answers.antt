@@ -1,0 +1,9 @@
+use Rattle.std.proofs.Common.{rules, ◌∙◌, ap}
+use Rattle.xr_sync.specs.Tables.{rows_after}
+use Rattle.xr_sync.proofs.ColumnTables.{columns_by_table}
+use Rattle.xr_sync.proofs.settle.sync_tidy.Goals as goal
+
+pub returns-clause-after : goal.returns-clause-after
+returns-clause-after c =
+    c.settle.ensures.after ∙ ap (rows_after c.args.clock.now c.args.rows.now) c.gather.ensures.found
+    ∙ columns_by_table c.args.active.now c.args.bindings.now c.args.inputs.now c.args.clock.now c.args.rows.now (search rules) c.settle.ensures.six

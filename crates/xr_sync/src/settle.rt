@@ -1,0 +1,103 @@
+// What all columns show after a sync, from the table of what they found.
+ghost use Rattle.std.specs.Prelude.{◌≡◌, length, All};
+ghost use Rattle.xr_model.specs.machine.Sync.{columns_after};
+ghost use Rattle.xr_sync.specs.Ranks.{IsPlaced};
+ghost use Rattle.xr_sync.specs.Tables.{no_row, no_table, row_after, rows_after, IsQuiet, IsTidy};
+
+use crate::after::column_after;
+use crate::found::{ACTIONS, COLUMNS, NOTHING, gather};
+use xr_types::{Column, Found, Heard, Inputs, Ranked};
+
+/// The columns of an action after the sync.
+fn update(row: &mut [Column; COLUMNS], found: &[Found; COLUMNS], clock: &i64)
+    ensures after { row.new ≡ row_after clock.now row.old found.now }
+    ensures six { length row.old ≡ 6 }
+{
+    for column in 0..COLUMNS {
+        row[column] = column_after(clock, row[column], found[column]);
+    }
+}
+
+/// The same where some of them is active or was. What was found is forgotten.
+#[tactic(auto, using(crate::proofs::Quiet::stays, crate::proofs::Quiet::tidy_after))]
+fn settle_row(row: &mut [Column; COLUMNS], found: &mut [Found; COLUMNS], clock: &i64)
+    requires quiet { IsQuiet found.old }
+    requires tidy { IsTidy row.old }
+    ensures after { row.new ≡ row_after clock.now row.old found.old }
+    ensures clean { found.new ≡ no_row }
+    ensures tidy { IsTidy row.new }
+    ensures six { length row.old ≡ 6 }
+{
+    if row[0].active || found[0].active {
+        update(row, found, clock);
+        *found = [NOTHING; COLUMNS];
+    }
+}
+
+/// The columns of all actions after the sync. What was found is forgotten.
+fn settle(
+    rows: &mut [[Column; COLUMNS]; ACTIONS],
+    found: &mut [[Found; COLUMNS]; ACTIONS],
+    clock: &i64,
+)
+    requires quiet { All IsQuiet found.old }
+    requires tidy { All IsTidy rows.old }
+    ensures after { rows.new ≡ rows_after clock.now rows.old found.old }
+    ensures clean { found.new ≡ no_table }
+    ensures tidy { All IsTidy rows.new }
+    ensures six { All (λ row. length row ≡ 6) rows.old }
+{
+    for place in 0..ACTIONS {
+        settle_row(&mut rows[place], &mut found[place], clock);
+    }
+}
+
+/// The same of columns of which nothing is known.
+fn settle_all(
+    rows: &mut [[Column; COLUMNS]; ACTIONS],
+    found: &[[Found; COLUMNS]; ACTIONS],
+    clock: &i64,
+)
+    ensures after { rows.new ≡ rows_after clock.now rows.old found.now }
+    ensures six { All (λ row. length row ≡ 6) rows.old }
+{
+    for place in 0..ACTIONS {
+        update(&mut rows[place], &found[place], clock);
+    }
+}
+
+/// The columns after a sync, in place of those before; `found` is the table that it works with.
+pub(crate) fn sync_tidy(
+    active: &[Heard],
+    bindings: &[Ranked],
+    inputs: &Inputs,
+    clock: &i64,
+    rows: &mut [[Column; COLUMNS]; ACTIONS],
+    found: &mut [[Found; COLUMNS]; ACTIONS],
+)
+    requires placed { All IsPlaced bindings.now }
+    requires none { found.old ≡ no_table }
+    requires tidy { All IsTidy rows.old }
+    ensures after { rows.new ≡ columns_after active.now bindings.now inputs.now clock.now rows.old }
+    ensures clean { found.new ≡ no_table }
+    ensures tidy { All IsTidy rows.new }
+{
+    gather(active, bindings, inputs, found);
+    settle(rows, found, clock);
+}
+
+/// The same of columns of which nothing is known, with a table of its own.
+pub(crate) fn sync_all(
+    active: &[Heard],
+    bindings: &[Ranked],
+    inputs: &Inputs,
+    clock: &i64,
+    rows: &mut [[Column; COLUMNS]; ACTIONS],
+)
+    requires { All IsPlaced bindings.now }
+    ensures { rows.new ≡ columns_after active.now bindings.now inputs.now clock.now rows.old }
+{
+    let mut found = [[NOTHING; COLUMNS]; ACTIONS];
+    gather(active, bindings, inputs, &mut found);
+    settle_all(rows, &found, clock);
+}
