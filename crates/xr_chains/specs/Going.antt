@@ -1,8 +1,12 @@
 -- What is left in places where some chains aren't live any more, and the images that applications have no longer by that. A test
 -- of handles tells which chains are live, and a test of places which places frames use.
-use Rattle.std.specs.Prelude.{ℕ, ◌+◌, ◌==◌, ◌&&◌, not, Bool, List, [], ◌∷◌, ◌++◌, if◌then◌else◌}
+use Rattle.std.specs.Prelude.{◌≡◌, ℕ, ◌+◌, ◌==◌, ◌&&◌, not, Bool, List, [], ◌∷◌, ◌++◌, if◌then◌else◌}
 use Rattle.xr_types.specs.declared.frames.Image.{Image}
 use Rattle.xr_model.specs.machine.Chains.{Chain, free_place, kept_place, oldest_of}
+
+-- a place is free as it began
+abbrev pub IsFree : Chain → Type 0
+IsFree c = c ≡ free_place
 
 -- What is left in a place, told whether it is used: a chain that isn't live goes, and keeps its place while that is used.
 abbrev pub left_one : (ℕ → Bool) → Bool → Chain → Chain

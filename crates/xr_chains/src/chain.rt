@@ -22,7 +22,7 @@ pub(crate) const OUT_OF_ORDER: Answer = Answer {
 /// A place: the handle of its swapchain, 0 where the place is free; whether that was destroyed and keeps the place for frames
 /// that show it; its width and height in pixels; whether it is a static one; the indices acquired, the oldest first; whether
 /// the oldest was waited for; the index released last, where one was and isn't acquired again; and the index that is acquired
-/// next, below 3. Contracts see the machine's chain.
+/// next, below 3. A place that is clear is free as it began, so that a sweep passes it by. Contracts see the machine's chain.
 #[derive(Drop)]
 pub(crate) struct Chain {
     handle: u64,
@@ -34,11 +34,13 @@ pub(crate) struct Chain {
     has_waited: bool,
     last: Option<u8>,
     next: u8,
+    is_clear: bool,
 }
 
 impl Model for Chain {
-    ghost use Rattle.std.specs.Prelude.{◌≤◌, ◌<◌, length, if◌then◌else◌};
+    ghost use Rattle.std.specs.Prelude.{◌≡◌, ◌≤◌, ◌<◌, true, length, if◌then◌else◌};
     ghost use Rattle.xr_model.specs.machine.Chains as machine;
+    ghost use Rattle.xr_chains.specs.Going.{IsFree};
 
     ghost Value = { machine.Chain };
 
@@ -54,7 +56,7 @@ impl Model for Chain {
       next = c.next;
     } };
 
-    ghost invariant = { λ c. (c.next < 3) × (length c.acquired.items ≤ (if c.is_static then c.next else 3)) };
+    ghost invariant = { λ c. (c.next < 3) × (length c.acquired.items ≤ (if c.is_static then c.next else 3)) × (c.is_clear ≡ true → IsFree (record { handle = c.handle; is_destroyed = c.is_destroyed; width = c.width; height = c.height; is_static = c.is_static; acquired = c.acquired.items; has_waited = c.has_waited; last = c.last; next = c.next })) };
 }
 
 /// The index behind this one: they come in turn. That of a static swapchain comes once.
@@ -80,7 +82,9 @@ impl Chain {
     pub(crate) fn free() -> Chain
         ensures { result ≡ free_place }
     {
-        Chain::new(0, 0, 0, false)
+        let mut place = Chain::new(0, 0, 0, false);
+        place.is_clear = true;
+        place
     }
 
     /// A new swapchain: no image of it is acquired or was released.
@@ -97,6 +101,7 @@ impl Chain {
             has_waited: false,
             last: None,
             next: 0,
+            is_clear: false,
         }
     }
 
@@ -105,6 +110,7 @@ impl Chain {
         ensures { result ≡ kept_place handle }
     {
         let mut place = Chain::new(handle, 0, 0, false);
+        place.is_clear = false;
         place.is_destroyed = true;
         place
     }
@@ -202,6 +208,7 @@ impl Chain {
         ensures { self.new ≡ acquiring self.old }
     {
         let index = self.next;
+        self.is_clear = false;
         self.acquired.push(index);
         self.next = index_behind(self.is_static, index);
         self.last = unless_acquired(index, self.last);
@@ -227,6 +234,7 @@ impl Chain {
     pub(crate) fn wait(&mut self)
         ensures { self.new ≡ waiting self.old }
     {
+        self.is_clear = false;
         self.has_waited = true;
     }
 
@@ -234,6 +242,7 @@ impl Chain {
     pub(crate) fn release(&mut self)
         ensures { self.new ≡ releasing self.old }
     {
+        self.is_clear = false;
         self.last = Some(self.oldest());
         self.acquired.pop_at(0);
         self.has_waited = false;
@@ -265,11 +274,11 @@ impl Chain {
         }
     }
 
-    /// A swapchain that isn't live goes: this place is kept where frames use it, and is free where they don't.
+    /// A swapchain that isn't live goes: this place is kept where frames use it, and is free where they don't. A clear place stays.
     pub(crate) fn sweep<S: Standing>(&mut self, place: u8, standing: &S)
         ensures { self.new ≡ left_one (S.is_live standing.now) (S.is_used standing.now place) self.old }
     {
-        if standing.is_live(self.handle) {
+        if self.is_clear || standing.is_live(self.handle) {
             return;
         }
         *self = if self.handle != 0 && standing.is_used(place) {
