@@ -136,25 +136,14 @@ class Lint:
         scripts = enumerate(self.found.scripts, 1)
         return any(step.op in ENDING for other, steps in scripts if other != number for step in steps)
 
-    def look(self, unrun: list[str]) -> list[Finding]:
+    def look(self) -> list[Finding]:
         """All warnings, in the order of their places."""
-        self.look_at_unrun(unrun)
         for number, steps in enumerate(self.found.scripts, 1):
             ScriptLint(self, number).look(steps)
         found = [it for _, it in sorted(self.warnings.items())]
         if self.more:
             found[-1].more.append(f"{count(self.more, 'more warning')} can be given.")
         return found
-
-    def look_at_unrun(self, unrun: list[str]) -> None:
-        """The ops that aren't run yet, each name once. The first of them is told as the reason why the text is refused."""
-        steps = ((s, o, it) for s, steps in enumerate(self.found.scripts, 1) for o, it in enumerate(steps, 1))
-        first = {}
-        for number, place, step in steps:
-            if step.op in unrun:
-                first.setdefault(step.op, (number, place, step))
-        for number, place, step in list(first.values())[1:]:
-            self.warn(step, f"script {number} op {place} op", f"{step.op} isn't run yet", ("op",))
 
 
 class ScriptLint:
@@ -267,12 +256,10 @@ def lint_device(device: DeviceFound, marks: dict[tuple[str, int], Told], setters
     return found
 
 
-def lint(
-    scenario: ScenarioFound, device: DeviceFound | None, is_known: bool, unrun: list[str]
-) -> tuple[list[Finding], list[Finding]]:
+def lint(scenario: ScenarioFound, device: DeviceFound | None, is_known: bool) -> tuple[list[Finding], list[Finding]]:
     """The warnings of a scenario, and those of a device's text; `is_known` is false where such a text was given and not
     read."""
     marks = marks_of(device) if device else {}
     looked = Lint(scenario, marks if is_known else None, device is not None)
-    warnings = looked.look(unrun)
+    warnings = looked.look()
     return warnings, lint_device(device, marks, looked.setters) if device else []

@@ -6,7 +6,7 @@ from typing import Any, NamedTuple
 
 from .json_text import JsonFault, Node, Reader
 from .quick import Quick
-from .places import Finding, count, encoding_of, line_and_column, listed, nearest, one_line, quoted
+from .places import Finding, encoding_of, line_and_column, listed, nearest, one_line, quoted
 from .schema import Check, Part, Schema, in_quotes
 
 MOST_BYTES = 1_048_576
@@ -145,24 +145,6 @@ def read_scripts(found: ScenarioFound, schema: Schema, scripts: list[Node]) -> N
                 return
             reader.read_op(place, node)
         found.scripts.append(reader.steps)
-    if found.refusal is None:
-        find_unrun(found, frozenset(schema.unrun))
-
-
-def find_unrun(found: ScenarioFound, unrun_ops: frozenset[str]) -> None:
-    """The first op that is read and not run so far."""
-    ops = [(s, o, it) for s, steps in enumerate(found.scripts, 1) for o, it in enumerate(steps, 1)]
-    unrun = [it for it in ops if it[2].op in unrun_ops]
-    if not unrun:
-        return
-    script, place, step = unrun[0]
-    words = f"script {script} op {place} is {step.op}, which the program reads and doesn't run yet"
-    more = ["The whole scenario is refused for it, as unbuilt, and no call is made."]
-    others = sorted({it.op for _, _, it in unrun} - {step.op})
-    if len(unrun) > 1:
-        also = f", also of {listed(others)}" if others else ""
-        more.append(f"Behind it {'stands' if len(unrun) == 2 else 'stand'} {count(len(unrun) - 1, 'more such op')}{also}.")
-    found.refuse("unbuilt", step.at, words, more)
 
 
 def sort_given(op: str, mark: object) -> str | None:

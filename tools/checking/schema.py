@@ -15,8 +15,6 @@ Part = dict[str, Any]
 
 # the sort of a name is that of the innermost of these parts that it stands in, and else it is a number's
 SORT_OF_PART = {"handle": "handle", "atom": "atom"}
-# the description of an op that isn't run yet has these words; .ci/lint compares them with the program
-NOT_RUN = "Not run yet"
 
 QUOTED_NUMBER = re.compile(r"-?(?:0|[1-9][0-9]{0,18})")
 TYPES = {
@@ -80,11 +78,6 @@ class Schema:
     @cached_property
     def ops(self) -> list[str]:
         return self.parts["op"]["properties"]["op"]["enum"]
-
-    @cached_property
-    def unrun(self) -> list[str]:
-        """The ops that are read and not run yet, as their descriptions say."""
-        return [op for op in self.ops if NOT_RUN in self.row(op)["description"]]
 
     def row(self, op: str) -> Part:
         """What the schema says of an op."""

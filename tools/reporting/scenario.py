@@ -44,13 +44,13 @@ def arguments_in(fields: dict[str, Any]) -> dict[str, Any]:
 
 
 def read_scenario(data: bytes) -> Scripts:
-    """The ops of a scenario's scripts, also where some of them aren't run yet."""
+    """The ops of a scenario's scripts."""
     try:
         schema = Schema.of_file(SCHEMA)
     except (OSError, ValueError, KeyError) as e:
         raise NoScenario(f"{SCHEMA} has the table of fields and can't be read: {e}") from None
     found = look_at(data, schema)
-    if found.refusal not in (None, "unbuilt"):
+    if found.refusal is not None:
         raise NoScenario(found.refusal)
     return [[Op(it.op, arguments_in(it.fields), text_at(found.text, it.at)) for it in steps] for steps in found.scripts]
 

@@ -26,6 +26,9 @@ fn is_own(call: &Call<'_>) -> bool
         | Call::CreateActionSet { .. }
         | Call::CreateAction { .. }
         | Call::SuggestBindings { .. }
+        | Call::AttachSets { .. }
+        | Call::SyncActions { .. }
+        | Call::GetBoolean { .. }
         | Call::CreateSwapchain { .. }
         | Call::AcquireImage { .. }
         | Call::WaitImage {
@@ -95,14 +98,14 @@ pub(crate) fn compose(core: &mut PlainCore, call: &Call<'_>, shown: &mut Shown) 
     }
 }
 
-/// Whether the device may tell this: a wish, or a pose whose numbers are in range.
+/// Whether the device may tell this: a wish, a controller, or a pose whose numbers are in range.
 fn is_told(call: &Call<'_>) -> bool
     ensures { IsTrue result → MayAsk Device (request_of call.now) 0 }
 {
     match call {
         Call::Device(event) => match event {
             DeviceEvent::Wish(_) => true,
-            DeviceEvent::Pose { .. } => event.check(),
+            DeviceEvent::Pose { .. } | DeviceEvent::Profile { .. } => event.check(),
             _ => false,
         },
         _ => false,

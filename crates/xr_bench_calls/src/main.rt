@@ -7,6 +7,7 @@ mod frames;
 mod images;
 mod locates;
 mod measures;
+mod reads;
 mod round;
 mod suggests;
 mod syncs;
@@ -24,7 +25,8 @@ each waited for, begun, ended and taken, beside asking for the system five times
 each acquired, waited for, painted and released, beside asking for the system six times; shows as many
 frames of two images, and as many that are painted anew; and waits as often in vain for an image, and for a
 mark. It suggests as many bindings, 512 at once. It syncs one action with one binding as often, and 64 actions
-with 512 bindings a 64th as often. Of each it prints how many a second there are.
+with 512 bindings a 64th as often. It does the same by calls on a core, each followed by a getter, and reads
+an action alone as often as there are rounds. Of each it prints how many a second there are.
 ";
 
 /// The rounds that the words ask for.

@@ -6,6 +6,7 @@ use crate::images::{
     wait_image_often,
 };
 use crate::locates::{locate_often, set_out};
+use crate::reads::{read_often, set_reading, sync_and_read_often};
 use crate::round::round_often;
 use crate::suggests::{set_up, suggest_often};
 use crate::syncs::sync_often;
@@ -135,6 +136,34 @@ fn tell_syncs<R: Clock + Print>(rt: &R, rounds: u64) -> io::Result<()> {
     tell(rt, start, "syncing all actions", times, "times")
 }
 
+/// Measures syncs by calls, each with a getter behind it, and getters alone: of one action with one binding.
+fn tell_reading<R: Clock + Print>(rt: &R, core: &mut PlainCore, rounds: u64) -> io::Result<()> {
+    let reading = set_reading(core, false);
+    let start = Instant::now(rt)?;
+    let done = sync_and_read_often(core, reading, rounds);
+    tell(rt, start, "a sync and a getter", done, "times")?;
+    let start = Instant::now(rt)?;
+    let done = read_often(core, reading, rounds);
+    tell(rt, start, "a getter", done, "times")
+}
+
+/// The same of 64 actions with 512 bindings, where syncs are made a 64th as often.
+fn tell_reading_all<R: Clock + Print>(rt: &R, core: &mut PlainCore, rounds: u64) -> io::Result<()> {
+    let reading = set_reading(core, true);
+    let start = Instant::now(rt)?;
+    let done = sync_and_read_often(core, reading, (rounds / 64).max(1));
+    tell(
+        rt,
+        start,
+        "a sync of all actions and a getter",
+        done,
+        "times",
+    )?;
+    let start = Instant::now(rt)?;
+    let done = read_often(core, reading, rounds);
+    tell(rt, start, "a getter among all actions", done, "times")
+}
+
 /// What is measured on a core of its own; syncs need none.
 #[derive(Clone, Copy)]
 enum Measure {
@@ -146,6 +175,8 @@ enum Measure {
     Waits,
     Suggesting,
     Syncs,
+    Reading,
+    ReadingAll,
 }
 
 /// Takes this measure on a core that is new.
@@ -164,6 +195,8 @@ fn take<R: Clock + Print>(
         Measure::Waits => tell_waits(rt, core, rounds),
         Measure::Suggesting => tell_suggesting(rt, core, rounds),
         Measure::Syncs => tell_syncs(rt, rounds),
+        Measure::Reading => tell_reading(rt, core, rounds),
+        Measure::ReadingAll => tell_reading_all(rt, core, rounds),
     }
 }
 
@@ -182,6 +215,8 @@ pub(crate) fn measure_each<R: Clock + Print>(
         Measure::Waits,
         Measure::Suggesting,
         Measure::Syncs,
+        Measure::Reading,
+        Measure::ReadingAll,
     ] {
         let Ok(mut core) = PlainCore::start(alloc, 1) else {
             return Ok(false);

@@ -12,7 +12,7 @@ pub(crate) struct Suggestions {
 }
 
 /// The atom of a text, or 0.
-fn atom(core: &mut PlainCore, instance: u64, text: &[u8]) -> u64 {
+pub(crate) fn atom(core: &mut PlainCore, instance: u64, text: &[u8]) -> u64 {
     match ask(core, &Call::StringToPath { instance, text }) {
         Gives::Number(atom) => atom,
         _ => 0,

@@ -66,7 +66,7 @@ pub(crate) fn sync_often(all: bool, times: u64) -> u64 {
         } else {
             columns.sync(&HEARD, &one, &inputs, 5);
         }
-        if columns.column(0, 0).changed {
+        if columns.column(0, 0).is_some_and(|it| it.changed) {
             changes = changes.saturating_add(1);
         }
     }

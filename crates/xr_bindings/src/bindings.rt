@@ -1,9 +1,12 @@
 // The suggestions for all profiles, and the calls on them.
-ghost use Rattle.std.specs.Prelude.{◌≡◌, None, true};
+ghost use Rattle.std.specs.Prelude.{◌≡◌, ◌≤◌, None, true, length};
+ghost use Rattle.std.specs.List.{list_all};
 ghost use Rattle.xr_types.specs.Code.{is_out_of_memory};
+ghost use Rattle.xr_types.specs.declared.limits.TheConstants.{MOST_SUGGESTED};
 ghost use Rattle.xr_model.specs.machine.Bindings.{no_suggestions, suggestions_of, number_checks, suggest_refusals, with_suggestions, without_suggestions_of};
 ghost use Rattle.xr_model.specs.machine.PartAnswers.{code_by};
 ghost use Rattle.xr_model.specs.machine.Refusals.{first_of, unless};
+ghost use Rattle.xr_model.specs.machine.Sync.{is_source};
 
 use crate::profiles::{PROFILES, profile_place};
 use crate::suggestions::{Suggestions, forget_action};
@@ -44,8 +47,10 @@ impl Bindings {
     /// Suggests these bindings for a profile, in this order, in the place of those that were suggested for it before.
     /// Refused are, in this order, an empty list (`ValidationFailure`), one of more than 512 (`LimitReached`), and one
     /// for which there is no memory (`OutOfMemory`); each leaves all as it was. No other call takes memory. The time is linear
-    /// in the list's length. OpenXR 1.0 chapter 11, xrSuggestInteractionProfileBindings.
+    /// in the list's length. Each picks one of the thirty identifiers. OpenXR 1.0 chapter 11,
+    /// xrSuggestInteractionProfileBindings.
     pub fn suggest(&mut self, alloc: Global, profile: Profile, list: &[Bound]) -> Code
+        requires sources { list_all is_source list.now ≡ true }
         ensures kept { self.new ≡ unless (first_of (suggest_refusals list.now (is_out_of_memory result))) self.old (with_suggestions self.old profile list.now) }
         ensures code { result ≡ code_by (first_of (suggest_refusals list.now (is_out_of_memory result))) }
         ensures memory { is_out_of_memory result ≡ true → first_of (number_checks list.now) ≡ None }
@@ -66,7 +71,9 @@ impl Bindings {
     /// What is suggested for a profile, in the order of the call, and nothing where it never was. OpenXR 1.0 chapter 11,
     /// xrSuggestInteractionProfileBindings.
     pub fn of_profile(&self, profile: Profile) -> &[Bound]
-        ensures { result.now ≡ suggestions_of self.now profile }
+        ensures list { result.now ≡ suggestions_of self.now profile }
+        ensures few { length result.now ≤ MOST_SUGGESTED }
+        ensures sources { list_all is_source result.now ≡ true }
     {
         self.lists[profile_place(profile)].as_slice()
     }

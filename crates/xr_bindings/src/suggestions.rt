@@ -1,7 +1,9 @@
 // What is suggested for one profile, and what an action that goes takes from all of them.
-ghost use Rattle.std.specs.Prelude.{◌≡◌, ◌≤◌, ◌==◌, [], not, map, take, length, IfOk};
-ghost use Rattle.std.specs.List.{filter};
+ghost use Rattle.std.specs.Prelude.{◌≡◌, ◌≤◌, ◌==◌, [], true, not, map, take, length, IfOk};
+ghost use Rattle.std.specs.List.{filter, list_all};
+ghost use Rattle.xr_types.specs.declared.limits.TheConstants.{MOST_SUGGESTED};
 ghost use Rattle.xr_model.specs.machine.Bindings.{without_suggestions_of};
+ghost use Rattle.xr_model.specs.machine.Sync.{is_source};
 
 use std::alloc::{AllocError, Global};
 use std::boxed::BoxedSlice;
@@ -18,14 +20,17 @@ pub(crate) struct Suggestions {
 }
 
 impl Model for Suggestions {
-    ghost use Rattle.std.specs.Prelude.{List, [], ◌≤◌, option_map, unwrap_or, take, length};
+    ghost use Rattle.std.specs.Prelude.{List, [], ◌≤◌, ◌≡◌, true, option_map, unwrap_or, take, length};
+    ghost use Rattle.std.specs.List.{list_all};
     ghost use Rattle.xr_types.specs.declared.input.Bound.{Bound};
+    ghost use Rattle.xr_types.specs.declared.limits.TheConstants.{MOST_SUGGESTED};
+    ghost use Rattle.xr_model.specs.machine.Sync.{is_source};
 
     ghost Value = { List Bound };
 
     ghost view = { λ s. take s.left (unwrap_or (option_map (λ list. list.items.items) s.list) []) };
 
-    ghost invariant = { λ s. s.left ≤ length (unwrap_or (option_map (λ list. list.items.items) s.list) []) };
+    ghost invariant = { λ s. (s.left ≤ length (unwrap_or (option_map (λ list. list.items.items) s.list) [])) × (s.left ≤ MOST_SUGGESTED) × (list_all is_source (take s.left (unwrap_or (option_map (λ list. list.items.items) s.list) [])) ≡ true) };
 }
 
 impl Suggestions {
@@ -41,6 +46,8 @@ impl Suggestions {
 
     /// These are suggested. Takes the memory for a copy of them, where there is as much.
     pub(crate) fn from_slice(alloc: Global, list: &[Bound]) -> Result<Suggestions, AllocError>
+        requires few { length list.now ≤ MOST_SUGGESTED }
+        requires sources { list_all is_source list.now ≡ true }
         ensures { IfOk result (λ suggestions. suggestions ≡ list.now) }
     {
         let left = list.len();
@@ -53,7 +60,9 @@ impl Suggestions {
 
     /// What is suggested.
     pub(crate) fn as_slice(&self) -> &[Bound]
-        ensures { result.now ≡ self.now }
+        ensures list { result.now ≡ self.now }
+        ensures few { length result.now ≤ MOST_SUGGESTED }
+        ensures sources { list_all is_source result.now ≡ true }
     {
         match &self.list {
             Some(list) => &list.as_slice()[..self.left],

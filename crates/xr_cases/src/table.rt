@@ -8,7 +8,7 @@ use std::io::Print;
 use std::rt::Files;
 use xr_drive::explanation_of;
 use xr_io::{Failing, MemoryFile, MemoryOpener};
-use xr_types::{Refusal, Status};
+use xr_types::Status;
 
 const NEVER: Failing<'static> = Failing {
     open: false,
@@ -57,13 +57,11 @@ fn with_words(alloc: Global, words: &[String], text: &str) -> Result<Vec<String>
     Ok(whole)
 }
 
-/// What a table says of a status: `read` where the scenario and the device's text are of their formats, also where the
-/// scenario has ops that aren't built, and else the line on standard error.
+/// What a table says of a status: `read` where the scenario and the device's text are of their formats, and else the line
+/// on standard error.
 fn said_of(alloc: Global, status: Status) -> Result<String, AllocError> {
     match status {
-        Status::Done | Status::Stuck | Status::ScenarioRefused(Refusal::Unbuilt) => {
-            String::from_str(alloc, "read")
-        }
+        Status::Done | Status::Stuck => String::from_str(alloc, "read"),
         _ => match explanation_of(status) {
             Some(line) => format!(in alloc; "{line}"),
             None => Ok(String::new(alloc)),

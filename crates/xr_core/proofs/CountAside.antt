@@ -1,9 +1,9 @@
--- No rule reads or changes the count of calls: what a call comes to is the same, whatever is counted.
+-- No rule changes the count of calls or the number of what was published last, and what a call comes to is the same, whatever these are.
 use Rattle.std.proofs.Common.{◌≡◌, ◌≤◌, ◌+◌, ℕ, Bool, true, List, ◌∷◌, length, Option, Some, None, refl, ap, arith}
 use Rattle.xr_types.specs.declared.calls.Actor.{Actor}
 use Rattle.xr_types.specs.declared.device.DeviceEvent.{DeviceEvent}
 use Rattle.xr_types.specs.declared.device.DeviceEvent.TheVariants as event
-use Rattle.xr_model.specs.machine.Request.{Request, create_instance, create_session, create_reference_space, create_action_set, create_action, create_swapchain, create_action_space, sync_actions, end_frame, get_boolean, get_float, get_vector, get_pose_active, device, is_locked, Entry}
+use Rattle.xr_model.specs.machine.Request.{Request, create_instance, create_session, create_reference_space, create_action_set, create_action, create_swapchain, create_action_space, end_frame, device, is_locked, Entry}
 use Rattle.xr_model.specs.machine.Refusals.{Refusal}
 use Rattle.xr_model.specs.machine.State.{CoreState, CellReads}
 use Rattle.xr_model.specs.machine.Rule.{Rule, Effect, refusals, refusal, told_on, unless_refused, carried_out}
@@ -13,38 +13,38 @@ use Rattle.xr_model.specs.machine.Frames.{one_if}
 use Rattle.xr_model.specs.machine.SessionRule.{Loss}
 use Rattle.xr_model.specs.machine.CoreCalls.{is_built}
 
--- a state with this count
-abbrev pub counting : CoreState → ℕ → CoreState
-counting s n = record s { locked = n }
+-- a state with this count, and with this number of what was published last
+abbrev pub counting : CoreState → ℕ → ℕ → CoreState
+counting s n p = record s { locked = n; published = p }
 
-abbrev counting_all : Effect → ℕ → Effect
-counting_all e n = record e { state = counting e.state n }
+abbrev counting_all : Effect → ℕ → ℕ → Effect
+counting_all e n p = record e { state = counting e.state n p }
 
--- what is the same of two rules, by states that differ in the count alone
-pub record SameRule (s : CoreState) (n : ℕ) (short : Bool) (r with_count : Rule) : Type 0 where
+-- what is the same of two rules, by states that differ in these two alone
+pub record SameRule (s : CoreState) (n p : ℕ) (short : Bool) (r with_count : Rule) : Type 0 where
   pub refusals_same : refusals with_count ≡ refusals r
   pub waits : with_count.waits ≡ r.waits
   pub creates : with_count.creates ≡ r.creates
   pub memory : with_count.takes_memory ≡ r.takes_memory
-  pub effect : carried_out (counting s n) short with_count ≡ counting_all (carried_out s short r) n
+  pub effect : carried_out (counting s n p) short with_count ≡ counting_all (carried_out s short r) n p
 
-unless_same : (s : CoreState) (n : ℕ) (o : Option Refusal) (x : Effect) → unless_refused (counting s n) o (counting_all x n) ≡ counting_all (unless_refused s o x) n
-unless_same s n None x = refl
-unless_same s n (Some r) x = refl
+unless_same : (s : CoreState) (n p : ℕ) (o : Option Refusal) (x : Effect) → unless_refused (counting s n p) o (counting_all x n p) ≡ counting_all (unless_refused s o x) n p
+unless_same s n p None x = refl
+unless_same s n p (Some r) x = refl
 
-module _ (s : CoreState) (n : ℕ) (short : Bool) (reads : CellReads) (who : Actor) (given : ℕ) where
-  events : (what : DeviceEvent) → SameRule s n short (device_rule s what) (device_rule (counting s n) what)
+module _ (s : CoreState) (n p : ℕ) (short : Bool) (reads : CellReads) (who : Actor) (given : ℕ) where
+  events : (what : DeviceEvent) → SameRule s n p short (device_rule s what) (device_rule (counting s n p) what)
   events (event.Clock time) = record { refusals_same = refl; waits = refl; creates = refl; memory = refl; effect = refl }
   events _ = record { refusals_same = refl; waits = refl; creates = refl; memory = refl; effect = refl }
 
-  pub same_rule : (what : Request) → SameRule s n short (rule_of s reads who given what) (rule_of (counting s n) reads who given what)
+  pub same_rule : (what : Request) → SameRule s n p short (rule_of s reads who given what) (rule_of (counting s n p) reads who given what)
   same_rule (device what) = events what
   same_rule (create_instance major minor) =
       let r = rule_of s reads who given (create_instance major minor) in
-      record { refusals_same = refl; waits = refl; creates = refl; memory = refl; effect = unless_same s n (refusal short r) (told_on r.on r.effect) }
+      record { refusals_same = refl; waits = refl; creates = refl; memory = refl; effect = unless_same s n p (refusal short r) (told_on r.on r.effect) }
   same_rule what =
       let r = rule_of s reads who given what in
-      record { refusals_same = refl; waits = refl; creates = refl; memory = refl; effect = unless_same s n (refusal short r) (told_on r.on r.effect) }
+      record { refusals_same = refl; waits = refl; creates = refl; memory = refl; effect = unless_same s n p (refusal short r) (told_on r.on r.effect) }
 
 -- ---- what a call leaves, and how much it adds
 
@@ -91,6 +91,7 @@ module _ (s : CoreState) (short : Bool) (reads : CellReads) (who : Actor) (given
   grows (create_instance major minor) = creates (create_instance major minor) refl refl (no_less s.created 1) refl
   grows (create_session instance system) = creates (create_session instance system) refl refl (as_many s.created) refl
   grows (create_reference_space session what offset) = creates (create_reference_space session what offset) refl refl (no_less s.created 1) refl
+  grows (create_action_space session action sub offset) = creates (create_action_space session action sub offset) refl refl (no_less s.created 1) refl
   grows (create_swapchain session format width height fixed) = creates (create_swapchain session format width height fixed) refl refl (no_less s.created 1) refl
   grows (create_action_set instance name localized priority) = creates (create_action_set instance name localized priority) refl refl (no_less s.created 1) refl
   grows (create_action set name type subs localized) = creates (create_action set name type subs localized) refl refl (no_less s.created 1) refl
@@ -108,21 +109,15 @@ pub built_is_there : (s : CoreState) (reads : CellReads) (who : Actor) (given : 
 built_is_there s reads who given = by
   where
     by : (r : Request) → is_built r ≡ true → (rule_of s reads who given r).is_there ≡ true
-    by (create_action_space session action sub offset) built = built
-    by (sync_actions session active) built = built
-    by (get_boolean session action sub) built = built
-    by (get_float session action sub) built = built
-    by (get_vector session action sub) built = built
-    by (get_pose_active session action sub) built = built
     by (device what) built = built
     by _ built = refl
 
 -- ---- calls on cells
 
 -- what was done is the same, whatever is counted
-pub counted_did : (s : CoreState) (n : ℕ) (reads : CellReads) (e : Entry) → (effect (counting s n) reads e).did ≡ (effect s reads e).did
-counted_did s n reads e = ap (λ (x : Effect). x.did) (same_rule s n e.short reads e.actor e.given e.request).effect
+pub counted_did : (s : CoreState) (n p : ℕ) (reads : CellReads) (e : Entry) → (effect (counting s n p) reads e).did ≡ (effect s reads e).did
+counted_did s n p reads e = ap (λ (x : Effect). x.did) (same_rule s n p e.short reads e.actor e.given e.request).effect
 
 -- and so are the calls on cells
-pub counted_calls : (s : CoreState) (n : ℕ) (reads : CellReads) (e : Entry) → cell_calls (counting s n) reads e ≡ cell_calls s reads e
-counted_calls s n reads e = rw (counted_did s n reads e, counted_did s n (as_unused reads) e) refl
+pub counted_calls : (s : CoreState) (n p : ℕ) (reads : CellReads) (e : Entry) → cell_calls (counting s n p) reads e ≡ cell_calls s reads e
+counted_calls s n p reads e = rw (counted_did s n p reads e, counted_did s n p (as_unused reads) e) refl

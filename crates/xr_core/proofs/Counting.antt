@@ -10,7 +10,8 @@ use Rattle.xr_types.specs.declared.calls.Step.TheVariants as step
 use Rattle.xr_types.specs.declared.code.Code.{Code}
 use Rattle.xr_types.specs.Code.{is_out_of_memory}
 use Rattle.xr_model.specs.machine.CellCalls.{CellCall}
-use Rattle.xr_model.specs.machine.Request.{Request, request_of, is_locked}
+use Rattle.xr_model.specs.machine.Publishing.{publishes}
+use Rattle.xr_model.specs.machine.Request.{Request, request_of, is_locked, is_getter}
 use Rattle.xr_model.specs.machine.Refusals.{first_of}
 use Rattle.xr_model.specs.machine.State.{CoreState, CellReads}
 use Rattle.xr_model.specs.machine.Rule.{carried_out}
@@ -27,34 +28,37 @@ pub counted_is : (b : Bool) (n : ℕ) → (if b then n + 1 else n) ≡ n + one_i
 counted_is true n = refl
 counted_is false n = omega arith
 
-module _ (s new : CoreState) (n : ℕ) (who : Actor) (what : Request) (before after : Lent) (built : is_built what ≡ true) where
-  -- how many are counted behind a call, and the place in its reply
+module _ (s new : CoreState) (n p : ℕ) (who : Actor) (what : Request) (before after : Lent) (built : is_built what ≡ true) where
+  -- how many are counted behind a call, the place in its reply, and what was published last
   abbrev count : ℕ
   count = if is_locked what then n + 1 else n
 
   abbrev place : ℕ
-  place = if is_locked what then n + 1 else 0
+  place = if is_locked what then n + 1 else (if is_getter what then p else 0)
+
+  abbrev number : Code → ℕ
+  number code = if publishes what code then n + 1 else p
 
   -- a call that is made
   module _ (code : Code) (gives : Gives) (reads : CellReads) (m : Comes s (λ given. rule_of s reads who given what) new code gives before after) where
-    same : SameRule s n (is_out_of_memory code) (rule_of s reads who (given_by gives) what) (rule_of (counting s n) reads who (given_by gives) what)
-    same = same_rule s n (is_out_of_memory code) reads who (given_by gives) what
+    same : SameRule s n p (is_out_of_memory code) (rule_of s reads who (given_by gives) what) (rule_of (counting s n p) reads who (given_by gives) what)
+    same = same_rule s n p (is_out_of_memory code) reads who (given_by gives) what
 
     stays : (carried_out s (is_out_of_memory code) (rule_of s reads who (given_by gives) what)).state.apps ≡ s.apps
     stays = (grows s (is_out_of_memory code) reads who (given_by gives) what).apps
 
-    pub made_answers : IsPresent s who → CoreAnswers reads (counting s n) (entry_of who what (record { code = code; gives = gives; place = place })) (counting new count) (record { code = code; gives = gives; place = place }) before after
+    pub made_answers : IsPresent s who → CoreAnswers reads (counting s n p) (entry_of who what (record { code = code; gives = gives; place = place })) (counting new count (number code)) (record { code = code; gives = gives; place = place }) before after
     made_answers present =
         let effect = same.effect in
         record {
           allowed = record {
-            ruled = built_is_there (counting s n) reads who (given_by gives) what built;
+            ruled = built_is_there (counting s n p) reads who (given_by gives) what built;
             handle = rw (effect, same.creates, ← m.code) m.handle;
             memory = λ short. let wants = m.memory short in (same.memory ∙ wants.0, ap first_of same.refusals_same ∙ wants.1);
             present = present;
           };
           is_ready = rw (same.waits, same.refusals_same) m.ready;
-          leads = rw (effect, m.keeps, stays) refl;
+          leads = rw (effect, ← m.code, m.keeps, stays) refl;
           replies = rw (effect, ← m.code, ← m.gives) refl;
           writes = rw effect m.writes;
         }
@@ -65,12 +69,12 @@ module _ (s new : CoreState) (n : ℕ) (who : Actor) (what : Request) (before af
 
   -- a call that has to wait
   pub waits_so : (reads : CellReads) → HasToWait s (λ given. rule_of s reads who given what) new before after → (given : ℕ) (short : Bool)
-      → CoreWaits reads (counting s n) (record { actor = who; request = what; given = given; short = short }) (counting new n) before after
+      → CoreWaits reads (counting s n p) (record { actor = who; request = what; given = given; short = short }) (counting new n p) before after
   waits_so reads wait given short =
-      let same = same_rule s n short reads who given what in
+      let same = same_rule s n p short reads who given what in
       record {
         not_ready = rw (same.waits, same.refusals_same) (wait.not_ready given);
-        same = ap (λ (t : CoreState). counting t n) wait.same;
+        same = ap (λ (t : CoreState). counting t n p) wait.same;
         unwritten = wait.unwritten;
       }
 
@@ -81,34 +85,35 @@ module _ {C : Type 0} (does : C → CellCall → C → Type 0) where
   pub as_reply : (old new : World C) (who : Actor) (what : Request) (code : Code) → DecidesAlong does old new who what (Err (Refused code)) → DecidesAlong does old new who what (Ok (record { code = code; gives = Nothing; place = 0 }))
   as_reply old new who what code x = record { reads = x.reads; own = x.own; each = x.each; cells = x.cells; decides = x.decides; holds = x.holds }
 
-  -- so many calls were counted
-  abbrev pub counted_in : World C → ℕ → World C
-  counted_in w n = record w { core = record w.core { kept = counting w.core.kept n } }
+  -- so many calls were counted, and this was published last
+  abbrev pub counted_in : World C → ℕ → ℕ → World C
+  counted_in w n p = record w { core = record w.core { kept = counting w.core.kept n p } }
 
-  module _ (old new : World C) (n : ℕ) (who : Actor) (call : Call) (built : is_built (request_of call) ≡ true) where
+  module _ (old new : World C) (n p : ℕ) (who : Actor) (call : Call) (built : is_built (request_of call) ≡ true) where
     pub made_over : (d : Reply) → IsPresent old.core.kept who → DecidesAlong does old new who (request_of call) (Ok d)
-        → AppliesOver does (counted_in old n) (counted_in new (if is_locked (request_of call) then n + 1 else n)) who call (step.Done (record d { place = if is_locked (request_of call) then n + 1 else 0 }))
+        → AppliesOver does (counted_in old n p) (counted_in new (if is_locked (request_of call) then n + 1 else n) (if publishes (request_of call) d.code then n + 1 else p)) who call
+        (step.Done (record d { place = if is_locked (request_of call) then n + 1 else (if is_getter (request_of call) then p else 0) }))
     made_over d present x =
         let what : Request = request_of call in
         let e = entry_of who what d in
-        let same = counted_did old.core.kept n x.reads e in
+        let same = counted_did old.core.kept n p x.reads e in
         record {
           reads = x.reads;
           own = x.own;
           each = rw same x.each;
-          cells = rw (counted_calls old.core.kept n x.reads e) x.cells;
-          applies = made_answers old.core.kept new.core.kept n who what old.lent new.lent built d.code d.gives x.reads x.decides present;
+          cells = rw (counted_calls old.core.kept n p x.reads e) x.cells;
+          applies = made_answers old.core.kept new.core.kept n p who what old.lent new.lent built d.code d.gives x.reads x.decides present;
           holds = rw same x.holds;
         }
 
-    pub waits_over : DecidesAlong does old new who (request_of call) (Err NotReady) → AppliesOver does (counted_in old n) (counted_in new n) who call step.NotReady
+    pub waits_over : DecidesAlong does old new who (request_of call) (Err NotReady) → AppliesOver does (counted_in old n p) (counted_in new n p) who call step.NotReady
     waits_over x =
         let e = entry_by who (request_of call) step.NotReady in
         record {
           reads = x.reads;
           own = x.own;
           each = x.each;
-          cells = rw (counted_calls old.core.kept n x.reads e) x.cells;
-          applies = λ given short. waits_so old.core.kept new.core.kept n who (request_of call) old.lent new.lent built x.reads x.decides given short;
+          cells = rw (counted_calls old.core.kept n p x.reads e) x.cells;
+          applies = λ given short. waits_so old.core.kept new.core.kept n p who (request_of call) old.lent new.lent built x.reads x.decides given short;
           holds = x.holds;
         }

@@ -5,10 +5,11 @@ use Rattle.std.specs.List.{filter}
 use Rattle.xr_types.specs.declared.handles.Kind.TheVariants as kind
 use Rattle.xr_model.specs.machine.Handles.{Handles, is_among, first_free, going, with_handle, without, without_alone, destroyed_by, destroyed_instances, destroyed_parents}
 use Rattle.xr_model.specs.machine.Sets.{Set, Action, Sets, without_inputs, sealed_by, with_sealed}
-use Rattle.xr_model.specs.machine.Spaces.{Space, Spaces, without_space, without_spaces}
+use Rattle.xr_model.specs.machine.Spaces.{Space, Spaces, without_space, without_spaces, left_spaces}
 use Rattle.xr_model.proofs.Rows.{any_more}
 use Rattle.xr_core.specs.inside.Housed.{KeepsLive}
 use Rattle.xr_core.proofs.Housed.{housed_more, housed_left, housed_alone}
+use Rattle.xr_core.proofs.LeftPlaces.{names_stay}
 
 -- ---- the handles of what is kept
 
@@ -70,6 +71,10 @@ kept_left spaces sets h handle kept =
       sets = rw (names_left (λ (x : Set). x.handle) keeps sets.sets) (housed_left (map (λ x. x.handle) sets.sets) h.sets handle (destroyed_instances h handle) (destroyed_by h handle) kept.sets (λ k stays. set_among h handle k stays));
       actions = rw (names_left (λ (x : Action). x.handle) keeps sets.actions) (housed_left (map (λ x. x.handle) sets.actions) h.actions handle (destroyed_parents h handle) (destroyed_by h handle) kept.actions (λ k stays. action_among h handle k stays));
     }
+
+-- spaces that move with nothing any more are kept all the same
+pub kept_roots : (spaces : Spaces) (sets : Sets) (h : Handles) (there : ℕ → Bool) → KeepsLive spaces sets h → KeepsLive (left_spaces there spaces) sets h
+kept_roots spaces sets h there kept = record { spaces = rw (names_stay there spaces.spaces) kept.spaces; sets = kept.sets; actions = kept.actions }
 
 -- a handle of another kind was given
 pub kept_same : (spaces : Spaces) (sets : Sets) (h new taken : Handles) → new ≡ taken → taken.spaces ≡ h.spaces → taken.sets ≡ h.sets → taken.actions ≡ h.actions → KeepsLive spaces sets h → KeepsLive spaces sets new

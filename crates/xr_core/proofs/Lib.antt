@@ -6,6 +6,10 @@ pub mod TakenCalls
 pub mod Swept
 pub mod Quiet
 pub mod Touching
+pub mod UserAtoms
+pub mod Hearing
+pub mod RankedLists
+pub mod GetterCalls
 pub mod Stamps
 pub mod CheckedFrame
 pub mod ChainCalls
@@ -17,6 +21,7 @@ pub mod SetCalls
 pub mod SessionCalls
 pub mod Housed
 pub mod Listed
+pub mod LeftPlaces
 pub mod Kept
 pub mod Going
 pub mod SessionEvents

@@ -1,5 +1,5 @@
 -- What the part that keeps atoms makes of the calls on paths.
-use Rattle.std.proofs.Common.{◌≡◌, ◌&&◌, ◌⊎◌, inl, inr, arith, ℕ, Bool, true, false, not, nat_le, nat_lt, List, [], ◌∷◌, length, Option, Some, None, refl, sym, ap, ◌∙◌, true≢false}
+use Rattle.std.proofs.Common.{◌≡◌, ◌&&◌, ◌⊎◌, inl, inr, arith, ℕ, Bool, true, false, not, nat_le, nat_lt, List, [], ◌∷◌, length, Option, Some, None, refl, sym, ap, subst, ◌∙◌, true≢false}
 use Rattle.std.proofs.lemmas.Bool.Decides.{nat_tests}
 use Rattle.std.specs.Prelude.{is_none, Ok, Err}
 use Rattle.xr_types.specs.declared.calls.Actor.{Actor}
@@ -9,6 +9,9 @@ use Rattle.xr_types.specs.declared.code.Code.{Code}
 use Rattle.xr_types.specs.declared.code.Code.TheVariants.{Success, SizeInsufficient, PathInvalid, PathFormatInvalid, PathCountExceeded, OutOfMemory}
 use Rattle.xr_types.specs.declared.handles.Kind.TheVariants.{Instance}
 use Rattle.xr_types.specs.Code.{is_out_of_memory, is_success}
+use Rattle.xr_core.specs.inside.Users.{users_with, KnowsUsers}
+use Rattle.xr_model.specs.machine.Profiles.{user_of}
+use Rattle.xr_core.proofs.UserAtoms.{users_more}
 use Rattle.xr_model.specs.machine.Request.{string_to_path, path_to_string}
 use Rattle.xr_model.specs.machine.Handles.{is_live}
 use Rattle.xr_model.specs.machine.Paths.{is_path_text, intern_checks, intern_refusals, with_text, atom_of, may_want_memory, is_new, text_at, copy_refusals, copied, size_at, size_of}
@@ -129,6 +132,31 @@ module _ (s : CoreState) (instance : ℕ) (text : List ℕ) (a : Answer) (atoms 
       by (Some r) e who lent =
           let code : a.code ≡ r.code = ap (λ (x : Answer). x.code) (rw e at answer) in
           absurd (true≢false (sym (ap is_success (sym code ∙ good)) ∙ short_fails (is_new s.atoms text && is_out_of_memory a.code) (not (is_path_text text)) (is_new s.atoms text && nat_le 1024 (length s.atoms)) r (shorted ∙ e)))
+
+-- ---- the atoms of user paths
+
+-- what was asked for, told by the answer
+module _ (atoms : List (List ℕ)) (text : List ℕ) (a : Answer) (new : List (List ℕ)) (users : List ℕ) (known : KnowsUsers users atoms)
+    (kept : new ≡ unless (first_of (intern_refusals atoms text (is_out_of_memory a.code))) atoms (with_text atoms text))
+    (answer : a ≡ answer_by (first_of (intern_refusals atoms text (is_out_of_memory a.code))) (atom_of atoms text)) where
+  pub users_kept : (a.code ≡ Success → ⊥) → KnowsUsers users new
+  users_kept failed = by (first_of (intern_refusals atoms text (is_out_of_memory a.code))) refl
+    where
+      by : (o : Option Refusal) → first_of (intern_refusals atoms text (is_out_of_memory a.code)) ≡ o → KnowsUsers users new
+      by None e = absurd (failed (ap (λ (x : Answer). x.code) (rw e at answer)))
+      by (Some r) e = let same : new ≡ atoms = rw e at kept in subst (λ (l : List (List ℕ)). KnowsUsers users l) (sym same) known
+
+  pub users_noted : (noted : List ℕ) → a.code ≡ Success → noted ≡ users_with users (user_of text) a.number → KnowsUsers noted new
+  users_noted noted good told = by (first_of (intern_refusals atoms text (is_out_of_memory a.code))) refl
+    where
+      by : (o : Option Refusal) → first_of (intern_refusals atoms text (is_out_of_memory a.code)) ≡ o → KnowsUsers noted new
+      by None e =
+          let taken : new ≡ with_text atoms text = rw e at kept in
+          let number : a.number ≡ atom_of atoms text = ap (λ (x : Answer). x.number) (rw e at answer) in
+          subst (λ (l : List (List ℕ)). KnowsUsers noted l) (sym taken) (told ∙ ap (λ (n : ℕ). users_with users (user_of text) n) number ∙ ap (λ (l : List ℕ). users_with l (user_of text) (atom_of atoms text)) known ∙ users_more atoms text)
+      by (Some r) e =
+          let code : a.code ≡ r.code = ap (λ (x : Answer). x.code) (rw e at answer) in
+          absurd (true≢false (sym (ap is_success (sym code ∙ good)) ∙ short_fails (is_new atoms text && is_out_of_memory a.code) (not (is_path_text text)) (is_new atoms text && nat_le 1024 (length atoms)) r (sym (by_checks atoms text (is_out_of_memory a.code)) ∙ e)))
 
 -- ---- the text of an atom
 

@@ -11,8 +11,10 @@ use Rattle.xr_types.specs.declared.input.Binding.{Binding}
 use Rattle.xr_types.specs.declared.input.Profile.{Profile}
 use Rattle.xr_types.specs.declared.handles.Kind.TheVariants.{ActionSet, Action}
 use Rattle.xr_types.specs.Code.{is_out_of_memory, is_success}
+use Rattle.xr_types.specs.declared.input.ActiveSet.{ActiveSet}
+use Rattle.xr_model.specs.machine.Rules.Sync.{item_checks}
 use Rattle.xr_model.specs.machine.Handles.{Handles, no_handle, no_room}
-use Rattle.xr_model.specs.machine.Request.{Request, path_to_string, create_action, suggest_bindings, attach_sets, create_instance, end_frame}
+use Rattle.xr_model.specs.machine.Request.{Request, path_to_string, create_action, suggest_bindings, attach_sets, create_instance, end_frame, sync_actions}
 use Rattle.xr_types.specs.declared.frames.Layer.{Layer}
 use Rattle.xr_types.specs.declared.frames.Layer.TheVariants.{Projection, Quad}
 use Rattle.xr_model.specs.machine.Layers.{Look, layer_checks}
@@ -93,6 +95,10 @@ plain_layers look [] = refl
 plain_layers look (Projection space count views ∷ layers) = plain_layers look layers
 plain_layers look (Quad space image pose ∷ layers) = plain_layers look layers
 
+pub plain_items : (s : CoreState) (session : ℕ) (active : List ActiveSet) → are_plain (flat_map (item_checks s session) active) ≡ true
+plain_items s session [] = refl
+plain_items s session (item ∷ active) = plain_items s session active
+
 -- ---- all rules
 
 -- the call whose refusal may give a size
@@ -109,6 +115,7 @@ plain_rule s reads who given = by
         plain_more (sub_checks s.atoms no_users subs) (action_label_checks s.sets set localized ++ no_room s.handles Action ∷ []) (plain_subs s.atoms no_users subs) refl
     by (suggest_bindings instance profile list) sized = plain_bindings s (profile_at s.atoms profile) list
     by (attach_sets session handles) sized = plain_handles s.handles ActionSet handles
+    by (sync_actions session active) sized = plain_items s session active
     by (end_frame session time blend layers) sized = plain_layers (look_of s) layers
     by (create_instance major minor) sized = refl
     by _ sized = refl

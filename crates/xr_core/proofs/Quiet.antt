@@ -1,7 +1,7 @@
 -- The groups of calls that touch no cells.
-use Rattle.xr_model.specs.machine.Request.{Request, attach_sets, await_mark, begin_frame, begin_session, create_action, create_action_set, create_instance, create_reference_space, create_session, destroy_action, destroy_action_set, destroy_space, end_session, get_system, leave, locate_space, mark, path_to_string, poll_event, request_exit_session, string_to_path, wait_frame}
+use Rattle.xr_model.specs.machine.Request.{Request, attach_sets, await_mark, begin_frame, begin_session, create_action, create_action_set, create_instance, create_reference_space, create_action_space, create_session, destroy_action, destroy_action_set, destroy_space, end_session, get_boolean, get_float, get_pose_active, get_system, get_vector, leave, locate_space, mark, path_to_string, poll_event, request_exit_session, string_to_path, wait_frame}
 use Rattle.xr_model.proofs.OverCells.{IsQuiet}
-use Rattle.xr_core.specs.inside.Groups.{IsInstanceCall, IsPathCall, IsSessionCall, IsSpaceCall, IsSetCall, IsFrameCall, IsOwnCall}
+use Rattle.xr_core.specs.inside.Groups.{IsInstanceCall, IsPathCall, IsSessionCall, IsSpaceCall, IsSetCall, IsGetter, IsFrameCall, IsOwnCall}
 
 pub quiet_instance : (r : Request) → IsInstanceCall r → IsQuiet r
 quiet_instance (create_instance major minor) group = tt
@@ -26,6 +26,7 @@ quiet_session _ group = absurd group
 
 pub quiet_space : (r : Request) → IsSpaceCall r → IsQuiet r
 quiet_space (create_reference_space session what offset) group = tt
+quiet_space (create_action_space session action sub offset) group = tt
 quiet_space (destroy_space space) group = tt
 quiet_space (locate_space space base time) group = tt
 quiet_space leave group = absurd group
@@ -39,6 +40,14 @@ quiet_set (destroy_action action) group = tt
 quiet_set (attach_sets session sets) group = tt
 quiet_set leave group = absurd group
 quiet_set _ group = absurd group
+
+pub quiet_getter : (r : Request) → IsGetter r → IsQuiet r
+quiet_getter (get_boolean session action sub) group = tt
+quiet_getter (get_float session action sub) group = tt
+quiet_getter (get_vector session action sub) group = tt
+quiet_getter (get_pose_active session action sub) group = tt
+quiet_getter leave group = absurd group
+quiet_getter _ group = absurd group
 
 pub quiet_frame : (r : Request) → IsFrameCall r → IsQuiet r
 quiet_frame (wait_frame session) group = tt

@@ -1,12 +1,14 @@
 -- What suggested bindings come to, binding by binding, and what their call makes of its rule.
-use Rattle.std.proofs.Common.{◌≡◌, ◌<◌, ◌+◌, ◌==◌, ◌++◌, ℕ, Bool, true, false, nat_le, List, [], ◌∷◌, length, drop, flat_map, filter_map, Option, Some, None, Ok, Err, refl, sym, ap, ◌∙◌, append_assoc, true≢false}
+use Rattle.std.proofs.Common.{◌≡◌, ◌<◌, ◌+◌, ◌==◌, ◌++◌, ℕ, Bool, true, false, nat_le, nat_lt, List, [], ◌∷◌, length, drop, flat_map, filter_map, Option, Some, None, Ok, Err, refl, sym, ap, ◌∙◌, append_assoc, true≢false}
 use Rattle.std.proofs.lemmas.List.{drop_more}
 use lib.ListN.{get_or}
-use Rattle.std.specs.Prelude.{is_none, if◌then◌else◌}
+use Rattle.std.specs.Prelude.{is_none, option_map, option_and_then, if◌then◌else◌}
+use Rattle.std.specs.List.{list_all, cons_option}
 use Rattle.xr_types.specs.declared.calls.Gives.TheVariants.{Nothing}
 use Rattle.xr_types.specs.declared.code.Code.{Code}
 use Rattle.xr_types.specs.declared.code.Code.TheVariants.{Success, OutOfMemory, CallOrderInvalid, PathInvalid, PathUnsupported, ActionsetsAlreadyAttached}
 use Rattle.xr_types.specs.declared.handles.Kind.TheVariants.{Instance, Action}
+use Rattle.xr_types.specs.declared.input.ActionType.{ActionType}
 use Rattle.xr_types.specs.declared.input.Binding.{Binding}
 use Rattle.xr_types.specs.declared.input.Bound.{Bound}
 use Rattle.xr_types.specs.declared.input.Pick.{Pick}
@@ -17,12 +19,17 @@ use Rattle.xr_model.specs.machine.Bindings.{number_checks, suggest_refusals, wit
 use Rattle.xr_model.specs.machine.Handles.{no_handle}
 use Rattle.xr_model.specs.machine.PartAnswers.{code_by}
 use Rattle.xr_model.specs.machine.Paths.{text_at}
+use Rattle.xr_model.specs.machine.Profiles.{component}
 use Rattle.xr_model.specs.machine.Refusals.{Refusal, when, first_of, unless}
 use Rattle.xr_model.specs.machine.Request.{suggest_bindings}
 use Rattle.xr_model.specs.machine.Rule.{refusals, nothing_done}
 use Rattle.xr_model.specs.machine.Rules.Bindings.{profile_at, profile_checks, pick_of, binding_checks, bound_of, bindings_checks, suggested, suggest_bindings_rule}
-use Rattle.xr_model.specs.machine.Sets.{is_in_sealed_set}
+use Rattle.xr_model.specs.machine.Sets.{is_in_sealed_set, type_of_action}
+use Rattle.xr_model.specs.machine.Sync.{is_source}
 use Rattle.xr_model.specs.machine.State.{CoreState}
+use Rattle.xr_model.specs.laws.SyncLaws.{has_rows}
+use Rattle.xr_model.proofs.PickRanges.{picks_are_in_range}
+use Rattle.xr_model.proofs.Rows.{both_of}
 use Rattle.xr_model.proofs.SessionAnswers.{first_stays, first_skips}
 use Rattle.xr_core.specs.inside.Deciding.{Decides}
 use Rattle.xr_model.specs.machine.PartAnswers.{or_refused}
@@ -77,6 +84,23 @@ module _ (s : CoreState) (which : Profile) (list : List Binding) (i : ℕ) (d : 
   pub refused_at : (front : List Bound) (code : Code) → Err code ≡ some_or_refused (first_of (binding_checks s which (get_or list i d))) (pick_of s which (get_or list i d))
       → or_refused (first_of (flat_map (binding_checks s which) (drop i list))) (front ++ filter_map (bound_of s which) (drop i list)) ≡ Err code
   refused_at front code told = rw (drop_more list i d within) (one_refused s which (get_or list i d) (drop (i + 1) list) front code told)
+
+-- what a path picks has one of the thirty identifiers
+pub sources_bound : (s : CoreState) (which : Profile) (list : List Binding) → list_all is_source (filter_map (bound_of s which) list) ≡ true
+sources_bound s which [] = refl
+sources_bound s which (b ∷ list) = by (type_of_action s.sets b.action) (text_at s.atoms b.path) (sources_bound s which list)
+  where
+    one : (wanted : ActionType) (path : List ℕ) (o : Option Pick) → component which wanted path ≡ o → list_all is_source (filter_map (bound_of s which) list) ≡ true → list_all is_source (cons_option (option_map (λ pick. record { action = b.action; pick = pick }) o) (filter_map (bound_of s which) list)) ≡ true
+    one wanted path None e rest = rest
+    one wanted path (Some pick) e rest =
+        let good = both_of (nat_lt pick.identifier 30) (has_rows pick.part) (picks_are_in_range which wanted path pick e) in
+        rw good.0 rest
+
+    by : (o : Option ActionType) (t : Option (List ℕ)) → list_all is_source (filter_map (bound_of s which) list) ≡ true
+        → list_all is_source (cons_option (option_map (λ pick. record { action = b.action; pick = pick }) (option_and_then (λ type. option_and_then (component which type) t) o)) (filter_map (bound_of s which) list)) ≡ true
+    by None t rest = rest
+    by (Some wanted) None rest = rest
+    by (Some wanted) (Some path) rest = one wanted path (component which wanted path) refl rest
 
 -- ---- the call
 

@@ -1,8 +1,11 @@
 -- What only proofs and private functions need.
 pub mod Changes
 pub mod Deciding
+pub mod Getters
 pub mod Groups
 pub mod Housed
 pub mod Plainly
+pub mod Ranked
 pub mod Refusing
 pub mod Sights
+pub mod Users

@@ -2,6 +2,7 @@
 mod bindings;
 mod device;
 mod frames;
+mod getters;
 mod instance;
 mod own;
 mod paths;
@@ -9,3 +10,4 @@ mod session;
 mod sets;
 mod spaces;
 mod swapchains;
+mod sync;

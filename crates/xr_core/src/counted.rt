@@ -1,7 +1,8 @@
 // A core: its inside decides each call, and here alone it is counted.
 ghost use Rattle.std.specs.Prelude.{◌≡◌, ◌≤ℤ◌, pos, ◌≤◌, [], ◌<◌, ◌^◌, ◌+◌, ◌↔◌, ◌&&◌, is_none, IfOk, IsTrue, length, not, if◌then◌else◌};
 ghost use Rattle.xr_types.specs.declared.limits.TheConstants.{MOST_SCRIPTS};
-ghost use Rattle.xr_model.specs.machine.Request.{request_of, is_locked};
+ghost use Rattle.xr_model.specs.machine.Publishing.{publishes};
+ghost use Rattle.xr_model.specs.machine.Request.{request_of, is_locked, is_getter};
 ghost use Rattle.xr_model.specs.machine.Marks.{is_set};
 ghost use Rattle.xr_model.specs.machine.State.{with_apps, opening_core};
 ghost use Rattle.xr_model.specs.machine.Machine.{IsPresent};
@@ -16,7 +17,7 @@ use crate::uncounted::Uncounted;
 use std::alloc::Global;
 use std::marker::Model;
 use xr_model::Cells;
-use xr_types::{Actor, Call, Image, NoMemory, Reply, Shown, Step};
+use xr_types::{Actor, Call, Code, DeviceEvent, Image, NoMemory, Reply, Shown, Step};
 
 /// What the machine of one thread has beside its cells: what it keeps, and the images of the frame taken last that aren't given
 /// back. Memory for path texts and suggestions is taken from its allocator.
@@ -25,6 +26,8 @@ pub struct Core {
     pub(crate) inside: Uncounted,
     /// How many locked calls were answered.
     pub(crate) calls: u64,
+    /// The place of the call that published last what getters answer from, or 0.
+    pub(crate) published: u64,
     pub(crate) alloc: Global,
 }
 
@@ -34,7 +37,7 @@ impl Model for Core {
 
     ghost Value = { WholeCore };
 
-    ghost view = { λ c. record c.inside { kept = record c.inside.kept { locked = c.calls } } };
+    ghost view = { λ c. record c.inside { kept = record c.inside.kept { locked = c.calls; published = c.published } } };
 
     ghost invariant = { λ c. (length c.inside.kept.handles.given ≤ c.calls) × (c.inside.kept.created ≤ c.calls) × (c.inside.kept.ended ≤ c.calls) };
 }
@@ -53,17 +56,63 @@ fn is_locked(call: &Call<'_>) -> bool
     )
 }
 
-/// Answers a call that is made, and counts it where it is a locked one.
-fn answered(calls: &mut u64, call: &Call<'_>, mut reply: Reply) -> Step
+/// Whether a call is a getter of input, which answers from what was published last.
+fn is_getter(call: &Call<'_>) -> bool
+    ensures { result ≡ is_getter (request_of call.now) }
+{
+    matches!(
+        call,
+        Call::GetBoolean { .. }
+            | Call::GetFloat { .. }
+            | Call::GetVector { .. }
+            | Call::GetPoseActive { .. }
+    )
+}
+
+/// Whether a call that is answered so publishes what getters answer from.
+fn publishes(call: &Call<'_>, code: Code) -> bool
+    ensures { result ≡ publishes (request_of call.now) code }
+{
+    match call {
+        Call::CreateSession { .. }
+        | Call::DestroySession { .. }
+        | Call::CreateAction { .. }
+        | Call::DestroyAction { .. }
+        | Call::DestroyActionSet { .. }
+        | Call::DestroyInstance { .. }
+        | Call::AttachSets { .. }
+        | Call::SyncActions { .. } => matches!(
+            code,
+            Code::Success | Code::SessionLossPending | Code::SessionNotFocused
+        ),
+        Call::Device(event) => matches!(
+            event,
+            DeviceEvent::Loss | DeviceEvent::Lost | DeviceEvent::Fault | DeviceEvent::Garbled(_)
+        ),
+        _ => false,
+    }
+}
+
+/// Answers a call that is made. It is counted where it is a locked one, and what it publishes has its place.
+fn answered(calls: &mut u64, published: &mut u64, call: &Call<'_>, mut reply: Reply) -> Step
     requires { calls.old < 2 ^ 44 }
     ensures count { calls.new ≡ (if is_locked (request_of call.now) then calls.old + 1 else calls.old) }
-    ensures reply { result ≡ Step.Done (record reply { place = if is_locked (request_of call.now) then calls.old + 1 else 0 }) }
+    ensures published { published.new ≡ (if publishes (request_of call.now) reply.code then calls.old + 1 else published.old) }
+    ensures reply { result ≡ Step.Done (record reply { place = if is_locked (request_of call.now) then calls.old + 1 else (if is_getter (request_of call.now) then published.old else 0) }) }
 {
-    if is_locked(call) {
-        *calls += 1;
-        reply.place = *calls;
+    let place = *calls + 1;
+    reply.place = if is_locked(call) {
+        place
+    } else if is_getter(call) {
+        *published
     } else {
-        reply.place = 0;
+        0
+    };
+    if publishes(call, reply.code) {
+        *published = place;
+    }
+    if is_locked(call) {
+        *calls = place;
     }
     Step::Done(reply)
 }
@@ -79,6 +128,7 @@ impl Core {
         Ok(Core {
             inside,
             calls: 0,
+            published: 0,
             alloc,
         })
     }
@@ -162,6 +212,6 @@ impl Core {
             Err(Halt::Refused(code)) => refusal(code),
             Err(Halt::NotReady) => return Step::NotReady,
         };
-        answered(&mut self.calls, call, reply)
+        answered(&mut self.calls, &mut self.published, call, reply)
     }
 }

@@ -53,6 +53,7 @@ impl Parts {
             | Call::EndSession { .. }
             | Call::RequestExitSession { .. } => self.session_call(call),
             Call::CreateReferenceSpace { .. }
+            | Call::CreateActionSpace { .. }
             | Call::DestroySpace { .. }
             | Call::LocateSpace { .. } => self.space_call(call),
             Call::CreateActionSet { .. }
@@ -65,6 +66,11 @@ impl Parts {
                 profile,
                 list,
             } => self.suggest_bindings(alloc, *instance, *profile, list),
+            Call::SyncActions { session, active } => self.sync_actions(*session, active),
+            Call::GetBoolean { .. }
+            | Call::GetFloat { .. }
+            | Call::GetVector { .. }
+            | Call::GetPoseActive { .. } => self.getter_call(call),
             Call::CreateSwapchain { .. }
             | Call::DestroySwapchain { .. }
             | Call::WaitImage { .. }
@@ -80,14 +86,7 @@ impl Parts {
             } => self.end_frame(cells, *session, time, *blend, layers),
             Call::Mark { .. } | Call::AwaitMark { .. } | Call::Leave => self.own_call(who, call),
             Call::Device(event) => self.device_event(*event),
-            Call::CreateActionSpace { .. }
-            | Call::SyncActions { .. }
-            | Call::GetBoolean { .. }
-            | Call::GetFloat { .. }
-            | Call::GetVector { .. }
-            | Call::GetPoseActive { .. }
-            | Call::NextFrame
-            | Call::ImageDone => unreachable!(),
+            Call::NextFrame | Call::ImageDone => unreachable!(),
         }
     }
 }

@@ -93,6 +93,20 @@ impl DeviceValues {
         self.stage
     }
 
+    /// The profile that is connected at each user path, at its `user_place`.
+    pub(crate) fn profiles(&self) -> &[Option<Profile>; USERS]
+        ensures { result.now ≡ self.now.profiles }
+    {
+        &self.profiles
+    }
+
+    /// What its inputs show.
+    pub(crate) fn inputs(&self) -> &Inputs
+        ensures { result.now ≡ self.now.inputs }
+    {
+        &self.inputs
+    }
+
     /// The clock goes on, and never back.
     pub(crate) fn advance(&mut self, time: i64)
         ensures { self.new ≡ record self.old { clock = later_of self.old.clock time } }

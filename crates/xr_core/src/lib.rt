@@ -10,12 +10,14 @@ mod device_values;
 mod halt;
 mod parts;
 mod plain_core;
+mod ranking;
 mod sessions;
 mod showing;
 mod sight;
 mod standing;
 mod subactions;
 mod uncounted;
+mod users;
 
 pub use counted::Core;
 pub use plain_core::PlainCore;

@@ -1,17 +1,18 @@
 // What a core keeps, and what all calls do to it. It counts no call, and touches no part's inside.
-ghost use Rattle.std.specs.Prelude.{◌≡◌, ◌≤ℤ◌, pos, ◌≢◌, ◌≤◌, ◌<◌, ◌^◌, ◌↔◌, [], ◌∷◌, IfOk, IsTrue, true, false, length, map};
+ghost use Rattle.std.specs.Prelude.{◌≡◌, ◌≤ℤ◌, pos, ◌≢◌, ◌≤◌, ◌<◌, ◌^◌, ◌↔◌, ◌||◌, [], ◌∷◌, IfOk, IsTrue, true, false, length, map, if◌then◌else◌};
 ghost use Rattle.xr_model.specs.machine.Bindings.{without_suggestions};
 ghost use Rattle.xr_model.specs.machine.CellCalls.{MayCall, Leads, free_calls};
 ghost use Rattle.xr_model.specs.machine.Chains.{is_place_used, left_in_places, freed_in_places};
-ghost use Rattle.xr_model.specs.machine.Destroyed.{without_handle, freed_by};
-ghost use Rattle.xr_model.specs.machine.Handles.{row_of, has_room, no_handle, no_room, was_given, with_handle};
+ghost use Rattle.xr_model.specs.machine.Destroyed.{has_action, without_handle, freed_by};
+ghost use Rattle.xr_model.specs.machine.Handles.{is_live, row_of, has_room, no_handle, no_room, was_given, with_handle};
 ghost use Rattle.xr_model.specs.machine.HandlePlaces.{limit_of};
 ghost use Rattle.xr_model.specs.machine.LiveSessions.{still_live};
 ghost use Rattle.xr_model.specs.machine.Refusals.{first_of};
 ghost use Rattle.xr_model.specs.machine.Sets.{without_inputs};
 ghost use Rattle.xr_model.specs.machine.SessionLife.{is_lost};
 ghost use Rattle.xr_model.specs.machine.SessionRule.{loss_of, code_on};
-ghost use Rattle.xr_model.specs.machine.Spaces.{without_spaces};
+ghost use Rattle.xr_model.specs.machine.Spaces.{without_spaces, left_spaces};
+ghost use Rattle.xr_model.specs.machine.Sync.{no_columns, left_columns};
 ghost use Rattle.xr_model.specs.machine.Rules.Device.{with_changes};
 ghost use Rattle.xr_model.specs.machine.Rules.Session.{life_of};
 ghost use Rattle.xr_model.specs.machine.Rules.Spaces.{session_above};
@@ -21,6 +22,7 @@ ghost use Rattle.xr_core.specs.inside.Changes.{change_by};
 ghost use Rattle.xr_model.specs.machine.PartAnswers.{or_refused};
 
 use crate::device_values::DeviceValues;
+use crate::ranking::Ranking;
 use crate::sessions::{Change, Session, change_each, forget_attached, session_at};
 use crate::standing::Kept;
 use arrayvec::ArrayVec;
@@ -35,28 +37,14 @@ use xr_model::Cells;
 use xr_paths::Paths;
 use xr_sets::Sets;
 use xr_spaces::Spaces;
+use xr_sync::Columns;
 use xr_types::{
-    ACTIONS, Actor, Code, Column, Image, Kind, MOST_HANDLES, MOST_LAYERS, MOST_MARK, MOST_SCRIPTS,
-    NoMemory, SESSIONS, States,
+    Actor, Code, Image, Kind, MOST_HANDLES, MOST_LAYERS, MOST_MARK, MOST_SCRIPTS, NoMemory,
+    SESSIONS, USERS,
 };
 
 /// How many marks there are.
 pub(crate) const MARKS: usize = MOST_MARK as usize;
-
-/// A column of a sync that found nothing.
-const INACTIVE: Column = Column {
-    x: 0,
-    y: 0,
-    changed: false,
-    time: 0,
-    active: false,
-    origin: None,
-};
-
-/// What is known before any sync: each column is inactive.
-const NO_STATES: States = States {
-    columns: [[INACTIVE; 6]; ACTIONS],
-};
 
 /// All parts of a core, and what decides its calls: the inside of a core. Contracts see what the core keeps, with no call
 /// counted.
@@ -64,6 +52,8 @@ const NO_STATES: States = States {
 pub(crate) struct Parts {
     pub(crate) handles: Handles,
     pub(crate) paths: Paths,
+    /// The atom of each user path, at its `user_place`, 0 where it has none.
+    pub(crate) users: [u64; USERS],
     pub(crate) events: Events,
     /// The live sessions, in the order of their creation.
     pub(crate) sessions: ArrayVec<Session, SESSIONS>,
@@ -83,8 +73,10 @@ pub(crate) struct Parts {
     pub(crate) chains: Chains,
     /// The images of the frame that was taken last.
     pub(crate) shown: ArrayVec<Image, MOST_LAYERS>,
-    /// What the last sync found. None was made yet.
-    pub(crate) states: States,
+    /// What each action shows since the last sync.
+    pub(crate) columns: Columns,
+    /// The bindings of a sync, which are ranked anew for each. Contracts see nothing of it.
+    pub(crate) ranking: Ranking,
     /// What the device has told of itself.
     pub(crate) device: DeviceValues,
     /// The value of each mark that is set, from mark 1 on.
@@ -98,8 +90,8 @@ impl Model for Parts {
     ghost use Rattle.xr_types.specs.declared.handles.TheConstants.{SWAPCHAINS};
     ghost use Rattle.xr_types.specs.declared.limits.TheConstants.{MOST_SCRIPTS};
     ghost use Rattle.xr_model.specs.laws.SessionLaws.{AreListed};
-    ghost use Rattle.xr_model.specs.machine.Spaces.{no_states};
     ghost use Rattle.xr_core.specs.inside.Housed.{KeepsLive};
+    ghost use Rattle.xr_core.specs.inside.Users.{KnowsUsers};
     ghost use Rattle.xr_model.specs.machine.State.{CoreState};
 
     ghost Value = { CoreState };
@@ -112,6 +104,7 @@ impl Model for Parts {
       created = c.created;
       sets = c.sets;
       suggestions = c.bindings;
+      columns = c.columns;
       spaces = c.spaces;
       frames = c.frames;
       ended = c.ended;
@@ -122,9 +115,10 @@ impl Model for Parts {
       apps = c.apps;
       left = take c.apps c.left;
       locked = 0;
+      published = 0;
     } };
 
-    ghost invariant = { λ c. AreListed c.handles c.sessions.items × (c.apps ≤ MOST_SCRIPTS) × KeepsLive c.spaces c.sets c.handles × (c.states ≡ no_states) × (length c.chains ≡ SWAPCHAINS) };
+    ghost invariant = { λ c. AreListed c.handles c.sessions.items × (c.apps ≤ MOST_SCRIPTS) × KeepsLive c.spaces c.sets c.handles × (length c.chains ≡ SWAPCHAINS) × KnowsUsers c.users c.paths };
 }
 
 /// Only the sessions whose handles are live are kept.
@@ -161,6 +155,13 @@ fn forget_suggestions(bindings: &mut Bindings, handles: &[u64])
     }
 }
 
+/// Whether what all actions show goes with a handle: it is a session's or the instance's.
+fn shows_all(handles: &Handles, handle: u64) -> bool
+    ensures { result ≡ (is_live handles.now Kind.Session handle || is_live handles.now Kind.Instance handle) }
+{
+    handles.is_live(Kind::Session, handle) || handles.is_live(Kind::Instance, handle)
+}
+
 /// Gives a new handle under a parent, 0 for an instance, where a place is free.
 pub(crate) fn give(handles: &mut Handles, kind: Kind, parent: u64) -> u64
     requires few { length handles.old.given < 2 ^ 44 }
@@ -184,9 +185,11 @@ impl Parts {
         let paths = Paths::start(alloc)?;
         let events = Events::start(alloc)?;
         let spaces = Spaces::start(alloc)?;
+        let ranking = Ranking::start(alloc)?;
         Ok(Parts {
             handles: Handles::start(),
             paths,
+            users: [0; USERS],
             events,
             sessions: ArrayVec::new(),
             created: 0,
@@ -197,7 +200,8 @@ impl Parts {
             ended: 0,
             chains: Chains::start(),
             shown: ArrayVec::new(),
-            states: NO_STATES,
+            columns: Columns::start(),
+            ranking,
             device: DeviceValues::start(),
             marks: [None; MARKS],
             apps,
@@ -269,6 +273,7 @@ impl Parts {
     fn remove(&mut self, handle: u64)
         ensures { self.new ≡ record (without_handle self.old handle) { chains = self.old.chains } }
     {
+        let shows = shows_all(&self.handles, handle);
         let mut destroyed: ArrayVec<u64, MOST_HANDLES> = ArrayVec::new();
         self.handles.destroy(handle, &mut destroyed);
         keep_live(&self.handles, &mut self.sessions);
@@ -276,6 +281,25 @@ impl Parts {
         forget_spaces(&mut self.spaces, destroyed.as_slice());
         forget_sets(&mut self.sets, destroyed.as_slice());
         forget_suggestions(&mut self.bindings, destroyed.as_slice());
+        self.leave_places(shows);
+    }
+
+    /// What actions show, and what spaces move with, is gone where no action stands. What they show is gone altogether where
+    /// that is so.
+    #[tactic(auto, using(crate::proofs::LeftPlaces::columns_same, crate::proofs::LeftPlaces::spaces_same))]
+    fn leave_places(&mut self, all: bool)
+        ensures { self.new ≡ record self.old {
+          columns = if all then no_columns else left_columns (has_action self.old.handles.actions) self.old.columns;
+          spaces = left_spaces (has_action self.old.handles.actions) self.old.spaces;
+        } }
+    {
+        let there = self.handles.actions();
+        self.spaces.leave(&there);
+        if all {
+            self.columns.clear();
+        } else {
+            self.columns.leave(&there);
+        }
     }
 
     /// Frees the places of swapchains that aren't live and that no frame uses.
@@ -302,7 +326,7 @@ impl Parts {
     /// Takes the swapchains that aren't live out of their places. The images that were waited for are an application's no
     /// longer.
     #[tactic(auto, using(crate::proofs::Swept::left_same, crate::proofs::Swept::freed_same, crate::proofs::Swept::length_swept))]
-    fn remove_chains<C: Cells>(&mut self, cells: &mut C)
+    pub(crate) fn remove_chains<C: Cells>(&mut self, cells: &mut C)
         requires may { MayCall C.may C.does cells.old (free_calls (freed_in_places self.old.handles 0 self.old.chains)) }
         ensures chains { self.new ≡ record self.old { chains = left_in_places self.old.handles (is_place_used self.old.frames.pending self.old.shown_images) 0 self.old.chains } }
         ensures cells { Leads C.does cells.old (free_calls (freed_in_places self.old.handles 0 self.old.chains)) cells.new }

@@ -5,6 +5,7 @@ ghost use Rattle.std.specs.List.{filter};
 ghost use Rattle.xr_types.specs.declared.code.Code.TheVariants.{Success};
 ghost use Rattle.xr_model.specs.machine.SessionLife.{started_session, synced_session, is_lost, is_state};
 ghost use Rattle.xr_model.specs.machine.Handles.{is_among};
+ghost use Rattle.xr_model.specs.machine.Publication.{is_attached};
 ghost use Rattle.xr_model.specs.machine.Refusals.{first_of};
 ghost use Rattle.xr_model.specs.machine.LiveSessions.{session_at, life_in, with_life, with_life_at, with_session_at, with_attached, without_sets, each_changed, told_states, told_changes};
 ghost use Rattle.xr_model.specs.machine.SessionRule.{loss_of, code_on};
@@ -177,6 +178,23 @@ impl Session {
             self.life.state(),
             SessionState::Visible | SessionState::Focused
         )
+    }
+
+    /// Whether it is focused.
+    pub(crate) fn is_focused(&self) -> bool
+        ensures { result ≡ is_state self.now.life.state SessionState.Focused }
+    {
+        matches!(self.life.state(), SessionState::Focused)
+    }
+
+    /// Whether it has attached this action set.
+    pub(crate) fn has_set(&self, set: u64) -> bool
+        ensures { result ≡ is_attached self.now.attached set }
+    {
+        match &self.attached {
+            Some(sets) => sets.contains(&set),
+            None => false,
+        }
     }
 
     /// Whether it has attached action sets.

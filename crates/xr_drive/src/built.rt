@@ -30,6 +30,12 @@ fn is_built(op: &Op) -> bool
         | Op::DestroyAction { .. }
         | Op::SuggestBindings { .. }
         | Op::AttachSets { .. }
+        | Op::SyncActions { .. }
+        | Op::GetBoolean { .. }
+        | Op::GetFloat { .. }
+        | Op::GetVector { .. }
+        | Op::GetPoseActive { .. }
+        | Op::CreateActionSpace { .. }
         | Op::CreateSwapchain { .. }
         | Op::DestroySwapchain { .. }
         | Op::AcquireImage { .. }
@@ -41,7 +47,6 @@ fn is_built(op: &Op) -> bool
         | Op::EndFrame { .. }
         | Op::Mark { .. }
         | Op::Await { .. } => true,
-        _ => false,
     }
 }
 

@@ -1,5 +1,6 @@
 // The rows of all kinds, and the calls on them.
-ghost use Rattle.std.specs.Prelude.{◌≡◌, ◌≢◌, ◌<◌, ◌^◌, [], ◌∷◌, false, length, is_some, None, IfSome, if◌then◌else◌};
+ghost use Rattle.std.specs.Prelude.{◌≡◌, ◌≢◌, ◌<◌, ◌^◌, ℕ, [], ◌∷◌, false, length, slice_index_or, is_some, None, IfSome, if◌then◌else◌};
+ghost use Rattle.xr_model.specs.machine.Destroyed.{has_action};
 ghost use Rattle.xr_model.specs.machine.Handles as model;
 ghost use Rattle.xr_model.specs.machine.Handles.{no_handles, row_of, is_live, first_free, no_room, was_given, with_handle, without, without_alone};
 ghost use Rattle.xr_model.specs.machine.HandlePlaces.{limit_of};
@@ -32,30 +33,13 @@ pub struct Handles {
 
 impl Model for Handles {
     ghost use Rattle.xr_model.specs.machine.Handles as model;
-    ghost use Rattle.xr_handles.specs.Numbers.{counted};
-    ghost use Rattle.xr_handles.specs.Kept.{IsKept};
+    ghost use Rattle.xr_handles.specs.Kept.{rows_of, IsKept};
 
     ghost Value = { model.Handles };
 
-    ghost view = { λ h. record {
-      given = counted h.given;
-      instances = h.instances;
-      sessions = h.sessions;
-      sets = h.sets;
-      actions = h.actions;
-      spaces = h.spaces;
-      chains = h.chains;
-    } };
+    ghost view = { λ h. rows_of h.given h.instances h.sessions h.sets h.actions h.spaces h.chains };
 
-    ghost invariant = { λ h. IsKept (record {
-      given = counted h.given;
-      instances = h.instances;
-      sessions = h.sessions;
-      sets = h.sets;
-      actions = h.actions;
-      spaces = h.spaces;
-      chains = h.chains;
-    }) };
+    ghost invariant = { λ h. IsKept (rows_of h.given h.instances h.sessions h.sets h.actions h.spaces h.chains) };
 }
 
 impl Handles {
@@ -192,6 +176,13 @@ impl Handles {
         ensures { result ≡ handle_at (row_of self.now kind) place }
     {
         self.row(kind)[place].handle
+    }
+
+    /// In which places an action stands.
+    pub fn actions(&self) -> [bool; ACTIONS]
+        ensures { (place : ℕ) → slice_index_or result place false ≡ has_action self.now.actions place }
+    {
+        row::told_by_places(&self.actions)
     }
 
     /// Gives a new handle under a parent (0 for an instance), in the first free place of its kind. `LimitReached`

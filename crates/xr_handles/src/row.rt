@@ -1,10 +1,11 @@
 // One row of places: what is found in it, put into it, and swept out of it.
-ghost use Rattle.std.specs.Prelude.{◌≡◌, ◌≤◌, ◌<◌, ◌+◌, ◌++◌, [], length, is_some, option_map, IfSome, if◌then◌else◌};
+ghost use Rattle.std.specs.Prelude.{◌≡◌, ◌≤◌, ◌<◌, ◌+◌, ◌++◌, ℕ, [], false, length, slice_index_or, is_some, option_map, IfSome, if◌then◌else◌};
+ghost use Rattle.xr_model.specs.machine.Destroyed.{has_action};
 ghost use Rattle.xr_model.specs.machine.Handles.{free, first_free, put_in, has, goes, going, cleared};
 ghost use Rattle.xr_model.specs.machine.HandlePlaces.{place_in, slot_in};
 
 use arrayvec::ArrayVec;
-use xr_types::{MOST_HANDLES, Slot};
+use xr_types::{ACTIONS, MOST_HANDLES, Slot};
 
 /// A place without a handle.
 pub(crate) const FREE: Slot = Slot {
@@ -45,6 +46,13 @@ pub(crate) fn place_in(row: &[Slot], handle: u64) -> Option<usize>
     ensures within { IfSome result (λ k. k < length row.now) }
 {
     row.iter().position(|slot| slot.handle == handle)
+}
+
+/// In which places of the row of actions a handle stands.
+pub(crate) fn told_by_places(row: &[Slot; ACTIONS]) -> [bool; ACTIONS]
+    ensures { (place : ℕ) → slice_index_or result place false ≡ has_action row.now place }
+{
+    row.map(|slot| slot.handle != 0)
 }
 
 /// The parent of a handle of a row.

@@ -1,17 +1,21 @@
 -- The refusals of each rule are those of its row of the table, and so is what is answered.
 use Rattle.std.proofs.Common.{◌≡◌, ◌&&◌, ◌⊎◌, inl, inr, zero, suc, ℕ, Bool, true, false, List, [], ◌∷◌, ◌++◌, length, map, Option, Some, None, refl, sym, ap, subst, ◌∙◌, append_assoc, true≢false}
 use Rattle.std.specs.Prelude.{if◌then◌else◌, flat_map, is_some}
+use Rattle.xr_types.specs.declared.input.ActiveSet.{ActiveSet}
+use Rattle.xr_types.specs.declared.session.SessionState.TheVariants.{Focused}
 use Rattle.xr_types.specs.declared.code.Code.{Code}
-use Rattle.xr_types.specs.declared.code.Code.TheVariants.{Success, SessionLossPending, FrameDiscarded, OutOfMemory, CallOrderInvalid, HandleInvalid, SessionLost, NameInvalid, NameDuplicated, PathFormatInvalid, ValidationFailure, PathInvalid, PathUnsupported, ActionsetsAlreadyAttached, LimitReached, SessionNotRunning, TimeInvalid, EnvironmentBlendModeUnsupported, LayerLimitExceeded, SwapchainRectInvalid, LayerInvalid, PoseInvalid}
+use Rattle.xr_types.specs.declared.code.Code.TheVariants.{Success, SessionLossPending, FrameDiscarded, OutOfMemory, CallOrderInvalid, HandleInvalid, SessionLost, NameInvalid, NameDuplicated, PathFormatInvalid, ValidationFailure, PathInvalid, PathUnsupported, ActionsetsAlreadyAttached, LimitReached, SessionNotRunning, TimeInvalid, EnvironmentBlendModeUnsupported, LayerLimitExceeded, SwapchainRectInvalid, LayerInvalid, PoseInvalid, ActionsetNotAttached, SessionNotFocused}
 use Rattle.xr_types.specs.declared.frames.Layer.{Layer}
 use Rattle.xr_types.specs.declared.frames.Layer.TheVariants.{Projection, Quad}
+use Rattle.xr_model.specs.machine.SessionLife.{is_state}
+use Rattle.xr_model.specs.machine.Rules.Sync.{item_checks, synced_code}
 use Rattle.xr_model.specs.machine.Layers.{Look, layer_checks}
 use Rattle.xr_model.specs.machine.Rules.Frames.{look_of}
 use Rattle.xr_types.specs.declared.handles.Kind.{Kind}
 use Rattle.xr_types.specs.declared.handles.Kind.TheVariants as kind
 use Rattle.xr_types.specs.declared.input.Binding.{Binding}
 use Rattle.xr_types.specs.declared.input.Profile.{Profile}
-use Rattle.xr_model.specs.machine.Request.{Request, create_action, suggest_bindings, attach_sets, begin_frame, end_frame, device}
+use Rattle.xr_model.specs.machine.Request.{Request, create_action, suggest_bindings, attach_sets, begin_frame, end_frame, device, sync_actions}
 use Rattle.xr_model.specs.machine.Handles.{Handles, no_handle}
 use Rattle.xr_model.specs.machine.Refusals.{Refusal, when, first_of}
 use Rattle.xr_model.specs.machine.Rule.{Effect, Rule, ahead, refusals, or_short, told_on, unless_refused, carried_out}
@@ -43,6 +47,11 @@ bindings_codes : (s : CoreState) (o : Option Profile) (list : List Binding)
 bindings_codes s None list = refl
 bindings_codes s (Some which) [] = refl
 bindings_codes s (Some which) (b ∷ list) = ap (λ (cs : List Code). HandleInvalid ∷ ActionsetsAlreadyAttached ∷ PathInvalid ∷ PathUnsupported ∷ cs) (bindings_codes s (Some which) list)
+
+items_codes : (s : CoreState) (session : ℕ) (active : List ActiveSet)
+    → codes_of (flat_map (item_checks s session) active) ≡ repeated (length active) (HandleInvalid ∷ ActionsetNotAttached ∷ PathInvalid ∷ PathUnsupported ∷ []) ++ []
+items_codes s session [] = refl
+items_codes s session (item ∷ active) = ap (λ (cs : List Code). HandleInvalid ∷ ActionsetNotAttached ∷ PathInvalid ∷ PathUnsupported ∷ cs) (items_codes s session active)
 
 layers_codes : (look : Look) (layers : List Layer) → codes_of (flat_map (layer_checks look) layers) ≡ spelt_out (flat_map layer_refuses layers) []
 layers_codes look [] = refl
@@ -77,6 +86,15 @@ begun_success loss l = by l.has_begun
     by true = inr (inr (inl refl))
     by false = plain loss.pending
 
+-- a sync may find its session not focused
+synced_success : (loss : Loss) (is_focused : Bool) → IsOneOf (Success ∷ SessionLossPending ∷ SessionNotFocused ∷ []) (code_on loss (synced_code is_focused))
+synced_success loss true = plain loss.pending
+  where
+    plain : (b : Bool) → IsOneOf (Success ∷ SessionLossPending ∷ SessionNotFocused ∷ []) (if b then SessionLossPending else Success)
+    plain true = inr (inl refl)
+    plain false = inl refl
+synced_success loss false = inr (inr (inl refl))
+
 pub refusals_are_the_table : RefusalsAreTheTable
 refusals_are_the_table s reads e = by e.request
   where
@@ -98,6 +116,12 @@ refusals_are_the_table s reads e = by e.request
       order = λ none. refl;
       memory = λ none. refl;
       success = on_success (Some (loss_of (life_of s session))) (rule s reads (record e { request = attach_sets session handles })).effect true refl refl;
+    }
+    by (sync_actions session active) there = record {
+      refusals = ap (λ (cs : List Code). HandleInvalid ∷ SessionLost ∷ LimitReached ∷ cs) (items_codes s session active);
+      order = λ none. refl;
+      memory = λ none. refl;
+      success = synced_success (loss_of (life_of s session)) (is_state (life_of s session).state Focused);
     }
     by (begin_frame session) there = record {
       refusals = refl;

@@ -78,6 +78,7 @@ attached_step s e once kept each = kept_by_step AttachLive s.core (reads_of s e.
       all_map (attaches_live s.core.handles) (attaches_live (without s.core.handles handle)) (without_sets (destroyed_by s.core.handles handle)) (left_live s.core.handles handle once) (still_live (without s.core.handles handle) s.core.sessions)
       (all_left (attaches_live s.core.handles) (attaches_live s.core.handles) (λ x. is_live (without s.core.handles handle) kind.Session x.handle) (λ x live stays. live) s.core.sessions each);
   alone = λ d c space. each;
+  chain_alone = λ d c chain. each;
   lives = λ d c session f named same keeps. all_lives (attaches_live s.core.handles) session f (λ x live. ap (λ o. list_all (is_live s.core.handles kind.ActionSet) (unwrap_or o [])) (keeps x) ∙ live) s.core.sessions each;
   attach = λ d c session sets. all_lives (attaches_live s.core.handles) session (with_attached (sets_named s.core.sets sets)) (λ x live. named_live s.core.handles s.core.sets sets kept.sets) s.core.sessions each;
   each = λ d c f keeps. changed f;

@@ -93,6 +93,7 @@ module _ (s : State) (e : Entry) (allowed : IsAllowed s e) (session : ℕ) (has_
           ap (λ (y : Session). is_some y.attached) one.2 ∙ still_some (destroyed_by s.core.handles handle) one.0.attached ∙ has_some.attached one.0 there.0;
     };
     alone = λ d c space. record { given = has_some.given; attached = has_some.attached };
+    chain_alone = λ d c chain. record { given = has_some.given; attached = has_some.attached };
     lives = λ d c handle f named same keeps. record { given = has_some.given; attached = λ x found. changed f (λ y has. ap (λ o. is_some o) (keeps y) ∙ has) x (which_lives s.core.sessions handle f named session x found) };
     attach = λ d c handle sets. record {
       given = has_some.given;
@@ -234,6 +235,7 @@ new_sessions_are_bare settings es e legal allowed creates good = bare (after (op
           chain = λ d c. absurd (true≢false (sym creates ∙ c));
           without = λ d c. absurd (true≢false (sym creates ∙ c));
           alone = λ d c. absurd (true≢false (sym creates ∙ c));
+          chain_alone = λ d c. absurd (true≢false (sym creates ∙ c));
           lives = λ d c. absurd (true≢false (sym creates ∙ c));
           attach = λ d c. absurd (true≢false (sym creates ∙ c));
           each = λ d c. absurd (true≢false (sym creates ∙ c));

@@ -12,7 +12,7 @@ use Rattle.xr_types.specs.declared.handles.Kind.TheVariants as kind
 use Rattle.xr_model.specs.machine.Chains.{Chain, is_format, is_size, no_place, is_place_used, free_place, kept_place, new_chain, has_no_chain, is_chain, chain_at, with_chain, with_chain_at, left_in_place, left_in_places, acquiring, waiting, releasing, is_acquire_wrong, is_wait_wrong, is_paint_wrong}
 use Rattle.xr_types.specs.Frames.{PendingFrame}
 use Rattle.xr_model.specs.machine.Frames.{is_empty, one_if}
-use Rattle.xr_model.specs.machine.Handles.{Handles, no_handles, no_handle, no_room, has, is_live, was_given, with_handle, without, destroyed_parents}
+use Rattle.xr_model.specs.machine.Handles.{Handles, no_handles, no_handle, no_room, has, is_live, was_given, with_handle, cleared, without, without_alone, destroyed_parents}
 use Rattle.xr_model.specs.machine.Refusals.{Refusal, when}
 use Rattle.xr_model.specs.machine.Request.{Request, Entry, destroy_instance, destroy_session, create_swapchain, destroy_swapchain, acquire_image, wait_image, release_image, destroy_action_set, destroy_action, next_frame, device}
 use Rattle.xr_model.specs.machine.State.{CoreState, CellReads, Settings, State, opening}
@@ -224,16 +224,23 @@ live_nonzero h q live = not_true (q == 0) (both_of (not (q == 0)) (has h.chains 
 fewer_same : (h : Handles) → Fewer h h
 fewer_same h = record { live = λ q live. live; given = λ q new. new }
 
-fewer_without : (h : Handles) (handle : ℕ) → Fewer h (without h handle)
-fewer_without h handle = record { live = λ q live. by q (live_nonzero (without h handle) q live) live (has h.chains q) refl; given = λ q new. new }
+-- a swapchain that is live once others went was live before
+live_before : (h : Handles) (handle : ℕ) (above : List ℕ) (q : ℕ) → not (q == 0) && has (cleared handle above h.chains) q ≡ true → is_live h kind.Swapchain q ≡ true
+live_before h handle above q live = by (not_true (q == 0) (both_of (not (q == 0)) (has (cleared handle above h.chains) q) live).0) (has h.chains q) refl
   where
-    by : (q : ℕ) → (q == 0) ≡ false → is_live (without h handle) kind.Swapchain q ≡ true → (b : Bool) → has h.chains q ≡ b → is_live h kind.Swapchain q ≡ true
-    by q nz live true eb = rw (nz, eb) refl
-    by q nz live false eb = absurd (true≢false (sym live ∙ rw (hasnt_cleared handle (destroyed_parents h handle) h.chains q nz eb) (both_false (q == 0))))
+    by : (q == 0) ≡ false → (b : Bool) → has h.chains q ≡ b → is_live h kind.Swapchain q ≡ true
+    by nz true eb = rw (nz, eb) refl
+    by nz false eb = absurd (true≢false (sym live ∙ rw (hasnt_cleared handle above h.chains q nz eb) (both_false (q == 0))))
       where
         both_false : (z : Bool) → not z && false ≡ false
         both_false true = refl
         both_false false = refl
+
+fewer_without : (h : Handles) (handle : ℕ) → Fewer h (without h handle)
+fewer_without h handle = record { live = λ q live. live_before h handle (destroyed_parents h handle) q live; given = λ q new. new }
+
+fewer_alone : (h : Handles) (chain : ℕ) → Fewer h (without_alone h kind.Swapchain chain)
+fewer_alone h chain = record { live = λ q live. live_before h chain [] q live; given = λ q new. new }
 
 fewer_step : (s : CoreState) (reads : CellReads) (e : Entry) → is_chain_creation e.request ≡ false → Fewer s.handles (core_step s reads e).0.handles
 fewer_step s reads e other = kept_by_step (λ h. Fewer s.handles h) s reads e (record {
@@ -246,6 +253,7 @@ fewer_step s reads e other = kept_by_step (λ h. Fewer s.handles h) s reads e (r
   chain = λ is gives session live. absurd (true≢false (sym is ∙ other));
   without = λ handle. fewer_without s.handles handle;
   alone = λ space. record { live = λ q live. live; given = λ q new. new };
+  chain_alone = λ chain. fewer_alone s.handles chain;
 })
   where
     before : (q : ℕ) → (e.given == q) || was_given s.handles q ≡ false → was_given s.handles q ≡ false
@@ -293,7 +301,9 @@ chains_stay s reads e aside = by e.request aside
     by (destroy_session session) aside = let f = rule s reads (record e { request = destroy_session session }) in chains_kept s (refusal e.short f) (told_on f.on f.effect) (gone session)
     by (destroy_action_set set) aside = let f = rule s reads (record e { request = destroy_action_set set }) in chains_kept s (refusal e.short f) (told_on f.on f.effect) (gone set)
     by (destroy_action action) aside = let f = rule s reads (record e { request = destroy_action action }) in chains_kept s (refusal e.short f) (told_on f.on f.effect) (gone action)
-    by (destroy_swapchain chain) aside = let f = rule s reads (record e { request = destroy_swapchain chain }) in chains_kept s (refusal e.short f) (told_on f.on f.effect) (gone chain)
+    by (destroy_swapchain chain) aside =
+        let f = rule s reads (record e { request = destroy_swapchain chain }) in
+        chains_kept s (refusal e.short f) (told_on f.on f.effect) (left_same s.chains (without_alone s.handles kind.Swapchain chain) (is_place_used s.frames.pending s.shown_images))
     by next_frame aside = let f = rule s reads (record e { request = next_frame }) in chains_kept s (refusal e.short f) (told_on f.on f.effect) (taken_same s.chains s.handles s.frames.pending)
     by (device what) aside = let same = events_same s what in record { at = λ q live. ap (λ (l : List Chain). chain_at l q) same; absent = λ q nz none. ap (λ (l : List Chain). has_chain l q) same ∙ none }
     by r aside = let f = rule s reads (record e { request = r }) in chains_kept s (refusal e.short f) (told_on f.on f.effect) (record { at = λ q live. refl; absent = λ q nz none. none })

@@ -1,10 +1,11 @@
 -- A handle that was destroyed is never live again.
 use Rattle.std.proofs.Common.{arith, ◌≤◌, ◌+◌, ◌≡◌, ℕ, ℤ, ◌==◌, not, true, false, List, [], ◌∷◌, ◌++◌, refl, sym, ap, ◌∙◌, subst, true≢false}
 use Rattle.xr_types.specs.Code.{is_success}
+use Rattle.xr_types.specs.declared.handles.Kind.{Kind}
 use Rattle.xr_types.specs.declared.handles.Kind.TheVariants.{Instance, Session, ActionSet, Action, Space, Swapchain}
 use Rattle.xr_types.specs.declared.handles.Slot.{Slot}
 use Rattle.xr_model.specs.machine.Request.{Entry, Request, destroy_instance, destroy_session, destroy_space, destroy_action_set, destroy_action, destroy_swapchain}
-use Rattle.xr_model.specs.machine.Handles.{Handles, has, is_live, without, without_alone}
+use Rattle.xr_model.specs.machine.Handles.{Handles, has, is_live, row_of, without, without_alone}
 use Rattle.xr_model.specs.machine.HandlePlaces.{kind_of}
 use Rattle.xr_model.specs.machine.State.{State, opening}
 use Rattle.xr_model.specs.machine.Machine.{step, rule, reads_of}
@@ -18,26 +19,52 @@ use Rattle.xr_model.proofs.Rows.{uncounted, counted, cleared_same, going_none}
 use Rattle.xr_model.proofs.StandOnce.{handles_stand_once}
 use Rattle.xr_model.proofs.Destroying.{IsOver, AreKnown, and_false, absent_kind, known_after, known_opening, over_after, over_without, destroyed}
 
--- ---- nothing stands below a space
+-- ---- nothing stands below a space or a swapchain
 
-module _ (h : Handles) (space : ℕ) (once : StandOnce h) (live : is_live h Space space ≡ true) where
-  nz : (space == 0) ≡ false
-  nz = not_true (space == 0) (both_of (not (space == 0)) (has h.spaces space) live).0
+-- a live handle stands in no other row
+elsewhere : (h : Handles) (kind : Kind) (handle : ℕ) → StandOnce h → is_live h kind handle ≡ true → (row : List Slot)
+    → count_in (row_of h kind) handle + count_in row handle ≤ places_with h handle → has row handle ≡ false
+elsewhere h kind handle once live row part =
+    let two = both_of (not (handle == 0)) (has (row_of h kind) handle) live in
+    let all = once handle (not_true (handle == 0) two.0) in
+    let here = counted (row_of h kind) handle two.1 in
+    uncounted row handle (omega (arith, part, all, here))
 
-  elsewhere : (row : List Slot) → count_in h.spaces space + count_in row space ≤ places_with h space → has row space ≡ false
-  elsewhere row part =
-      let all = once space nz in
-      let here = counted h.spaces space (both_of (not (space == 0)) (has h.spaces space) live).1 in
-      uncounted row space (omega (arith, part, all, here))
+pub alone_is_whole : (h : Handles) (space : ℕ) → StandOnce h → is_live h Space space ≡ true → without_alone h Space space ≡ without h space
+alone_is_whole h space once live =
+    let a = elsewhere h Space space once live h.instances (omega arith) in
+    let b = elsewhere h Space space once live h.sessions (omega arith) in
+    let c = elsewhere h Space space once live h.sets (omega arith) in
+    let d = elsewhere h Space space once live h.actions (omega arith) in
+    let f = elsewhere h Space space once live h.chains (omega arith) in
+    rw (
+      going_none space h.instances a,
+      cleared_same space h.instances a,
+      going_none space h.sessions b,
+      cleared_same space h.sessions b,
+      going_none space h.sets c,
+      cleared_same space h.sets c,
+      cleared_same space h.actions d,
+      cleared_same space h.chains f,
+    ) refl
 
-  pub alone_is_whole : without_alone h Space space ≡ without h space
-  alone_is_whole =
-      let a = elsewhere h.instances (omega arith) in
-      let b = elsewhere h.sessions (omega arith) in
-      let c = elsewhere h.sets (omega arith) in
-      let d = elsewhere h.actions (omega arith) in
-      let f = elsewhere h.chains (omega arith) in
-      rw (going_none space h.instances a, cleared_same space h.instances a, going_none space h.sessions b, cleared_same space h.sessions b, going_none space h.sets c, cleared_same space h.sets c, cleared_same space h.actions d, cleared_same space h.chains f) refl
+pub chain_is_whole : (h : Handles) (chain : ℕ) → StandOnce h → is_live h Swapchain chain ≡ true → without_alone h Swapchain chain ≡ without h chain
+chain_is_whole h chain once live =
+    let a = elsewhere h Swapchain chain once live h.instances (omega arith) in
+    let b = elsewhere h Swapchain chain once live h.sessions (omega arith) in
+    let c = elsewhere h Swapchain chain once live h.sets (omega arith) in
+    let d = elsewhere h Swapchain chain once live h.actions (omega arith) in
+    let f = elsewhere h Swapchain chain once live h.spaces (omega arith) in
+    rw (
+      going_none chain h.instances a,
+      cleared_same chain h.instances a,
+      going_none chain h.sessions b,
+      cleared_same chain h.sessions b,
+      going_none chain h.sets c,
+      cleared_same chain h.sets c,
+      cleared_same chain h.actions d,
+      cleared_same chain h.spaces f,
+    ) refl
 
 over_destroyed : (s : State) (e : Entry) (handle : ℕ) → AreKnown s.core.handles → StandOnce s.core.handles → destroys e.request handle ≡ true → is_success (step s e).1.reply.code ≡ true → IsOver handle (step s e).0.core.handles
 over_destroyed s e handle known once = by e.request
@@ -65,8 +92,8 @@ over_destroyed s e handle known once = by e.request
         (over_without s.core.handles Action action known live (λ a. rw a.actions (and_false (not (action == 0))))))
     by (destroy_swapchain chain) names good =
         destroyed (IsOver handle) s.core (is_live s.core.handles Swapchain chain) (rule s.core (reads_of s (destroy_swapchain chain)) (record e { request = destroy_swapchain chain })).effect good
-        (λ live. subst (λ (n : ℕ). IsOver n (without s.core.handles chain)) (same_key chain handle names)
-        (over_without s.core.handles Swapchain chain known live (λ a. rw a.chains (and_false (not (chain == 0))))))
+        (λ live. subst (λ (h : Handles). IsOver handle h) (sym (chain_is_whole s.core.handles chain once live)) (subst (λ (n : ℕ). IsOver n (without s.core.handles chain)) (same_key chain handle names)
+        (over_without s.core.handles Swapchain chain known live (λ a. rw a.chains (and_false (not (chain == 0)))))))
     by _ names good = absurd (true≢false (sym names))
 
 -- ---- the law

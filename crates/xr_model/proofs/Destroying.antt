@@ -117,6 +117,7 @@ known_step s e known = kept_by_step AreKnown s.core (reads_of s e.request) e (re
   chain = λ is gives session live. known_put s.core.handles Swapchain session e.given known;
   without = λ top. known_without s.core.handles top known;
   alone = λ space. known_alone s.core.handles Space space known;
+  chain_alone = λ chain. known_alone s.core.handles Swapchain chain known;
 })
 
 pub known_after : (s : State) (es : List Entry) → AreKnown s.core.handles → AreKnown (after s es).core.handles
@@ -170,6 +171,7 @@ over_step s e handle allowed over = kept_by_step (IsOver handle) s.core (reads_o
       record { some = over.some; given = or_given (e.given == handle) (was_given s.core.handles handle) over.given; absent = absent_put s.core.handles Swapchain session e.given handle other over.absent };
   without = λ gone. record { some = over.some; given = over.given; absent = absent_without s.core.handles gone handle over.some over.absent };
   alone = λ gone. record { some = over.some; given = over.given; absent = absent_alone s.core.handles Space gone handle over.some over.absent };
+  chain_alone = λ gone. record { some = over.some; given = over.given; absent = absent_alone s.core.handles Swapchain gone handle over.some over.absent };
 })
 
 pub over_after : (s : State) (clocks : List ℤ) (es : List Entry) (handle : ℕ) → IsLegalFrom s clocks es → IsOver handle s.core.handles → IsOver handle (after s es).core.handles

@@ -16,7 +16,7 @@ use Rattle.xr_model.specs.machine.History.{after}
 use Rattle.xr_model.proofs.Rows.{uncounted, counted, same_key, both_of, neither_of, not_true, not_zero, hasnt_cleared, put_is_first, each_put}
 use Rattle.xr_model.proofs.HandleSteps.{kept_by_step}
 use Rattle.xr_model.proofs.Destroying.{destroyed}
-use Rattle.xr_model.proofs.DestroyedForGood.{alone_is_whole}
+use Rattle.xr_model.proofs.DestroyedForGood.{alone_is_whole, chain_is_whole}
 use Rattle.xr_model.proofs.Orphans.{no_orphans}
 use Rattle.xr_model.proofs.StandOnce.{handles_stand_once}
 
@@ -163,6 +163,7 @@ roots_step s e roots = kept_by_step (λ h. list_all (λ s. s.parent == 0) h.inst
   chain = λ is gives session live. roots;
   without = λ handle. roots_cleared handle [] s.core.handles.instances roots;
   alone = λ space. roots;
+  chain_alone = λ chain. roots;
 })
 
 pub roots_after : (s : State) (es : List Entry) → AreRoots s.core.handles → AreRoots (after s es).core.handles
@@ -332,7 +333,7 @@ takes_step s e handle once under roots = by e.request
         (λ live. taken Action action names live)
     by (destroy_swapchain chain) names good =
         destroyed (λ new. Takes s.core.handles handle new) s.core (is_live s.core.handles Swapchain chain) (rule s.core (reads_of s (destroy_swapchain chain)) (record e { request = destroy_swapchain chain })).effect good
-        (λ live. taken Swapchain chain names live)
+        (λ live. subst (λ (h : Handles). Takes s.core.handles handle h) (sym (chain_is_whole s.core.handles chain once live)) (taken Swapchain chain names live))
     by _ names good = absurd (true≢false (sym names))
 
 pub destroying_takes : DestroyingTakes

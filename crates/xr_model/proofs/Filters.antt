@@ -6,6 +6,7 @@ use Rattle.xr_types.specs.Code.{is_success}
 use Rattle.xr_types.specs.declared.handles.Kind.{Kind}
 use Rattle.xr_types.specs.declared.handles.Kind.TheVariants.{Instance, Session, ActionSet, Action, Space, Swapchain}
 use Rattle.xr_types.specs.declared.input.Bound.{Bound}
+use Rattle.xr_model.specs.machine.Chains.{Chain}
 use Rattle.xr_model.specs.machine.Request.{Entry, Request, destroy_instance, destroy_session, destroy_space, destroy_action_set, destroy_action, destroy_swapchain}
 use Rattle.xr_model.specs.machine.Handles.{Handles, has, is_live, is_among, destroyed_by, without, without_alone}
 use Rattle.xr_model.specs.machine.LiveSessions as sessions
@@ -13,22 +14,24 @@ use Rattle.xr_model.specs.machine.LiveSessions.{without_sets, still_live}
 use Rattle.xr_model.specs.machine.Sets as inputs
 use Rattle.xr_model.specs.machine.Sets.{Set}
 use Rattle.xr_model.specs.machine.Spaces as spaces
+use Rattle.xr_model.specs.machine.Spaces.{Spaces, with_left, without_space, without_spaces}
 use Rattle.xr_model.specs.machine.State.{CoreState, State, opening}
-use Rattle.xr_model.specs.machine.Destroyed.{without_handle}
-use Rattle.xr_model.specs.machine.Rule.{Effect, unless_refused, locked_after}
+use Rattle.xr_model.specs.machine.Destroyed.{without_handle, has_action}
+use Rattle.xr_model.specs.machine.Rule.{Effect, unless_refused, locked_after, published_after}
 use Rattle.xr_model.specs.machine.Refusals.{when, first_of}
 use Rattle.xr_types.specs.declared.code.Code.TheVariants.{HandleInvalid}
 use Rattle.xr_model.specs.machine.Rules.Spaces.{with_space_gone}
+use Rattle.xr_model.specs.machine.Rules.Swapchains.{with_chain_gone}
 use Rattle.xr_model.specs.machine.Machine.{step, effect, rule, reads_of}
 use Rattle.xr_model.specs.machine.History.{after}
 use Rattle.xr_model.specs.laws.HandleLaws.{count_in, StandOnce, AreUnder, is_within, destroys}
 use Rattle.xr_model.specs.laws.SessionLaws.{AreListed}
-use Rattle.xr_model.specs.laws.ListLaws.{AreFiltered, DestroyingFilters, without_attached, attaches_live}
+use Rattle.xr_model.specs.laws.ListLaws.{standing, AreFiltered, DestroyingFilters, without_attached, attaches_live}
 use Rattle.xr_model.proofs.Rows.{same_key, both_of, not_true}
 use Rattle.xr_model.proofs.Keyed.{all_found, filters_agree}
 use Rattle.xr_model.proofs.Orphans.{no_orphans}
 use Rattle.xr_model.proofs.StandOnce.{handles_stand_once}
-use Rattle.xr_model.proofs.DestroyedForGood.{alone_is_whole}
+use Rattle.xr_model.proofs.DestroyedForGood.{alone_is_whole, chain_is_whole}
 use Rattle.xr_model.proofs.DestroyingTakes.{AreRoots, one_cleared, without_takes, roots_after}
 use Rattle.xr_model.proofs.LostSessions.{sessions_are_listed}
 use Rattle.xr_model.proofs.ListSteps.{Has}
@@ -36,6 +39,11 @@ use Rattle.xr_model.proofs.Lists.{Kept, all_left, set_gone, action_gone, space_g
 use Rattle.xr_model.proofs.AttachedSets.{AttachLive, all_attached}
 
 -- ---- all that is listed is live
+
+-- a space keeps its handle and its offset where an action goes
+standing_still : (there : ℕ → Bool) (xs : List spaces.Space) → map standing (map (with_left there) xs) ≡ map standing xs
+standing_still there [] = refl
+standing_still there (x ∷ xs) = ap (λ (l : List (ℕ × ℕ)). standing x ∷ l) (standing_still there xs)
 
 module _ {T : Type 0} (key : T → ℕ) where
   -- a filter that agrees with another on what is listed
@@ -103,44 +111,67 @@ module _ (s : CoreState) (listed : AreListed s.handles s.sessions) (kept : Has K
     sets = agree (λ (x : Set). x.handle) (λ k. is_live s.handles ActionSet k) (λ k. not (is_among (destroyed_by s.handles top) k)) (λ k. not (is_within 2 s.handles k top)) s.sets.sets kept.sets set_agrees;
     actions = agree (λ (x : inputs.Action). x.handle) (λ k. is_live s.handles Action k) (λ k. not (is_among (destroyed_by s.handles top) k)) (λ k. not (is_within 2 s.handles k top)) s.sets.actions kept.actions
         (λ k live. let two = both_of (not (k == 0)) (has s.handles.actions k) live in outside Action k _ live (ap (λ b. not (k == 0) && b) (action_gone s.handles top once k (not_true (k == 0) two.0) two.1)));
-    spaces = agree (λ (x : spaces.Space). x.handle) (λ k. is_live s.handles Space k) (λ k. not (is_among (destroyed_by s.handles top) k)) (λ k. not (is_within 2 s.handles k top)) s.spaces.spaces kept.spaces
-        (λ k live. let two = both_of (not (k == 0)) (has s.handles.spaces k) live in outside Space k _ live (ap (λ b. not (k == 0) && b) (space_gone s.handles top once k (not_true (k == 0) two.0) two.1)));
+    spaces =
+        standing_still (has_action (without s.handles top).actions) (without_spaces s.spaces (destroyed_by s.handles top)).spaces
+        ∙ ap (map standing)
+        (agree (λ (x : spaces.Space). x.handle) (λ k. is_live s.handles Space k) (λ k. not (is_among (destroyed_by s.handles top) k)) (λ k. not (is_within 2 s.handles k top)) s.spaces.spaces kept.spaces
+        (λ k live. let two = both_of (not (k == 0)) (has s.handles.spaces k) live in outside Space k _ live (ap (λ b. not (k == 0) && b) (space_gone s.handles top once k (not_true (k == 0) two.0) two.1))));
     suggestions = maps_agree (λ k. is_live s.handles Action k) (λ k. not (is_among (destroyed_by s.handles top) k)) (λ k. not (is_within 2 s.handles k top)) s.suggestions kept.suggested
         (λ k live. let two = both_of (not (k == 0)) (has s.handles.actions k) live in outside Action k _ live (ap (λ b. not (k == 0) && b) (action_gone s.handles top once k (not_true (k == 0) two.0) two.1)));
   }
 
-  -- a space goes alone
-  module _ (live_space : is_live s.handles Space top ≡ true) where
-    others : (kind : Kind) → ((k : ℕ) → is_live (without_alone s.handles Space top) kind k ≡ is_live s.handles kind k) → (k : ℕ) → is_live s.handles kind k ≡ true → true ≡ not (is_within 2 s.handles k top)
+  -- a handle of this kind goes alone
+  module _ (own : Kind) (whole : without_alone s.handles own top ≡ without s.handles top) where
+    -- what is live of a kind stays
+    abbrev Stay : Kind → Type 0
+    Stay kind = (k : ℕ) → is_live (without_alone s.handles own top) kind k ≡ is_live s.handles kind k
+
+    others : (kind : Kind) → Stay kind → (k : ℕ) → is_live s.handles kind k ≡ true → true ≡ not (is_within 2 s.handles k top)
     others kind same k live =
-        sym live ∙ sym (same k) ∙ ap (λ (h : Handles). is_live h kind k) (alone_is_whole s.handles top once live_space)
+        sym live ∙ sym (same k) ∙ ap (λ (h : Handles). is_live h kind k) whole
         ∙ without_takes s.handles top some once under roots kind k ∙ ap (λ b. b && not (is_within 2 s.handles k top)) live
 
-    alone : AreFiltered s (with_space_gone s top) (λ k. is_within 2 s.handles k top)
-    alone = record {
+    -- no list but that of the spaces changes
+    alone : Stay Session → Stay ActionSet → Stay Action → (sp : Spaces) (chains : List Chain)
+        → map standing sp.spaces ≡ map standing (filter (λ x. not (is_within 2 s.handles x.handle top)) s.spaces.spaces)
+        → AreFiltered s (record s { handles = without_alone s.handles own top; spaces = sp; chains = chains }) (λ k. is_within 2 s.handles k top)
+    alone of_sessions of_sets of_actions sp chains of_spaces = record {
       sessions =
-          let same = filter_all s.sessions ∙ agree (λ (x : sessions.Session). x.handle) (λ k. is_live s.handles Session k) (λ k. true) (λ k. not (is_within 2 s.handles k top)) s.sessions listed (others Session (λ k. refl)) in
+          let same = filter_all s.sessions ∙ agree (λ (x : sessions.Session). x.handle) (λ k. is_live s.handles Session k) (λ k. true) (λ k. not (is_within 2 s.handles k top)) s.sessions listed (others Session of_sessions) in
           map_itself (without_attached (λ k. is_within 2 s.handles k top)) (attaches_live s.handles) s.sessions attached
-          (λ x live. ap (λ (o : Option (List ℕ)). record x { attached = o }) (option_itself (is_live s.handles ActionSet) (λ k. not (is_within 2 s.handles k top)) x.attached live (others ActionSet (λ k. refl))))
+          (λ x live. ap (λ (o : Option (List ℕ)). record x { attached = o }) (option_itself (is_live s.handles ActionSet) (λ k. not (is_within 2 s.handles k top)) x.attached live (others ActionSet of_sets)))
           ∙ ap (map (without_attached (λ k. is_within 2 s.handles k top))) same;
-      sets = filter_all s.sets.sets ∙ agree (λ (x : Set). x.handle) (λ k. is_live s.handles ActionSet k) (λ k. true) (λ k. not (is_within 2 s.handles k top)) s.sets.sets kept.sets (others ActionSet (λ k. refl));
-      actions = filter_all s.sets.actions ∙ agree (λ (x : inputs.Action). x.handle) (λ k. is_live s.handles Action k) (λ k. true) (λ k. not (is_within 2 s.handles k top)) s.sets.actions kept.actions (others Action (λ k. refl));
-      spaces = agree (λ (x : spaces.Space). x.handle) (λ k. is_live s.handles Space k) (λ k. not (k == top)) (λ k. not (is_within 2 s.handles k top)) s.spaces.spaces kept.spaces (λ k live. space_left k live);
-      suggestions = map_all s.suggestions ∙ maps_agree (λ k. is_live s.handles Action k) (λ k. true) (λ k. not (is_within 2 s.handles k top)) s.suggestions kept.suggested (others Action (λ k. refl));
+      sets = filter_all s.sets.sets ∙ agree (λ (x : Set). x.handle) (λ k. is_live s.handles ActionSet k) (λ k. true) (λ k. not (is_within 2 s.handles k top)) s.sets.sets kept.sets (others ActionSet of_sets);
+      actions = filter_all s.sets.actions ∙ agree (λ (x : inputs.Action). x.handle) (λ k. is_live s.handles Action k) (λ k. true) (λ k. not (is_within 2 s.handles k top)) s.sets.actions kept.actions (others Action of_actions);
+      spaces = of_spaces;
+      suggestions = map_all s.suggestions ∙ maps_agree (λ k. is_live s.handles Action k) (λ k. true) (λ k. not (is_within 2 s.handles k top)) s.suggestions kept.suggested (others Action of_actions);
     }
-      where
-        or_no : (b : Bool) → b || false ≡ b
-        or_no true = refl
-        or_no false = refl
 
-        space_left : (k : ℕ) → is_live s.handles Space k ≡ true → not (k == top) ≡ not (is_within 2 s.handles k top)
-        space_left k live =
-            let two = both_of (not (k == 0)) (has s.handles.spaces k) live in
-            let nz = not_true (k == 0) two.0 in
-            let all = once k nz in
-            let most : count_in s.handles.spaces k ≤ 1 = omega (arith, all) in
-            let left = one_cleared top [] k nz s.handles.spaces two.1 most in
-            outside Space k (not (k == top)) live (ap (λ b. not (k == 0) && b) (ap (λ b. not b) (sym (or_no (k == top))) ∙ sym left) ∙ ap (λ (h : Handles). is_live h Space k) (alone_is_whole s.handles top once live_space))
+  space_alone : is_live s.handles Space top ≡ true → AreFiltered s (with_space_gone s top) (λ k. is_within 2 s.handles k top)
+  space_alone live_space =
+      alone Space (alone_is_whole s.handles top once live_space) (λ k. refl) (λ k. refl) (λ k. refl) (without_space s.spaces top) s.chains
+      (ap (map standing) (agree (λ (x : spaces.Space). x.handle) (λ k. is_live s.handles Space k) (λ k. not (k == top)) (λ k. not (is_within 2 s.handles k top)) s.spaces.spaces kept.spaces space_left))
+    where
+      or_no : (b : Bool) → b || false ≡ b
+      or_no true = refl
+      or_no false = refl
+
+      space_left : (k : ℕ) → is_live s.handles Space k ≡ true → not (k == top) ≡ not (is_within 2 s.handles k top)
+      space_left k live =
+          let two = both_of (not (k == 0)) (has s.handles.spaces k) live in
+          let nz = not_true (k == 0) two.0 in
+          let all = once k nz in
+          let most : count_in s.handles.spaces k ≤ 1 = omega (arith, all) in
+          let left = one_cleared top [] k nz s.handles.spaces two.1 most in
+          outside Space k (not (k == top)) live (ap (λ b. not (k == 0) && b) (ap (λ b. not b) (sym (or_no (k == top))) ∙ sym left) ∙ ap (λ (h : Handles). is_live h Space k) (alone_is_whole s.handles top once live_space))
+
+  chain_alone : is_live s.handles Swapchain top ≡ true → AreFiltered s (with_chain_gone s top) (λ k. is_within 2 s.handles k top)
+  chain_alone live_chain =
+      let whole = chain_is_whole s.handles top once live_chain in
+      alone Swapchain whole (λ k. refl) (λ k. refl) (λ k. refl) s.spaces (with_chain_gone s top).chains
+      (ap (map standing)
+      (filter_all s.spaces.spaces
+      ∙ agree (λ (x : spaces.Space). x.handle) (λ k. is_live s.handles Space k) (λ k. true) (λ k. not (is_within 2 s.handles k top)) s.spaces.spaces kept.spaces (others Swapchain whole Space (λ k. refl))))
 
 -- ---- the law
 
@@ -150,13 +181,13 @@ done_so : (P : CoreState → Type 0) (s : CoreState) (live : Bool) (x : Effect) 
 done_so P s true x good done = done refl
 done_so P s false x good done = absurd (true≢false (sym good))
 
-counted : (s t : CoreState) (gone : ℕ → Bool) (apps locked : ℕ) → AreFiltered s t gone → AreFiltered s (record t { apps = apps; locked = locked }) gone
-counted s t gone apps locked f = record { sessions = f.sessions; sets = f.sets; actions = f.actions; spaces = f.spaces; suggestions = f.suggestions }
+counted : (s t : CoreState) (gone : ℕ → Bool) (apps locked published : ℕ) → AreFiltered s t gone → AreFiltered s (record t { apps = apps; locked = locked; published = published }) gone
+counted s t gone apps locked published f = record { sessions = f.sessions; sets = f.sets; actions = f.actions; spaces = f.spaces; suggestions = f.suggestions }
 
 filtered : (s : State) (e : Entry) (handle : ℕ) → AreListed s.core.handles s.core.sessions → Has Kept s.core → AttachLive s.core.handles s.core.sessions → StandOnce s.core.handles → AreUnder s.core.handles → AreRoots s.core.handles → destroys e.request handle ≡ true → is_success (step s e).1.reply.code ≡ true
     → AreFiltered s.core (step s e).0.core (λ k. is_within 2 s.core.handles k handle)
 filtered s e handle listed kept attached once under roots names good =
-    counted s.core (effect s.core (reads_of s e.request) e).state (λ k. is_within 2 s.core.handles k handle) s.core.apps (locked_after s.core e.request) (by e.request names good)
+    counted s.core (effect s.core (reads_of s e.request) e).state (λ k. is_within 2 s.core.handles k handle) s.core.apps (locked_after s.core e.request) (published_after s.core e.request (effect s.core (reads_of s e.request) e).code) (by e.request names good)
   where
     below : (kind : Kind) (named : ℕ) → (named == handle) ≡ true → is_live s.core.handles kind named ≡ true → AreFiltered s.core (without_handle s.core named) (λ k. is_within 2 s.core.handles k handle)
     below kind named names live =
@@ -173,13 +204,16 @@ filtered s e handle listed kept attached once under roots names good =
         done_so (λ t. AreFiltered s.core t (λ k. is_within 2 s.core.handles k handle)) s.core (is_live s.core.handles Space space) (rule s.core (reads_of s (destroy_space space)) (record e { request = destroy_space space })).effect good
         (λ live.
         let some = not_true (space == 0) (both_of (not (space == 0)) _ live).0 in
-        subst (λ (n : ℕ). AreFiltered s.core (with_space_gone s.core space) (λ k. is_within 2 s.core.handles k n)) (same_key space handle names) (alone s.core listed kept attached once under roots space some live))
+        subst (λ (n : ℕ). AreFiltered s.core (with_space_gone s.core space) (λ k. is_within 2 s.core.handles k n)) (same_key space handle names) (space_alone s.core listed kept attached once under roots space some live))
     by (destroy_action_set set) names good =
         done_so (λ t. AreFiltered s.core t (λ k. is_within 2 s.core.handles k handle)) s.core (is_live s.core.handles ActionSet set) (rule s.core (reads_of s (destroy_action_set set)) (record e { request = destroy_action_set set })).effect good (below ActionSet set names)
     by (destroy_action action) names good =
         done_so (λ t. AreFiltered s.core t (λ k. is_within 2 s.core.handles k handle)) s.core (is_live s.core.handles Action action) (rule s.core (reads_of s (destroy_action action)) (record e { request = destroy_action action })).effect good (below Action action names)
     by (destroy_swapchain chain) names good =
-        done_so (λ t. AreFiltered s.core t (λ k. is_within 2 s.core.handles k handle)) s.core (is_live s.core.handles Swapchain chain) (rule s.core (reads_of s (destroy_swapchain chain)) (record e { request = destroy_swapchain chain })).effect good (below Swapchain chain names)
+        done_so (λ t. AreFiltered s.core t (λ k. is_within 2 s.core.handles k handle)) s.core (is_live s.core.handles Swapchain chain) (rule s.core (reads_of s (destroy_swapchain chain)) (record e { request = destroy_swapchain chain })).effect good
+        (λ live.
+        let some = not_true (chain == 0) (both_of (not (chain == 0)) _ live).0 in
+        subst (λ (n : ℕ). AreFiltered s.core (with_chain_gone s.core chain) (λ k. is_within 2 s.core.handles k n)) (same_key chain handle names) (chain_alone s.core listed kept attached once under roots chain some live))
     by _ names good = absurd (true≢false (sym names))
 
 pub destroying_filters : DestroyingFilters

@@ -221,6 +221,7 @@ module _ (s : CoreState) (reads : CellReads) (e : Entry) (other : is_session_cre
     chain = λ d c session. record { row = refl; live = λ q live. live; given = given_before };
     without = λ d c handle. fewer_without s.handles handle;
     alone = λ d c space. record { row = refl; live = λ q live. live; given = λ q new. new };
+    chain_alone = λ d c chain. record { row = refl; live = λ q live. live; given = λ q new. new };
     lives = λ d c session f named same has. fewer_same s.handles;
     attach = λ d c session sets. fewer_same s.handles;
     each = λ d c f keeps. fewer_same s.handles;

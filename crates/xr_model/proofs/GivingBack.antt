@@ -25,7 +25,7 @@ module _ (s : State) (e : Entry) where
   core_left : (step s (record e { request = image_done })).0.core ≡ s.core
   core_left = by (refusal e.short given_rule)
     where
-      by : (o : Option Refusal) → record (unless_refused s.core o given_rule.effect).state { apps = s.core.apps; locked = s.core.locked } ≡ s.core
+      by : (o : Option Refusal) → record (unless_refused s.core o given_rule.effect).state { apps = s.core.apps; locked = s.core.locked; published = s.core.published } ≡ s.core
       by None = refl
       by (Some r) = refl
 

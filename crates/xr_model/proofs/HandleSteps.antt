@@ -5,8 +5,8 @@ use Rattle.xr_types.specs.Code.{is_success}
 use Rattle.xr_types.specs.declared.code.Code.{Code}
 use Rattle.xr_types.specs.declared.code.Code.TheVariants.{HandleInvalid, CallOrderInvalid}
 use Rattle.xr_types.specs.declared.handles.Kind.TheVariants as kind
-use Rattle.xr_model.specs.machine.Request.{Entry, Request, create_instance, destroy_instance, create_session, destroy_session, create_reference_space, destroy_space, create_action_set, destroy_action_set, create_action, destroy_action, create_swapchain, destroy_swapchain, device}
-use Rattle.xr_model.specs.machine.Handles.{Handles, is_live, with_handle, without, without_alone}
+use Rattle.xr_model.specs.machine.Request.{Entry, Request, create_instance, destroy_instance, create_session, destroy_session, create_reference_space, destroy_space, create_action_set, destroy_action_set, create_action, destroy_action, create_swapchain, destroy_swapchain, device, create_action_space}
+use Rattle.xr_model.specs.machine.Handles.{Handles, is_live, with_handle, without, without_alone, no_handle}
 use Rattle.xr_model.specs.machine.Refusals.{Refusal, when, first_of}
 use Rattle.xr_model.specs.machine.State.{CoreState, CellReads}
 use Rattle.xr_model.specs.machine.Rule.{Effect, refusal, told_on, unless_refused}
@@ -38,6 +38,7 @@ pub record Keeps (P : Handles → Type 0) (s : CoreState) (reads : CellReads) (e
   pub chain : is_chain_creation e.request ≡ true → gives_handle s reads e ≡ true → (session : ℕ) → is_live s.handles kind.Session session ≡ true → P (with_handle s.handles kind.Swapchain session e.given)
   pub without : (handle : ℕ) → P (without s.handles handle)
   pub alone : (space : ℕ) → P (without_alone s.handles kind.Space space)
+  pub chain_alone : (chain : ℕ) → P (without_alone s.handles kind.Swapchain chain)
 
 -- a refused effect leaves the handles
 kept : (P : Handles → Type 0) (s : CoreState) (o : Option Refusal) (x : Effect) → P s.handles → (o ≡ None → P x.state.handles) → P (unless_refused s o x).state.handles
@@ -81,6 +82,11 @@ kept_by_step P s reads e = by e.request
         kept P s (refusal e.short f) (told_on f.on f.effect) k.same
         (λ none. k.space (succeeds s (refusal e.short f) (told_on f.on f.effect) (success_succeeds (loss_of (life_of s session))) none) session
         (first_fails (is_live s.handles kind.Session session) HandleInvalid (is_lost (life_of s session) ∷ when f.disorder CallOrderInvalid ∷ f.behind) none))
+    by (create_action_space session action sub offset) k =
+        let f = rule s reads (record e { request = create_action_space session action sub offset }) in
+        kept P s (refusal e.short f) (told_on f.on f.effect) k.same
+        (λ none. k.space (succeeds s (refusal e.short f) (told_on f.on f.effect) (success_succeeds (loss_of (life_of s session))) none) session
+        (first_fails (is_live s.handles kind.Session session) HandleInvalid (no_handle s.handles kind.Action action ∷ is_lost (life_of s session) ∷ when f.disorder CallOrderInvalid ∷ f.behind) none))
     by (create_swapchain session format width height fixed) k =
         let f = rule s reads (record e { request = create_swapchain session format width height fixed }) in
         kept P s (refusal e.short f) (told_on f.on f.effect) k.same
@@ -88,7 +94,7 @@ kept_by_step P s reads e = by e.request
         (first_fails (is_live s.handles kind.Session session) HandleInvalid (is_lost (life_of s session) ∷ when f.disorder CallOrderInvalid ∷ f.behind) none))
     by (destroy_swapchain chain) k =
         let f = rule s reads (record e { request = destroy_swapchain chain }) in
-        kept P s (refusal e.short f) (told_on f.on f.effect) k.same (λ none. k.without chain)
+        kept P s (refusal e.short f) (told_on f.on f.effect) k.same (λ none. k.chain_alone chain)
     by (destroy_space space) k =
         let f = rule s reads (record e { request = destroy_space space }) in
         kept P s (refusal e.short f) (told_on f.on f.effect) k.same (λ none. k.alone space)

@@ -3,13 +3,19 @@ use Rattle.std.specs.Prelude.{if◌then◌else◌, cond, take}
 use Rattle.std.proofs.Common.{◌≡◌, ◌+◌, ℕ, List, Bool, zero, suc, true, false, [], ◌∷◌, Option, Some, None, refl, sym, ◌∙◌, arith, true≢false}
 use Rattle.xr_types.specs.Code.{is_success}
 use Rattle.xr_types.specs.declared.code.Code.{Code}
-use Rattle.xr_types.specs.declared.code.Code.TheVariants.{Success, SessionLossPending, FrameDiscarded}
+use Rattle.xr_types.specs.declared.code.Code.TheVariants.{Success, SessionLossPending, SessionNotFocused, FrameDiscarded}
 use Rattle.xr_model.specs.machine.SessionRule.{Loss}
 use Rattle.xr_model.proofs.Successes.{success_still, begun_succeeds}
-use Rattle.xr_model.specs.machine.Request.{Entry, Outcome, is_locked, Request, begin_frame, leave}
+use Rattle.xr_types.specs.declared.device.DeviceEvent.TheVariants as event
+use Rattle.xr_model.specs.machine.Publishing.{is_published}
+use Rattle.xr_model.specs.machine.Request.{Entry, Outcome, is_locked, Request, create_session, destroy_session, create_action, destroy_action, destroy_action_set, destroy_instance, attach_sets, sync_actions, device, begin_frame, leave}
 use Rattle.xr_model.specs.machine.Refusals.{Refusal}
 use Rattle.xr_model.specs.machine.State.{CoreState, CellReads, State}
-use Rattle.xr_model.specs.machine.Rule.{Effect, refusal, told_on, unless_refused, nothing_done, locked_after}
+use Rattle.xr_model.specs.machine.Rule.{Effect, refusal, told_on, unless_refused, nothing_done, locked_after, published_after}
+use Rattle.xr_types.specs.declared.session.SessionState.TheVariants.{Focused}
+use Rattle.xr_model.specs.machine.Rules.Session.{life_of}
+use Rattle.xr_model.specs.machine.Rules.Sync.{synced_code}
+use Rattle.xr_model.specs.machine.SessionLife.{is_state}
 use Rattle.xr_model.specs.machine.Machine.{step, effect, rule, reads_of, cells_after}
 use Rattle.xr_model.specs.machine.History.{clocks_after}
 use Rattle.xr_model.specs.machine.Positions.{outcome_from}
@@ -19,6 +25,7 @@ use Rattle.xr_model.specs.laws.Laws.{is_without_effect, RefusalsChangeNothing, A
 success_has_effect : (code : Code) → is_success code ≡ true → is_without_effect code ≡ true → ⊥
 success_has_effect Success good bad = true≢false (sym bad)
 success_has_effect SessionLossPending good bad = true≢false (sym bad)
+success_has_effect SessionNotFocused good bad = true≢false (sym bad)
 success_has_effect FrameDiscarded good bad = true≢false (sym bad)
 success_has_effect _ good bad = true≢false (sym good)
 
@@ -27,12 +34,17 @@ refused_or_done : (s : CoreState) (o : Option Refusal) (e : Effect) → is_succe
 refused_or_done s None e good bad = absurd (success_has_effect e.code good bad)
 refused_or_done s (Some r) e good bad = (refl, refl)
 
+synced_succeeds : (is_focused : Bool) → is_success (synced_code is_focused) ≡ true
+synced_succeeds true = refl
+synced_succeeds false = refl
+
 -- the effect of every rule is a success
 effects_succeed : (s : CoreState) (reads : CellReads) (e : Entry) → is_success (rule s reads e).effect.code ≡ true
 effects_succeed s reads e = by e.request
   where
     by : (r : Request) → is_success (rule s reads (record e { request = r })).effect.code ≡ true
     by (begin_frame session) = begun_succeeds s.frames.frame_loop
+    by (sync_actions session active) = synced_succeeds (is_state (life_of s session).state Focused)
     by leave = refl
     by _ = refl
 
@@ -41,15 +53,47 @@ told_succeeds None x good = good
 told_succeeds (Some loss) x good = success_still loss x.code good
 
 -- what an effect that did nothing leaves of the whole state
-left_whole : (s : State) (e : Entry) (x : Effect) → x.state ≡ s.core → x.did ≡ nothing_done
-    → record { core = record x.state { apps = s.core.apps; locked = locked_after s.core e.request }; cells = cells_after s.cells x.did } ≡ record s { core = record s.core { locked = locked_after s.core e.request } }
-left_whole s e x state did = rw (state, did) refl
+left_whole : (s : State) (e : Entry) (x : Effect) → x.state ≡ s.core → x.did ≡ nothing_done → published_after s.core e.request x.code ≡ s.core.published
+    → record { core = record x.state { apps = s.core.apps; locked = locked_after s.core e.request; published = published_after s.core e.request x.code }; cells = cells_after s.cells x.did } ≡ record s { core = record s.core { locked = locked_after s.core e.request } }
+left_whole s e x state did same = rw (state, did, same) refl
+
+-- a call without an effect publishes nothing
+silent : (code : Code) → is_without_effect code ≡ true → is_published code ≡ false
+silent Success bad = absurd (true≢false (sym bad))
+silent SessionLossPending bad = absurd (true≢false (sym bad))
+silent SessionNotFocused bad = absurd (true≢false (sym bad))
+silent _ bad = refl
+
+unpublished : (s : State) (e : Entry) → is_without_effect (step s e).1.reply.code ≡ true → published_after s.core e.request (step s e).1.reply.code ≡ s.core.published
+unpublished s e bad = by e.request bad
+  where
+    code_of : Request → Code
+    code_of r = (step s (record e { request = r })).1.reply.code
+
+    none : (r : Request) → is_without_effect (code_of r) ≡ true → (if is_published (code_of r) then s.core.locked + 1 else s.core.published) ≡ s.core.published
+    none r bad = rw (silent (code_of r) bad) refl
+
+    by : (r : Request) → is_without_effect (code_of r) ≡ true → published_after s.core r (code_of r) ≡ s.core.published
+    by (create_session instance system) bad = none (create_session instance system) bad
+    by (destroy_session session) bad = none (destroy_session session) bad
+    by (create_action set name type subs localized) bad = none (create_action set name type subs localized) bad
+    by (destroy_action action) bad = none (destroy_action action) bad
+    by (destroy_action_set set) bad = none (destroy_action_set set) bad
+    by (destroy_instance instance) bad = none (destroy_instance instance) bad
+    by (attach_sets session sets) bad = none (attach_sets session sets) bad
+    by (sync_actions session active) bad = none (sync_actions session active) bad
+    by (device event.Loss) bad = absurd (true≢false (sym bad))
+    by (device event.Lost) bad = absurd (true≢false (sym bad))
+    by (device event.Fault) bad = absurd (true≢false (sym bad))
+    by (device (event.Garbled line)) bad = absurd (true≢false (sym bad))
+    by (device told) bad = refl
+    by r bad = refl
 
 pub refusals_change_nothing : RefusalsChangeNothing
 refusals_change_nothing s e bad =
     let f = rule s.core (reads_of s e.request) e in
     let both = refused_or_done s.core (refusal e.short f) (told_on f.on f.effect) (told_succeeds f.on f.effect (effects_succeed s.core (reads_of s e.request) e)) bad in
-    left_whole s e (effect s.core (reads_of s e.request) e) both.0 both.1
+    left_whole s e (effect s.core (reads_of s e.request) e) both.0 both.1 (unpublished s e bad)
 
 pub after_is_in_turn : AfterIsInTurn
 after_is_in_turn s [] fs = refl

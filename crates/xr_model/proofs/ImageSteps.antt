@@ -8,10 +8,9 @@ use Rattle.xr_types.specs.declared.frames.Image.{Image}
 use Rattle.xr_types.specs.declared.handles.Kind.TheVariants.{Swapchain, ActionSet, Action}
 use Rattle.xr_types.specs.declared.handles.Slot.{Slot}
 use Rattle.xr_types.specs.Frames.{PendingFrame}
-use Rattle.xr_model.specs.machine.Chains.{Chain, free_place, kept_place, new_chain, is_chain, chain_at, place_of_chain, first_place, is_format, is_size, no_place, has_free_place, is_wait_wrong, is_paint_wrong, oldest_of, oldest_index, is_place_used, with_chain, with_chain_at, acquiring, waiting, releasing, left_in_place, left_in_places, oldest_image}
-use Rattle.xr_model.specs.machine.Destroyed.{freed_by}
+use Rattle.xr_model.specs.machine.Chains.{Chain, free_place, kept_place, new_chain, is_chain, chain_at, place_of_chain, first_place, is_format, is_size, no_place, has_free_place, is_wait_wrong, is_paint_wrong, oldest_of, oldest_index, is_place_used, with_chain, with_chain_at, acquiring, waiting, releasing, left_in_place, left_in_places, freed_in_places, oldest_image}
 use Rattle.xr_model.specs.machine.Frames.{is_empty}
-use Rattle.xr_model.specs.machine.Handles.{Handles, no_room, is_live, without}
+use Rattle.xr_model.specs.machine.Handles.{Handles, no_room, is_live, without, without_alone}
 use Rattle.xr_model.specs.machine.Images.{slot_of, times_in, uses_of, count_of, first_images}
 use Rattle.xr_model.specs.machine.Refusals.{when}
 use Rattle.xr_model.specs.machine.Request.{Request, Entry, destroy_instance, destroy_session, destroy_action_set, destroy_action, create_swapchain, destroy_swapchain, acquire_image, wait_image, release_image, end_frame, next_frame, image_done, device}
@@ -111,12 +110,13 @@ had_kept row h used (Some c) n keeps sound = by (is_live_in row c.handle) refl
     by false dead = bare (sound.bare dead).has_waited (is_live_in h.chains c.handle) (not (c.handle == 0) && used)
 
 module _ (s : State) (i : Image) (sound : StateIsSound s) where
-  -- a handle goes with the images below it
-  had_without : (handle : ℕ) (t : CoreState) (did : Did) → t.chains ≡ left_in_places (without s.core.handles handle) (is_place_used s.core.frames.pending s.core.shown_images) 0 s.core.chains → did.claimed ≡ [] → did.freed ≡ freed_by s.core handle → HadBy s.core i t did
-  had_without handle t did chains claimed freed =
+  -- handles go with the images below them
+  had_without : (h : Handles) (t : CoreState) (did : Did) → t.chains ≡ left_in_places h (is_place_used s.core.frames.pending s.core.shown_images) 0 s.core.chains
+      → did.claimed ≡ [] → did.freed ≡ freed_in_places h 0 s.core.chains → HadBy s.core i t did
+  had_without h t did chains claimed freed =
       let used = is_place_used s.core.frames.pending s.core.shown_images in
-      rw (chains, claimed, freed, left_at (without s.core.handles handle) used 0 s.core.chains i.place i.place (omega arith), freed_at (without s.core.handles handle) i 0 s.core.chains i.place (omega arith))
-      (had_left (without s.core.handles handle) (used i.place) (slice_get s.core.chains i.place) i.index)
+      rw (chains, claimed, freed, left_at h used 0 s.core.chains i.place i.place (omega arith), freed_at h i 0 s.core.chains i.place (omega arith))
+      (had_left h (used i.place) (slice_get s.core.chains i.place) i.index)
 
   -- chains that weren't live leave their places
   had_swept : (h : Handles) (used : ℕ → Bool) → ((q : ℕ) → is_live_in s.core.handles.chains q ≡ true → is_live_in h.chains q ≡ true) → has_index (slice_get (left_in_places h used 0 s.core.chains) i.place) i.index ≡ is_had s.core i
@@ -214,13 +214,13 @@ had_step s e i once under sound = by e.request
     by next_frame = effect_kept (HadBy s.core i) s.core e.short (rule s.core (reads_of s next_frame) (record e { request = next_frame })) refl (λ none. had_taken s i sound s.core.frames.pending)
     by (destroy_instance instance) =
         let f = rule s.core (reads_of s (destroy_instance instance)) (record e { request = destroy_instance instance }) in
-        effect_kept (HadBy s.core i) s.core e.short f refl (λ none. had_without s i sound instance f.effect.state f.effect.did refl refl refl)
+        effect_kept (HadBy s.core i) s.core e.short f refl (λ none. had_without s i sound (without s.core.handles instance) f.effect.state f.effect.did refl refl refl)
     by (destroy_session session) =
         let f = rule s.core (reads_of s (destroy_session session)) (record e { request = destroy_session session }) in
-        effect_kept (HadBy s.core i) s.core e.short f refl (λ none. had_without s i sound session f.effect.state f.effect.did refl refl refl)
+        effect_kept (HadBy s.core i) s.core e.short f refl (λ none. had_without s i sound (without s.core.handles session) f.effect.state f.effect.did refl refl refl)
     by (destroy_swapchain chain) =
         let f = rule s.core (reads_of s (destroy_swapchain chain)) (record e { request = destroy_swapchain chain }) in
-        effect_kept (HadBy s.core i) s.core e.short f refl (λ none. had_without s i sound chain f.effect.state f.effect.did refl refl refl)
+        effect_kept (HadBy s.core i) s.core e.short f refl (λ none. had_without s i sound (without_alone s.core.handles Swapchain chain) f.effect.state f.effect.did refl refl refl)
     by (destroy_action_set set) =
         let f = rule s.core (reads_of s (destroy_action_set set)) (record e { request = destroy_action_set set }) in
         effect_kept (HadBy s.core i) s.core e.short f refl (λ none.

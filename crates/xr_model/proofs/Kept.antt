@@ -97,6 +97,7 @@ sealed_stays s e set is =
       chain = λ gives session. same;
       gone = λ handle. left (destroyed_by s.core.handles handle);
       alone = λ space. same;
+      chain_alone = λ chain. same;
       suggest = λ o list none. same;
       attach = λ handles. record { found = λ x found. let one = which_map (λ (y : Set). y.handle) (sealed_by handles) (sealed_named handles) s.core.sets.sets set x found in ap (λ (y : Set). y.sealed) one.2 ∙ seals handles one.0 (sealed_there (set_at s.core.sets set) is one.0 one.1); joins = λ handle x found of. found };
       sample = λ what time pose. same;

@@ -31,6 +31,7 @@ rows_step s e rows = kept_by_step (λ h sp st su. length sp.samples ≡ ORIGINS)
   chain = λ gives session. rows;
   gone = λ handle. rows;
   alone = λ space. rows;
+  chain_alone = λ chain. rows;
   suggest = λ o list none. rows;
   attach = λ handles. rows;
   sample = λ what time pose. set_length s.core.spaces.samples (origin_place what) _ ∙ rows;

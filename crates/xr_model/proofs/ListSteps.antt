@@ -1,7 +1,7 @@
 -- What an entry does to the handles and to the lists of what is kept by them: the one case split for laws on these.
 use Rattle.std.proofs.Common.{◌≡◌, ℕ, ℤ, not, Bool, true, false, List, [], ◌∷◌, ◌++◌, Option, Some, None, refl}
-use Rattle.std.specs.Prelude.{if◌then◌else◌}
-use Rattle.xr_types.specs.declared.code.Code.TheVariants.{HandleInvalid, CallOrderInvalid}
+use Rattle.std.specs.Prelude.{◌==◌, is_none, if◌then◌else◌}
+use Rattle.xr_types.specs.declared.code.Code.TheVariants.{HandleInvalid, CallOrderInvalid, ActionTypeMismatch, PathUnsupported, PoseInvalid}
 use Rattle.xr_types.specs.declared.device.DeviceEvent.{DeviceEvent}
 use Rattle.xr_types.specs.declared.device.DeviceEvent.TheVariants as event
 use Rattle.xr_types.specs.declared.handles.Kind.{Kind}
@@ -11,19 +11,21 @@ use Rattle.xr_types.specs.declared.input.Bound.{Bound}
 use Rattle.xr_types.specs.declared.input.Profile.{Profile}
 use Rattle.xr_types.specs.declared.spaces.Origin.{Origin}
 use Rattle.xr_types.specs.declared.spaces.Root.{Root}
-use Rattle.xr_model.specs.machine.Request.{Entry, Request, create_instance, destroy_instance, create_session, destroy_session, create_reference_space, destroy_space, create_action_set, destroy_action_set, create_action, destroy_action, suggest_bindings, attach_sets, device, create_swapchain, destroy_swapchain}
+use Rattle.xr_model.specs.machine.Request.{Entry, Request, create_instance, destroy_instance, create_session, destroy_session, create_reference_space, destroy_space, create_action_set, destroy_action_set, create_action, destroy_action, suggest_bindings, attach_sets, device, create_swapchain, destroy_swapchain, create_action_space}
 use Rattle.xr_model.specs.machine.Handles.{Handles, is_live, has_room, no_handle, no_room, with_handle, without, without_alone, destroyed_by}
 use Rattle.xr_model.specs.machine.Bindings.{without_suggestions, number_checks}
 use Rattle.xr_model.specs.machine.Refusals.{Refusal, when, first_of}
 use Rattle.xr_model.specs.machine.SessionLife.{is_lost}
 use Rattle.xr_model.specs.machine.Sets.{Sets, Action, with_set, with_action, without_inputs, with_sealed, set_checks, action_checks, action_label_checks, no_users}
-use Rattle.xr_model.specs.machine.Spaces.{Spaces, with_space, without_space, without_spaces, sampled, reference_checks}
+use Rattle.xr_model.specs.machine.Destroyed.{spaces_left}
+use Rattle.xr_model.specs.machine.Spaces.{Spaces, with_space, without_space, sampled, reference_checks}
 use Rattle.xr_model.specs.machine.State.{CoreState, CellReads}
 use Rattle.xr_model.specs.machine.Rule.{Effect, refusals, refusal, or_short, told_on, unless_refused}
 use Rattle.xr_model.specs.machine.Rules.Bindings.{profile_at, profile_checks, bindings_checks, suggested}
 use Rattle.xr_model.specs.machine.Rules.Device.{behind_event}
 use Rattle.xr_model.specs.machine.Rules.Session.{life_of}
 use Rattle.xr_model.specs.machine.Rules.Sets.{sub_checks, new_action}
+use Rattle.xr_model.specs.machine.Rules.Sync.{is_of_poses, column_named}
 use Rattle.xr_model.specs.machine.Machine.{core_step, rule}
 use Rattle.xr_model.specs.machine.SessionRule.{loss_of}
 use Rattle.xr_model.proofs.Successes.{success_succeeds}
@@ -73,8 +75,9 @@ pub record Keeps (P : Handles → Spaces → Sets → List (List Bound) → Type
   pub space : gives_handle s reads e ≡ true → has_room s.handles kind.Space ≡ true → (session : ℕ) (root : Root) (offset : ℕ)
       → P (with_handle s.handles kind.Space session e.given) (with_space s.spaces e.given root offset) s.sets s.suggestions
   pub chain : gives_handle s reads e ≡ true → (session : ℕ) → P (with_handle s.handles kind.Swapchain session e.given) s.spaces s.sets s.suggestions
-  pub gone : (handle : ℕ) → P (without s.handles handle) (without_spaces s.spaces (destroyed_by s.handles handle)) (without_inputs s.sets (destroyed_by s.handles handle)) (without_suggestions s.suggestions (destroyed_by s.handles handle))
+  pub gone : (handle : ℕ) → P (without s.handles handle) (spaces_left s.handles handle s.spaces) (without_inputs s.sets (destroyed_by s.handles handle)) (without_suggestions s.suggestions (destroyed_by s.handles handle))
   pub alone : (space : ℕ) → P (without_alone s.handles kind.Space space) (without_space s.spaces space) s.sets s.suggestions
+  pub chain_alone : (chain : ℕ) → P (without_alone s.handles kind.Swapchain chain) s.spaces s.sets s.suggestions
   pub suggest : (o : Option Profile) (list : List Binding) → first_of (bindings_checks s o list) ≡ None → P s.handles s.spaces s.sets (suggested s o list)
   pub attach : (handles : List ℕ) → P s.handles s.spaces (with_sealed s.sets handles) s.suggestions
   pub sample : (what : Origin) (time : ℤ) (pose : ℕ) → P s.handles (sampled s.spaces what time pose) s.sets s.suggestions
@@ -126,12 +129,18 @@ kept_by_step P s reads e = by e.request
         kept P s (refusal e.short f) (told_on f.on f.effect) k.same
         (λ none. k.space (succeeds s (refusal e.short f) (told_on f.on f.effect) (success_succeeds (loss_of (life_of s session))) none)
         (has_place s.handles kind.Space (none_behind (front ++ reference_checks what offset s.device.stage) (no_room s.handles kind.Space ∷ []) none)) session _ offset)
+    by (create_action_space session action sub offset) k =
+        let f = rule s reads (record e { request = create_action_space session action sub offset }) in
+        let front = no_handle s.handles kind.Session session ∷ no_handle s.handles kind.Action action ∷ is_lost (life_of s session) ∷ when false CallOrderInvalid ∷ [] in
+        kept P s (refusal e.short f) (told_on f.on f.effect) k.same
+        (λ none. k.space (succeeds s (refusal e.short f) (told_on f.on f.effect) (success_succeeds (loss_of (life_of s session))) none)
+        (has_place s.handles kind.Space (none_behind (front ++ when (not (is_of_poses s action)) ActionTypeMismatch ∷ when (is_none (column_named s action sub)) PathUnsupported ∷ when (offset == 0) PoseInvalid ∷ []) (no_room s.handles kind.Space ∷ []) none)) session _ offset)
     by (create_swapchain session format width height fixed) k =
         let f = rule s reads (record e { request = create_swapchain session format width height fixed }) in
         kept P s (refusal e.short f) (told_on f.on f.effect) k.same (λ none. k.chain (succeeds s (refusal e.short f) (told_on f.on f.effect) (success_succeeds (loss_of (life_of s session))) none) session)
     by (destroy_swapchain chain) k =
         let f = rule s reads (record e { request = destroy_swapchain chain }) in
-        kept P s (refusal e.short f) (told_on f.on f.effect) k.same (λ none. k.gone chain)
+        kept P s (refusal e.short f) (told_on f.on f.effect) k.same (λ none. k.chain_alone chain)
     by (destroy_instance instance) k =
         let f = rule s reads (record e { request = destroy_instance instance }) in
         kept P s (refusal e.short f) (told_on f.on f.effect) k.same (λ none. k.gone instance)

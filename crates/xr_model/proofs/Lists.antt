@@ -10,7 +10,8 @@ use Rattle.xr_model.specs.machine.Handles.{Handles, has, is_live, is_among, was_
 use Rattle.xr_model.specs.machine.Sets as inputs
 use Rattle.xr_model.specs.machine.Sets.{Sets, Set, action_at, set_at, sealed_by}
 use Rattle.xr_model.specs.machine.Spaces as spaces
-use Rattle.xr_model.specs.machine.Spaces.{Spaces, space_at}
+use Rattle.xr_model.specs.machine.Destroyed.{has_action, spaces_left}
+use Rattle.xr_model.specs.machine.Spaces.{Spaces, space_at, with_left}
 use Rattle.xr_model.specs.machine.State.{CoreState, State}
 use Rattle.xr_model.specs.machine.Machine.{step, reads_of, IsAllowed}
 use Rattle.xr_model.specs.laws.HandleLaws.{count_in, places_with, StandOnce}
@@ -249,9 +250,11 @@ module _ (h : Handles) (sp : Spaces) (st : Sets) (su : List (List Bound)) (kept 
             let there = sym (action_gone h top once k (not_true (k == 0) two.0) two.1) ∙ stays in
             rw (two.0, there) refl
 
-    kept_gone : Kept (without h top) (without_spaces sp (destroyed_by h top)) (without_inputs st (destroyed_by h top)) (without_suggestions su (destroyed_by h top))
+    kept_gone : Kept (without h top) (spaces_left h top sp) (without_inputs st (destroyed_by h top)) (without_suggestions su (destroyed_by h top))
     kept_gone = record {
-      spaces = row_left (λ (x : spaces.Space). x.handle) (λ k. not (is_among (destroyed_by h top) k)) sp.spaces h.spaces (without h top).spaces kept.spaces (space_gone h top once) (hasnt_cleared top (destroyed_parents h top) h.spaces);
+      spaces = λ k.
+          found_map (λ (x : spaces.Space). x.handle) (with_left (has_action (without h top).actions)) (λ x. refl) (without_spaces sp (destroyed_by h top)).spaces k
+          ∙ row_left (λ (x : spaces.Space). x.handle) (λ n. not (is_among (destroyed_by h top) n)) sp.spaces h.spaces (without h top).spaces kept.spaces (space_gone h top once) (hasnt_cleared top (destroyed_parents h top) h.spaces) k;
       sets = row_left (λ (x : Set). x.handle) (λ k. not (is_among (destroyed_by h top) k)) st.sets h.sets (without h top).sets kept.sets (set_gone h top once) (hasnt_cleared top (destroyed_instances h top) h.sets);
       actions = row_left (λ (x : inputs.Action). x.handle) (λ k. not (is_among (destroyed_by h top) k)) st.actions h.actions (without h top).actions kept.actions (action_gone h top once) (hasnt_cleared top (destroyed_parents h top) h.actions);
       above = λ k x found.
@@ -300,6 +303,7 @@ kept_step s e allowed known once kept = kept_by_step Kept s.core (reads_of s e.r
   chain = λ gives session. record { spaces = kept.spaces; sets = kept.sets; actions = kept.actions; above = kept.above; suggested = kept.suggested };
   gone = λ handle. kept_gone s.core.handles s.core.spaces s.core.sets s.core.suggestions kept handle once;
   alone = λ space. kept_alone s.core.handles s.core.spaces s.core.sets s.core.suggestions kept space once;
+  chain_alone = λ chain. record { spaces = kept.spaces; sets = kept.sets; actions = kept.actions; above = kept.above; suggested = kept.suggested };
   suggest = λ o list none. record { spaces = kept.spaces; sets = kept.sets; actions = kept.actions; above = kept.above; suggested = suggested_for s.core o list none kept.suggested };
   attach = λ handles. record {
     spaces = kept.spaces;

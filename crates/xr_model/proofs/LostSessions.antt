@@ -62,6 +62,7 @@ listed_step s e allowed listed = kept_by_step (λ h xs. AreListed h xs) s.core (
   chain = λ d c session. listed;
   without = λ d c handle. listed_left s.core.handles handle s.core.sessions listed;
   alone = λ d c space. listed;
+  chain_alone = λ d c chain. listed;
   lives = λ d c session f named same keeps. listed_lives s.core.handles s.core.sessions session f named listed;
   attach = λ d c session sets. listed_lives s.core.handles s.core.sessions session (with_attached (sets_named s.core.sets sets)) (λ x. refl) listed;
   each = λ d c f keeps. listed_each s.core.handles f s.core.sessions listed;
@@ -218,6 +219,7 @@ module _ (s : State) (e : Entry) (allowed : IsAllowed s e) (known : AreKnown s.c
         let there = found_left (λ n. is_live (without s.core.handles handle) kind.Session n) s.core.sessions session one.0 one.1 in
         ap (λ (y : Session). y.life.lost) one.2 ∙ lost_before session one.0 there ∙ as_before session d (uncreated session c);
     alone = λ d c space session x found. lost_before session x found ∙ as_before session d (uncreated session c);
+    chain_alone = λ d c chain session x found. lost_before session x found ∙ as_before session d (uncreated session c);
     lives = λ d c handle f named same keeps session x found. let one = found_lives s.core.sessions handle f named same session x found in one.2 ∙ lost_before session one.0 one.1 ∙ as_before session d (uncreated session c);
     attach = λ d c handle sets session x found.
         let one = found_lives s.core.sessions handle (with_attached (sets_named s.core.sets sets)) (λ y. refl) (λ y there. refl) session x found in

@@ -43,6 +43,16 @@ alone_under h space u = record {
   chains = u.chains;
 }
 
+-- what is live without one swapchain
+chain_alone_under : (h : Handles) (chain : ℕ) → AreUnder h → AreUnder (without_alone h Swapchain chain)
+chain_alone_under h chain u = record {
+  sessions = u.sessions;
+  sets = u.sets;
+  actions = u.actions;
+  spaces = u.spaces;
+  chains = row_under chain [] h.sessions h.chains u.chains;
+}
+
 -- with an instance more
 instance_under : (h : Handles) (given : ℕ) → AreUnder h → AreUnder (with_handle h Instance 0 given)
 instance_under h given u = record {
@@ -133,6 +143,7 @@ under_step s e u = kept_by_step (λ h. AreUnder h) s.core (reads_of s e.request)
   chain = λ is gives session live. chain_under s.core.handles session e.given live u;
   without = λ handle. without_under s.core.handles handle u;
   alone = λ space. alone_under s.core.handles space u;
+  chain_alone = λ chain. chain_alone_under s.core.handles chain u;
 })
 
 under_after : (s : State) (es : List Entry) → AreUnder s.core.handles → AreUnder (after s es).core.handles

@@ -1,5 +1,5 @@
 -- What a path picks: an identifier of the list, and rows of inputs or of poses.
-use Rattle.std.proofs.Common.{◌≡◌, ◌<◌, ◌==◌, ◌&&◌, ◌||◌, ◌++◌, not, ℕ, Bool, true, false, List, [], ◌∷◌, Option, Some, None, option_map, refl, sym, ap, ◌∙◌, subst, arith, true≢false, append_assoc, if◌then◌else◌}
+use Rattle.std.proofs.Common.{◌≡◌, ◌&&◌, ◌||◌, ◌++◌, not, ℕ, Bool, true, false, List, [], ◌∷◌, Option, Some, None, option_map, refl, sym, ◌∙◌, subst, arith, true≢false, append_assoc, if◌then◌else◌}
 use Rattle.std.specs.Prelude.{nat_le, nat_lt, codes, option_and_then, bytes_eq}
 use Rattle.std.specs.List.{list_any, list_all, find, filter}
 use Rattle.std.proofs.lemmas.Bool.Decides.{nat_tests}
@@ -17,7 +17,7 @@ use Rattle.xr_types.specs.declared.input.User.TheVariants as user
 use Rattle.xr_types.specs.InputNames.{is_digital}
 use Rattle.xr_types.specs.Words.{behind}
 use Rattle.xr_types.specs.Printed.{user_path, all_users}
-use Rattle.xr_model.specs.machine.Profiles.{entry_name, rows_at, outputs_at, identifiers, identifier_place, before_slash, row_named, row_alone, is_input, is_pose, part_of, first_some, both, picked, picked_output, pick_by, pick_at, pick_among, grip, aim}
+use Rattle.xr_model.specs.machine.Profiles.{entry_name, rows_at, outputs_at, identifiers, identifier_place, before_slash, row_named, row_alone, is_input, is_pose, part_of, first_some, both, picked, picked_output, pick_by, pick_at, pick_among}
 use Rattle.xr_model.specs.laws.SyncLaws.{is_row, has_rows, is_pick, PicksAreInRange}
 use Rattle.xr_model.proofs.Rows.{both_of, or_true}
 

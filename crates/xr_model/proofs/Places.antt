@@ -6,7 +6,7 @@ use Rattle.xr_types.specs.Code.{is_success}
 use Rattle.xr_types.specs.declared.handles.Kind.{Kind}
 use Rattle.xr_types.specs.declared.handles.Kind.TheVariants.{Instance, Session, ActionSet, Action, Space, Swapchain}
 use Rattle.xr_types.specs.declared.handles.Slot.{Slot}
-use Rattle.xr_model.specs.machine.Request.{Entry, Request, create_instance, create_session, create_reference_space, create_action_set, create_action, destroy_instance, destroy_session, destroy_space, destroy_action_set, destroy_action, create_swapchain, destroy_swapchain}
+use Rattle.xr_model.specs.machine.Request.{Entry, Request, create_instance, create_session, create_reference_space, create_action_set, create_action, destroy_instance, destroy_session, destroy_space, destroy_action_set, destroy_action, create_swapchain, destroy_swapchain, create_action_space}
 use Rattle.xr_model.specs.machine.Handles.{Handles, free, has, is_live, row_of, put_in, first_free, goes, cleared, destroyed_instances, destroyed_parents, with_handle, without, without_alone}
 use Rattle.xr_model.specs.machine.HandlePlaces.{kind_of, place_in, slot_in, place_of_kind, parent_of_kind}
 use Rattle.xr_model.specs.machine.Refusals.{Refusal}
@@ -147,6 +147,7 @@ rows_created s e p nz apart = by e.request
     by (create_instance major minor) is = let f = rule s.core (reads_of s (create_instance major minor)) (record e { request = create_instance major minor }) in refused_rows s.core (refusal e.short f) (told_on f.on f.effect) p (instance_rows s.core.handles 0 e.given p nz apart)
     by (create_session instance system) is = let f = rule s.core (reads_of s (create_session instance system)) (record e { request = create_session instance system }) in refused_rows s.core (refusal e.short f) (told_on f.on f.effect) p (session_rows s.core.handles instance e.given p nz apart)
     by (create_reference_space session what offset) is = let f = rule s.core (reads_of s (create_reference_space session what offset)) (record e { request = create_reference_space session what offset }) in refused_rows s.core (refusal e.short f) (told_on f.on f.effect) p (space_rows s.core.handles session e.given p nz apart)
+    by (create_action_space session action sub offset) is = let f = rule s.core (reads_of s (create_action_space session action sub offset)) (record e { request = create_action_space session action sub offset }) in refused_rows s.core (refusal e.short f) (told_on f.on f.effect) p (space_rows s.core.handles session e.given p nz apart)
     by (create_swapchain session format width height fixed) is = let f = rule s.core (reads_of s (create_swapchain session format width height fixed)) (record e { request = create_swapchain session format width height fixed }) in refused_rows s.core (refusal e.short f) (told_on f.on f.effect) p (chain_rows s.core.handles session e.given p nz apart)
     by (create_action_set instance name localized priority) is = let f = rule s.core (reads_of s (create_action_set instance name localized priority)) (record e { request = create_action_set instance name localized priority }) in refused_rows s.core (refusal e.short f) (told_on f.on f.effect) p (set_rows s.core.handles instance e.given p nz apart)
     by (create_action set name type subs localized) is = let f = rule s.core (reads_of s (create_action set name type subs localized)) (record e { request = create_action set name type subs localized }) in refused_rows s.core (refusal e.short f) (told_on f.on f.effect) p (action_rows s.core.handles set e.given p nz apart)
@@ -213,6 +214,10 @@ module _ (h : Handles) (top p : ℕ) (once : StandOnce h) (nz : (p == 0) ≡ fal
   alone_rows Space there = cleared_row [] h.spaces there (omega arith)
   alone_rows _ there = (refl, refl)
 
+  chain_alone_rows : (kind : Kind) → has (row_of (without_alone h Swapchain top) kind) p ≡ true → RowSame p (row_of (without_alone h Swapchain top) kind) (row_of h kind)
+  chain_alone_rows Swapchain there = cleared_row [] h.chains there (omega arith)
+  chain_alone_rows _ there = (refl, refl)
+
 -- the rows of a state's handles behind a call that destroys
 abbrev Rows : Handles → ℕ → Handles → Type 0
 Rows h p new = (kind : Kind) → has (row_of new kind) p ≡ true → RowSame p (row_of new kind) (row_of h kind)
@@ -226,7 +231,9 @@ rows_destroyed s e handle p once nz = by e.request
     by (destroy_space space) names good = destroyed (Rows s.core.handles p) s.core (is_live s.core.handles Space space) (rule s.core (reads_of s (destroy_space space)) (record e { request = destroy_space space })).effect good (λ live. alone_rows s.core.handles space p once nz)
     by (destroy_action_set set) names good = destroyed (Rows s.core.handles p) s.core (is_live s.core.handles ActionSet set) (rule s.core (reads_of s (destroy_action_set set)) (record e { request = destroy_action_set set })).effect good (λ live. without_rows s.core.handles set p once nz)
     by (destroy_action action) names good = destroyed (Rows s.core.handles p) s.core (is_live s.core.handles Action action) (rule s.core (reads_of s (destroy_action action)) (record e { request = destroy_action action })).effect good (λ live. without_rows s.core.handles action p once nz)
-    by (destroy_swapchain chain) names good = destroyed (Rows s.core.handles p) s.core (is_live s.core.handles Swapchain chain) (rule s.core (reads_of s (destroy_swapchain chain)) (record e { request = destroy_swapchain chain })).effect good (λ live. without_rows s.core.handles chain p once nz)
+    by (destroy_swapchain chain) names good =
+        destroyed (Rows s.core.handles p) s.core (is_live s.core.handles Swapchain chain) (rule s.core (reads_of s (destroy_swapchain chain)) (record e { request = destroy_swapchain chain })).effect good
+        (λ live. chain_alone_rows s.core.handles chain p once nz)
     by _ names good = absurd (true≢false (sym names))
 
 pub destroying_leaves_places : DestroyingLeavesPlaces

@@ -91,6 +91,7 @@ falls_step s e fall = kept_by_step (λ h sp st su. list_all times_fall sp.sample
   chain = λ gives session. fall;
   gone = λ handle. fall;
   alone = λ space. fall;
+  chain_alone = λ chain. fall;
   suggest = λ o list none. fall;
   attach = λ handles. fall;
   sample = λ what time pose. sampled_falls s.core.spaces.samples what time pose fall;

@@ -48,6 +48,7 @@ few_step s e few = kept_by_step (λ h sp st su. are_few sp.samples ≡ true) s.c
   chain = λ gives session. few;
   gone = λ handle. few;
   alone = λ space. few;
+  chain_alone = λ chain. few;
   suggest = λ o list none. few;
   attach = λ handles. few;
   sample = λ what time pose. sampled_few s.core.spaces.samples what time pose few;

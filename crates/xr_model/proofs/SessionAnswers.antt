@@ -2,6 +2,8 @@
 use Rattle.std.proofs.Common.{◌≡◌, ◌&&◌, ℕ, Bool, true, false, not, List, [], ◌∷◌, ◌++◌, map, Option, Some, None, refl, sym, ap, subst, ◌∙◌, true≢false}
 use Rattle.std.specs.Prelude.{flat_map, ◌↔◌, unwrap_or, if◌then◌else◌}
 use Rattle.std.specs.List.{list_all}
+use Rattle.xr_types.specs.declared.input.ActiveSet.{ActiveSet}
+use Rattle.xr_types.specs.declared.session.SessionState.TheVariants.{Focused}
 use Rattle.xr_types.specs.declared.handles.Kind.{Kind}
 use Rattle.xr_types.specs.declared.handles.Kind.TheVariants as kind
 use Rattle.xr_types.specs.declared.code.Code.{Code}
@@ -10,9 +12,11 @@ use Rattle.xr_types.specs.declared.input.Binding.{Binding}
 use Rattle.xr_types.specs.declared.input.Profile.{Profile}
 use Rattle.xr_types.specs.declared.frames.Layer.{Layer}
 use Rattle.xr_types.specs.declared.frames.Layer.TheVariants.{Projection, Quad}
+use Rattle.xr_model.specs.machine.SessionLife.{is_state}
+use Rattle.xr_model.specs.machine.Rules.Sync.{item_checks, synced_code}
 use Rattle.xr_model.specs.machine.Layers.{Look, layer_checks}
 use Rattle.xr_model.specs.machine.Rules.Frames.{look_of}
-use Rattle.xr_model.specs.machine.Request.{Entry, Request, begin_session, end_session, request_exit_session, create_reference_space, locate_space, attach_sets, wait_frame, begin_frame, end_frame, create_action, suggest_bindings, create_swapchain, acquire_image, wait_image, paint, release_image}
+use Rattle.xr_model.specs.machine.Request.{Entry, Request, begin_session, end_session, request_exit_session, create_reference_space, locate_space, attach_sets, wait_frame, begin_frame, end_frame, create_action, suggest_bindings, create_swapchain, acquire_image, wait_image, paint, release_image, sync_actions, create_action_space}
 use Rattle.xr_model.specs.machine.Handles.{Handles, is_live, no_handle}
 use Rattle.xr_model.specs.machine.HandlePlaces.{parent_of}
 use Rattle.xr_model.specs.machine.Refusals.{Refusal, when, first_of}
@@ -172,6 +176,14 @@ begun_sessionless l = by l.has_begun
     by true = refl
     by false = refl
 
+none_items : (s : CoreState) (session : ℕ) (active : List ActiveSet) → none_with is_session (flat_map (item_checks s session) active) ≡ true
+none_items s session [] = refl
+none_items s session (item ∷ active) = none_items s session active
+
+synced_sessionless : (is_focused : Bool) → is_session (synced_code is_focused) ≡ false
+synced_sessionless true = refl
+synced_sessionless false = refl
+
 pub sessionless : (s : CoreState) (reads : CellReads) (e : Entry) → Sessionless (rule s reads e)
 sessionless s reads e = by e.request
   where
@@ -179,6 +191,7 @@ sessionless s reads e = by e.request
     by (create_action set name type subs localized) = record { handles = refl; before = refl; behind = none_more is_session (sub_checks s.atoms no_users subs) _ (none_subs s.atoms no_users subs) refl; code = refl }
     by (suggest_bindings instance profile list) = record { handles = refl; before = refl; behind = none_bindings s (profile_at s.atoms profile) list; code = refl }
     by (attach_sets session handles) = record { handles = refl; before = refl; behind = none_handles s.handles kind.ActionSet handles; code = refl }
+    by (sync_actions session active) = record { handles = refl; before = refl; behind = none_items s session active; code = synced_sessionless (is_state (life_of s session).state Focused) }
     by (begin_frame session) = record { handles = refl; before = refl; behind = refl; code = begun_sessionless s.frames.frame_loop }
     by (end_frame session time blend layers) = record { handles = refl; before = refl; behind = none_layers (look_of s) layers; code = refl }
     by _ = record { handles = refl; before = refl; behind = refl; code = refl }
@@ -267,6 +280,10 @@ module _ (s : CoreState) (short : Bool) (r : Rule) (loss : Loss) (on : r.on ≡ 
 named_is : (a b : ℕ) → Some a ≡ Some b → a ≡ b
 named_is a b e = cc
 
+named_if : (c : Bool) (a b : ℕ) → (if c then Some a else None) ≡ Some b → a ≡ b
+named_if true a b e = named_is a b e
+named_if false a b e = cc
+
 module _ (s : CoreState) (session : ℕ) where
   above_is : (b : Bool) (space : ℕ) → (if b then parent_of s.handles space else None) ≡ Some session → session_above s.handles space ≡ session
   above_is true space found = ap (λ (o : Option ℕ). unwrap_or o 0) found
@@ -285,6 +302,8 @@ module _ (s : CoreState) (session : ℕ) where
       by (request_exit_session other) named = life_is other (named_is other session named)
       by (create_reference_space other what offset) named = life_is other (named_is other session named)
       by (attach_sets other handles) named = life_is other (named_is other session named)
+      by (sync_actions other active) named = life_is other (named_is other session named)
+      by (create_action_space other action sub offset) named = life_is other (named_if (is_live s.handles kind.Action action) other session named)
       by (wait_frame other) named = life_is other (named_is other session named)
       by (begin_frame other) named = life_is other (named_is other session named)
       by (end_frame other time blend layers) named = life_is other (named_is other session named)
@@ -304,6 +323,11 @@ pending_losses s e session named =
 live_first : (live : Bool) → ((first_of (when (not live) HandleInvalid ∷ []) ≡ None) ↔ (live ≡ true))
 live_first true = ((λ e. refl), (λ e. refl))
 live_first false = ((λ e. cc), (λ e. absurd (true≢false (sym e))))
+
+-- and another that is live beside it
+live_then : (live : Bool) → ((first_of (when (not live) HandleInvalid ∷ when false HandleInvalid ∷ []) ≡ None) ↔ (live ≡ true))
+live_then true = ((λ e. refl), (λ e. refl))
+live_then false = ((λ e. cc), (λ e. absurd (true≢false (sym e))))
 
 -- its handles are refused but where the session is live
 abbrev AsLive : Settings → List Entry → Entry → ℕ → Request → Type 0
@@ -333,6 +357,15 @@ lost_sessions settings es e session legal named =
     by_handles (request_exit_session other) named = one other (named_is other session named)
     by_handles (create_reference_space other what offset) named = one other (named_is other session named)
     by_handles (attach_sets other handles) named = one other (named_is other session named)
+    by_handles (sync_actions other active) named = one other (named_is other session named)
+    by_handles (create_action_space other action sub offset) named = both (is_live (after (opening settings) es).core.handles kind.Action action) refl named
+      where
+        both : (a : Bool) → is_live (after (opening settings) es).core.handles kind.Action action ≡ a → (if a then Some other else None) ≡ Some session
+            → (first_of (no_handle (after (opening settings) es).core.handles kind.Session other ∷ no_handle (after (opening settings) es).core.handles kind.Action action ∷ []) ≡ None) ↔ (is_live (after (opening settings) es).core.handles kind.Session session ≡ true)
+        both false ea found = cc
+        both true ea found =
+            subst (λ (n : ℕ). (first_of (no_handle (after (opening settings) es).core.handles kind.Session other ∷ no_handle (after (opening settings) es).core.handles kind.Action action ∷ []) ≡ None) ↔ (is_live (after (opening settings) es).core.handles kind.Session n ≡ true))
+            (named_is other session found) (rw ea (live_then (is_live (after (opening settings) es).core.handles kind.Session other)))
     by_handles (wait_frame other) named = one other (named_is other session named)
     by_handles (begin_frame other) named = one other (named_is other session named)
     by_handles (end_frame other time blend layers) named = one other (named_is other session named)

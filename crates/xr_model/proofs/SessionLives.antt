@@ -7,7 +7,7 @@ use Rattle.xr_types.specs.declared.device.DeviceEvent.{DeviceEvent}
 use Rattle.xr_types.specs.declared.device.DeviceEvent.TheVariants as event
 use Rattle.xr_types.specs.declared.device.Wish.{Wish}
 use Rattle.xr_types.specs.declared.handles.Kind.TheVariants as kind
-use Rattle.xr_model.specs.machine.Request.{Entry, Request, destroy_instance, create_session, destroy_session, begin_session, end_session, request_exit_session, destroy_action_set, destroy_action, attach_sets, end_frame, device, destroy_swapchain}
+use Rattle.xr_model.specs.machine.Request.{Entry, Request, destroy_instance, create_session, destroy_session, begin_session, end_session, request_exit_session, destroy_action_set, destroy_action, attach_sets, end_frame, device}
 use Rattle.xr_model.specs.machine.Handles.{is_live, destroyed_by, without}
 use Rattle.xr_model.specs.machine.Refusals.{Refusal}
 use Rattle.xr_model.specs.machine.State.{CoreState, CellReads}
@@ -313,10 +313,6 @@ module _ (s : CoreState) (reads : CellReads) (e : Entry) (handle : ℕ) where
           let f = rule s reads (record e { request = destroy_action action }) in
           kept (λ xs. Lives (destroy_action action) xs true) s (refusal e.short f) (told_on f.on f.effect) all_same
           (gone (destroy_action action) (λ life. refl) action)
-      by (destroy_swapchain chain) =
-          let f = rule s reads (record e { request = destroy_swapchain chain }) in
-          kept (λ xs. Lives (destroy_swapchain chain) xs true) s (refusal e.short f) (told_on f.on f.effect) all_same
-          (gone (destroy_swapchain chain) (λ life. refl) chain)
       by (device what) = events what
       by r =
           let f = rule s reads (record e { request = r }) in

@@ -5,7 +5,7 @@ use Rattle.xr_types.specs.Code.{is_success}
 use Rattle.xr_types.specs.declared.device.DeviceEvent.{DeviceEvent}
 use Rattle.xr_types.specs.declared.device.DeviceEvent.TheVariants as event
 use Rattle.xr_types.specs.declared.handles.Kind.TheVariants as kind
-use Rattle.xr_model.specs.machine.Request.{Entry, Request, create_instance, destroy_instance, create_session, destroy_session, begin_session, end_session, request_exit_session, create_reference_space, destroy_space, create_action_set, destroy_action_set, create_action, destroy_action, create_swapchain, destroy_swapchain, attach_sets, end_frame, device}
+use Rattle.xr_model.specs.machine.Request.{Entry, Request, create_instance, destroy_instance, create_session, destroy_session, begin_session, end_session, request_exit_session, create_reference_space, destroy_space, create_action_set, destroy_action_set, create_action, destroy_action, create_swapchain, destroy_swapchain, attach_sets, end_frame, device, create_action_space}
 use Rattle.xr_model.specs.machine.Handles.{Handles, is_live, has_room, with_handle, without, without_alone, destroyed_by}
 use Rattle.xr_model.specs.machine.Sets.{sets_named}
 use Rattle.xr_model.specs.machine.Refusals.{Refusal}
@@ -34,6 +34,7 @@ pub record Keeps (P : Handles → List Session → Type 0) (s : CoreState) (read
   pub chain : is_device_lost e.request ≡ false → is_session_creation e.request ≡ false → (session : ℕ) → P (with_handle s.handles kind.Swapchain session e.given) s.sessions
   pub without : is_device_lost e.request ≡ false → is_session_creation e.request ≡ false → (handle : ℕ) → P (without s.handles handle) (sessions_left (without s.handles handle) (destroyed_by s.handles handle) s.sessions)
   pub alone : is_device_lost e.request ≡ false → is_session_creation e.request ≡ false → (space : ℕ) → P (without_alone s.handles kind.Space space) s.sessions
+  pub chain_alone : is_device_lost e.request ≡ false → is_session_creation e.request ≡ false → (chain : ℕ) → P (without_alone s.handles kind.Swapchain chain) s.sessions
   pub lives : is_device_lost e.request ≡ false → is_session_creation e.request ≡ false → (session : ℕ) (f : Session → Session) → ((x : Session) → (f x).handle ≡ x.handle) → ((x : Session) → session_at s.sessions session ≡ Some x → (f x).life.lost ≡ x.life.lost) → ((x : Session) → (f x).attached ≡ x.attached) → P s.handles (with_session_at session f s.sessions)
   pub attach : is_device_lost e.request ≡ false → is_session_creation e.request ≡ false → (session : ℕ) (sets : List ℕ) → P s.handles (with_session_at session (with_attached (sets_named s.sets sets)) s.sessions)
   pub each : is_device_lost e.request ≡ false → is_session_creation e.request ≡ false → (f : Life → Changed) → ((life : Life) → (f life).life.lost ≡ life.lost) → P s.handles (each_changed f s.sessions)
@@ -106,12 +107,15 @@ kept_by_step P s reads e = by e.request
     by (create_reference_space session what offset) k =
         let f = rule s reads (record e { request = create_reference_space session what offset }) in
         kept P s (refusal e.short f) (told_on f.on f.effect) (k.same refl refl) (λ none. k.space refl refl session)
+    by (create_action_space session action sub offset) k =
+        let f = rule s reads (record e { request = create_action_space session action sub offset }) in
+        kept P s (refusal e.short f) (told_on f.on f.effect) (k.same refl refl) (λ none. k.space refl refl session)
     by (create_swapchain session format width height fixed) k =
         let f = rule s reads (record e { request = create_swapchain session format width height fixed }) in
         kept P s (refusal e.short f) (told_on f.on f.effect) (k.same refl refl) (λ none. k.chain refl refl session)
     by (destroy_swapchain chain) k =
         let f = rule s reads (record e { request = destroy_swapchain chain }) in
-        kept P s (refusal e.short f) (told_on f.on f.effect) (k.same refl refl) (λ none. k.without refl refl chain)
+        kept P s (refusal e.short f) (told_on f.on f.effect) (k.same refl refl) (λ none. k.chain_alone refl refl chain)
     by (destroy_space space) k =
         let f = rule s reads (record e { request = destroy_space space }) in
         kept P s (refusal e.short f) (told_on f.on f.effect) (k.same refl refl) (λ none. k.alone refl refl space)

@@ -16,7 +16,7 @@ use Rattle.xr_types.specs.Frames.{PendingFrame}
 use Rattle.xr_model.specs.scenario.InRange.{Each}
 use Rattle.xr_model.specs.machine.Chains.{Chain, free_place, kept_place, new_chain, is_chain, chain_at, place_of_chain, first_place, is_format, is_size, no_place, has_free_place, is_acquire_wrong, is_wait_wrong, is_paint_wrong, oldest_of, oldest_index, has_place, is_place_used, with_chain, with_chain_at, acquiring, waiting, releasing, left_in_place, left_in_places, oldest_image}
 use Rattle.xr_model.specs.machine.Frames.{is_empty}
-use Rattle.xr_model.specs.machine.Handles.{Handles, no_room, has_room, is_live, has, with_handle, without}
+use Rattle.xr_model.specs.machine.Handles.{Handles, no_room, has_room, is_live, has, with_handle, without, without_alone}
 use Rattle.xr_model.specs.machine.Images.{slot_of, times_in, uses_of, count_of, first_images}
 use Rattle.xr_model.specs.machine.Layers.{frame_checks, form_checks, layer_checks, layers_of}
 use Rattle.xr_model.specs.machine.Refusals.{Refusal, when, first_of}
@@ -323,9 +323,9 @@ module _ (s : CoreState) (held : List Image) (sound : IsSound s.handles.chains s
           let nz = not_true (q == 0) two.0 in
           rw (nz, has_put (record { handle = g; parent = session }) s.handles.chains q nz two.1) refl
 
-  -- a handle goes with all below it
-  sound_without : (handle : ℕ) → IsSound (without s.handles handle).chains (left_in_places (without s.handles handle) (is_place_used s.frames.pending s.shown_images) 0 s.chains) s.frames.pending s.shown_images held
-  sound_without handle = sound_left s.handles.chains (without s.handles handle) s.chains s.frames.pending s.frames.pending s.shown_images s.shown_images held held (λ p none. none) (λ k none. none) sound.frames sound.last sound.left sound
+  -- handles go
+  sound_without : (h : Handles) → IsSound h.chains (left_in_places h (is_place_used s.frames.pending s.shown_images) 0 s.chains) s.frames.pending s.shown_images held
+  sound_without h = sound_left s.handles.chains h s.chains s.frames.pending s.frames.pending s.shown_images s.shown_images held held (λ p none. none) (λ k none. none) sound.frames sound.last sound.left sound
 
   -- an image is given back
   sound_returned : (n : ℕ) → IsSound s.handles.chains s.chains s.frames.pending s.shown_images (drop n held)
@@ -430,15 +430,15 @@ sound_step s e allowed is_ready sound = by e.request allowed is_ready
         let f = rule s.core (reads_of s image_done) (record e { request = image_done }) in
         effect_kept (KeptBy s.core s.cells.held) s.core e.short f sound (λ none. sound_returned s.core s.cells.held sound (length (take 1 s.cells.held)))
     by (destroy_instance instance) allowed is_ready =
-        effect_kept (KeptBy s.core s.cells.held) s.core e.short (rule s.core (reads_of s (destroy_instance instance)) (record e { request = destroy_instance instance })) sound (λ none. sound_without s.core s.cells.held sound instance)
+        effect_kept (KeptBy s.core s.cells.held) s.core e.short (rule s.core (reads_of s (destroy_instance instance)) (record e { request = destroy_instance instance })) sound (λ none. sound_without s.core s.cells.held sound (without s.core.handles instance))
     by (destroy_session session) allowed is_ready =
-        effect_kept (KeptBy s.core s.cells.held) s.core e.short (rule s.core (reads_of s (destroy_session session)) (record e { request = destroy_session session })) sound (λ none. sound_without s.core s.cells.held sound session)
+        effect_kept (KeptBy s.core s.cells.held) s.core e.short (rule s.core (reads_of s (destroy_session session)) (record e { request = destroy_session session })) sound (λ none. sound_without s.core s.cells.held sound (without s.core.handles session))
     by (destroy_action_set set) allowed is_ready =
-        effect_kept (KeptBy s.core s.cells.held) s.core e.short (rule s.core (reads_of s (destroy_action_set set)) (record e { request = destroy_action_set set })) sound (λ none. sound_without s.core s.cells.held sound set)
+        effect_kept (KeptBy s.core s.cells.held) s.core e.short (rule s.core (reads_of s (destroy_action_set set)) (record e { request = destroy_action_set set })) sound (λ none. sound_without s.core s.cells.held sound (without s.core.handles set))
     by (destroy_action action) allowed is_ready =
-        effect_kept (KeptBy s.core s.cells.held) s.core e.short (rule s.core (reads_of s (destroy_action action)) (record e { request = destroy_action action })) sound (λ none. sound_without s.core s.cells.held sound action)
+        effect_kept (KeptBy s.core s.cells.held) s.core e.short (rule s.core (reads_of s (destroy_action action)) (record e { request = destroy_action action })) sound (λ none. sound_without s.core s.cells.held sound (without s.core.handles action))
     by (destroy_swapchain chain) allowed is_ready =
-        effect_kept (KeptBy s.core s.cells.held) s.core e.short (rule s.core (reads_of s (destroy_swapchain chain)) (record e { request = destroy_swapchain chain })) sound (λ none. sound_without s.core s.cells.held sound chain)
+        effect_kept (KeptBy s.core s.cells.held) s.core e.short (rule s.core (reads_of s (destroy_swapchain chain)) (record e { request = destroy_swapchain chain })) sound (λ none. sound_without s.core s.cells.held sound (without_alone s.core.handles Swapchain chain))
     by (device what) allowed is_ready = effect_kept (KeptBy s.core s.cells.held) s.core e.short (rule s.core (reads_of s (device what)) (record e { request = device what })) sound (λ none. events_leave s.core s.cells.held what sound)
     by r allowed is_ready = effect_kept (KeptBy s.core s.cells.held) s.core e.short (rule s.core (reads_of s r) (record e { request = r })) sound (λ none. sound)
 

@@ -5,7 +5,7 @@ use Rattle.xr_types.specs.declared.handles.Kind.{Kind}
 use Rattle.xr_types.specs.declared.handles.Kind.TheVariants.{Instance, Session, ActionSet, Action, Space, Swapchain}
 use Rattle.xr_types.specs.declared.handles.Slot.{Slot}
 use Rattle.xr_types.specs.declared.handles.TheConstants.{INSTANCES, SESSIONS, ACTION_SETS, ACTIONS, SPACES, SWAPCHAINS}
-use Rattle.xr_model.specs.machine.Request.{Entry, Request, create_instance, create_session, create_reference_space, create_action_set, create_action, create_swapchain}
+use Rattle.xr_model.specs.machine.Request.{Entry, Request, create_instance, create_session, create_reference_space, create_action_set, create_action, create_swapchain, create_action_space}
 use Rattle.xr_model.specs.machine.Handles.{Handles, free, has, is_live, was_given, row_of, with_row, first_free, put_in, cleared, goes, destroyed_instances, destroyed_parents, with_handle, without, without_alone, no_handles}
 use Rattle.xr_model.specs.laws.HandleLaws.{count_in, places_with, StandOnce, HandlesStandOnce, CreatingAdds}
 use Rattle.xr_model.specs.machine.Refusals.{Refusal}
@@ -171,6 +171,7 @@ once_step s e allowed known once = kept_by_step StandOnce s.core (reads_of s e.r
   chain = λ is gives session live. once_put s.core.handles Swapchain session e.given (given_one (gives_handle s.core (reads_of s e.request) e) s.core.handles e.given gives allowed.handle) known once;
   without = λ top. once_without s.core.handles top once;
   alone = λ space. once_alone s.core.handles Space space once;
+  chain_alone = λ chain. once_alone s.core.handles Swapchain chain once;
 })
 
 once_after : (s : State) (clocks : List ℤ) (es : List Entry) → IsLegalFrom s clocks es → AreKnown s.core.handles → StandOnce s.core.handles → StandOnce (after s es).core.handles
@@ -270,6 +271,9 @@ creating_adds s e creates kind other apart = by e.request creates
         refused_same s.core (refusal e.short f) (told_on f.on f.effect) kind other (session_same s.core.handles instance e.given kind other apart)
     by (create_reference_space session what offset) creates =
         let f = rule s.core (reads_of s (create_reference_space session what offset)) (record e { request = create_reference_space session what offset }) in
+        refused_same s.core (refusal e.short f) (told_on f.on f.effect) kind other (space_same s.core.handles session e.given kind other apart)
+    by (create_action_space session action sub offset) creates =
+        let f = rule s.core (reads_of s (create_action_space session action sub offset)) (record e { request = create_action_space session action sub offset }) in
         refused_same s.core (refusal e.short f) (told_on f.on f.effect) kind other (space_same s.core.handles session e.given kind other apart)
     by (create_action_set instance name localized priority) creates =
         let f = rule s.core (reads_of s (create_action_set instance name localized priority)) (record e { request = create_action_set instance name localized priority }) in

@@ -5,7 +5,7 @@ use Rattle.xr_types.specs.declared.device.DeviceEvent.{DeviceEvent}
 use Rattle.xr_types.specs.declared.device.DeviceEvent.TheVariants as event
 use Rattle.xr_types.specs.declared.handles.Kind.TheVariants as kind
 use Rattle.xr_types.specs.declared.session.SessionState.TheVariants.{Ready, Synchronized, Exiting, LossPending, Idle}
-use Rattle.xr_model.specs.machine.Request.{Entry, Request, destroy_instance, poll_event, create_session, destroy_session, begin_session, end_session, request_exit_session, destroy_action_set, destroy_action, attach_sets, end_frame, device, destroy_swapchain}
+use Rattle.xr_model.specs.machine.Request.{Entry, Request, destroy_instance, poll_event, create_session, destroy_session, begin_session, end_session, request_exit_session, destroy_action_set, destroy_action, attach_sets, end_frame, device}
 use Rattle.xr_types.specs.declared.session.Event.{Event}
 use Rattle.xr_types.specs.declared.device.Wish.{Wish}
 use Rattle.xr_types.specs.declared.session.SessionState.{SessionState}
@@ -51,6 +51,7 @@ apart_step s e allowed known listed apart = kept_by_step (λ h xs. AreApart xs) 
   chain = λ d c session. apart;
   without = λ d c handle. apart_map (without_sets (destroyed_by s.core.handles handle)) (λ x. refl) (λ x. refl) (still_live (without s.core.handles handle) s.core.sessions) (apart_left (λ n. is_live (without s.core.handles handle) kind.Session n) s.core.sessions apart);
   alone = λ d c space. apart;
+  chain_alone = λ d c chain. apart;
   lives = λ d c session f named same keeps. apart_lives session f named s.core.sessions apart;
   attach = λ d c session sets. apart_lives session (with_attached (sets_named s.core.sets sets)) (λ x. refl) s.core.sessions apart;
   each = λ d c f keeps. apart_each f s.core.sessions apart;
@@ -216,9 +217,6 @@ told_step s e allowed known listed apart = by e.request allowed
         unless (λ q ys. Tells s.core.events q s.core.sessions ys) s.core (refusal e.short f) (told_on f.on f.effect) (as_before s apart) (λ none. gone s apart handle)
     by (destroy_action handle) allowed no_poll no_end =
         let f = rule s.core (reads_of s (destroy_action handle)) (record e { request = destroy_action handle }) in
-        unless (λ q ys. Tells s.core.events q s.core.sessions ys) s.core (refusal e.short f) (told_on f.on f.effect) (as_before s apart) (λ none. gone s apart handle)
-    by (destroy_swapchain handle) allowed no_poll no_end =
-        let f = rule s.core (reads_of s (destroy_swapchain handle)) (record e { request = destroy_swapchain handle }) in
         unless (λ q ys. Tells s.core.events q s.core.sessions ys) s.core (refusal e.short f) (told_on f.on f.effect) (as_before s apart) (λ none. gone s apart handle)
     by (device what) allowed no_poll no_end = events s apart what
     by r allowed no_poll no_end =

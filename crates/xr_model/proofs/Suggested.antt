@@ -114,6 +114,7 @@ given_step s e k given = handles.kept_by_step (λ h. was_given h k ≡ true) s.c
   chain = λ is gives session live. rw given (or_true (e.given == k));
   without = λ handle. given;
   alone = λ space. given;
+  chain_alone = λ chain. given;
 })
 
 suggested_four : (s : CoreState) (o : Option Profile) (list : List Binding) → length s.suggestions ≡ 4 → length (suggested s o list) ≡ 4
@@ -132,6 +133,7 @@ four_step s e four = lists.kept_by_step (λ h sp st su. length su ≡ 4) s.core 
   chain = λ gives session. four;
   gone = λ handle. length_same _ s.core.suggestions ∙ four;
   alone = λ space. four;
+  chain_alone = λ chain. four;
   suggest = λ o list none. suggested_four s.core o list four;
   attach = λ handles. four;
   sample = λ what time pose. four;

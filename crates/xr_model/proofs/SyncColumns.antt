@@ -1,5 +1,5 @@
 -- Which columns are active after a sync, and what an inactive one shows.
-use Rattle.std.proofs.Common.{◌≡◌, ◌+◌, ◌==◌, ◌&&◌, ◌||◌, not, ℕ, ℤ, pos, Bool, true, false, List, [], ◌∷◌, refl, sym, ap, ◌∙◌, arith, true≢false, if◌then◌else◌}
+use Rattle.std.proofs.Common.{◌≡◌, ◌+◌, ◌==◌, ◌&&◌, ◌||◌, not, ℕ, ℤ, Bool, true, false, List, [], ◌∷◌, refl, sym, ap, ◌∙◌, arith, true≢false, if◌then◌else◌}
 use Rattle.std.specs.Prelude.{slice_get, unwrap_or}
 use Rattle.std.specs.List.{list_any, list_all, filter}
 use Rattle.std.proofs.lemmas.Bool.Decides.{nat_tests}
@@ -7,7 +7,6 @@ use Rattle.xr_types.specs.declared.input.ActionType.{ActionType}
 use Rattle.xr_types.specs.declared.input.ActionType.TheVariants as type
 use Rattle.xr_types.specs.declared.input.Column.{Column}
 use Rattle.xr_types.specs.declared.input.Found.{Found}
-use Rattle.xr_types.specs.declared.input.Heard.{Heard}
 use Rattle.xr_types.specs.declared.input.Inputs.{Inputs}
 use Rattle.xr_types.specs.declared.input.Pick.{Pick}
 use Rattle.xr_types.specs.declared.input.Ranked.{Ranked}
@@ -15,7 +14,7 @@ use Rattle.xr_types.specs.declared.input.User.{User}
 use Rattle.xr_types.specs.InputValues.{is_longer}
 use Rattle.xr_types.specs.Users.{user_place}
 use Rattle.xr_model.specs.machine.Sets.{is_declared}
-use Rattle.xr_model.specs.machine.Sync.{live_in, is_live, is_of, counts_in, axes, nothing_found, with_vector, with_kind, with_binding, found_from, found_at, column_after, column_at}
+use Rattle.xr_model.specs.machine.Sync.{live_in, is_live, is_of, counts_in, axes, nothing_found, with_vector, with_kind, with_binding, found_from, found_at, column_after}
 use Rattle.xr_model.specs.laws.SyncLaws.{has_some, NothingIsInactive, ChangedIsActive, FirstColumnIsOfAll, UndeclaredIsInactive}
 use Rattle.xr_model.proofs.Rows.{both_of, not_true, or_true, same_key}
 

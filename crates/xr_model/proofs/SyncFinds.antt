@@ -11,7 +11,7 @@ use Rattle.xr_types.specs.declared.input.Inputs.{Inputs}
 use Rattle.xr_types.specs.declared.input.Pick.{Pick}
 use Rattle.xr_types.specs.declared.input.Ranked.{Ranked}
 use Rattle.xr_types.specs.declared.spaces.Origin.{Origin}
-use Rattle.xr_types.specs.InputValues.{is_larger, is_longer, square_of}
+use Rattle.xr_types.specs.InputValues.{is_longer, square_of}
 use Rattle.xr_model.specs.machine.Sync.{live_in, is_down, amount, axes, pose_of, nothing_found, with_boolean, with_float, with_vector, with_pose, with_kind, found_from}
 use Rattle.xr_model.specs.laws.SyncLaws.{is_boolean, is_float, is_vector, is_pose, has_some, IsFirstLargest, BooleansAreDownOnce, FloatsAreLargest, VectorsAreLongest, PosesAreTheFirst}
 use Rattle.xr_model.proofs.Rows.{both_of}

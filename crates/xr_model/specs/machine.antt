@@ -24,8 +24,10 @@ pub mod CellCalls
 pub mod PlainImages
 pub mod State
 pub mod Destroyed
+pub mod Publishing
 pub mod Rule
 pub mod SessionRule
+pub mod Publication
 pub mod Rules
 pub mod Machine
 pub mod CoreCalls

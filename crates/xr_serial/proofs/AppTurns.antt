@@ -1,5 +1,5 @@
 -- What the loop keeps in an application's turn.
-use Rattle.std.proofs.Common.{◌≡◌, ◌+◌, ◌-◌, ◌<◌, ◌≤◌, ℕ, ℤ, pos, Bool, true, false, List, [], ◌∷◌, ◌++◌, length, drop, map, get_or, set, refl, sym, ap, subst, ◌∙◌, arith, append-nil}
+use Rattle.std.proofs.Common.{◌≡◌, ◌+◌, ◌-◌, ◌<◌, ◌≤◌, ℕ, ℤ, pos, Bool, true, false, not, List, [], ◌∷◌, ◌++◌, length, drop, map, get_or, set, refl, sym, ap, subst, ◌∙◌, arith, append-nil}
 use Rattle.std.specs.Prelude.{if◌then◌else◌, zero, suc, Option, Some, option_map, unwrap_or}
 use Rattle.std.specs.List.{list_all}
 use Rattle.std.proofs.lemmas.Bool.{and_parts}
@@ -20,22 +20,22 @@ use Rattle.xr_model.specs.machine.Machine.{IsPresent}
 use Rattle.xr_model.specs.scenario.Built.{is_built_op}
 use Rattle.xr_model.specs.scenario.ScriptForm.{IsInForm, AllInForm}
 use Rattle.xr_model.specs.runs.Scripts.{request_for}
-use Rattle.xr_model.specs.runs.Lists.{done_at}
-use Rattle.xr_model.specs.runs.Robin.{Agenda, script, agenda_after}
-use Rattle.xr_serial.specs.inside.Made.{IsAnswered, exchange_of, calls_with, asked}
+use Rattle.xr_model.specs.runs.Lists.{done_at, made_at}
+use Rattle.xr_model.specs.runs.Robin.{Agenda, script, agenda_after, clock_behind}
+use Rattle.xr_serial.specs.inside.Made.{IsAnswered, exchange_of, calls_with}
 use Rattle.xr_serial.specs.inside.RunState.{AppState, RunState}
 use Rattle.xr_device.specs.Prospect.{Prospect}
 use Rattle.xr_serial.specs.inside.Sides.{app_with, app_left, op_request, OpMade, OpWaits, OpTurn, Leaves}
 use Rattle.xr_serial.specs.inside.Turns.{script_part, parts_of, actors_of, turn_behind, AreHeldBack}
 use Rattle.xr_serial.specs.inside.Past.{Trace, IsRest, Standing}
-use Rattle.xr_serial.specs.inside.RunInvariant.{AppKept, app_work, apps_work, frames_work, events_told, trace_of, RunKept, RunInvariant}
-use Rattle.xr_serial.proofs.Ops.{starts, op_locked, as_locked, op_returns}
+use Rattle.xr_serial.specs.inside.RunInvariant.{AppKept, app_work, apps_work, getters_in, getters_of, calls_made, frames_work, events_told, trace_of, RunKept, RunInvariant}
+use Rattle.xr_serial.proofs.Ops.{starts, getter_name, as_locked, op_returns}
 use Rattle.xr_serial.proofs.Holding.{call_holds, op_holds}
 use Rattle.xr_serial.proofs.OnlyLeaveLeaves.{call_keeps, op_stays}
 use Rattle.xr_serial.proofs.Parts.{AreAll, parts_count, app_at, app_set}
 use Rattle.xr_serial.proofs.Steps.{IsAgendaOf, Goes, AreSo, trace_behind, made_turn, passed_turn, same_parts}
 use Rattle.xr_serial.proofs.Pending.{brings, op_brings}
-use Rattle.xr_serial.proofs.Work.{work_set}
+use Rattle.xr_serial.proofs.Work.{work_set, getters_set, getters_more, one_of_both, not_fewer}
 use Rattle.xr_serial.proofs.Apps.{op_more, leave_more, one_more}
 
 -- the lists of a run that is kept have the lengths of its scenario
@@ -78,12 +78,12 @@ module _ (scenario : Scenario) (place idle : ℕ) (s after : State) (run : RunSt
   old_kept : (kept : RunInvariant scenario place idle s run start now) → AppKept ops old (kept.calls (App (place + 1)))
   old_kept kept = subst (λ (app : AppState). AppKept ops app (kept.calls (App (place + 1)))) (here old) (kept.kept.apps.each place old within)
 
-  -- what of a call is the same for an op and for `leave`: it is a locked one, after which its application knows the clock, a wait
-  -- begins at the clock before, and as many images are held as before
+  -- what of a call is the same for an op and for `leave`: it is counted as a locked one or as a getter, its application knows the
+  -- clock after its last locked one, at which a wait begins, and as many images are held as before
   record Asks (what : Request) (app : AppState) : Type 0 where
-    locked : is_locked what ≡ true
+    counts : getters_in app.calls ≡ getters_in old.calls + (if not (is_locked what) then 1 else 0)
     starts : StartsAt old.clock what
-    timed : app.clock ≡ after.core.device.clock
+    timed : app.clock ≡ (if is_locked what then after.core.device.clock else old.clock)
     returns : done_at s what ≡ []
     holds : after.cells.held ≡ s.cells.held
 
@@ -95,10 +95,17 @@ module _ (scenario : Scenario) (place idle : ℕ) (s after : State) (run : RunSt
 
   app_trace : (calls : Actor → List request.Exchange) (what : Request) (outcome : Outcome) (app : AppState) → Asks what app
       → trace_behind s after (trace_of run calls) (App (place + 1)) what outcome ≡ trace_of (record run { apps = set run.apps place app }) (calls_with calls (App (place + 1)) (exchange_of what outcome))
-  app_trace calls what outcome app asks =
-      let t : request.Exchange = exchange_of what outcome in
-      rw (asks.locked, own, asks.returns, append-nil run.compositor.done, ← asks.timed)
-      (ap (λ (l : List ℤ). let trace : Trace = record { calls = calls_with calls (App (place + 1)) t; clocks = l; done = run.compositor.done } in trace) (sym (map-set (λ (a : AppState). a.clock) run.apps place app)))
+  app_trace calls what outcome app asks = by (is_locked what) refl asks.timed
+    where
+      with_clocks : List ℤ → Trace
+      with_clocks l = record { calls = calls_with calls (App (place + 1)) (exchange_of what outcome); clocks = l; done = run.compositor.done }
+
+      by : (b : Bool) → is_locked what ≡ b → app.clock ≡ (if b then after.core.device.clock else old.clock)
+          → trace_behind s after (trace_of run calls) (App (place + 1)) what outcome ≡ trace_of (record run { apps = set run.apps place app }) (calls_with calls (App (place + 1)) (exchange_of what outcome))
+      by true locked timed = rw (locked, own, asks.returns, append-nil run.compositor.done, ← timed) (ap with_clocks (sym (map-set (λ (a : AppState). a.clock) run.apps place app)))
+      by false locked timed =
+          rw (locked, asks.returns, append-nil run.compositor.done)
+          (ap with_clocks (sym (map-set_same (λ (a : AppState). a.clock) run.apps place app old (timed ∙ ap (λ (a : AppState). a.clock) (sym (here old))))))
 
   -- it makes a call
   goes_on : (what : Request) (outcome : Outcome) (app : AppState) (agenda : Agenda) (kept : RunInvariant scenario place idle s run start now) → IsAnswered s after (App (place + 1)) what outcome → Asks what app
@@ -117,7 +124,11 @@ module _ (scenario : Scenario) (place idle : ℕ) (s after : State) (run : RunSt
       } in
       let work = kept.kept.work in
       let counted = kept.kept.counted in
-      let locks : after.core.locked ≡ s.core.locked + 1 = rw (call.leads, asks.locked) refl in
+      let locks : after.core.locked ≡ (if is_locked what then s.core.locked + 1 else s.core.locked) = rw call.leads refl in
+      let one = one_of_both (is_locked what) s.core.locked after.core.locked (getters_in old.calls) (getters_in app.calls) locks asks.counts in
+      let set_getters : getters_of (set run.apps place app) + getters_in old.calls ≡ getters_of run.apps + getters_in app.calls =
+      ap (λ (a : AppState). getters_of (set run.apps place app) + getters_in a.calls) (sym (here old)) ∙ getters_set run.apps place app old (omega (arith, within, all)) in
+      let no_less = not_fewer (is_locked what) s.core.locked after.core.locked locks in
       let held : length after.cells.held ≡ length s.cells.held = ap length asks.holds in
       let set_work : apps_work scenario.scripts (set run.apps place app) + app_work ops old ≡ apps_work scenario.scripts run.apps + app_work ops app =
       ap (λ (a : AppState). apps_work scenario.scripts (set run.apps place app) + app_work ops a) (sym (here old)) ∙ work_set scenario.scripts run.apps place app old all within in
@@ -137,8 +148,8 @@ module _ (scenario : Scenario) (place idle : ℕ) (s after : State) (run : RunSt
           apps = one_more scenario.scripts s after run.apps kept.calls place app t within kept.kept.apps (rw call.leads refl) left more;
           device = kept.kept.device;
           compositor = kept.kept.compositor;
-          counted = omega (arith, counted, locks);
-          work = omega (arith, work, set_work, less, locks, held);
+          counted = omega (arith, counted, no_less);
+          work = omega (arith, work, set_work, less, one, set_getters, held);
         };
       }
 
@@ -147,24 +158,23 @@ module _ (scenario : Scenario) (place idle : ℕ) (s after : State) (run : RunSt
       → RunInvariant scenario (turn_behind place (actors_of scenario)) 0 after (record run { apps = set run.apps place app }) start now
   op_made app m more stays kept =
       let what : Request = op_request old m.op in
-      let clock : ℤ = after.core.device.clock in
+      let clock : ℤ = clock_behind old.clock (request_for old.names m.op) after in
       let t : request.Exchange = exchange_of what m.outcome in
       let e = entry_of (App (place + 1)) what m.outcome.reply in
-      let locked : is_locked (request_for old.names m.op) ≡ true = op_locked old.names m.op m.built in
       let brought : frames_work after.core.frames.pending ≤ frames_work s.core.frames.pending + 65 = rw m.call.leads (op_brings s e old.clock old.names m.op refl m.ranged) in
       let same_left : after.core.left ≡ s.core.left = rw m.call.leads (call_keeps s e (op_stays old.clock old.names m.op)) in
       rw m.app
       (goes_on what m.outcome (app_with old m.op t clock) (script (place + 1) (old.made + 1) (drop old.made ops) old.names old.clock) kept m.call
       (record {
-        locked = as_locked old.clock (request_for old.names m.op) ∙ locked;
+        counts = getters_more old.calls (made_at (old.made + 1) t) ∙ ap (λ (b : Bool). getters_in old.calls + (if b then 1 else 0)) (getter_name old.clock old.names m.op);
         starts = starts old.clock (request_for old.names m.op);
-        timed = refl;
+        timed = ap (λ (b : Bool). if b then after.core.device.clock else old.clock) (sym (as_locked old.clock (request_for old.names m.op)));
         returns = op_returns old.clock old.names s m.op;
         holds = rw m.call.leads (call_holds s e (op_holds old.clock old.names m.op));
       })
       (rw stays refl)
       (record { actor = refl; call = rw m.here refl })
-      (rw (m.here, stays, locked) refl)
+      (rw (m.here, stays) refl)
       (op_more ops old (kept.calls (App (place + 1))) m.op m.outcome clock more m.here stays (old_kept kept))
       (same_left ∙ kept.kept.apps.left ∙ sym (map-set_same (λ (a : AppState). a.has_left) run.apps place (app_with old m.op t clock) old (ap (λ (a : AppState). a.has_left) (sym (here old)))))
       (rw stays (omega (arith, more, brought))))
@@ -181,7 +191,7 @@ module _ (scenario : Scenario) (place idle : ℕ) (s after : State) (run : RunSt
       let brought : frames_work after.core.frames.pending ≤ frames_work s.core.frames.pending + 0 = rw m.call.leads (brings s e tt) in
       rw m.app
       (goes_on leave m.outcome (app_left old t clock) (script (place + 1) (old.made + 1) (drop old.made ops) old.names old.clock) kept m.call
-      (record { locked = refl; starts = tt; timed = refl; returns = refl; holds = rw m.call.leads (call_holds s e tt) })
+      (record { counts = getters_more old.calls (made_at (old.made + 1) t); starts = tt; timed = refl; returns = refl; holds = rw m.call.leads (call_holds s e tt) })
       (rw stays refl)
       (record { actor = refl; call = rw none refl })
       (rw none refl)
@@ -274,3 +284,40 @@ pub built_in : (scripts : List (List Op)) (place : ℕ) → list_all (list_all i
 built_in [] place all within = let no : ⊥ = omega (arith, within) in absurd no
 built_in (ops ∷ scripts) zero all within = (and_parts (list_all is_built_op ops) (list_all (list_all is_built_op) scripts) all).0
 built_in (ops ∷ scripts) (suc place) all within = built_in scripts place (and_parts (list_all is_built_op ops) (list_all (list_all is_built_op) scripts) all).1 (omega (arith, within))
+
+-- ---- how many calls were made
+
+op_counts : (number : ℕ) (ops : List Op) (old app : AppState) (s after : State) (went : Bool) → OpTurn number ops old app s after went → after.core.locked + getters_in app.calls ≡ s.core.locked + getters_in old.calls + (if went then 1 else 0)
+op_counts number ops old app s after true m =
+    let what : Request = op_request old m.op in
+    let t : request.Exchange = exchange_of what m.outcome in
+    let locks : after.core.locked ≡ (if is_locked what then s.core.locked + 1 else s.core.locked) = rw m.call.leads refl in
+    let more : getters_in app.calls ≡ getters_in old.calls + (if not (is_locked what) then 1 else 0) =
+    rw m.app (getters_more old.calls (made_at (old.made + 1) t) ∙ ap (λ (b : Bool). getters_in old.calls + (if b then 1 else 0)) (getter_name old.clock old.names m.op)) in
+    one_of_both (is_locked what) s.core.locked after.core.locked (getters_in old.calls) (getters_in app.calls) locks more
+op_counts number ops old app s after false m = rw (m.same, m.app) (omega arith)
+
+leave_counts : (number : ℕ) (old app : AppState) (s after : State) → Leaves number old app s after → after.core.locked + getters_in app.calls ≡ s.core.locked + getters_in old.calls + 1
+leave_counts number old app s after m =
+    let locks : after.core.locked ≡ s.core.locked + 1 = rw m.call.leads refl in
+    let more : getters_in app.calls ≡ getters_in old.calls + 0 = rw m.app (getters_more old.calls (made_at (old.made + 1) (exchange_of leave m.outcome))) in
+    omega (arith, locks, more)
+
+-- of all, where one application has gone on
+all_count : (s after : State) (run : RunState) (place k : ℕ) (old app : AppState) → place < length run.apps → old ≡ get_or run.apps place old → after.core.locked + getters_in app.calls ≡ s.core.locked + getters_in old.calls + k
+    → calls_made after (record run { apps = set run.apps place app }) ≡ calls_made s run + k
+all_count s after run place k old app within is counts =
+    let put : getters_of (set run.apps place app) + getters_in old.calls ≡ getters_of run.apps + getters_in app.calls =
+    ap (λ (a : AppState). getters_of (set run.apps place app) + getters_in a.calls) is ∙ getters_set run.apps place app old within in
+    omega (arith, put, counts)
+
+pub op_turn_counts : (s after : State) (run : RunState) (place : ℕ) (ops : List Op) (old app : AppState) (went : Bool) → place < length run.apps → old ≡ get_or run.apps place old → OpTurn (place + 1) ops old app s after went
+    → calls_made after (record run { apps = set run.apps place app }) ≡ calls_made s run + (if went then 1 else 0)
+op_turn_counts s after run place ops old app went within is m = all_count s after run place (if went then 1 else 0) old app within is (op_counts (place + 1) ops old app s after went m)
+
+pub leave_turn_counts : (s after : State) (run : RunState) (place : ℕ) (old app : AppState) → place < length run.apps → old ≡ get_or run.apps place old → Leaves (place + 1) old app s after
+    → calls_made after (record run { apps = set run.apps place app }) ≡ calls_made s run + 1
+leave_turn_counts s after run place old app within is m = all_count s after run place 1 old app within is (leave_counts (place + 1) old app s after m)
+
+pub no_turn_counts : (s : State) (run : RunState) (place : ℕ) (old : AppState) → place < length run.apps → old ≡ get_or run.apps place old → calls_made s (record run { apps = set run.apps place old }) ≡ calls_made s run + 0
+no_turn_counts s run place old within is = all_count s s run place 0 old old within is (omega arith)

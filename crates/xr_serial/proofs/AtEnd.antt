@@ -17,7 +17,7 @@ use Rattle.xr_model.specs.machine.Request as request
 use Rattle.xr_model.specs.machine.Request.{next_frame, Entry, Outcome, is_actor}
 use Rattle.xr_model.specs.machine.State.{State, opening}
 use Rattle.xr_model.specs.machine.History.{shown_if, calls_from, calls_of}
-use Rattle.xr_model.specs.runs.Scripts.{request_for, FollowsSoFar}
+use Rattle.xr_model.specs.runs.Scripts.{FollowsSoFar}
 use Rattle.xr_model.specs.runs.Robin.{Agenda, script, events, compositor, actor_of, next_call, NextMove, next_move, IsCallOf, agendas_behind, is_ended, device_calls, first_agendas, IsRobinFrom, agendas_left, in_round}
 use Rattle.xr_types.specs.declared.calls.Gives.TheVariants.{Ended}
 use Rattle.xr_types.specs.Frames.{ShownFrame}
@@ -25,7 +25,7 @@ use Rattle.xr_model.specs.laws.FrameLaws.{shown_from}
 use Rattle.xr_model.specs.machine.Machine.{step}
 use Rattle.xr_serial.specs.inside.Made.{exchange_of}
 use Rattle.xr_model.specs.report.RunEnding.{is_fault}
-use Rattle.xr_model.specs.runs.Lists.{name_of, end_of, done_from, frames_in, events_in, lists_to, lists_of, made_from, waiting_of}
+use Rattle.xr_model.specs.runs.Lists.{end_of, done_from, frames_in, events_in, lists_to, lists_of, made_from, waiting_of}
 use Rattle.xr_serial.specs.Ran.{settings_of, OfEachScript, GoesOn, a_frame, an_image, IsEnd, IsWhole, Ran}
 use Rattle.xr_serial.specs.inside.RunState.{AppState, RunState}
 use Rattle.xr_device.specs.Prospect.{Prospect}

@@ -19,7 +19,7 @@ use Rattle.xr_serial.specs.inside.Sides.{new_app}
 use Rattle.xr_serial.specs.inside.Turns.{script_parts, joined, parts_of}
 use Rattle.xr_serial.specs.inside.RunInvariant.{AppKept, GivesMore, RunInvariant}
 use Rattle.xr_serial.proofs.TurnOrder.{joined-append}
-use Rattle.xr_serial.proofs.Work.{work_at_start}
+use Rattle.xr_serial.proofs.Work.{work_at_start, no_getters}
 
 -- a run before its first call
 abbrev pub start_of : Scenario → RunState
@@ -73,6 +73,7 @@ app_starts ops = record {
 pub starts : (scenario : Scenario) (start : Prospect) → start.bound ≤ 16777216 → RunInvariant scenario 0 0 (opening (settings_of scenario)) (start_of scenario) start start
 starts scenario start few =
     let work = work_at_start scenario.scripts in
+    let none_read = no_getters scenario.scripts in
     record {
       calls = no_calls;
       standing = record {
@@ -117,6 +118,6 @@ starts scenario start few =
         };
         compositor = record { frames_are = refl; replies_are = refl; end = tt };
         counted = omega arith;
-        work = omega (arith, work, few);
+        work = omega (arith, work, few, none_read);
       };
     }

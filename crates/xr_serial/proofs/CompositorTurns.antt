@@ -19,7 +19,7 @@ use Rattle.xr_types.specs.declared.frames.Image.{Image}
 use Rattle.xr_model.specs.machine.Machine.{reads_of, step}
 use Rattle.xr_model.specs.machine.State.{CoreState, State}
 use Rattle.xr_model.specs.machine.Rules.Frames.{told_frame, oldest_shown}
-use Rattle.xr_model.specs.runs.Robin.{Agenda, compositor, next_call, is_ended}
+use Rattle.xr_model.specs.runs.Robin.{compositor, next_call, is_ended}
 use Rattle.xr_model.specs.runs.Lists.{frames_in, reply_if_shown, replies_in}
 use Rattle.xr_serial.specs.inside.Made.{IsAnswered, exchange_of, calls_with}
 use Rattle.xr_serial.specs.inside.RunState.{CompositorState, RunState}

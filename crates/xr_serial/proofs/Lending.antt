@@ -1,13 +1,13 @@
 -- How much of a lent buffer a call has written, by what its reply gives.
 use Rattle.std.proofs.Common.{◌≡◌, ◌&&◌, ℕ, Bool, true, false, nat_lt, nat_le, List, [], ◌∷◌, ◌++◌, map, length, take, drop, Option, Some, None, refl, sym, subst, ◌∙◌, ap, arith, length-append}
-use Rattle.std.specs.Prelude.{flat_map, if◌then◌else◌}
+use Rattle.std.specs.Prelude.{flat_map, option_map, option_and_then, slice_get, unwrap_or, if◌then◌else◌}
 use Rattle.std.proofs.lemmas.Bool.Decides.{nat_tests}
 use Rattle.std.proofs.lemmas.Grind.{common_steps}
 use Rattle.std.proofs.lemmas.Option.{same_Some}
 use Rattle.xr_types.specs.declared.calls.Actor.{Actor}
-use Rattle.xr_types.specs.declared.calls.Gives.TheVariants.{Size}
+use Rattle.xr_types.specs.declared.calls.Gives.TheVariants.{Size, Nothing}
 use Rattle.xr_types.specs.declared.calls.Reply.{Reply}
-use Rattle.xr_model.specs.machine.Request.{Request, create_instance, destroy_instance, get_system, string_to_path, path_to_string, poll_event, create_session, destroy_session, begin_session, end_session, request_exit_session, create_reference_space, destroy_space, locate_space, create_action_set, destroy_action_set, create_action, destroy_action, suggest_bindings, attach_sets, create_swapchain, destroy_swapchain, acquire_image, wait_image, paint, release_image, wait_frame, begin_frame, end_frame, leave, next_frame, image_done, Entry, Outcome}
+use Rattle.xr_model.specs.machine.Request.{Request, create_instance, destroy_instance, get_system, string_to_path, path_to_string, poll_event, create_session, destroy_session, begin_session, end_session, request_exit_session, create_reference_space, destroy_space, locate_space, create_action_set, destroy_action_set, create_action, destroy_action, suggest_bindings, attach_sets, sync_actions, get_boolean, get_float, get_vector, get_pose_active, create_action_space, create_swapchain, destroy_swapchain, acquire_image, wait_image, paint, release_image, wait_frame, begin_frame, end_frame, leave, next_frame, image_done, Entry, Outcome}
 use Rattle.xr_types.specs.declared.frames.Image.{Image}
 use Rattle.xr_types.specs.declared.frames.Layer.{Layer}
 use Rattle.xr_types.specs.declared.frames.Layer.TheVariants.{Projection, Quad}
@@ -21,9 +21,14 @@ use Rattle.xr_types.specs.declared.handles.Kind.{Kind}
 use Rattle.xr_types.specs.declared.handles.Kind.TheVariants as kind
 use Rattle.xr_model.specs.machine.Handles.{Handles, no_handle, no_room}
 use Rattle.xr_model.specs.machine.Sets.{no_users, action_label_checks}
+use Rattle.xr_types.specs.declared.input.ActionType.{ActionType}
+use Rattle.xr_types.specs.declared.input.ActionType.TheVariants.{Boolean, Float, Vector, Pose, Vibration}
+use Rattle.xr_types.specs.declared.input.ActiveSet.{ActiveSet}
 use Rattle.xr_types.specs.declared.input.Binding.{Binding}
 use Rattle.xr_types.specs.declared.input.Profile.{Profile}
 use Rattle.xr_model.specs.machine.Rules.Bindings.{bindings_checks, profile_at}
+use Rattle.xr_model.specs.machine.Publication.{ShownColumn, publication_of, published_at, column_by, shown_by}
+use Rattle.xr_model.specs.machine.Rules.Sync.{getter_rule, item_checks}
 use Rattle.xr_model.specs.machine.Rules.Sets.{sub_checks, with_user, user_at}
 use Rattle.xr_model.specs.machine.Refusals.{Refusal, first_of}
 use Rattle.xr_model.specs.machine.State.{CoreState, State}
@@ -114,12 +119,33 @@ layers_give_none look (Projection space count views ∷ layers) =
     ((λ h. refl), ((λ h. refl), ((λ h. refl), ((λ h. refl), ((λ h. refl), ((λ h. refl), ((λ h. refl), ((λ h. refl), layers_give_none look layers))))))))
 layers_give_none look (Quad space image pose ∷ layers) = ((λ h. refl), ((λ h. refl), ((λ h. refl), ((λ h. refl), ((λ h. refl), layers_give_none look layers)))))
 
+-- nor does any item of a sync
+items_give_none : (s : CoreState) (session : ℕ) (active : List ActiveSet) → GiveNone 0 (flat_map (item_checks s session) active)
+items_give_none s session [] = tt
+items_give_none s session (item ∷ active) = ((λ h. refl), ((λ h. refl), ((λ h. refl), ((λ h. refl), items_give_none s session active))))
+
+-- what a getter tells takes no bytes of a buffer
+getter_writes_none : (wanted : ActionType) (o : Option ShownColumn) → 0 ≡ written_size (unwrap_or (option_map (shown_by wanted) o) Nothing) 0
+getter_writes_none wanted None = refl
+getter_writes_none Boolean (Some c) = refl
+getter_writes_none Float (Some c) = refl
+getter_writes_none Vector (Some c) = refl
+getter_writes_none Pose (Some c) = refl
+getter_writes_none Vibration (Some c) = refl
+
 -- the bytes that a call writes are as many as its reply says
 pub text_fits : (s : State) (e : Entry) → length (step s e).1.text ≡ written_size (step s e).1.reply.gives (lent_size e.request)
 text_fits s e = by e.request
   where
     rule_for : Request → Rule
     rule_for r = rule s.core (reads_of s r) (record e { request = r })
+
+    getter : (r : Request) (wanted : ActionType) (session action sub : ℕ) → rule_for r ≡ getter_rule s.core wanted session action sub → lent_size r ≡ 0 → WritesAsSaid (lent_size r) (carried_out s.core e.short (rule_for r))
+    getter r wanted session action sub is none =
+        let p = publication_of s.core in
+        let found = published_at p action in
+        rw (is, none)
+        (carried_writes s.core 0 e.short (getter_rule s.core wanted session action sub) ((λ h. refl), ((λ h. refl), ((λ h. refl), ((λ h. refl), ((λ h. refl), ((λ h. refl), ((λ h. refl), tt))))))) (getter_writes_none wanted (option_and_then (λ a. option_and_then (λ k. slice_get a.columns k) (column_by p a sub)) found)))
 
     by : (r : Request) → WritesAsSaid (lent_size r) (carried_out s.core e.short (rule_for r))
     by (create_instance major minor) = carried_writes s.core 0 e.short (rule_for (create_instance major minor)) ((λ h. refl), ((λ h. refl), ((λ h. refl), tt))) refl
@@ -144,6 +170,12 @@ text_fits s e = by e.request
     by (destroy_action action) = carried_writes s.core 0 e.short (rule_for (destroy_action action)) ((λ h. refl), ((λ h. refl), tt)) refl
     by (suggest_bindings instance profile list) = carried_writes s.core 0 e.short (rule_for (suggest_bindings instance profile list)) ((λ h. refl), ((λ h. refl), ((λ h. refl), ((λ h. refl), ((λ h. refl), ((λ h. refl), bindings_give_none s.core (profile_at s.core.atoms profile) list)))))) refl
     by (attach_sets session handles) = carried_writes s.core 0 e.short (rule_for (attach_sets session handles)) ((λ h. refl), ((λ h. refl), ((λ h. refl), ((λ h. refl), ((λ h. refl), handles_give_none s.core.handles kind.ActionSet handles))))) refl
+    by (sync_actions session active) = carried_writes s.core 0 e.short (rule_for (sync_actions session active)) ((λ h. refl), ((λ h. refl), ((λ h. refl), ((λ h. refl), items_give_none s.core session active)))) refl
+    by (get_boolean session action sub) = getter (get_boolean session action sub) Boolean session action sub refl refl
+    by (get_float session action sub) = getter (get_float session action sub) Float session action sub refl refl
+    by (get_vector session action sub) = getter (get_vector session action sub) Vector session action sub refl refl
+    by (get_pose_active session action sub) = getter (get_pose_active session action sub) Pose session action sub refl refl
+    by (create_action_space session action sub offset) = carried_writes s.core 0 e.short (rule_for (create_action_space session action sub offset)) ((λ h. refl), ((λ h. refl), ((λ h. refl), ((λ h. refl), ((λ h. refl), ((λ h. refl), ((λ h. refl), ((λ h. refl), tt)))))))) refl
     by (wait_frame session) = carried_writes s.core 0 e.short (rule_for (wait_frame session)) ((λ h. refl), ((λ h. refl), ((λ h. refl), ((λ h. refl), tt)))) refl
     by (begin_frame session) = carried_writes s.core 0 e.short (rule_for (begin_frame session)) ((λ h. refl), ((λ h. refl), ((λ h. refl), ((λ h. refl), tt)))) refl
     by (end_frame session time blend layers) =

@@ -1,5 +1,5 @@
 -- What is known of a script's op and of its call.
-use Rattle.std.proofs.Common.{◌≡◌, ◌<◌, ◌≤◌, ◌+◌, ℕ, ℤ, pos, true, true≢false, sym, List, [], ◌∷◌, length, map, drop, get_or, refl, ◌∙◌, add-one, drop-cons, arith, zero, suc}
+use Rattle.std.proofs.Common.{◌≡◌, ◌<◌, ◌≤◌, ◌+◌, ℕ, ℤ, pos, true, true≢false, sym, List, [], ◌∷◌, length, drop, get_or, refl, add-one, drop-cons, arith, zero, suc}
 use Rattle.std.specs.Prelude.{◌≤ℤ◌, int_le, ◌&&◌, ◌||◌, Bool, Option, Some, None, is_none, is_some, not, false}
 use Rattle.xr_model.specs.machine.Refusals.{Refusal, when, first_of}
 use Rattle.std.proofs.lemmas.Bool.Decides.{nat_tests}
@@ -27,6 +27,7 @@ use Rattle.xr_serial.proofs.Lending.{IsHidden}
 use Rattle.xr_serial.specs.inside.Made.{asked}
 use Rattle.xr_types.specs.declared.calls.Actor.TheVariants.{App, Compositor}
 use Rattle.xr_serial.specs.inside.Lent.{lent_size}
+use Rattle.xr_serial.specs.inside.RunInvariant.{is_getter_name}
 use Rattle.xr_serial.specs.inside.Sides.{op_mark, op_start}
 
 pub built_at : (ops : List Op) (i : ℕ) (d : Op) → list_all is_built_op ops ≡ true → i < length ops → is_built_op (get_or ops i d) ≡ true
@@ -100,13 +101,10 @@ pub starts : (clock : ℤ) (r : Request) → StartsAt clock (with_start clock r)
 starts clock (wait_image chain timeout start) = refl
 starts clock _ = tt
 
--- the call of an op that is built is a locked one, whenever a wait begins
-pub op_locked : (values : List ℕ) (o : Op) → is_built_op o ≡ true → is_locked (request_for values o) ≡ true
-op_locked values (op.GetBoolean session action sub) built = absurd (true≢false (sym built))
-op_locked values (op.GetFloat session action sub) built = absurd (true≢false (sym built))
-op_locked values (op.GetVector session action sub) built = absurd (true≢false (sym built))
-op_locked values (op.GetPoseActive session action sub) built = absurd (true≢false (sym built))
-op_locked values _ built = refl
+-- a call is a locked one, or a getter by its name, whenever a wait begins
+pub getter_name : (clock : ℤ) (values : List ℕ) (o : Op) → is_getter_name (name_of (with_start clock (request_for values o))) ≡ not (is_locked (with_start clock (request_for values o)))
+getter_name clock values (op.CreateInstance major minor) = refl
+getter_name clock values _ = refl
 
 pub as_locked : (clock : ℤ) (r : Request) → is_locked (with_start clock r) ≡ is_locked r
 as_locked clock (wait_image chain timeout start) = refl

@@ -1,10 +1,13 @@
 // An application of a run: how far it is in its script, and what its calls gave.
-ghost use Rattle.std.specs.Prelude.{◌≡◌, ◌<◌, ◌≤◌, ◌^◌, false, true, IfOk, OnOk, length};
+ghost use Rattle.std.specs.Prelude.{◌≡◌, ◌<◌, ◌≤◌, ◌≤ℤ◌, ◌^◌, ℕ, pos, List, false, true, IfOk, OnOk, length};
 ghost use Rattle.std.specs.List.{list_all};
 ghost use Rattle.xr_types.specs.declared.calls.Actor.TheVariants.{App};
 ghost use Rattle.xr_model.specs.scenario.Built.{is_built_op};
 ghost use Rattle.xr_model.specs.scenario.ScriptForm.{IsInForm};
 ghost use Rattle.xr_model.specs.machine.Machine.{IsPresent};
+ghost use Rattle.xr_model.specs.machine.Request.{is_locked};
+ghost use Rattle.xr_model.specs.runs.Robin.{clock_behind};
+ghost use Rattle.xr_model.specs.runs.Scripts.{request_for};
 ghost use Rattle.xr_serial.specs.inside.Sides.{op_mark, op_start, new_app, OpTurn, Leaves};
 
 use crate::calls::add;
@@ -15,7 +18,7 @@ use xr_scenario_calls::Names;
 use xr_types::{Actor, Call, CallName, Made, NoMemory, Op};
 
 /// An application on its way: how many ops of its script were made, what its names stand for, its calls, the clock after its
-/// last one in ns of device time, and whether it has left.
+/// last locked one in ns of device time, and whether it has left.
 #[derive(Drop)]
 pub(crate) struct Application {
     pub(crate) made: usize,
@@ -53,6 +56,32 @@ fn op_start(clock: i64, op: &Op) -> i64
     match op {
         Op::WaitImage { .. } => clock,
         _ => 0,
+    }
+}
+
+/// Whether the call of an op is a locked one. Getters are not.
+fn is_locked(op: &Op) -> bool
+    ensures { (values : List ℕ) → result ≡ is_locked (request_for values op.now) }
+{
+    !matches!(
+        op,
+        Op::GetBoolean { .. }
+            | Op::GetFloat { .. }
+            | Op::GetVector { .. }
+            | Op::GetPoseActive { .. }
+    )
+}
+
+/// The clock at which the next wait begins, once the call of an op was made: a getter leaves it.
+fn clock_behind(clock: &i64, op: &Op, machine: &Machine) -> i64
+    requires { pos 0 ≤ℤ clock.now }
+    ensures clock { (values : List ℕ) → result ≡ clock_behind clock.now (request_for values op.now) machine.now }
+    ensures begun { pos 0 ≤ℤ result }
+{
+    if is_locked(op) {
+        machine.clock()
+    } else {
+        *clock
     }
 }
 
@@ -103,7 +132,7 @@ impl Application {
             start,
             answered,
         )?;
-        self.clock = machine.clock();
+        self.clock = clock_behind(&self.clock, op, machine);
         self.made += 1;
         Ok(true)
     }

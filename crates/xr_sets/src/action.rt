@@ -9,7 +9,7 @@ use xr_types::{ActionType, MOST_LOCALIZED, MOST_NAME, USERS, User, user_place};
 /// An action by its handle: its set, its name, its localized name, its type, and for each user path whether it
 /// declares it. Contracts see the machine's action.
 #[derive(Drop)]
-pub(crate) struct Action {
+pub struct Action {
     pub(crate) handle: u64,
     pub(crate) set: u64,
     pub(crate) name: ArrayVec<u8, MOST_NAME>,
@@ -48,6 +48,27 @@ impl Default for Action {
 }
 
 impl Action {
+    /// The handle of its set.
+    pub fn set(&self) -> u64
+        ensures { result ≡ self.now.set }
+    {
+        self.set
+    }
+
+    /// Its type.
+    pub fn kind(&self) -> ActionType
+        ensures { result ≡ self.now.type }
+    {
+        self.kind
+    }
+
+    /// For each user path, at its `user_place`, whether it declares it.
+    pub fn declared(&self) -> [bool; USERS]
+        ensures { result ≡ self.now.declared }
+    {
+        self.declared
+    }
+
     /// Whether the action declares a user path.
     pub(crate) fn declares(&self, user: User) -> bool
         ensures { result ≡ is_declared self.now.declared user }

@@ -7,4 +7,5 @@ mod set;
 mod sets;
 mod texts;
 
+pub use action::Action;
 pub use sets::{NewAction, Sets};

@@ -250,8 +250,8 @@ impl Sets {
         self.sets.iter().find(|set| set.handle == handle)
     }
 
-    /// The action of a handle, where it is one's.
-    fn action_at(&self, handle: u64) -> Option<&Action>
+    /// The action of a handle, where it is one's. OpenXR 1.0 chapter 11, xrCreateAction.
+    pub fn action_at(&self, handle: u64) -> Option<&Action>
         ensures { option_copied result ≡ action_at self.now handle }
     {
         self.actions.iter().find(|action| action.handle == handle)

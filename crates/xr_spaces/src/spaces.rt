@@ -1,16 +1,16 @@
 // The spaces with the samples of all origins, and the calls on them.
-ghost use Rattle.std.specs.Prelude.{◌≡◌, ◌<◌, length, map, IfOk};
+ghost use Rattle.std.specs.Prelude.{◌≡◌, ◌<◌, false, length, map, slice_index_or, IfOk};
 ghost use Rattle.std.specs.Option.{option_copied};
 ghost use Rattle.xr_model.specs.machine.PartAnswers.{code_by};
 ghost use Rattle.xr_model.specs.machine.Refusals.{first_of};
-ghost use Rattle.xr_model.specs.machine.Spaces.{no_spaces, reference_checks, with_space, without_space, without_action, forgotten, sampled, space_at, pose_of, location, located};
+ghost use Rattle.xr_model.specs.machine.Spaces.{no_spaces, reference_checks, with_space, without_space, with_left, left_spaces, sampled, space_at, pose_of, location, located};
 
 use crate::roots::origin_by;
 use crate::samples::{Samples, note, pose_in};
 use arrayvec::ArrayVec;
 use std::alloc::Global;
 use std::marker::Model;
-use xr_types::{Code, Location, NoMemory, ORIGINS, Origin, RefKind, Root, SPACES, States};
+use xr_types::{ACTIONS, Code, Location, NoMemory, ORIGINS, Origin, RefKind, Root, SPACES, States};
 
 /// A space by its handle: what it moves with, which is nothing once its action was destroyed, and its offset
 /// there. Contracts see the machine's space.
@@ -69,12 +69,13 @@ fn space_at(spaces: &[Space], handle: u64) -> Option<&Space>
     spaces.iter().find(|space| space.handle == handle)
 }
 
-/// A space without what it moves with, where that is the action of a place.
-fn without_action(action: u8, space: Space) -> Space
-    ensures { result ≡ without_action action space }
+/// A space without what it moves with, where that is an action whose place isn't one of these.
+fn with_left(there: &[bool; ACTIONS], space: Space) -> Space
+    ensures { result ≡ with_left (λ place. slice_index_or there.now place false) space }
 {
     match space.root {
-        Some(Root::Action { place, .. }) if place == action => Space {
+        Some(Root::Action { place, .. })
+            if !there.get(usize::from(place)).copied().unwrap_or(false) => Space {
             root: None,
             ..space
         },
@@ -82,12 +83,12 @@ fn without_action(action: u8, space: Space) -> Space
     }
 }
 
-/// Takes the action of a place from all spaces that move with it.
-fn forget_action(spaces: &mut [Space], action: u8)
-    ensures { spaces.new ≡ map (without_action action) spaces.old }
+/// Takes what isn't left from all spaces that move with it.
+fn leave(spaces: &mut [Space], there: &[bool; ACTIONS])
+    ensures { spaces.new ≡ map (with_left (λ place. slice_index_or there.now place false)) spaces.old }
 {
     for space in spaces.iter_mut() {
-        *space = without_action(action, *space);
+        *space = with_left(there, *space);
     }
 }
 
@@ -132,12 +133,12 @@ impl Spaces {
         self.spaces.retain(|space| space.handle != handle);
     }
 
-    /// The action of a place from 0 to 63 was destroyed: spaces that moved with it stay, and move with nothing from
-    /// now on. OpenXR 1.0 chapter 7, xrCreateActionSpace.
-    pub fn forget(&mut self, place: u8)
-        ensures { self.new ≡ forgotten self.old place }
+    /// Only the actions in these places are left: spaces that moved with another stay, and move with nothing from now on.
+    /// OpenXR 1.0 chapter 7, xrCreateActionSpace.
+    pub fn leave(&mut self, there: &[bool; ACTIONS])
+        ensures { self.new ≡ left_spaces (λ place. slice_index_or there.now place false) self.old }
     {
-        forget_action(self.spaces.as_mut_slice(), place);
+        leave(self.spaces.as_mut_slice(), there);
     }
 
     /// An origin has a pose, an opaque factor, from a time on, in ns of device time. A sample that isn't later than the

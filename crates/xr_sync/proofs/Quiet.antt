@@ -3,8 +3,8 @@ use Rattle.std.proofs.Common.{◌≡◌, ℕ, zero, suc, ℤ, Bool, true, false,
 use Rattle.std.specs.Prelude.{slice_index_or, replicate, All}
 use Rattle.xr_types.specs.declared.input.Column.{Column}
 use Rattle.xr_types.specs.declared.input.Found.{Found}
-use Rattle.xr_model.specs.machine.Sync.{nothing_found, inactive, column_after}
-use Rattle.xr_sync.specs.Tables.{no_row, no_table, no_columns, row_after, IsQuiet, IsTidy}
+use Rattle.xr_model.specs.machine.Sync.{nothing_found, inactive, inactive_row, no_columns, column_after}
+use Rattle.xr_sync.specs.Tables.{no_row, no_table, row_after, IsQuiet, IsTidy}
 
 all_same : {T : Type 0} (P : T → Type 0) (n : ℕ) (x : T) → P x → All P (replicate n x)
 all_same P zero x this k d within = absurd (omega (arith, within))
@@ -14,8 +14,8 @@ all_same P (suc n) x this (suc k) d within = all_same P n x this k d (omega (ari
 pub quiet_table : All IsQuiet no_table
 quiet_table = all_same IsQuiet 64 no_row (λ e. refl)
 
-pub tidy_columns : All IsTidy (replicate 64 no_columns)
-tidy_columns = all_same IsTidy 64 no_columns (λ e. refl)
+pub tidy_columns : All IsTidy no_columns
+tidy_columns = all_same IsTidy 64 inactive_row (λ e. refl)
 
 -- nothing is found where nothing was shown
 pub stays : (clock : ℤ) (row : List Column) (found : List Found) → IsQuiet found → IsTidy row → (slice_index_or row 0 inactive).active ≡ false → (slice_index_or found 0 nothing_found).active ≡ false
@@ -31,7 +31,7 @@ first_after clock c f = by f.active refl
     by true e = rw e refl
     by false e = rw e refl
 
-none_after : (clock : ℤ) (row : List Column) → length row ≡ 6 → row_after clock row no_row ≡ no_columns
+none_after : (clock : ℤ) (row : List Column) → length row ≡ 6 → row_after clock row no_row ≡ inactive_row
 unfolding column_after
 none_after clock [] h = absurd (omega (arith, h))
 none_after clock (a ∷ []) h = absurd (omega (arith, h))

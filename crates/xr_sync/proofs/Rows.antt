@@ -93,6 +93,12 @@ set_is_each g (r ∷ rs) (suc k) n m d e h =
     let other : (m == n) ≡ false = grind (arith, nat_tests, e) in
     rw other (ap (λ q. r ∷ q) (set_is_each g rs k (n + 1) m d (omega (arith, e)) (omega (arith, h))))
 
+pub left_more : (f : ℕ → List Column → List Column) (rows : List (List Column)) (i : ℕ) (d new : List Column) → i < length rows → new ≡ f i (get_or rows i d)
+    → take i rows ++ each_from f i (drop i rows) ≡ take (i + 1) (set rows i new) ++ each_from f (i + 1) (drop (i + 1) (set rows i new))
+left_more f rows i d new h e =
+    rw (drop_more rows i d h, ← e, take_more_set rows i new h, drop-set-lt (i + 1) rows i new (omega arith))
+    (sym (append_assoc (take i rows) (new ∷ []) (each_from f (i + 1) (drop (i + 1) rows))))
+
 pub settled_more : (clock : ℤ) (rows : List (List Column)) (found : List (List Found)) (i : ℕ) (d : List Column) (e : List Found) → i < length rows → i < length found
     → take i rows ++ rows_after clock (drop i rows) (drop i found)
     ≡ take (i + 1) (set rows i (row_after clock (get_or rows i d) (get_or found i e))) ++ rows_after clock (drop (i + 1) (set rows i (row_after clock (get_or rows i d) (get_or found i e)))) (drop (i + 1) found)

@@ -1,10 +1,10 @@
 -- A table of what all columns find, what one more live binding changes in it, and the columns that it leads to.
-use Rattle.std.specs.Prelude.{◌≡◌, ℕ, ℤ, ◌==◌, false, List, [], ◌∷◌, replicate, slice_index_or, if◌then◌else◌}
+use Rattle.std.specs.Prelude.{◌≡◌, ℤ, ◌==◌, false, List, [], ◌∷◌, replicate, slice_index_or, if◌then◌else◌}
 use Rattle.xr_types.specs.declared.input.Column.{Column}
 use Rattle.xr_types.specs.declared.input.Found.{Found}
 use Rattle.xr_types.specs.declared.input.Inputs.{Inputs}
 use Rattle.xr_types.specs.declared.input.Ranked.{Ranked}
-use Rattle.xr_model.specs.machine.Sync.{nothing_found, inactive, with_binding, counts_in, each_from, column_after}
+use Rattle.xr_model.specs.machine.Sync.{nothing_found, inactive, inactive_row, with_binding, counts_in, each_from, column_after}
 
 -- ---- what is found
 
@@ -40,13 +40,6 @@ rows_after clock [] rows = []
 rows_after clock (r ∷ rs) [] = []
 rows_after clock (r ∷ rs) (f ∷ fs) = row_after clock r f ∷ rows_after clock rs fs
 
-abbrev pub no_columns : List Column
-no_columns = replicate 6 inactive
-
 -- where the first column is inactive, each is
 abbrev pub IsTidy : List Column → Type 0
-IsTidy row = (slice_index_or row 0 inactive).active ≡ false → row ≡ no_columns
-
--- a column of the action in a place; where there is none, it is inactive
-abbrev pub column_in : List (List Column) → ℕ → ℕ → Column
-column_in rows place column = slice_index_or (slice_index_or rows place []) column inactive
+IsTidy row = (slice_index_or row 0 inactive).active ≡ false → row ≡ inactive_row

@@ -1,20 +1,24 @@
 // The columns of a core, which syncs change in place.
-ghost use Rattle.std.specs.Prelude.{◌≡◌, All, replicate};
-ghost use Rattle.xr_model.specs.machine.Sync.{columns_after};
+ghost use Rattle.std.specs.Prelude.{◌≡◌, false, slice_get, slice_index_or, option_and_then, All};
+ghost use Rattle.xr_model.specs.machine.Sync.{no_columns, columns_after, left_columns};
 ghost use Rattle.xr_sync.specs.Ranks.{IsPlaced};
-ghost use Rattle.xr_sync.specs.Tables.{no_columns, column_in};
 
 use crate::after::INACTIVE;
 use crate::found::{ACTIONS, COLUMNS, NOTHING};
-use crate::settle::sync_tidy;
+use crate::settle::{leave, sync_tidy};
 use std::marker::Model;
-use xr_types::{Column, Found, Heard, Inputs, Ranked};
+use xr_types::{Column, Found, Heard, Inputs, Ranked, States};
+
+/// Every column is inactive.
+const NO_STATES: States = States {
+    columns: [[INACTIVE; COLUMNS]; ACTIONS],
+};
 
 /// What the actions show: a row for each of 64 places of actions, whose column 0 is that of all user paths, and the others those
 /// of the five user paths in their order. Beside it stands the table that a sync works with. Contracts see the columns.
 #[derive(Drop)]
 pub struct Columns {
-    rows: [[Column; COLUMNS]; ACTIONS],
+    states: States,
     /// What the columns have found: nothing between two syncs.
     found: [[Found; COLUMNS]; ACTIONS],
 }
@@ -26,18 +30,18 @@ impl Model for Columns {
 
     ghost Value = { List (List input.Column) };
 
-    ghost view = { λ c. c.rows };
+    ghost view = { λ c. c.states.columns };
 
-    ghost invariant = { λ c. (c.found ≡ no_table) × All IsTidy c.rows };
+    ghost invariant = { λ c. (c.found ≡ no_table) × All IsTidy c.states.columns };
 }
 
 impl Columns {
     /// Every column is inactive.
     pub fn start() -> Columns
-        ensures { result ≡ replicate 64 no_columns }
+        ensures { result ≡ no_columns }
     {
         Columns {
-            rows: [[INACTIVE; COLUMNS]; ACTIONS],
+            states: NO_STATES,
             found: [[NOTHING; COLUMNS]; ACTIONS],
         }
     }
@@ -54,21 +58,36 @@ impl Columns {
             bindings,
             inputs,
             &clock,
-            &mut self.rows,
+            &mut self.states.columns,
             &mut self.found,
         );
     }
 
-    /// A column of the action in a place; where there is none, it is inactive.
-    pub fn column(&self, place: usize, column: usize) -> Column
-        ensures { result ≡ column_in self.now place column }
+    /// Every column is inactive from now on.
+    pub fn clear(&mut self)
+        ensures { self.new ≡ no_columns }
     {
-        match self.rows.get(place) {
-            Some(row) => match row.get(column) {
-                Some(column) => *column,
-                None => INACTIVE,
-            },
-            None => INACTIVE,
-        }
+        self.states = NO_STATES;
+    }
+
+    /// Only the actions in these places are left: the columns of the others are inactive from now on.
+    pub fn leave(&mut self, there: &[bool; ACTIONS])
+        ensures { self.new ≡ left_columns (λ place. slice_index_or there.now place false) self.old }
+    {
+        leave(&mut self.states.columns, there);
+    }
+
+    /// What is known since the last sync.
+    pub fn states(&self) -> &States
+        ensures { result.now.columns ≡ self.now }
+    {
+        &self.states
+    }
+
+    /// A column of the action in a place, where there is such a place and column.
+    pub fn column(&self, place: usize, column: usize) -> Option<Column>
+        ensures { result ≡ option_and_then (λ row. slice_get row column) (slice_get self.now place) }
+    {
+        self.states.columns.get(place)?.get(column).copied()
     }
 }

@@ -1,10 +1,10 @@
 // What all columns show after a sync, from the table of what they found.
-ghost use Rattle.std.specs.Prelude.{◌≡◌, length, All};
-ghost use Rattle.xr_model.specs.machine.Sync.{columns_after};
+ghost use Rattle.std.specs.Prelude.{◌≡◌, false, length, All, slice_index_or, if◌then◌else◌};
+ghost use Rattle.xr_model.specs.machine.Sync.{columns_after, inactive_row, left_columns};
 ghost use Rattle.xr_sync.specs.Ranks.{IsPlaced};
 ghost use Rattle.xr_sync.specs.Tables.{no_row, no_table, row_after, rows_after, IsQuiet, IsTidy};
 
-use crate::after::column_after;
+use crate::after::{INACTIVE, column_after};
 use crate::found::{ACTIONS, COLUMNS, NOTHING, gather};
 use xr_types::{Column, Found, Heard, Inputs, Ranked};
 
@@ -100,4 +100,27 @@ pub(crate) fn sync_all(
     let mut found = [[NOTHING; COLUMNS]; ACTIONS];
     gather(active, bindings, inputs, &mut found);
     settle_all(rows, &found, clock);
+}
+
+/// The columns of a place are inactive where no action is there.
+fn leave_row(row: &mut [Column; COLUMNS], there: bool)
+    requires tidy { IsTidy row.old }
+    ensures row { row.new ≡ (if there then row.old else inactive_row) }
+    ensures tidy { IsTidy row.new }
+{
+    if !there {
+        *row = [INACTIVE; COLUMNS];
+    }
+}
+
+/// The columns of the places in which no action is left are inactive.
+#[tactic(auto, using(crate::proofs::Rows::left_more))]
+pub(crate) fn leave(rows: &mut [[Column; COLUMNS]; ACTIONS], there: &[bool; ACTIONS])
+    requires tidy { All IsTidy rows.old }
+    ensures left { rows.new ≡ left_columns (λ place. slice_index_or there.now place false) rows.old }
+    ensures tidy { All IsTidy rows.new }
+{
+    for place in 0..ACTIONS {
+        leave_row(&mut rows[place], there[place]);
+    }
 }

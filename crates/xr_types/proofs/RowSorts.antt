@@ -41,36 +41,28 @@ none_past most row (r ∷ rows) each past = by (nat_le r most) refl each (λ res
     by true eb each more = let other : (r == row) ≡ false = grind (arith, nat_tests) in rw other (more each)
     by false eb each more = absurd (true≢false (sym each))
 
+-- a test is that of a list of rows up to 40, where both answer alike for those and the test refuses all others
+pub rows_are : (rows : List ℕ) (test : ℕ → Bool) → list_all (λ r. nat_le r 40) rows ≡ true
+    → each_under (λ k. alike (list_any (λ r. r == k) rows) (test k)) 41 ≡ true → ((row : ℕ) → nat_le row 40 ≡ false → test row ≡ false)
+    → (row : ℕ) → list_any (λ r. r == row) rows ≡ test row
+rows_are rows test few each refused row = by (nat_le row 40) refl
+  where
+    by : (b : Bool) → nat_le row 40 ≡ b → list_any (λ r. r == row) rows ≡ test row
+    by true eb = alike_is (list_any (λ r. r == row) rows) (test row) (under_each (λ k. alike (list_any (λ r. r == k) rows) (test k)) 41 row each (grind (arith, nat_tests)))
+    by false eb = none_past 40 row rows few (grind (arith, nat_tests)) ∙ sym (refused row eb)
+
 -- the rows of the code's table
 abbrev digital : List ℕ
 digital = 1 ∷ 2 ∷ 3 ∷ 4 ∷ 5 ∷ 6 ∷ 7 ∷ 8 ∷ 9 ∷ 10 ∷ 11 ∷ 12 ∷ 13 ∷ 15 ∷ 17 ∷ 20 ∷ 21 ∷ 22 ∷ 25 ∷ 26 ∷ 27 ∷ 28 ∷ 29 ∷ 30 ∷ 31 ∷ 32 ∷ 35 ∷ 38 ∷ []
 
-abbrev among : ℕ → Bool
-among row = list_any (λ r. r == row) digital
-
 -- they are those whose component is a click or a touch
-pub digital_rows : (row : ℕ) → among row ≡ is_digital row
-digital_rows row = by (nat_le row 40) refl
-  where
-    by : (b : Bool) → nat_le row 40 ≡ b → among row ≡ is_digital row
-    by true eb = alike_is (among row) (is_digital row) (under_each (λ k. alike (among k) (is_digital k)) 41 row refl (grind (arith, nat_tests)))
-    by false eb =
-        let first : nat_le 1 row ≡ true = grind (arith, nat_tests) in
-        none_past 40 row digital refl (grind (arith, nat_tests)) ∙ rw (first, eb) refl
+pub digital_rows : (row : ℕ) → list_any (λ r. r == row) digital ≡ is_digital row
+digital_rows = rows_are digital is_digital refl refl (λ row eb. let first : nat_le 1 row ≡ true = grind (arith, nat_tests) in rw (first, eb) refl)
 
 -- the rows of the code's list of values
 abbrev values : List ℕ
 values = 14 ∷ 16 ∷ 39 ∷ 40 ∷ []
 
-abbrev among_values : ℕ → Bool
-among_values row = list_any (λ r. r == row) values
-
 -- they are those whose component is a value
-pub value_rows : (row : ℕ) → among_values row ≡ is_value row
-value_rows row = by (nat_le row 40) refl
-  where
-    by : (b : Bool) → nat_le row 40 ≡ b → among_values row ≡ is_value row
-    by true eb = alike_is (among_values row) (is_value row) (under_each (λ k. alike (among_values k) (is_value k)) 41 row refl (grind (arith, nat_tests)))
-    by false eb =
-        let first : nat_le 1 row ≡ true = grind (arith, nat_tests) in
-        none_past 40 row values refl (grind (arith, nat_tests)) ∙ rw (first, eb) refl
+pub value_rows : (row : ℕ) → list_any (λ r. r == row) values ≡ is_value row
+value_rows = rows_are values is_value refl refl (λ row eb. let first : nat_le 1 row ≡ true = grind (arith, nat_tests) in rw (first, eb) refl)

@@ -50,6 +50,7 @@ name_of LocalizedNameInvalid = codes "XR_ERROR_LOCALIZED_NAME_INVALID"
 abbrev pub is_success : Code → Bool
 is_success Success = true
 is_success SessionLossPending = true
+is_success SessionNotFocused = true
 is_success FrameDiscarded = true
 is_success _ = false
 

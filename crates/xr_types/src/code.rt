@@ -106,7 +106,10 @@ impl Code {
     {
         matches!(
             self,
-            Code::Success | Code::SessionLossPending | Code::FrameDiscarded
+            Code::Success
+                | Code::SessionLossPending
+                | Code::SessionNotFocused
+                | Code::FrameDiscarded
         )
     }
 }

@@ -219,7 +219,7 @@ pub struct Inputs {
 }
 
 /// An action set that a sync hears (chapter 11, XrActiveActionSet), for all user paths or for one.
-#[derive(Clone, Copy)]
+#[derive(Clone, Copy, Default)]
 pub struct Heard {
     pub set: u64,
     pub user: Option<User>,

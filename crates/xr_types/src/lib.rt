@@ -91,6 +91,7 @@ pub use limits::MOST_SCENARIO;
 pub use limits::MOST_SCRIPTS;
 pub use limits::MOST_SUBACTIONS;
 pub use limits::MOST_SUGGESTED;
+pub use limits::MOST_SYNCED;
 pub use limits::MOST_TEXT;
 pub use limits::MOST_VIEWS;
 pub use limits::VERSION;

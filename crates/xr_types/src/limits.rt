@@ -30,8 +30,11 @@ pub const MOST_BINDINGS: usize = 600;
 /// The bindings that are suggested for a profile.
 pub const MOST_SUGGESTED: usize = 512;
 
-/// The action sets that are synced at once.
+/// The action sets that an op lists to be synced. A sync takes fewer.
 pub const MOST_ACTIVE: usize = 128;
+
+/// The action sets that a sync lists.
+pub const MOST_SYNCED: usize = 96;
 
 /// The layers that an op lists. A frame takes fewer.
 pub const MOST_LISTED: usize = 32;

@@ -18,14 +18,17 @@ docs/scenario.schema.json describes. Each script is an application, and they
 take turns. These ops are run: create_instance, destroy_instance, get_system,
 string_to_path, path_to_string, poll_event, create_session, destroy_session,
 begin_session, end_session, request_exit_session, create_reference_space,
-destroy_space, locate_space, create_action_set, destroy_action_set,
-create_action, destroy_action, suggest_bindings, attach_sets, create_swapchain,
-destroy_swapchain, acquire_image, wait_image, paint, release_image, wait_frame,
-begin_frame, end_frame, mark and await. What is more isn't built yet.
+create_action_space, destroy_space, locate_space, create_action_set,
+destroy_action_set, create_action, destroy_action, suggest_bindings,
+attach_sets, sync_actions, get_boolean, get_float, get_vector,
+get_pose_active, create_swapchain, destroy_swapchain, acquire_image,
+wait_image, paint, release_image, wait_frame, begin_frame, end_frame, mark and
+await.
 With --device the events of the device are read from a text, one on a line;
 without it there are none.
-With --places each line of a call ends in '@' and its reply's place, the count
-of calls up to it.
+With --places each line of a call ends in '@' and its reply's place: the count
+of calls up to it, and of a getter, which isn't counted, the place of the call
+that published last.
 
 example:
   {\"version\":1,\"scripts\":[[

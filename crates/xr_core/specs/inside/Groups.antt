@@ -1,5 +1,5 @@
 -- The calls by groups: a group is a file of calls/, and one function of the core.
-use Rattle.xr_model.specs.machine.Request.{Request, create_instance, get_system, poll_event, string_to_path, path_to_string, create_session, begin_session, end_session, request_exit_session, create_reference_space, destroy_space, locate_space, create_action_set, destroy_action_set, create_action, destroy_action, attach_sets, create_swapchain, destroy_swapchain, wait_image, paint, release_image, wait_frame, begin_frame, mark, await_mark, leave}
+use Rattle.xr_model.specs.machine.Request.{Request, create_instance, get_system, poll_event, string_to_path, path_to_string, create_session, begin_session, end_session, request_exit_session, create_reference_space, create_action_space, destroy_space, locate_space, create_action_set, destroy_action_set, create_action, destroy_action, attach_sets, get_boolean, get_float, get_vector, get_pose_active, create_swapchain, destroy_swapchain, wait_image, paint, release_image, wait_frame, begin_frame, mark, await_mark, leave}
 
 abbrev pub IsInstanceCall : Request → Type 0
 IsInstanceCall (create_instance major minor) = Unit {0}
@@ -21,6 +21,7 @@ IsSessionCall _ = ⊥
 
 abbrev pub IsSpaceCall : Request → Type 0
 IsSpaceCall (create_reference_space session what offset) = Unit {0}
+IsSpaceCall (create_action_space session action sub offset) = Unit {0}
 IsSpaceCall (destroy_space space) = Unit {0}
 IsSpaceCall (locate_space space base time) = Unit {0}
 IsSpaceCall _ = ⊥
@@ -32,6 +33,14 @@ IsSetCall (create_action set name kind subs localized) = Unit {0}
 IsSetCall (destroy_action action) = Unit {0}
 IsSetCall (attach_sets session sets) = Unit {0}
 IsSetCall _ = ⊥
+
+-- the getters of input
+abbrev pub IsGetter : Request → Type 0
+IsGetter (get_boolean session action sub) = Unit {0}
+IsGetter (get_float session action sub) = Unit {0}
+IsGetter (get_vector session action sub) = Unit {0}
+IsGetter (get_pose_active session action sub) = Unit {0}
+IsGetter _ = ⊥
 
 -- swapchains and their images
 abbrev pub IsChainCall : Request → Type 0

@@ -1,10 +1,12 @@
 // The call that suggests bindings (OpenXR 1.0 chapter 11, xrSuggestInteractionProfileBindings).
-ghost use Rattle.std.specs.Prelude.{◌≡◌};
+ghost use Rattle.std.specs.Prelude.{◌≡◌, true};
+ghost use Rattle.std.specs.List.{list_all};
 ghost use Rattle.xr_types.specs.Code.{is_out_of_memory};
 ghost use Rattle.xr_model.specs.machine.Bindings.{suggest_refusals, with_suggestions};
 ghost use Rattle.xr_model.specs.machine.PartAnswers.{code_by};
 ghost use Rattle.xr_model.specs.machine.Refusals.{first_of, unless};
 ghost use Rattle.xr_model.specs.machine.Request.{suggest_bindings};
+ghost use Rattle.xr_model.specs.machine.Sync.{is_source};
 ghost use Rattle.xr_core.specs.inside.Deciding.{Decides};
 
 use crate::halt::{Halt, done, refused};
@@ -42,6 +44,7 @@ impl Parts {
 
     /// Suggests what bindings came to for a profile, where memory is found; nothing else refuses them.
     fn suggest(&mut self, alloc: Global, profile: Profile, bound: &[Bound]) -> Code
+        requires sources { list_all is_source bound.now ≡ true }
         ensures kept { self.new ≡ record self.old { suggestions = unless (first_of (suggest_refusals bound.now (is_out_of_memory result))) self.old.suggestions (with_suggestions self.old.suggestions profile bound.now) } }
         ensures code { result ≡ code_by (first_of (suggest_refusals bound.now (is_out_of_memory result))) }
     {

@@ -14,7 +14,7 @@ ghost use Rattle.xr_model.specs.machine.PartAnswers.{or_refused};
 use crate::halt::{Halt, done, giving, refused};
 use crate::parts::{Parts, give};
 use xr_model::Cells;
-use xr_types::{Call, Code, Form, Gives, Kind, Reply};
+use xr_types::{Call, Code, Form, Gives, Kind, Reply, USERS};
 
 /// The one system.
 pub(crate) const SYSTEM: u64 = 1;
@@ -82,6 +82,7 @@ impl Parts {
         ensures { self.new ≡ record self.old { atoms = []; events = no_events } }
     {
         self.paths.clear();
+        self.users = [0; USERS];
         self.events.clear();
     }
 

@@ -1,21 +1,23 @@
 // The calls on spaces (OpenXR 1.0 chapter 7).
-ghost use Rattle.std.specs.Prelude.{◌≡◌, ◌≢◌, ◌<◌, ◌^◌, [], ◌∷◌, length, true, false};
+ghost use Rattle.std.specs.Prelude.{◌≡◌, ◌≢◌, ◌<◌, ◌^◌, [], ◌∷◌, length, true, false, IfSome};
 ghost use Rattle.xr_model.specs.machine.Handles.{has_room, was_given};
 ghost use Rattle.xr_model.specs.machine.Refusals.{first_of};
-ghost use Rattle.xr_model.specs.machine.Request.{create_reference_space, destroy_space, locate_space, request_of};
+ghost use Rattle.xr_model.specs.machine.Request.{create_reference_space, create_action_space, destroy_space, locate_space, request_of};
 ghost use Rattle.xr_model.specs.machine.Rule.{refusals};
 ghost use Rattle.xr_model.specs.machine.SessionRule.{loss_of, code_on};
 ghost use Rattle.xr_model.specs.machine.Spaces.{reference_checks};
 ghost use Rattle.xr_model.specs.machine.Rules.Session.{life_of};
-ghost use Rattle.xr_model.specs.machine.Rules.Spaces.{with_reference_space, with_space_gone, session_above, create_reference_space_rule, locate_space_rule};
+ghost use Rattle.xr_model.specs.machine.Rules.Spaces.{with_new_space, with_space_gone, session_above, create_reference_space_rule, locate_space_rule};
+ghost use Rattle.xr_model.specs.machine.Rules.Sync.{column_named, action_space_checks, action_root, create_action_space_rule};
 ghost use Rattle.xr_core.specs.inside.Deciding.{Decides};
 ghost use Rattle.xr_core.specs.inside.Groups.{IsSpaceCall};
 ghost use Rattle.xr_model.specs.machine.PartAnswers.{or_refused};
 
 use crate::halt::{Halt, done, giving};
 use crate::parts::{Parts, give};
+use xr_profiles::user_of;
 use xr_spaces::check_reference;
-use xr_types::{Call, Code, Gives, Kind, Location, RefKind, Reply, Root};
+use xr_types::{ActionType, Call, Code, Gives, Kind, Location, RefKind, Reply, Root, user_place};
 
 impl Parts {
     #[inline(never)]
@@ -30,6 +32,12 @@ impl Parts {
                 kind,
                 offset,
             } => self.create_reference_space(*session, *kind, *offset),
+            Call::CreateActionSpace {
+                session,
+                action,
+                sub,
+                offset,
+            } => self.create_action_space(*session, *action, *sub, *offset),
             Call::DestroySpace { space } => self.destroy_space(*space),
             Call::LocateSpace { space, base, time } => self.locate_space(*space, *base, time),
             _ => unreachable!(),
@@ -72,20 +80,96 @@ impl Parts {
         ensures { Decides self.old (create_reference_space session kind offset) self.new result }
     {
         let success = self.may_create_reference_space(session, kind, offset)?;
-        let handle = self.new_space(session, kind, offset);
+        let handle = self.add_space(session, Root::Fixed(kind), offset);
         giving(success, Gives::Handle(handle))
     }
 
-    /// Gives the handle of a new reference space, where there is room for one.
-    fn new_space(&mut self, session: u64, kind: RefKind, offset: u64) -> u64
+    /// Gives the handle of a new space that moves so, where there is room for one.
+    fn add_space(&mut self, session: u64, root: Root, offset: u64) -> u64
         requires given { length self.old.handles.given < 2 ^ 44 }
         requires room { has_room self.old.handles Kind.Space ≡ true }
-        ensures kept { self.new ≡ with_reference_space self.old session result kind offset }
+        ensures kept { self.new ≡ with_new_space self.old session result root offset }
         ensures fresh { (result ≢ 0) × (was_given self.old.handles result ≡ false) }
     {
         let handle = give(&mut self.handles, Kind::Space, session);
-        self.spaces.add(handle, Root::Fixed(kind), offset);
+        self.spaces.add(handle, root, offset);
         handle
+    }
+
+    /// The column of a user path by its atom, where the action declares it; column 0 is that of all, by 0.
+    fn column_named(&self, action: u64, sub: u64) -> Option<usize>
+        ensures column { result ≡ column_named self.now action sub }
+        ensures within { IfSome result (λ column. column < 6) }
+    {
+        if sub == 0 {
+            return Some(0);
+        }
+        let user = user_of(self.paths.text_at(sub)?)?;
+        if !self.sets.declares(action, user) {
+            return None;
+        }
+        Some(user_place(user) + 1)
+    }
+
+    /// What refuses an action space by its action's type, its user path and its offset.
+    fn check_action_space(&self, action: u64, sub: u64, offset: u64) -> Result<(), Code>
+        ensures { result ≡ or_refused (first_of (action_space_checks self.now action sub offset)) tt }
+    {
+        if !matches!(self.sets.kind_of(action), Some(ActionType::Pose)) {
+            return Err(Code::ActionTypeMismatch);
+        }
+        if self.column_named(action, sub).is_none() {
+            return Err(Code::PathUnsupported);
+        }
+        if offset == 0 {
+            return Err(Code::PoseInvalid);
+        }
+        Ok(())
+    }
+
+    /// What refuses an action space, or what its success is answered as.
+    fn may_create_action_space(
+        &self,
+        session: u64,
+        action: u64,
+        sub: u64,
+        offset: u64,
+    ) -> Result<Code, Code>
+        ensures { result ≡ or_refused (first_of (refusals (create_action_space_rule self.now 0 session action sub offset))) (code_on (loss_of (life_of self.now session)) Code.Success) }
+    {
+        self.live(Kind::Session, session)?;
+        self.live(Kind::Action, action)?;
+        let success = self.on_session(session)?;
+        self.check_action_space(action, sub, offset)?;
+        self.room(Kind::Space)?;
+        Ok(success)
+    }
+
+    fn create_action_space(
+        &mut self,
+        session: u64,
+        action: u64,
+        sub: u64,
+        offset: u64,
+    ) -> Result<Reply, Halt>
+        requires { length self.old.handles.given < 2 ^ 44 }
+        ensures { Decides self.old (create_action_space session action sub offset) self.new result }
+    {
+        let success = self.may_create_action_space(session, action, sub, offset)?;
+        let handle = self.add_space(session, self.action_root(action, sub), offset);
+        giving(success, Gives::Handle(handle))
+    }
+
+    /// What an action space moves with: a column of its action.
+    fn action_root(&self, action: u64, sub: u64) -> Root
+        ensures { result ≡ action_root self.now action sub }
+    {
+        let place = self.handles.place_among(Kind::Action, action).unwrap_or(0);
+        let column = self.column_named(action, sub).unwrap_or(0);
+        Root::Action {
+            place: place as u8,
+            column: column as u8,
+        }
     }
 
     /// A space goes, and nothing with it.
@@ -121,7 +205,9 @@ impl Parts {
         ensures { Decides self.old (locate_space space base time.now) self.new result }
     {
         let success = self.may_locate_space(space, base, time)?;
-        let found = self.spaces.locate(space, base, *time, &self.states);
+        let found = self
+            .spaces
+            .locate(space, base, *time, self.columns.states());
         giving(success, Gives::Location(found.unwrap_or(Location::Missing)))
     }
 }

@@ -11,7 +11,7 @@ ghost use Rattle.xr_model.specs.machine.Rule.{ahead, refusals};
 ghost use Rattle.xr_model.specs.machine.SessionRule.{loss_of, code_on};
 ghost use Rattle.xr_model.specs.machine.Rules.Session.{life_of};
 ghost use Rattle.xr_model.specs.machine.Rules.Spaces.{session_above};
-ghost use Rattle.xr_model.specs.machine.Rules.Swapchains.{with_swapchain, with_changed_chain, create_swapchain_rule, acquire_image_rule, is_up};
+ghost use Rattle.xr_model.specs.machine.Rules.Swapchains.{with_swapchain, with_chain_gone, freed_with_chain, with_changed_chain, create_swapchain_rule, acquire_image_rule, is_up};
 ghost use Rattle.xr_chains.specs.Waited.{waited_images};
 ghost use Rattle.xr_core.specs.inside.Deciding.{Decides, DecidesCells, MayTouch};
 ghost use Rattle.xr_core.specs.inside.Groups.{IsChainCall};
@@ -268,12 +268,22 @@ impl Parts {
         handle
     }
 
+    /// A swapchain goes, and nothing with it. Its image that was waited for is an application's no longer.
+    fn remove_chain<C: Cells>(&mut self, cells: &mut C, chain: u64)
+        requires may { MayCall C.may C.does cells.old (free_calls (freed_with_chain self.old chain)) }
+        ensures state { self.new ≡ with_chain_gone self.old chain }
+        ensures cells { Leads C.does cells.old (free_calls (freed_with_chain self.old chain)) cells.new }
+    {
+        self.handles.remove(Kind::Swapchain, chain);
+        self.remove_chains(cells);
+    }
+
     fn destroy_swapchain<C: Cells>(&mut self, cells: &mut C, chain: u64) -> Result<Reply, Halt>
         requires may { MayTouch C.may C.does self.old cells.old (destroy_swapchain chain) }
         ensures { DecidesCells C.does self.old (destroy_swapchain chain) self.new result cells.old cells.new }
     {
         self.live(Kind::Swapchain, chain)?;
-        self.destroy_over(cells, chain);
+        self.remove_chain(cells, chain);
         done(Code::Success)
     }
 }

@@ -1,13 +1,12 @@
 -- The codes that each call may answer, one row a call. The codes of its refusals stand in the order in which they are asked for;
 -- those of a frame's layers stand there layer by layer.
--- A call that has no rule yet has an empty row.
 use Rattle.std.specs.Prelude.{zero, suc, ℕ, Bool, true, false, List, [], ◌∷◌, ◌++◌, flat_map, if◌then◌else◌}
 use Rattle.std.specs.List.{list_any}
 use Rattle.xr_types.specs.declared.code.Code.{Code}
-use Rattle.xr_types.specs.declared.code.Code.TheVariants.{Success, TimeoutExpired, SessionLossPending, EventUnavailable, FrameDiscarded, LayerInvalid, LayerLimitExceeded, SwapchainRectInvalid, SwapchainFormatUnsupported, ValidationFailure, OutOfMemory, ApiVersionUnsupported, LimitReached, SizeInsufficient, HandleInvalid, SessionRunning, SessionNotRunning, SessionLost, SystemInvalid, PathInvalid, PathCountExceeded, PathFormatInvalid, PathUnsupported, SessionNotReady, SessionNotStopping, TimeInvalid, ReferenceSpaceUnsupported, FormFactorUnsupported, CallOrderInvalid, PoseInvalid, ViewConfigurationTypeUnsupported, NameDuplicated, NameInvalid, ActionsetsAlreadyAttached, LocalizedNameDuplicated, LocalizedNameInvalid, EnvironmentBlendModeUnsupported}
+use Rattle.xr_types.specs.declared.code.Code.TheVariants.{Success, TimeoutExpired, SessionLossPending, EventUnavailable, FrameDiscarded, LayerInvalid, LayerLimitExceeded, SwapchainRectInvalid, SwapchainFormatUnsupported, ValidationFailure, OutOfMemory, ApiVersionUnsupported, LimitReached, SizeInsufficient, HandleInvalid, SessionRunning, SessionNotRunning, SessionLost, SystemInvalid, PathInvalid, PathCountExceeded, PathFormatInvalid, PathUnsupported, SessionNotReady, SessionNotStopping, TimeInvalid, ReferenceSpaceUnsupported, FormFactorUnsupported, CallOrderInvalid, PoseInvalid, ViewConfigurationTypeUnsupported, NameDuplicated, NameInvalid, ActionsetsAlreadyAttached, LocalizedNameDuplicated, LocalizedNameInvalid, EnvironmentBlendModeUnsupported, SessionNotFocused, ActionsetNotAttached, ActionTypeMismatch}
 use Rattle.xr_types.specs.declared.frames.Layer.{Layer}
 use Rattle.xr_types.specs.declared.frames.Layer.TheVariants.{Projection, Quad}
-use Rattle.xr_model.specs.machine.Request.{Request, create_instance, destroy_instance, get_system, string_to_path, path_to_string, poll_event, create_session, destroy_session, begin_session, end_session, request_exit_session, create_reference_space, destroy_space, locate_space, create_action_set, destroy_action_set, create_action, destroy_action, suggest_bindings, attach_sets, create_swapchain, destroy_swapchain, acquire_image, wait_image, paint, release_image, wait_frame, begin_frame, end_frame, mark, await_mark, leave, device, next_frame, image_done}
+use Rattle.xr_model.specs.machine.Request.{Request, create_instance, destroy_instance, get_system, string_to_path, path_to_string, poll_event, create_session, destroy_session, begin_session, end_session, request_exit_session, create_reference_space, destroy_space, locate_space, create_action_set, destroy_action_set, create_action, destroy_action, suggest_bindings, attach_sets, sync_actions, get_boolean, get_float, get_vector, get_pose_active, create_action_space, create_swapchain, destroy_swapchain, acquire_image, wait_image, paint, release_image, wait_frame, begin_frame, end_frame, mark, await_mark, leave, device, next_frame, image_done}
 
 -- ---- a row
 
@@ -22,9 +21,6 @@ pub record Row : Type 0 where
   pub refuses : List Refuses
   pub memory : Bool
   pub succeeds : List Code
-
-abbrev pub no_row : Row
-no_row = record { refuses = []; memory = false; succeeds = [] }
 
 -- a call that succeeds plainly
 abbrev pub plain : List Refuses → Row
@@ -49,6 +45,11 @@ part_refuses = one HandleInvalid ∷ one SwapchainRectInvalid ∷ one LayerInval
 abbrev pub layer_refuses : Layer → List Refuses
 layer_refuses (Projection space count views) = one HandleInvalid ∷ one ValidationFailure ∷ part_refuses ++ part_refuses
 layer_refuses (Quad space image pose) = one HandleInvalid ∷ part_refuses ++ one PoseInvalid ∷ []
+
+-- a getter, which answers from what was published last
+abbrev pub getter_answers : Row
+getter_answers =
+    on_session (one HandleInvalid ∷ one HandleInvalid ∷ one SessionLost ∷ one ActionsetNotAttached ∷ one ActionTypeMismatch ∷ one PathUnsupported ∷ [])
 
 -- ---- the table
 
@@ -82,6 +83,16 @@ answers_of (suggest_bindings instance profile list) =
     ∷ each (HandleInvalid ∷ ActionsetsAlreadyAttached ∷ PathInvalid ∷ PathUnsupported ∷ []) ∷ [])
 answers_of (attach_sets session handles) =
     on_session (one HandleInvalid ∷ one SessionLost ∷ one ActionsetsAlreadyAttached ∷ one ValidationFailure ∷ each (HandleInvalid ∷ []) ∷ [])
+answers_of (sync_actions session active) =
+    record (on_session (one HandleInvalid ∷ one SessionLost ∷ one LimitReached ∷ each (HandleInvalid ∷ ActionsetNotAttached ∷ PathInvalid ∷ PathUnsupported ∷ []) ∷ [])) {
+      succeeds = Success ∷ SessionLossPending ∷ SessionNotFocused ∷ [];
+    }
+answers_of (get_boolean session action sub) = getter_answers
+answers_of (get_float session action sub) = getter_answers
+answers_of (get_vector session action sub) = getter_answers
+answers_of (get_pose_active session action sub) = getter_answers
+answers_of (create_action_space session action sub offset) =
+    on_session (one HandleInvalid ∷ one HandleInvalid ∷ one SessionLost ∷ one ActionTypeMismatch ∷ one PathUnsupported ∷ one PoseInvalid ∷ one LimitReached ∷ [])
 answers_of (create_swapchain session format width height fixed) =
     on_session (one HandleInvalid ∷ one SessionLost ∷ one SwapchainFormatUnsupported ∷ one ValidationFailure ∷ one LimitReached ∷ one LimitReached ∷ [])
 answers_of (destroy_swapchain chain) = plain (one HandleInvalid ∷ [])
@@ -102,7 +113,6 @@ answers_of leave = plain []
 answers_of (device what) = plain []
 answers_of next_frame = plain (one CallOrderInvalid ∷ [])
 answers_of image_done = plain (one CallOrderInvalid ∷ [])
-answers_of _ = no_row
 
 -- ---- the codes of a row
 

@@ -2,7 +2,7 @@
 use Rattle.std.specs.Prelude.{◌≡◌, ℕ, Bool, true, false, List, [], ◌∷◌, ◌++◌, ◌⊎◌, length, map, is_some, if◌then◌else◌}
 use Rattle.xr_types.specs.declared.code.Code.{Code}
 use Rattle.xr_types.specs.declared.code.Code.TheVariants.{CallOrderInvalid}
-use Rattle.xr_model.specs.machine.Request.{Request, create_action, suggest_bindings, attach_sets, Entry}
+use Rattle.xr_model.specs.machine.Request.{Request, create_action, suggest_bindings, attach_sets, sync_actions, Entry}
 use Rattle.xr_model.specs.machine.Refusals.{Refusal}
 use Rattle.xr_model.specs.machine.State.{CoreState, CellReads, State}
 use Rattle.xr_model.specs.machine.Rule.{Rule, ahead, told_on}
@@ -27,6 +27,7 @@ abbrev pub items_of : CoreState → Request → List ℕ
 items_of s (create_action set name kind subs localized) = length subs ∷ []
 items_of s (suggest_bindings instance profile list) = (if is_some (profile_at s.atoms profile) then length list else 0) ∷ []
 items_of s (attach_sets session handles) = length handles ∷ []
+items_of s (sync_actions session active) = length active ∷ []
 items_of s _ = []
 
 -- The refusals of a rule are a row's, in its order, with the codes of an item as often as there are items. What the row doesn't

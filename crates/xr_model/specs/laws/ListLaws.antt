@@ -10,6 +10,7 @@ use Rattle.xr_model.specs.machine.Paths.{text_at}
 use Rattle.xr_model.specs.machine.LiveSessions.{Session, session_at, attached_in}
 use Rattle.xr_model.specs.machine.Sets as inputs
 use Rattle.xr_model.specs.machine.Sets.{Set, set_at, action_at, is_sealed}
+use Rattle.xr_model.specs.machine.Spaces as spaces
 use Rattle.xr_model.specs.machine.Spaces.{Sample, space_at}
 use Rattle.xr_types.specs.declared.spaces.TheConstants.{SAMPLES}
 use Rattle.std.specs.Prelude.{nat_le, length}
@@ -42,12 +43,16 @@ ListedWhereLive = (settings : Settings) (es : List Entry) → IsLegal settings e
 abbrev pub without_attached : (ℕ → Bool) → Session → Session
 without_attached gone x = record x { attached = option_map (filter (λ set. not (gone set))) x.attached }
 
+-- what a space keeps also where its action goes: its handle and its offset
+abbrev pub standing : spaces.Space → ℕ × ℕ
+standing x = (x.handle, x.offset)
+
 -- each list without what is below a handle, in its order, and nothing else is gone
 pub record AreFiltered (s new : CoreState) (gone : ℕ → Bool) : Type 0 where
   pub sessions : new.sessions ≡ map (without_attached gone) (filter (λ x. not (gone x.handle)) s.sessions)
   pub sets : new.sets.sets ≡ filter (λ x. not (gone x.handle)) s.sets.sets
   pub actions : new.sets.actions ≡ filter (λ x. not (gone x.handle)) s.sets.actions
-  pub spaces : new.spaces.spaces ≡ filter (λ x. not (gone x.handle)) s.spaces.spaces
+  pub spaces : map standing new.spaces.spaces ≡ map standing (filter (λ x. not (gone x.handle)) s.spaces.spaces)
   pub suggestions : new.suggestions ≡ map (λ bindings. filter (λ b. not (gone b.action)) bindings) s.suggestions
 
 -- A call that destroys a handle takes exactly what is within it out of the lists.

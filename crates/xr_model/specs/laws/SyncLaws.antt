@@ -1,5 +1,5 @@
 -- What the definition of a sync means, for every list of sets and of bindings, all inputs and every column.
-use Rattle.std.specs.Prelude.{◌≡◌, ℕ, ℤ, pos, ◌+◌, ◌==◌, ◌&&◌, ◌||◌, ◌++◌, Bool, true, false, not, nat_lt, nat_le, unsigned_abs, map, List, [], ◌∷◌, Option, Some, is_some, option_and_then, slice_get, if◌then◌else◌}
+use Rattle.std.specs.Prelude.{◌≡◌, ℕ, ℤ, pos, ◌+◌, ◌==◌, ◌&&◌, ◌||◌, ◌++◌, Bool, true, false, not, nat_lt, nat_le, unsigned_abs, map, List, [], ◌∷◌, Some, is_some, option_and_then, slice_get, if◌then◌else◌}
 use Rattle.std.specs.List.{list_any, list_all}
 use Rattle.xr_types.specs.declared.input.ActionType.{ActionType}
 use Rattle.xr_types.specs.declared.input.ActionType.TheVariants as type
@@ -14,12 +14,11 @@ use Rattle.xr_types.specs.declared.input.Profile.{Profile}
 use Rattle.xr_types.specs.declared.input.Ranked.{Ranked}
 use Rattle.xr_types.specs.declared.input.User.{User}
 use Rattle.xr_types.specs.declared.limits.TheConstants.{MOST_ROW}
-use Rattle.xr_types.specs.declared.spaces.Origin.{Origin}
 use Rattle.xr_types.specs.InputValues.{square_of}
 use Rattle.xr_types.specs.Users.{user_place}
 use Rattle.xr_model.specs.machine.Profiles.{component, grip, aim}
 use Rattle.xr_model.specs.machine.Sets.{is_declared}
-use Rattle.xr_model.specs.machine.Sync.{live_in, is_live, is_down, amount, axes, pose_of, found_at, column_at, column_after, inactive}
+use Rattle.xr_model.specs.machine.Sync.{live_in, is_live, is_down, amount, axes, pose_of, found_at, synced_column, column_after, inactive}
 
 -- ---- what bindings of one type come to
 
@@ -85,7 +84,7 @@ PosesAreTheFirst =
 abbrev pub NothingIsInactive : Type 0
 NothingIsInactive =
     (active : List Heard) (all : List Ranked) (inputs : Inputs) (clock : ℤ) (place column : ℕ) (before : Column) → live_in active all place column ≡ []
-    → column_at active all inputs clock place column before ≡ inactive
+    → synced_column active all inputs clock place column before ≡ inactive
 
 -- What changes is active.
 abbrev pub ChangedIsActive : Type 0
@@ -95,14 +94,14 @@ ChangedIsActive = (clock : ℤ) (before : Column) (found : Found) → (column_af
 abbrev pub FirstColumnIsOfAll : Type 0
 FirstColumnIsOfAll =
     (active : List Heard) (all : List Ranked) (inputs : Inputs) (clock : ℤ) (place : ℕ) (before : Column)
-    → (column_at active all inputs clock place 0 before).active ≡ list_any (λ b. is_live active all b && (b.place == place)) all
+    → (synced_column active all inputs clock place 0 before).active ≡ list_any (λ b. is_live active all b && (b.place == place)) all
 
 -- The column of a user path that no binding's action declares is inactive.
 abbrev pub UndeclaredIsInactive : Type 0
 UndeclaredIsInactive =
     (active : List Heard) (all : List Ranked) (inputs : Inputs) (clock : ℤ) (place : ℕ) (who : User) (before : Column)
     → list_all (λ b. not (b.place == place && is_declared b.declared who)) all ≡ true
-    → (column_at active all inputs clock place (user_place who + 1) before).active ≡ false
+    → (synced_column active all inputs clock place (user_place who + 1) before).active ≡ false
 
 -- ---- what a binding may pick
 

@@ -10,7 +10,7 @@ use Rattle.xr_types.specs.declared.calls.Step.{Step}
 use Rattle.xr_types.specs.declared.calls.Step.TheVariants.{Done, NotReady}
 use Rattle.xr_types.specs.Frames.{ShownFrame}
 use Rattle.xr_model.specs.machine.Rule.{Rule, is_by}
-use Rattle.xr_model.specs.machine.Request.{Request, create_instance, destroy_instance, get_system, string_to_path, path_to_string, poll_event, create_session, destroy_session, begin_session, end_session, request_exit_session, create_reference_space, destroy_space, locate_space, create_action_set, destroy_action_set, create_action, destroy_action, suggest_bindings, attach_sets, create_swapchain, destroy_swapchain, acquire_image, wait_image, paint, release_image, wait_frame, begin_frame, end_frame, mark, await_mark, leave, device, next_frame, image_done, Entry, Outcome, request_of}
+use Rattle.xr_model.specs.machine.Request.{Request, create_instance, destroy_instance, get_system, string_to_path, path_to_string, poll_event, create_session, destroy_session, begin_session, end_session, request_exit_session, create_reference_space, destroy_space, locate_space, create_action_set, destroy_action_set, create_action, destroy_action, suggest_bindings, attach_sets, sync_actions, get_boolean, get_float, get_vector, get_pose_active, create_action_space, create_swapchain, destroy_swapchain, acquire_image, wait_image, paint, release_image, wait_frame, begin_frame, end_frame, mark, await_mark, leave, device, next_frame, image_done, Entry, Outcome, request_of}
 use Rattle.xr_model.specs.machine.State.{CoreState, State, CellReads, with_apps, opening_core}
 use Rattle.xr_model.specs.machine.Machine.{rule_of, step, ready, core_step, core_ready, IsPresent, IsAllowed, CoreAllows}
 
@@ -67,6 +67,12 @@ is_built (create_action set name kind subs localized) = true
 is_built (destroy_action action) = true
 is_built (suggest_bindings instance profile list) = true
 is_built (attach_sets session handles) = true
+is_built (sync_actions session active) = true
+is_built (get_boolean session action sub) = true
+is_built (get_float session action sub) = true
+is_built (get_vector session action sub) = true
+is_built (get_pose_active session action sub) = true
+is_built (create_action_space session action sub offset) = true
 is_built (create_swapchain session format width height fixed) = true
 is_built (destroy_swapchain chain) = true
 is_built (acquire_image chain) = true
@@ -82,7 +88,6 @@ is_built leave = true
 is_built (device what) = true
 is_built next_frame = true
 is_built image_done = true
-is_built _ = false
 
 -- The rule of a call that is asked for. Who makes a call, what it is lent and which numbers it may have is the same in every
 -- state, so it is read off in the state before any call.

@@ -3,10 +3,11 @@ use Rattle.std.specs.Prelude.{◌≡◌, ◌≢◌, ◌≤◌, ◌-◌, ◌==◌
 use Rattle.xr_types.specs.declared.calls.Actor.{Actor}
 use Rattle.xr_types.specs.declared.calls.Actor.TheVariants.{App, Compositor, Device}
 use Rattle.xr_types.specs.declared.frames.Image.{Image}
+use Rattle.xr_types.specs.declared.input.ActionType.TheVariants as type
 use Rattle.xr_types.specs.Code.{is_success}
 use Rattle.xr_model.specs.machine.CellCalls.{CellCall, claim_calls, pin_calls, free_calls, stamp_calls, peek_calls, return_calls}
 use Rattle.xr_model.specs.machine.Chains.{oldest_image}
-use Rattle.xr_model.specs.machine.Request.{Request, create_instance, destroy_instance, get_system, string_to_path, path_to_string, poll_event, create_session, destroy_session, begin_session, end_session, request_exit_session, create_reference_space, destroy_space, locate_space, create_action_set, destroy_action_set, create_action, destroy_action, suggest_bindings, attach_sets, create_swapchain, destroy_swapchain, acquire_image, wait_image, paint, release_image, wait_frame, begin_frame, end_frame, mark, await_mark, leave, device, next_frame, image_done, Entry, Outcome}
+use Rattle.xr_model.specs.machine.Request.{Request, create_instance, destroy_instance, get_system, string_to_path, path_to_string, poll_event, create_session, destroy_session, begin_session, end_session, request_exit_session, create_reference_space, destroy_space, locate_space, create_action_set, destroy_action_set, create_action, destroy_action, suggest_bindings, attach_sets, sync_actions, get_boolean, get_float, get_vector, get_pose_active, create_action_space, create_swapchain, destroy_swapchain, acquire_image, wait_image, paint, release_image, wait_frame, begin_frame, end_frame, mark, await_mark, leave, device, next_frame, image_done, Entry, Outcome}
 use Rattle.xr_model.specs.machine.Handles.{Handles, was_given}
 use Rattle.xr_model.specs.machine.Images.{slot_of, count_of, first_images, stamps_at, with_stamps}
 use Rattle.xr_model.specs.machine.Refusals.{first_of}
@@ -17,9 +18,10 @@ use Rattle.xr_model.specs.machine.Rules.Session.{create_session_rule, destroy_se
 use Rattle.xr_model.specs.machine.Rules.Spaces.{create_reference_space_rule, destroy_space_rule, locate_space_rule}
 use Rattle.xr_model.specs.machine.Rules.Sets.{create_action_set_rule, destroy_action_set_rule, create_action_rule, destroy_action_rule, attach_sets_rule}
 use Rattle.xr_model.specs.machine.Rules.Bindings.{suggest_bindings_rule}
+use Rattle.xr_model.specs.machine.Rules.Sync.{sync_actions_rule, getter_rule, create_action_space_rule}
 use Rattle.xr_model.specs.machine.Rules.Device.{device_rule}
 use Rattle.xr_model.specs.machine.Rules.Paths.{string_to_path_rule, path_to_string_rule}
-use Rattle.xr_model.specs.machine.Rules.Own.{leave_rule, mark_rule, await_mark_rule, no_rule}
+use Rattle.xr_model.specs.machine.Rules.Own.{leave_rule, mark_rule, await_mark_rule}
 use Rattle.xr_model.specs.machine.Rules.Frames.{wait_frame_rule, begin_frame_rule, end_frame_rule, next_frame_rule}
 use Rattle.xr_model.specs.machine.Rules.Swapchains.{create_swapchain_rule, destroy_swapchain_rule, acquire_image_rule, wait_image_rule, paint_rule, release_image_rule, image_done_rule}
 
@@ -45,6 +47,12 @@ rule_of s reads who given (create_action set name kind subs localized) = create_
 rule_of s reads who given (destroy_action action) = destroy_action_rule s action
 rule_of s reads who given (suggest_bindings instance profile list) = suggest_bindings_rule s instance profile list
 rule_of s reads who given (attach_sets session handles) = attach_sets_rule s session handles
+rule_of s reads who given (sync_actions session active) = sync_actions_rule s session active
+rule_of s reads who given (get_boolean session action sub) = getter_rule s type.Boolean session action sub
+rule_of s reads who given (get_float session action sub) = getter_rule s type.Float session action sub
+rule_of s reads who given (get_vector session action sub) = getter_rule s type.Vector session action sub
+rule_of s reads who given (get_pose_active session action sub) = getter_rule s type.Pose session action sub
+rule_of s reads who given (create_action_space session action sub offset) = create_action_space_rule s given session action sub offset
 rule_of s reads who given (create_swapchain session format width height fixed) = create_swapchain_rule s given session format width height fixed
 rule_of s reads who given (destroy_swapchain chain) = destroy_swapchain_rule s chain
 rule_of s reads who given (acquire_image chain) = acquire_image_rule s chain
@@ -60,7 +68,6 @@ rule_of s reads who given leave = leave_rule s who
 rule_of s reads who given (device what) = device_rule s what
 rule_of s reads who given next_frame = next_frame_rule s reads
 rule_of s reads who given image_done = image_done_rule s reads
-rule_of s reads who given _ = no_rule s
 
 abbrev pub rule : CoreState → CellReads → Entry → Rule
 rule s reads e = rule_of s reads e.actor e.given e.request

@@ -128,6 +128,14 @@ pub record Exchange : Type 0 where
   pub request : Request
   pub outcome : Outcome
 
+-- the getters of input
+abbrev pub is_getter : Request → Bool
+is_getter (get_boolean session action sub) = true
+is_getter (get_float session action sub) = true
+is_getter (get_vector session action sub) = true
+is_getter (get_pose_active session action sub) = true
+is_getter _ = false
+
 -- Locked calls are counted, and a reply's place is that count. The getters answer from what was published last,
 -- and `image_done` gives back an image: neither is counted.
 abbrev pub is_locked : Request → Bool

@@ -9,3 +9,4 @@ pub mod Paths
 pub mod Own
 pub mod Frames
 pub mod Swapchains
+pub mod Sync

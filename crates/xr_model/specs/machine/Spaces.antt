@@ -4,7 +4,6 @@
 use Rattle.std.specs.Prelude.{ℕ, ℤ, pos, ◌+◌, ◌==◌, ◌&&◌, not, Bool, true, false, int_le, int_lt, List, [], ◌∷◌, ◌++◌, map, take, replicate, slice_get, slice_set, Option, Some, None, option_map, option_and_then, unwrap_or, if◌then◌else◌}
 use Rattle.std.specs.List.{find, filter}
 use Rattle.xr_types.specs.declared.code.Code.TheVariants.{ReferenceSpaceUnsupported, PoseInvalid}
-use Rattle.xr_types.specs.declared.handles.TheConstants.{ACTIONS}
 use Rattle.xr_types.specs.declared.input.Column.{Column}
 use Rattle.xr_types.specs.declared.input.States.{States}
 use Rattle.xr_types.specs.declared.input.User.{User}
@@ -102,33 +101,26 @@ with_space s handle root offset = record s { spaces = s.spaces ++ record { handl
 abbrev pub without_space : Spaces → ℕ → Spaces
 without_space s handle = record s { spaces = filter (λ x. not (has_handle handle x)) s.spaces }
 
-abbrev pub is_of_action : ℕ → Root → Bool
-is_of_action place (Fixed what) = false
-is_of_action place (Action p column) = p == place
-
--- a space without what it moves with, where that is an action of this place
-abbrev pub without_action : ℕ → Space → Space
-without_action place x = record x { root = option_and_then (λ r. if is_of_action place r then None else Some r) x.root }
-
 -- without the spaces of these handles
 abbrev pub without_spaces : Spaces → List ℕ → Spaces
 without_spaces s handles = record s { spaces = filter (λ x. not (is_among handles x.handle)) s.spaces }
 
--- the action of a place was destroyed
-abbrev pub forgotten : Spaces → ℕ → Spaces
-forgotten s place = record s { spaces = map (without_action place) s.spaces }
+-- a space without what it moves with, where that is an action whose place isn't one of these
+abbrev pub is_left : (ℕ → Bool) → Root → Bool
+is_left there (Fixed what) = true
+is_left there (Action place column) = there place
+
+abbrev pub with_left : (ℕ → Bool) → Space → Space
+with_left there x = record x { root = option_and_then (λ r. if is_left there r then Some r else None) x.root }
+
+-- the spaces once only the actions in these places are left
+abbrev pub left_spaces : (ℕ → Bool) → Spaces → Spaces
+left_spaces there s = record s { spaces = map (with_left there) s.spaces }
 
 abbrev pub sampled : Spaces → Origin → ℤ → ℕ → Spaces
 sampled s what time pose = record s { samples = with_sample_of s.samples what time pose }
 
 -- ---- locating
-
--- no sync was made: each column is inactive
-abbrev pub inactive : Column
-inactive = record { x = pos 0; y = pos 0; changed = false; time = pos 0; active = false; origin = None }
-
-abbrev pub no_states : States
-no_states = record { columns = replicate ACTIONS (replicate 6 inactive) }
 
 abbrev pub origin_of_kind : RefKind → Origin
 origin_of_kind kind.View = origin.View

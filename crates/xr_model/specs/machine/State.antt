@@ -3,6 +3,7 @@ use Rattle.std.specs.Prelude.{ℕ, ◌*◌, Option, Bool, false, replicate, List
 use Rattle.xr_types.specs.declared.frames.Image.{Image}
 use Rattle.xr_types.specs.declared.handles.TheConstants.{SWAPCHAINS}
 use Rattle.xr_types.specs.declared.input.Bound.{Bound}
+use Rattle.xr_types.specs.declared.input.Column.{Column}
 use Rattle.xr_model.specs.machine.Handles.{Handles, no_handles}
 use Rattle.xr_model.specs.machine.Bindings.{no_suggestions}
 use Rattle.xr_model.specs.machine.Chains.{Chain, no_chains}
@@ -13,12 +14,14 @@ use Rattle.xr_model.specs.machine.Marks.{no_marks}
 use Rattle.xr_model.specs.machine.Sets.{Sets, no_sets}
 use Rattle.xr_model.specs.machine.Spaces.{Spaces, no_spaces}
 use Rattle.xr_model.specs.machine.Device.{Device, first_device}
+use Rattle.xr_model.specs.machine.Sync.{no_columns}
 
 -- What a core keeps: the handles, the atoms' texts, the events that wait, the live sessions in the order of their
--- creation, how many were created in the run, the action sets with their actions, what is suggested for each profile, the
--- spaces with the samples of their origins, the loop of frames and those that are pending, how many frames were ended in
+-- creation, how many were created in the run, the action sets with their actions, what is suggested for each profile, what each
+-- action shows since the last sync, by its place, the spaces with the samples of their origins, the loop of frames and those that are pending, how many frames were ended in
 -- the run, the swapchains in their places, the images of the frame taken last, what the device has told of itself, the marks,
--- how many applications there are, which of them have left, and how many locked calls were decided.
+-- how many applications there are, which of them have left, how many locked calls were decided, and the place of the call that
+-- published last.
 pub record CoreState : Type 0 where
   pub handles : Handles
   pub atoms : List (List ℕ)
@@ -27,6 +30,7 @@ pub record CoreState : Type 0 where
   pub created : ℕ
   pub sets : Sets
   pub suggestions : List (List Bound)
+  pub columns : List (List Column)
   pub spaces : Spaces
   pub frames : Frames
   pub ended : ℕ
@@ -37,6 +41,7 @@ pub record CoreState : Type 0 where
   pub apps : ℕ
   pub left : List Bool
   pub locked : ℕ
+  pub published : ℕ
 
 -- What the cells hold beside a core: the stamp of each image, and the images of the frame taken last that are
 -- not given back, in order. An image's count is not stored: it is how many pending frames use the image, and
@@ -79,6 +84,7 @@ opening_core settings = record {
   created = 0;
   sets = no_sets;
   suggestions = no_suggestions;
+  columns = no_columns;
   spaces = no_spaces;
   frames = no_frames;
   ended = 0;
@@ -89,6 +95,7 @@ opening_core settings = record {
   apps = settings.apps;
   left = replicate settings.apps false;
   locked = 0;
+  published = 0;
 }
 
 -- the cells before any call: three images for each place of a chain

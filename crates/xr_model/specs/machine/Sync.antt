@@ -1,10 +1,12 @@
 -- The states of a sync (OpenXR 1.0 chapter 11, xrSyncActions and "Resolution of action bindings"), from the list of suggestions for
 -- the controllers that are connected. Whole numbers for values, ties, and that a pose never changes are this project's own.
-use Rattle.std.specs.Prelude.{ℕ, ℤ, pos, ◌+◌, ◌-◌, ◌==◌, ◌&&◌, ◌||◌, not, Bool, true, false, nat_lt, List, [], ◌∷◌, Option, Some, None, if◌then◌else◌}
+use Rattle.std.specs.Prelude.{ℕ, ℤ, pos, ◌+◌, ◌==◌, ◌&&◌, ◌||◌, not, Bool, true, false, nat_lt, List, [], ◌∷◌, replicate, Option, Some, None, if◌then◌else◌}
 use Rattle.std.specs.List.{list_any, filter}
 use Rattle.std.specs.Ordering.{int_eq}
+use Rattle.xr_types.specs.declared.handles.TheConstants.{ACTIONS}
 use Rattle.xr_types.specs.declared.input.ActionType.{ActionType}
 use Rattle.xr_types.specs.declared.input.ActionType.TheVariants as type
+use Rattle.xr_types.specs.declared.input.Bound.{Bound}
 use Rattle.xr_types.specs.declared.input.Column.{Column}
 use Rattle.xr_types.specs.declared.input.Found.{Found}
 use Rattle.xr_types.specs.declared.input.Heard.{Heard}
@@ -39,6 +41,10 @@ is_heard active b = list_any (λ h. (h.set == b.set) && hears h.user b.bound.pic
 -- A binding's source is its path up to the identifier: a user path and an identifier (section 6.3).
 abbrev pub is_same_source : Pick → Pick → Bool
 is_same_source a b = is_same_user a.user b.user && (a.identifier == b.identifier)
+
+-- there are thirty identifiers
+abbrev pub is_source : Bound → Bool
+is_source b = nat_lt b.pick.identifier 30
 
 -- a heard binding of the same source belongs to a set of larger priority (XrActionSetCreateInfo)
 abbrev pub is_outranked : List Heard → List Ranked → Ranked → Bool
@@ -133,6 +139,13 @@ found_at active all inputs place column = found_from inputs nothing_found (live_
 abbrev pub inactive : Column
 inactive = record { x = pos 0; y = pos 0; changed = false; time = pos 0; active = false; origin = None }
 
+-- of an action, and of all
+abbrev pub inactive_row : List Column
+inactive_row = replicate 6 inactive
+
+abbrev pub no_columns : List (List Column)
+no_columns = replicate ACTIONS inactive_row
+
 -- the value that it showed, where an inactive column counts as zero
 abbrev pub value_before : Column → ℤ × ℤ
 value_before before = if before.active then (before.x, before.y) else (pos 0, pos 0)
@@ -155,11 +168,15 @@ abbrev pub each_from : {T : Type 0} → (ℕ → T → T) → ℕ → List T →
 each_from f n [] = []
 each_from f n (x ∷ xs) = f n x ∷ each_from f (n + 1) xs
 
+-- the columns once only the actions in these places are left
+abbrev pub left_columns : (ℕ → Bool) → List (List Column) → List (List Column)
+left_columns there columns = each_from (λ place row. if there place then row else inactive_row) 0 columns
+
 -- the column of an action's place after a sync, from the column before
-abbrev pub column_at : List Heard → List Ranked → Inputs → ℤ → ℕ → ℕ → Column → Column
-column_at active all inputs clock place column before = column_after clock before (found_at active all inputs place column)
+abbrev pub synced_column : List Heard → List Ranked → Inputs → ℤ → ℕ → ℕ → Column → Column
+synced_column active all inputs clock place column before = column_after clock before (found_at active all inputs place column)
 
 -- The columns after a sync that hears these sets, from the bindings of the connected controllers in the order of the user paths and
 -- then of the suggestions, at this time of the device's clock, and from the columns before.
 abbrev pub columns_after : List Heard → List Ranked → Inputs → ℤ → List (List Column) → List (List Column)
-columns_after active all inputs clock before = each_from (λ place row. each_from (λ column c. column_at active all inputs clock place column c) 0 row) 0 before
+columns_after active all inputs clock before = each_from (λ place row. each_from (λ column c. synced_column active all inputs clock place column c) 0 row) 0 before

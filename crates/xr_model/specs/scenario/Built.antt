@@ -1,5 +1,5 @@
 -- Which scenarios are run: those whose ops are all built.
-use Rattle.std.specs.Prelude.{ℕ, Bool, true, false, List, Result, Ok, Err, if◌then◌else◌}
+use Rattle.std.specs.Prelude.{ℕ, Bool, true, List, Result, Ok, Err, if◌then◌else◌}
 use Rattle.std.specs.List.{list_all}
 use Rattle.xr_types.specs.declared.scenario.Op.{Op}
 use Rattle.xr_types.specs.declared.scenario.Op.TheVariants as op
@@ -29,6 +29,12 @@ is_built_op (op.CreateAction set called kind subactions localized) = true
 is_built_op (op.DestroyAction action) = true
 is_built_op (op.SuggestBindings instance profile bindings) = true
 is_built_op (op.AttachSets session sets) = true
+is_built_op (op.SyncActions session active) = true
+is_built_op (op.GetBoolean session action sub) = true
+is_built_op (op.GetFloat session action sub) = true
+is_built_op (op.GetVector session action sub) = true
+is_built_op (op.GetPoseActive session action sub) = true
+is_built_op (op.CreateActionSpace session action sub offset) = true
 is_built_op (op.CreateSwapchain session format width height fixed) = true
 is_built_op (op.DestroySwapchain chain) = true
 is_built_op (op.AcquireImage chain) = true
@@ -40,7 +46,6 @@ is_built_op (op.BeginFrame session) = true
 is_built_op (op.EndFrame session time blend layers) = true
 is_built_op (op.Mark number value) = true
 is_built_op (op.Await number) = true
-is_built_op _ = false
 
 -- all ops of all scripts are built
 abbrev pub are_built : List (List Op) → Bool

@@ -1,11 +1,14 @@
 -- What the loop of a run keeps from turn to turn.
-use Rattle.std.specs.Prelude.{◌≡◌, ◌≤◌, ◌<◌, ℕ, ℤ, ◌+◌, ◌*◌, ◌-◌, Bool, true, false, List, [], ◌∷◌, ◌++◌, length, drop, map, Option, Some, None, IfSome, is_some, slice_index_or, if◌then◌else◌}
+use Rattle.std.specs.Prelude.{◌≡◌, ◌≤◌, ◌<◌, ℕ, ◌+◌, ◌*◌, ◌-◌, Bool, true, false, List, [], ◌∷◌, ◌++◌, length, drop, map, Option, Some, None, IfSome, is_some, slice_index_or, if◌then◌else◌}
 use Rattle.std.specs.List.{list_any, sum_by}
 use Rattle.xr_types.specs.declared.calls.Actor.{Actor}
 use Rattle.xr_types.specs.declared.calls.Actor.TheVariants.{App, Compositor, Device}
 use Rattle.xr_types.specs.declared.calls.Gives.TheVariants.{Ended}
 use Rattle.xr_types.specs.declared.calls.Reply.{Reply}
 use Rattle.xr_types.specs.declared.device.DeviceEvent.{DeviceEvent}
+use Rattle.xr_types.specs.declared.made.Made.{Made}
+use Rattle.xr_types.specs.declared.names.CallName.{CallName}
+use Rattle.xr_types.specs.declared.names.CallName.TheVariants as call
 use Rattle.xr_types.specs.declared.scenario.Op.{Op}
 use Rattle.xr_types.specs.declared.scenario.Scenario.{Scenario}
 use Rattle.xr_types.specs.Frames.{PendingFrame}
@@ -126,9 +129,25 @@ frames_work (f ∷ fs) = 1 + length f.images + frames_work fs
 abbrev pub most_calls : List (List Op) → ℕ
 most_calls scripts = 66 * sum_by length scripts + length scripts + 16777218
 
--- how many calls were made: the locked ones, and the images given back
+-- how many of these calls are getters, and of all applications' calls
+abbrev pub is_getter_name : CallName → Bool
+is_getter_name call.GetBoolean = true
+is_getter_name call.GetFloat = true
+is_getter_name call.GetVector = true
+is_getter_name call.GetPoseActive = true
+is_getter_name _ = false
+
+abbrev pub getters_in : List Made → ℕ
+getters_in [] = 0
+getters_in (m ∷ ms) = (if is_getter_name m.name then 1 else 0) + getters_in ms
+
+abbrev pub getters_of : List AppState → ℕ
+getters_of [] = 0
+getters_of (app ∷ apps) = getters_in app.calls + getters_of apps
+
+-- how many calls were made: the locked ones, the getters, and the images given back
 abbrev pub calls_made : State → RunState → ℕ
-calls_made s run = s.core.locked + length run.compositor.done
+calls_made s run = s.core.locked + getters_of run.apps + length run.compositor.done
 
 -- what the frames that are pending and the images that are held still bring
 abbrev pub shown_work : State → ℕ

@@ -5,7 +5,7 @@ use Rattle.xr_types.specs.declared.device.DeviceEvent.{DeviceEvent}
 use Rattle.xr_types.specs.declared.made.Made.{Made}
 use Rattle.xr_types.specs.Frames.{ShownFrame}
 
--- An application: how many ops of its script were made, what its names stand for, its calls, the clock after its last one, and
+-- An application: how many ops of its script were made, what its names stand for, its calls, the clock after its last locked one, and
 -- whether it has left.
 pub record AppState : Type 0 where
   pub made : ℕ

@@ -17,7 +17,7 @@ use Rattle.xr_model.specs.machine.State.{State}
 use Rattle.xr_model.specs.machine.Frames.{is_empty}
 use Rattle.xr_model.specs.scenario.Built.{is_built_op}
 use Rattle.xr_model.specs.scenario.ScriptForm.{IsInRange}
-use Rattle.xr_model.specs.runs.Robin.{with_start}
+use Rattle.xr_model.specs.runs.Robin.{with_start, clock_behind}
 use Rattle.xr_model.specs.machine.Machine.{ready}
 use Rattle.xr_model.specs.runs.NameValues.{with_name_value, no_values}
 use Rattle.xr_model.specs.runs.Scripts.{request_for}
@@ -40,7 +40,7 @@ op_start clock _ = pos 0
 abbrev pub new_app : List Op → AppState
 new_app ops = record { made = 0; names = no_values (length ops); calls = []; clock = pos 0; has_left = false }
 
--- once the call of its next op was made, which the clock stands at
+-- once the call of its next op was made, which leaves this clock
 abbrev pub app_with : AppState → Op → Exchange → ℤ → AppState
 app_with app op t clock = record {
   made = app.made + 1;
@@ -66,7 +66,7 @@ pub record OpMade (number : ℕ) (ops : List Op) (old new : AppState) (s after :
   pub built : is_built_op op ≡ true
   pub ranged : IsInRange op
   pub call : IsAnswered s after (App number) (op_request old op) outcome
-  pub app : new ≡ app_with old op (exchange_of (op_request old op) outcome) after.core.device.clock
+  pub app : new ≡ app_with old op (exchange_of (op_request old op) outcome) (clock_behind old.clock (request_for old.names op) after)
 
 -- It has to wait, and all is as it was.
 pub record OpWaits (number : ℕ) (ops : List Op) (old new : AppState) (s after : State) : Type 0 where

@@ -1,5 +1,10 @@
-// Suggested bindings, which no run makes yet: which lists are taken and which are refused, what they take the place of,
+// Suggested bindings: which lists are taken and which are refused, what they take the place of,
 // and what goes with an action.
+ghost use Rattle.std.specs.Prelude.{◌≡◌};
+ghost use Rattle.std.specs.List.{list_all};
+ghost use Rattle.xr_model.specs.machine.Sync.{is_source};
+
+use std::alloc::Global;
 use std::test::Fail;
 use xr_bindings::Bindings;
 use xr_types::{Bound, Code, Part, Pick, Profile, User, Word};
@@ -131,13 +136,34 @@ const SUGGESTED: [Row; 11] = [
     (Profile::Touch, FEW, Code::Success, [TWICE, FEW, MIXED, FEW]),
 ];
 
+/// Whether a binding picks one of the thirty identifiers.
+fn is_source(bound: &Bound) -> bool
+    ensures { result ≡ is_source bound.now }
+{
+    bound.pick.identifier < 30
+}
+
+fn are_sources(list: &[Bound]) -> bool
+    ensures { result ≡ list_all is_source list.now }
+{
+    list.iter().all(|bound| is_source(bound))
+}
+
+/// Suggests a list, of which each picks one of the thirty identifiers.
+fn suggest(bindings: &mut Bindings, alloc: Global, profile: Profile, list: &[Bound]) -> Code {
+    if !are_sources(list) {
+        return Code::PathUnsupported;
+    }
+    bindings.suggest(alloc, profile, list)
+}
+
 #[test]
 fn a_list_takes_the_place_of_the_one_before(rt: HostRuntime) -> Result<(), Fail> {
     let mut bindings = Bindings::start();
     assert!(rt; are_suggested(&bindings, [NONE; 4]), "nothing at first");
     for (place, (profile, list, code, lists)) in SUGGESTED.iter().enumerate() {
         assert_eq!(rt;
-            bindings.suggest(rt.alloc(), *profile, list),
+            suggest(&mut bindings, rt.alloc(), *profile, list),
             *code,
             "row {place}"
         );
@@ -164,9 +190,10 @@ const LEFT: [(u64, Lists); 3] = [
 #[test]
 fn an_action_takes_its_suggestions(rt: HostRuntime) -> Result<(), Fail> {
     let mut bindings = Bindings::start();
-    bindings.suggest(rt.alloc(), Profile::Simple, MIXED);
-    bindings.suggest(rt.alloc(), Profile::Touch, FEW);
-    bindings.suggest(
+    suggest(&mut bindings, rt.alloc(), Profile::Simple, MIXED);
+    suggest(&mut bindings, rt.alloc(), Profile::Touch, FEW);
+    suggest(
+        &mut bindings,
         rt.alloc(),
         Profile::Xbox,
         &[FIRE_BY_SQUEEZE, FIRE_BY_SQUEEZE],
@@ -178,7 +205,7 @@ fn an_action_takes_its_suggestions(rt: HostRuntime) -> Result<(), Fail> {
     bindings.clear();
     assert!(rt; are_suggested(&bindings, [NONE; 4]), "cleared");
     assert_eq!(rt;
-        bindings.suggest(rt.alloc(), Profile::Vive, FEW),
+        suggest(&mut bindings, rt.alloc(), Profile::Vive, FEW),
         Code::Success
     );
     assert!(rt; are_suggested(&bindings, [NONE, NONE, FEW, NONE]), "anew");

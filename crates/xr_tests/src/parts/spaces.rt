@@ -116,7 +116,7 @@ fn spaces_are_located(rt: HostRuntime) -> Result<(), Fail> {
             location
         );
     }
-    spaces.forget(5);
+    spaces.leave(&[false; 64]);
     spaces.remove(2);
     for (space, base, time, location) in LESS {
         assert_eq!(rt;

@@ -62,8 +62,10 @@ fn all_of(set: u64) -> Heard {
 
 /// What a column shows: its value, whether it changed, when, and whether it is active.
 fn shown(columns: &Columns, place: usize, column: usize) -> (i32, i32, bool, i64, bool) {
-    let it = columns.column(place, column);
-    (it.x, it.y, it.changed, it.time, it.active)
+    match columns.column(place, column) {
+        Some(it) => (it.x, it.y, it.changed, it.time, it.active),
+        None => NONE,
+    }
 }
 
 /// What an inactive column shows.
@@ -277,8 +279,9 @@ fn poses_are_the_first_and_never_change(rt: HostRuntime) -> Result<(), Fail> {
     ];
     let mut columns = Columns::start();
     columns.sync(&[all_of(1)], &list, &inputs(&[]), 5);
-    let all = matches!(columns.column(0, 0).origin, Some(Origin::Aim(User::Right)));
-    let left = matches!(columns.column(0, 1).origin, Some(Origin::Grip(User::Left)));
+    let origin = |column| columns.column(0, column).and_then(|it| it.origin);
+    let all = matches!(origin(0), Some(Origin::Aim(User::Right)));
+    let left = matches!(origin(1), Some(Origin::Grip(User::Left)));
     assert!(rt; all && left && shown(&columns, 0, 0) == (0, 0, false, 0, true));
     Ok(())
 }

@@ -1,5 +1,5 @@
 -- The calls that are this project's own and no statement about the standard.
-use Rattle.std.specs.Prelude.{ℕ, List, Bool, ◌-◌, slice_set, not, true, false}
+use Rattle.std.specs.Prelude.{ℕ, List, Bool, ◌-◌, slice_set, not, true}
 use Rattle.xr_types.specs.declared.calls.Actor.{Actor}
 use Rattle.xr_types.specs.declared.calls.Actor.TheVariants.{App, Compositor, Device}
 use Rattle.xr_types.specs.declared.calls.Gives.TheVariants.{Nothing, Number}
@@ -30,5 +30,3 @@ abbrev pub await_mark_rule : CoreState → ℕ → Rule
 await_mark_rule s number = record (ordinary s) { in_range = is_mark number; waits = not (is_set s.marks number); effect = done s (Number (value_of_mark s.marks number)) }
 
 -- a call that has no rule yet: no entry with it is allowed
-abbrev pub no_rule : CoreState → Rule
-no_rule s = record (ordinary s) { is_there = false }

@@ -41,7 +41,7 @@ create_session_rule s given instance system = record (ordinary s) {
   effect = done (with_session s instance given (started_session s.device.wish)) (Handle given);
 }
 
--- xrDestroySession: all below the session goes with it; events that wait stay. It is refused for its handle alone, also
+-- xrDestroySession: all below the session goes with it, and what its last sync showed; events that wait stay. It is refused for its handle alone, also
 -- where the session is lost.
 abbrev pub destroy_session_rule : CoreState → ℕ → Rule
 destroy_session_rule s session = record (ordinary s) {

@@ -5,20 +5,22 @@ use Rattle.xr_types.specs.declared.calls.Gives.TheVariants as gives
 use Rattle.xr_types.specs.declared.handles.Kind.TheVariants as kind
 use Rattle.xr_types.specs.declared.spaces.Location.TheVariants.{Missing}
 use Rattle.xr_types.specs.declared.spaces.RefKind.{RefKind}
+use Rattle.xr_types.specs.declared.spaces.Root.{Root}
 use Rattle.xr_types.specs.declared.spaces.Root.TheVariants.{Fixed}
 use Rattle.xr_model.specs.machine.Handles.{Handles, no_handle, no_room, with_handle, without_alone}
 use Rattle.xr_model.specs.machine.HandlePlaces.{parent_of}
 use Rattle.xr_model.specs.machine.Refusals.{when}
-use Rattle.xr_model.specs.machine.Spaces.{without_space, reference_checks, with_space, located, no_states}
+use Rattle.xr_model.specs.machine.Spaces.{without_space, reference_checks, with_space, located}
 use Rattle.xr_model.specs.machine.State.{CoreState}
 use Rattle.xr_model.specs.machine.SessionRule.{loss_of}
 use Rattle.xr_model.specs.machine.Rule.{Rule, ordinary, done, destroying}
 use Rattle.xr_model.specs.machine.Rules.Session.{life_of}
 
-abbrev pub with_reference_space : CoreState → ℕ → ℕ → RefKind → ℕ → CoreState
-with_reference_space s session given what offset = record s {
+-- a new space of a session, which moves with this
+abbrev pub with_new_space : CoreState → ℕ → ℕ → Root → ℕ → CoreState
+with_new_space s session given root offset = record s {
   handles = with_handle s.handles kind.Space session given;
-  spaces = with_space s.spaces given (Fixed what) offset;
+  spaces = with_space s.spaces given root offset;
 }
 
 -- xrCreateReferenceSpace
@@ -28,7 +30,7 @@ create_reference_space_rule s given session what offset = record (ordinary s) {
   handles = no_handle s.handles kind.Session session ∷ [];
   behind = reference_checks what offset s.device.stage ++ no_room s.handles kind.Space ∷ [];
   creates = Some kind.Space;
-  effect = done (with_reference_space s session given what offset) (gives.Handle given);
+  effect = done (with_new_space s session given (Fixed what) offset) (gives.Handle given);
 }
 
 -- nothing stands below a space, so its row and the spaces are all that change
@@ -46,11 +48,11 @@ destroy_space_rule s space = record (ordinary s) {
 abbrev pub session_above : Handles → ℕ → ℕ
 session_above h space = unwrap_or (parent_of h space) 0
 
--- xrLocateSpace: a time is above 0; no sync was made yet
+-- xrLocateSpace: a time is above 0; the space of an action moves with what the last sync chose for it
 abbrev pub locate_space_rule : CoreState → ℕ → ℕ → ℤ → Rule
 locate_space_rule s space base time = record (ordinary s) {
   on = Some (loss_of (life_of s (session_above s.handles space)));
   handles = no_handle s.handles kind.Space space ∷ no_handle s.handles kind.Space base ∷ [];
   behind = when (int_le time (pos 0)) TimeInvalid ∷ [];
-  effect = done s (gives.Location (unwrap_or (located s.spaces no_states space base time) Missing));
+  effect = done s (gives.Location (unwrap_or (located s.spaces (record { columns = s.columns }) space base time) Missing));
 }

@@ -1,13 +1,13 @@
 -- Swapchains and their images (OpenXR 1.0 chapter 10, "Swapchain Image Management"). Painting is this project's own, and so is
 -- that a timeout runs on the device's clock from the caller's last locked call.
-use Rattle.std.specs.Prelude.{ℕ, ℤ, pos, ◌-ℤ◌, ◌&&◌, ◌-◌, ◌^◌, int_le, Bool, not, [], ◌∷◌, ◌++◌, take, Some}
+use Rattle.std.specs.Prelude.{ℕ, ℤ, pos, ◌-ℤ◌, ◌&&◌, ◌-◌, ◌^◌, int_le, Bool, not, List, [], ◌∷◌, ◌++◌, take, Some}
 use Rattle.xr_types.specs.declared.code.Code.TheVariants.{TimeoutExpired}
 use Rattle.xr_types.specs.declared.calls.Gives.TheVariants.{Nothing, Handle, Number}
+use Rattle.xr_types.specs.declared.frames.Image.{Image}
 use Rattle.xr_types.specs.declared.handles.Kind.TheVariants.{Session, Swapchain}
-use Rattle.xr_model.specs.machine.Chains.{Chain, new_chain, chain_at, with_chain, with_chain_at, chain_checks, no_place, first_place, is_acquire_wrong, is_wait_wrong, is_paint_wrong, next_index, acquiring, waiting, releasing, oldest_image}
-use Rattle.xr_model.specs.machine.Destroyed.{without_handle, freed_by}
+use Rattle.xr_model.specs.machine.Chains.{Chain, new_chain, chain_at, with_chain, with_chain_at, chain_checks, no_place, first_place, is_acquire_wrong, is_wait_wrong, is_paint_wrong, next_index, acquiring, waiting, releasing, oldest_image, is_place_used, left_in_places, freed_in_places}
 use Rattle.xr_model.specs.machine.Frames.{is_empty}
-use Rattle.xr_model.specs.machine.Handles.{no_handle, no_room, with_handle, destroyed_by}
+use Rattle.xr_model.specs.machine.Handles.{no_handle, no_room, with_handle, without_alone}
 use Rattle.xr_model.specs.machine.Images.{unstamped}
 use Rattle.xr_model.specs.machine.Refusals.{when}
 use Rattle.xr_model.specs.machine.SessionRule.{loss_of}
@@ -31,11 +31,22 @@ create_swapchain_rule s given session format width height fixed = record (ordina
   effect = done_doing (with_swapchain s session (new_chain given width height fixed)) (Handle given) (record nothing_done { stamped = unstamped (first_place s.chains) });
 }
 
+-- nothing stands below a swapchain, so its row and the places of swapchains are all that change
+abbrev pub with_chain_gone : CoreState → ℕ → CoreState
+with_chain_gone s chain = record s {
+  handles = without_alone s.handles Swapchain chain;
+  chains = left_in_places (without_alone s.handles Swapchain chain) (is_place_used s.frames.pending s.shown_images) 0 s.chains;
+}
+
+-- the image that an application had waited for, and whose chain goes
+abbrev pub freed_with_chain : CoreState → ℕ → List Image
+freed_with_chain s chain = freed_in_places (without_alone s.handles Swapchain chain) 0 s.chains
+
 -- xrDestroySwapchain. It is refused for its handle alone, also where the session is lost.
 abbrev pub destroy_swapchain_rule : CoreState → ℕ → Rule
 destroy_swapchain_rule s chain = record (ordinary s) {
   handles = no_handle s.handles Swapchain chain ∷ [];
-  effect = destroying (without_handle s chain) (destroyed_by s.handles chain) (freed_by s chain);
+  effect = destroying (with_chain_gone s chain) (chain ∷ []) (freed_with_chain s chain);
 }
 
 -- ---- images of an application

@@ -2,7 +2,7 @@ use Rattle.std.proofs.Common.{◌≡◌, ◌≤◌, ◌<◌, false, [], length, 
 use Rattle.std.proofs.lemmas.List.{get_or_default}
 use Rattle.xr_model.specs.scenario.ScriptForm.{IsInForm}
 use Rattle.xr_serial.specs.inside.RunState.{AppState, RunState}
-use Rattle.xr_serial.proofs.AppTurns.{is_present, has_left_from, op_turn_from, leaves_from, in_form_at}
+use Rattle.xr_serial.proofs.AppTurns.{is_present, has_left_from, op_turn_from, leaves_from, in_form_at, op_turn_counts, leave_turn_counts, no_turn_counts}
 use Rattle.xr_serial.proofs.rounds.app_turn.Goals as goal
 
 pub returns-then-app-clause-kept : goal.returns-then-app-clause-kept
@@ -45,3 +45,26 @@ returns-clause-kept c =
     let all : length ops ≤ old.made = subst (λ (a : AppState). length ops ≤ a.made) c.app.view_is (omega (arith, not_less)) in
     let stays : old.has_left ≡ false = ap (λ (a : AppState). a.has_left) (sym c.app.view_is) ∙ c.if-app.false in
     rw (← c.run.view_is) (λ idle start now few kept. leaves_from c.args.scenario.now c.args.place idle c.args.machine.now c.leave.new.machine _ start now old c.leave.new.self ops c.requires.within few c.index_mut-app.ensures.value are c.in_ok-leave.ensures all stays kept)
+
+-- ---- how many calls were made
+
+pub returns-then-app-clause-counts : goal.returns-then-app-clause-counts
+returns-then-app-clause-counts c =
+    let run : RunState = record { apps = c.run.inside.apps.items; side = c.run.inside.side; compositor = c.run.inside.compositor } in
+    let size : length run.apps ≡ length c.args.scenario.now.scripts = ap (λ (r : RunState). length r.apps) c.run.view_is ∙ c.requires.kept.4.kept.apps.count in
+    let within : c.args.place < length run.apps = let place = c.requires.within in omega (arith, size, place) in
+    rw (← c.run.view_is) (no_turn_counts c.args.machine.now run c.args.place c.index_mut-app.result.now within c.index_mut-app.ensures.value)
+
+pub returns-then-app-ops-clause-counts : goal.returns-then-app-ops-clause-counts
+returns-then-app-ops-clause-counts c =
+    let run : RunState = record { apps = c.run.inside.apps.items; side = c.run.inside.side; compositor = c.run.inside.compositor } in
+    let size : length run.apps ≡ length c.args.scenario.now.scripts = ap (λ (r : RunState). length r.apps) c.run.view_is ∙ c.requires.kept.4.kept.apps.count in
+    let within : c.args.place < length run.apps = let place = c.requires.within in omega (arith, size, place) in
+    rw (← c.run.view_is) (op_turn_counts c.args.machine.now c.make_op.new.machine run c.args.place c.as_slice-ops.result.now c.index_mut-app.result.now c.make_op.new.self c.in_ok-went.went within c.index_mut-app.ensures.value c.in_ok-went.ensures)
+
+pub returns-clause-counts : goal.returns-clause-counts
+returns-clause-counts c =
+    let run : RunState = record { apps = c.run.inside.apps.items; side = c.run.inside.side; compositor = c.run.inside.compositor } in
+    let size : length run.apps ≡ length c.args.scenario.now.scripts = ap (λ (r : RunState). length r.apps) c.run.view_is ∙ c.requires.kept.4.kept.apps.count in
+    let within : c.args.place < length run.apps = let place = c.requires.within in omega (arith, size, place) in
+    rw (← c.run.view_is) (leave_turn_counts c.args.machine.now c.leave.new.machine run c.args.place c.index_mut-app.result.now c.leave.new.self within c.index_mut-app.ensures.value c.in_ok-leave.ensures)

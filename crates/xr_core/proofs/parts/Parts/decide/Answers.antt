@@ -3,9 +3,9 @@ use Rattle.xr_model.specs.machine.CoreCalls.{Lent}
 use Rattle.xr_model.specs.machine.Request.{Request, request_of}
 use Rattle.xr_model.proofs.OverCells.{IsQuiet}
 use Rattle.xr_core.specs.inside.Deciding.{Decides, DecidesCells, MayTouch}
-use Rattle.xr_core.specs.inside.Groups.{IsInstanceCall, IsPathCall, IsSessionCall, IsSpaceCall, IsSetCall, IsFrameCall, IsOwnCall}
+use Rattle.xr_core.specs.inside.Groups.{IsInstanceCall, IsPathCall, IsSessionCall, IsSpaceCall, IsSetCall, IsGetter, IsFrameCall, IsOwnCall}
 use Rattle.xr_core.proofs.Along.{quiet_along}
-use Rattle.xr_core.proofs.Quiet.{quiet_instance, quiet_path, quiet_session, quiet_space, quiet_set, quiet_frame, quiet_own}
+use Rattle.xr_core.proofs.Quiet.{quiet_instance, quiet_path, quiet_session, quiet_space, quiet_set, quiet_getter, quiet_frame, quiet_own}
 use Rattle.xr_core.proofs.parts.Parts.decide.Goals as goal
 
 pub returns-in-CreateInstance : goal.returns-in-CreateInstance
@@ -55,6 +55,19 @@ returns-in-SuggestBindings g c = λ held frame.
     let is = ap request_of c.in-SuggestBindings.is in
     let made = subst (λ (r : Request). Decides c.args.self.now r c.suggest_bindings.new.self c.suggest_bindings.result) (sym is) c.suggest_bindings.ensures in
     quiet_along g.C.Cells.does c.args.self.now c.suggest_bindings.new.self held c.args.cells.now c.args.who (request_of c.args.call.now) lent lent (subst IsQuiet (sym is) tt) c.suggest_bindings.result (made c.args.who lent)
+
+pub returns-in-SyncActions : goal.returns-in-SyncActions
+returns-in-SyncActions g c = λ held frame.
+    let lent : Lent = record { text = c.args.text.now; frame = frame } in
+    let is = ap request_of c.in-SyncActions.is in
+    let made = subst (λ (r : Request). Decides c.args.self.now r c.sync_actions.new.self c.sync_actions.result) (sym is) c.sync_actions.ensures in
+    quiet_along g.C.Cells.does c.args.self.now c.sync_actions.new.self held c.args.cells.now c.args.who (request_of c.args.call.now) lent lent (subst IsQuiet (sym is) tt) c.sync_actions.result (made c.args.who lent)
+
+pub returns-in-GetBoolean : goal.returns-in-GetBoolean
+returns-in-GetBoolean g c = λ held frame.
+    let group : IsGetter (request_of c.args.call.now) = search rules in
+    let lent : Lent = record { text = c.args.text.now; frame = frame } in
+    quiet_along g.C.Cells.does c.args.self.now c.args.self.now held c.args.cells.now c.args.who (request_of c.args.call.now) lent lent (quiet_getter (request_of c.args.call.now) group) c.getter_call.result (c.getter_call.ensures c.args.who lent)
 
 pub returns-in-AcquireImage : goal.returns-in-AcquireImage
 returns-in-AcquireImage g c = λ held frame.

@@ -1,4 +1,4 @@
-use Rattle.std.proofs.Common.{rules, ◌≡◌}
+use Rattle.std.proofs.Common.{rules, ◌≡◌, refl}
 use Rattle.xr_types.specs.declared.code.Code.TheVariants.{Success}
 use Rattle.xr_core.proofs.PathCalls.{intern_refused}
 use Rattle.xr_core.proofs.parts.Parts.string_to_path.Goals as goal
@@ -6,4 +6,4 @@ use Rattle.xr_core.proofs.parts.Parts.string_to_path.Goals as goal
 pub returns-then-ne : goal.returns-then-ne
 returns-then-ne c =
     let failed : c.intern-answer.result.code ≡ Success → ⊥ = search rules in
-    rw (c.refused.ensures, ← c.self.view_is) (intern_refused _ c.args.instance c.args.text.now c.intern-answer.result c.intern-answer.new.self (search rules) c.intern-answer.ensures.kept c.intern-answer.ensures.answer c.intern-answer.ensures.memory failed)
+    rw (c.refused.ensures, c.intern-answer.ensures.kept) (intern_refused c.args.self.now c.args.instance c.args.text.now c.intern-answer.result _ (search rules) refl c.intern-answer.ensures.answer c.intern-answer.ensures.memory failed)

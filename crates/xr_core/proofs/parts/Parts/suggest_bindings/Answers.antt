@@ -1,11 +1,12 @@
-use Rattle.std.proofs.Common.{rules, ◌≡◌, ◌==◌, true, false, nat_le, length, filter_map, refl, sym}
+use Rattle.std.proofs.Common.{rules, ◌≡◌, ◌==◌, true, false, nat_le, length, flat_map, filter_map, refl, sym}
 use Rattle.std.specs.Prelude.{Err}
 use Rattle.xr_types.specs.declared.limits.TheConstants.{MOST_SUGGESTED}
+use Rattle.xr_model.specs.machine.Refusals.{first_of}
 use Rattle.xr_model.specs.machine.Request.{suggest_bindings}
-use Rattle.xr_model.specs.machine.Rules.Bindings.{bound_of, suggest_bindings_rule}
+use Rattle.xr_model.specs.machine.Rules.Bindings.{binding_checks, bound_of, suggest_bindings_rule}
 use Rattle.xr_core.specs.declared.halt.Halt.TheVariants.{Refused}
 use Rattle.xr_core.proofs.Deciding.{err_decides}
-use Rattle.xr_core.proofs.Suggesting.{number_none, profile_err, profile_found, refused_by_profile, refused_by_binding}
+use Rattle.xr_core.proofs.Suggesting.{all_bound, sources_bound, number_none, profile_err, profile_found, refused_by_profile, refused_by_binding}
 use Rattle.xr_core.proofs.parts.Parts.suggest_bindings.Goals as goal
 
 pub returns-in_err-profile : goal.returns-in_err-profile
@@ -22,3 +23,8 @@ returns-in_err-bound c =
     let few : nat_le (length c.args.list.now) MOST_SUGGESTED ≡ true = search rules in
     rw is (err_decides c.args.self.now (suggest_bindings c.args.instance c.args.profile c.args.list.now) (suggest_bindings_rule c.args.self.now c.args.instance c.args.profile c.args.list.now) _ refl (λ who reads. refl) (c.in_err-bound.field-0.0)
     (refused_by_binding c.args.self.now c.args.instance c.args.profile c.args.list.now (sym c.in_ok-live.ensures) c.in_ok-profile.profile found.0 found.1 (number_none c.args.list.now some few) (filter_map (bound_of c.args.self.now c.in_ok-profile.profile) c.args.list.now) (c.in_err-bound.field-0.0) c.in_err-bound.ensures.bound))
+
+pub suggest-code-requires : goal.suggest-code-requires
+suggest-code-requires c =
+    let all : c.in_ok-bound.bound.items ≡ filter_map (bound_of c.args.self.now c.in_ok-profile.profile) c.args.list.now = (all_bound (first_of (flat_map (binding_checks c.args.self.now c.in_ok-profile.profile) c.args.list.now)) (filter_map (bound_of c.args.self.now c.in_ok-profile.profile) c.args.list.now) c.in_ok-bound.bound.items (search rules)).1 in
+    record { sources = rw (c.as_slice.ensures.value, all) (sources_bound c.args.self.now c.in_ok-profile.profile c.args.list.now) }

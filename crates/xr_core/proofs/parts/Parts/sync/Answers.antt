@@ -38,6 +38,7 @@ returns c =
       created = c.self.inside.created;
       sets = c.self.inside.sets;
       suggestions = c.self.inside.bindings;
+      columns = c.self.inside.columns;
       spaces = c.self.inside.spaces;
       frames = c.self.inside.frames;
       ended = c.self.inside.ended;
@@ -48,5 +49,6 @@ returns c =
       apps = c.self.inside.apps;
       left = take c.self.inside.apps c.self.inside.left;
       locked = 0;
+      published = 0;
     } in
     rw (← c.self.view_is) (synced_so s c.args.session c.in-Some.place x c.wish.result c.sync_at.new.sessions.items c.sync_at.new.events found c.wish.ensures c.sync_at.ensures.sessions c.sync_at.ensures.events)

@@ -31,7 +31,7 @@ returns c =
     let told = subst (λ (z : ℤ). AnsweredOrWaits c.args.machine.now c.make_op.new.self (App c.args.number) (with_start z (request_for names o)) frame c.in_ok-answered.field-0) read c.in_ok-answered.ensures.1 in
     let comes = subst (λ (a : Option Answered). AnsweredOrWaits c.args.machine.now c.make_op.new.self (App c.args.number) what frame a) c.in-Some.is told in
     let begun : to_z w64 (of_z w64 c.op_start-start.result) ≡ c.op_start-start.result = search rules in
-    let shown : to_z w64 (of_z w64 c.clock-self-inside.result) ≡ c.clock-self-inside.result = search rules in
+    let shown : to_z w64 (of_z w64 c.clock_behind-self-inside.result) ≡ c.clock_behind-self-inside.result = search rules in
     let kept : made_at (c.self.inside.made + 1) (exchange_of what outcome) ≡ record { op = c.self.inside.made + 1; name = call_name o; mark = op_mark o; start = op_start clock o; reply = outcome.reply; text = outcome.text } =
     rw (name_is clock names o, mark_is clock names o, start_is clock names o) refl in
     rw (← c.self.view_is) (record {
@@ -41,7 +41,7 @@ returns c =
       built = rw c.index-ops-self.is (built_at c.args.ops.now c.self.inside.made o c.requires.built within);
       ranged = rw c.index-ops-self.is (in_range-item c.args.ops.now c.self.inside.made o c.requires.formed within);
       call = comes;
-      app = same_app refl c.learn.ensures (rw (c.in_ok-add.ensures, c.name.ensures, c.op_mark.ensures, begun, c.op_start-start.ensures, read, kept) refl) (shown ∙ c.clock-self-inside.ensures.clock) refl;
+      app = same_app refl c.learn.ensures (rw (c.in_ok-add.ensures, c.name.ensures, c.op_mark.ensures, begun, c.op_start-start.ensures, read, kept) refl) (shown ∙ c.clock_behind-self-inside.ensures.clock names) refl;
     })
 
 pub returns-in_default : goal.returns-in_default
