@@ -141,7 +141,7 @@ live_given h q known live = by (q == 0) refl (was_given h q) refl live
     by false ez false ew live = absurd (true≢false (sym live ∙ (known q ez ew).sessions))
 
 -- two live sessions are one, since there is one place
-only_row : (row : List Slot) (p q : ℕ) → length row ≡ 1 → has row p ≡ true → has row q ≡ true → p ≡ q
+pub only_row : (row : List Slot) (p q : ℕ) → length row ≡ 1 → has row p ≡ true → has row q ≡ true → p ≡ q
 only_row [] p q one a b = absurd (true≢false (sym a))
 only_row (s ∷ []) p q one a b = by (s.handle == p) refl (s.handle == q) refl a b
   where
@@ -186,10 +186,10 @@ length_first new (s ∷ ss) = by (s.handle == 0) (length_first new ss)
     by true more = refl
     by false more = ap (λ n. suc n) more
 
-length_put : (new : Slot) (row : List Slot) → length (put_in row new (first_free row)) ≡ length row
+pub length_put : (new : Slot) (row : List Slot) → length (put_in row new (first_free row)) ≡ length row
 length_put new row = ap (λ (l : List Slot). length l) (put_is_first new row) ∙ length_first new row
 
-length_cleared : (handle : ℕ) (above : List ℕ) (row : List Slot) → length (cleared handle above row) ≡ length row
+pub length_cleared : (handle : ℕ) (above : List ℕ) (row : List Slot) → length (cleared handle above row) ≡ length row
 length_cleared handle above [] = refl
 length_cleared handle above (s ∷ ss) = ap (λ n. suc n) (length_cleared handle above ss)
 

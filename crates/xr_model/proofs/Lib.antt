@@ -76,3 +76,11 @@ pub mod CellCounts
 pub mod SyncFinds
 pub mod SyncColumns
 pub mod PickRanges
+pub mod GetterSteps
+pub mod UserAtoms
+pub mod NothingLeft
+pub mod SeenSessions
+pub mod PublishedContents
+pub mod PublishedLast
+pub mod MovedGetters
+pub mod WordsBack

@@ -250,7 +250,7 @@ module _ (h : Handles) (sp : Spaces) (st : Sets) (su : List (List Bound)) (kept 
             let there = sym (action_gone h top once k (not_true (k == 0) two.0) two.1) ∙ stays in
             rw (two.0, there) refl
 
-    kept_gone : Kept (without h top) (spaces_left h top sp) (without_inputs st (destroyed_by h top)) (without_suggestions su (destroyed_by h top))
+    pub kept_gone : Kept (without h top) (spaces_left h top sp) (without_inputs st (destroyed_by h top)) (without_suggestions su (destroyed_by h top))
     kept_gone = record {
       spaces = λ k.
           found_map (λ (x : spaces.Space). x.handle) (with_left (has_action (without h top).actions)) (λ x. refl) (without_spaces sp (destroyed_by h top)).spaces k

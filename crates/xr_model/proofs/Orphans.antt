@@ -12,7 +12,7 @@ use Rattle.xr_model.proofs.Rows.{both_of, or_true, in_none, has_put, under_put, 
 use Rattle.xr_model.proofs.HandleSteps.{kept_by_step}
 
 -- what is live without a handle and all below it
-without_under : (h : Handles) (handle : ℕ) → AreUnder h → AreUnder (without h handle)
+pub without_under : (h : Handles) (handle : ℕ) → AreUnder h → AreUnder (without h handle)
 without_under h handle u = record {
   sessions = cleared_under handle [] instances h.instances h.sessions (λ p e. e) u.sessions;
   sets = cleared_under handle [] instances h.instances h.sets (λ p e. e) u.sets;

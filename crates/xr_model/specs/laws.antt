@@ -20,3 +20,5 @@ pub mod OrderLaws
 pub mod Owners
 pub mod ImageLaws
 pub mod SyncLaws
+pub mod PublicationLaws
+pub mod WordLaws

@@ -30,6 +30,8 @@ pub mod SessionRule
 pub mod Publication
 pub mod Rules
 pub mod Machine
+pub mod Reads
+pub mod PublicationWords
 pub mod CoreCalls
 pub mod OverCells
 pub mod History

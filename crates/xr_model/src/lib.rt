@@ -20,7 +20,9 @@ ghost use Rattle.xr_model.specs.laws.EventLaws.{EventsAddUp, StatesAreTold, Even
 ghost use Rattle.xr_model.specs.laws.SessionLifeLaws.{ClockNeverFalls, SessionsHaveSettled, LostStaysLost, OnlyItsCallAsksForTheEnd, RunningIsBegunAndNotEnded};
 ghost use Rattle.xr_model.specs.laws.SpaceLaws.{SampleTimesFall, PoseIsTheNewestNotLater, SamplesAreTheirOrigins, OriginsHaveTheirPlaces, LaterPosesAreTaken};
 ghost use Rattle.xr_model.specs.laws.StateLaws.{NoRowFits};
+ghost use Rattle.xr_model.specs.laws.PublicationLaws.{GettersChangeNothing, GettersAreReady, GettersRead, PublishedIsCurrent, GettersMove};
 ghost use Rattle.xr_model.specs.laws.SyncLaws.{BooleansAreDownOnce, FloatsAreLargest, VectorsAreLongest, PosesAreTheFirst, NothingIsInactive, ChangedIsActive, FirstColumnIsOfAll, UndeclaredIsInactive, PicksAreInRange};
+ghost use Rattle.xr_model.specs.laws.WordLaws.{WordsGiveBack};
 
 mod cells;
 
@@ -518,4 +520,41 @@ pub fn undeclared_is_inactive()
 #[tactic(auto, using(crate::proofs::PickRanges::picks_are_in_range))]
 pub fn picks_are_in_range()
     ensures { PicksAreInRange }
+{}
+
+/// A getter leaves the whole state as it was, the count of calls too.
+#[tactic(auto, using(crate::proofs::GetterSteps::getters_change_nothing))]
+pub fn getters_change_nothing()
+    ensures { GettersChangeNothing }
+{}
+
+/// A getter never waits.
+#[tactic(auto, using(crate::proofs::GetterSteps::getters_are_ready))]
+pub fn getters_are_ready()
+    ensures { GettersAreReady }
+{}
+
+/// What a getter is answered, its place too, is read of what was published last, and of nothing else.
+#[tactic(auto, using(crate::proofs::GetterSteps::getters_read))]
+pub fn getters_read()
+    ensures { GettersRead }
+{}
+
+/// What was published last in a legal history is what the state behind it gives, so a getter is never behind its place.
+#[tactic(auto, using(crate::proofs::PublishedLast::published_is_current))]
+pub fn published_is_current()
+    ensures { PublishedIsCurrent }
+{}
+
+/// A getter may stand at each place from a publication to the next: the history stays legal, and every actor's calls come to what
+/// they came to.
+#[tactic(auto, using(crate::proofs::MovedGetters::getters_move))]
+pub fn getters_move()
+    ensures { GettersMove }
+{}
+
+/// The words of a publication give it back.
+#[tactic(auto, using(crate::proofs::WordsBack::words_give_back))]
+pub fn words_give_back()
+    ensures { WordsGiveBack }
 {}

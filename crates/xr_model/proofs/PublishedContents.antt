@@ -1,0 +1,152 @@
+-- What is published stays as long as nobody publishes.
+use Rattle.std.proofs.Common.{◌≡◌, ◌==◌, ◌||◌, ◌++◌, ℕ, not, Bool, true, false, List, [], ◌∷◌, map, length, Option, Some, None, refl, sym, ap, subst, ◌∙◌, true≢false}
+use Rattle.std.specs.List.{list_any, filter}
+use Rattle.std.specs.Prelude.{if◌then◌else◌}
+use Rattle.xr_types.specs.declared.code.Code.{Code}
+use Rattle.xr_types.specs.declared.code.Code.TheVariants.{Success, CallOrderInvalid, SessionNotRunning, SessionNotStopping}
+use Rattle.xr_types.specs.declared.device.DeviceEvent.{DeviceEvent}
+use Rattle.xr_types.specs.declared.device.DeviceEvent.TheVariants as event
+use Rattle.xr_types.specs.declared.handles.Kind.TheVariants as kind
+use Rattle.xr_types.specs.declared.input.User.{User}
+use Rattle.xr_types.specs.declared.input.User.TheVariants as user
+use Rattle.xr_types.specs.declared.session.SessionState.TheVariants.{Focused, Stopping}
+use Rattle.xr_model.specs.machine.Handles.{is_live, is_among, destroyed_by, no_handle}
+use Rattle.xr_model.specs.machine.LiveSessions.{Session, session_at, life_in}
+use Rattle.xr_model.specs.machine.Paths.{with_text}
+use Rattle.xr_model.specs.machine.Publication.{publication_of, first_seen, user_atom, atom_of_user}
+use Rattle.xr_model.specs.machine.Publishing.{publishes, is_published}
+use Rattle.xr_model.specs.machine.Refusals.{Refusal, when, first_of}
+use Rattle.xr_model.specs.machine.Request.{Request, Entry, create_session, destroy_session, create_action, destroy_action, destroy_action_set, destroy_instance, attach_sets, sync_actions, string_to_path, begin_session, end_session, request_exit_session, end_frame, device}
+use Rattle.xr_model.specs.machine.Rule.{Rule, Effect, refusal, refusals, unless_refused, told_on}
+use Rattle.xr_model.specs.machine.Rules.Device.{behind_event}
+use Rattle.xr_model.specs.machine.Rules.Session.{life_of, changed_in}
+use Rattle.xr_model.specs.machine.Rules.Sync.{synced_code}
+use Rattle.xr_model.specs.machine.SessionLife.{Life, Changed, begun_session, unchanged, ended_session, exiting_session, synced_session, settled_session, is_state, is_lost}
+use Rattle.xr_model.specs.machine.SessionRule.{Loss, code_on, loss_of}
+use Rattle.xr_model.specs.machine.Sets.{Action, is_declared}
+use Rattle.xr_model.specs.machine.State.{CoreState, CellReads}
+use Rattle.xr_model.specs.machine.Machine.{effect, rule}
+use Rattle.xr_model.proofs.HandleSteps.{first_fails}
+use Rattle.xr_model.proofs.ListSteps.{none_behind}
+use Rattle.xr_model.proofs.SeenSessions.{settled_loss, exiting_loss, ended_loss, synced_loss, change_seen, each_seen}
+use Rattle.xr_model.proofs.UserAtoms.{known_user, KnowsDeclared}
+
+-- ---- codes
+
+published_still : (loss : Loss) → is_published (code_on loss Success) ≡ true
+published_still loss = by loss.pending
+  where
+    by : (b : Bool) → is_published (code_on (record loss { pending = b }) Success) ≡ true
+    by true = refl
+    by false = refl
+
+synced_publishes : (loss : Loss) (is_focused : Bool) → is_published (code_on loss (synced_code is_focused)) ≡ true
+synced_publishes loss true = published_still loss
+synced_publishes loss false = refl
+
+-- ---- what stays
+
+module _ (s : CoreState) where
+  -- what a state publishes is what this one does, but for the number
+  abbrev pub Alike : CoreState → Type 0
+  Alike t = publication_of (record t { published = s.published }) ≡ publication_of s
+
+  kept : (o : Option Refusal) (x : Effect) → (o ≡ None → Alike x.state) → Alike (unless_refused s o x).state
+  kept None x done = done refl
+  kept (Some r) x done = refl
+
+  -- a call that publishes where it succeeds
+  silent : (o : Option Refusal) (x : Effect) → is_published x.code ≡ true → is_published (unless_refused s o x).code ≡ false → Alike (unless_refused s o x).state
+  silent None x good quiet = absurd (true≢false (sym good ∙ quiet))
+  silent (Some r) x good quiet = refl
+
+  -- the sessions change, and nothing that is seen of the first
+  sessions_alike : (xs : List Session) → first_seen xs ≡ first_seen s.sessions → publication_of (record s { sessions = xs }) ≡ publication_of s
+  sessions_alike xs same = rw same refl
+
+  -- one text more
+  atom_alike : (text : List ℕ) → KnowsDeclared s.atoms s.sets.actions → (who : User) → atom_of_user (with_text s.atoms text) s.sets.actions who ≡ atom_of_user s.atoms s.sets.actions who
+  atom_alike text known who = by (list_any (λ x. is_declared x.declared who) s.sets.actions) (known who)
+    where
+      by : (b : Bool) → (b ≡ true → (user_atom s.atoms who == 0) ≡ false) → (if b then user_atom (with_text s.atoms text) who else 0) ≡ (if b then user_atom s.atoms who else 0)
+      by true has = known_user s.atoms text who (has refl)
+      by false has = refl
+
+  atoms_alike : (text : List ℕ) → KnowsDeclared s.atoms s.sets.actions → publication_of (record s { atoms = with_text s.atoms text }) ≡ publication_of s
+  atoms_alike text known = rw (atom_alike text known user.Left, atom_alike text known user.Right, atom_alike text known user.Head, atom_alike text known user.Gamepad, atom_alike text known user.Treadmill) refl
+
+  changed : (session : ℕ) (f : Life → Changed) → ((x : Session) → session_at s.sessions session ≡ Some x → loss_of (f x.life).life ≡ loss_of x.life)
+      → publication_of (record s { sessions = changed_in (session_at s.sessions session) f s.sessions }) ≡ publication_of s
+  changed session f same = sessions_alike (changed_in (session_at s.sessions session) f s.sessions) (change_seen s.sessions session f same)
+
+  events : (what : DeviceEvent) → publishes (device what) Success ≡ false → Alike (behind_event s what)
+  events (event.Wish wish) quiet = sessions_alike _ (each_seen (settled_session wish) s.sessions (settled_loss wish))
+  events event.Loss quiet = absurd (true≢false quiet)
+  events event.Lost quiet = absurd (true≢false quiet)
+  events event.Fault quiet = absurd (true≢false quiet)
+  events (event.Garbled line) quiet = absurd (true≢false quiet)
+  events _ quiet = refl
+
+-- a session that may end is stopping
+stops : (s : CoreState) (reads : CellReads) (e : Entry) (session : ℕ) → refusal e.short (rule s reads (record e { request = end_session session })) ≡ None → (x : Session) → session_at s.sessions session ≡ Some x → is_state x.life.state Stopping ≡ true
+stops s reads e session none x there =
+    let life = life_of s session in
+    let behind = none_behind (no_handle s.handles kind.Session session ∷ is_lost life ∷ when (not life.running) SessionNotRunning ∷ []) (when (not (is_state life.state Stopping)) SessionNotStopping ∷ when false CallOrderInvalid ∷ []) none in
+    ap (λ o. is_state (life_in o).state Stopping) (sym there) ∙ first_fails (is_state life.state Stopping) SessionNotStopping (when false CallOrderInvalid ∷ []) behind
+
+-- an event publishes whatever its code
+device_quiet : (what : DeviceEvent) (code : Code) → publishes (device what) code ≡ false → publishes (device what) Success ≡ false
+device_quiet event.Loss code quiet = quiet
+device_quiet event.Lost code quiet = quiet
+device_quiet event.Fault code quiet = quiet
+device_quiet (event.Garbled line) code quiet = quiet
+device_quiet _ code quiet = refl
+
+-- what a state publishes behind a call that doesn't publish
+pub contents_stay : (s : CoreState) (reads : CellReads) (e : Entry) → KnowsDeclared s.atoms s.sets.actions → publishes e.request (effect s reads e).code ≡ false → Alike s (effect s reads e).state
+contents_stay s reads e known quiet = by e.request quiet
+  where
+    by : (r : Request) → publishes r (effect s reads (record e { request = r })).code ≡ false → Alike s (effect s reads (record e { request = r })).state
+    by (create_session instance system) quiet =
+        let f = rule s reads (record e { request = create_session instance system }) in
+        silent s (refusal e.short f) (told_on f.on f.effect) refl quiet
+    by (destroy_session session) quiet =
+        let f = rule s reads (record e { request = destroy_session session }) in
+        silent s (refusal e.short f) (told_on f.on f.effect) refl quiet
+    by (create_action set name type subs localized) quiet =
+        let f = rule s reads (record e { request = create_action set name type subs localized }) in
+        silent s (refusal e.short f) (told_on f.on f.effect) refl quiet
+    by (destroy_action action) quiet =
+        let f = rule s reads (record e { request = destroy_action action }) in
+        silent s (refusal e.short f) (told_on f.on f.effect) refl quiet
+    by (destroy_action_set set) quiet =
+        let f = rule s reads (record e { request = destroy_action_set set }) in
+        silent s (refusal e.short f) (told_on f.on f.effect) refl quiet
+    by (destroy_instance instance) quiet =
+        let f = rule s reads (record e { request = destroy_instance instance }) in
+        silent s (refusal e.short f) (told_on f.on f.effect) refl quiet
+    by (attach_sets session sets) quiet =
+        let f = rule s reads (record e { request = attach_sets session sets }) in
+        silent s (refusal e.short f) (told_on f.on f.effect) (published_still (loss_of (life_of s session))) quiet
+    by (sync_actions session active) quiet =
+        let f = rule s reads (record e { request = sync_actions session active }) in
+        silent s (refusal e.short f) (told_on f.on f.effect) (synced_publishes (loss_of (life_of s session)) (is_state (life_of s session).state Focused)) quiet
+    by (string_to_path instance text) quiet =
+        let f = rule s reads (record e { request = string_to_path instance text }) in
+        kept s (refusal e.short f) (told_on f.on f.effect) (λ none. atoms_alike s text known)
+    by (begin_session session view) quiet =
+        let f = rule s reads (record e { request = begin_session session view }) in
+        kept s (refusal e.short f) (told_on f.on f.effect) (λ none. changed s session (λ life. unchanged (begun_session life)) (λ x there. refl))
+    by (end_session session) quiet =
+        let f = rule s reads (record e { request = end_session session }) in
+        kept s (refusal e.short f) (told_on f.on f.effect) (λ none. changed s session (ended_session s.device.wish) (λ x there. ended_loss s.device.wish x.life (stops s reads e session none x there)))
+    by (request_exit_session session) quiet =
+        let f = rule s reads (record e { request = request_exit_session session }) in
+        kept s (refusal e.short f) (told_on f.on f.effect) (λ none. changed s session (exiting_session s.device.wish) (λ x there. exiting_loss s.device.wish x.life))
+    by (end_frame session time blend layers) quiet =
+        let f = rule s reads (record e { request = end_frame session time blend layers }) in
+        kept s (refusal e.short f) (told_on f.on f.effect) (λ none. changed s session (synced_session s.device.wish) (λ x there. synced_loss s.device.wish x.life))
+    by (device what) quiet = events s what (device_quiet what (effect s reads (record e { request = device what })).code quiet)
+    by r quiet =
+        let f = rule s reads (record e { request = r }) in
+        kept s (refusal e.short f) (told_on f.on f.effect) (λ none. refl)

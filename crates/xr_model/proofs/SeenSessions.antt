@@ -1,0 +1,83 @@
+-- Which changes of sessions change nothing of what is published: all but the device's loss.
+use Rattle.std.proofs.Common.{◌≡◌, ◌==◌, ◌||◌, ℕ, Bool, true, false, List, [], ◌∷◌, Option, Some, None, refl, ap, sym, ◌∙◌, true≢false}
+use Rattle.std.specs.Prelude.{if◌then◌else◌}
+use Rattle.xr_types.specs.declared.device.Wish.{Wish}
+use Rattle.xr_types.specs.declared.device.Wish.TheVariants as wish
+use Rattle.xr_types.specs.declared.session.SessionState.{SessionState}
+use Rattle.xr_types.specs.declared.session.SessionState.TheVariants.{Idle, Ready, Synchronized, Visible, Focused, Stopping, LossPending, Exiting}
+use Rattle.xr_model.specs.machine.LiveSessions.{Session, session_at, with_session_at, with_life, life_in, each_changed}
+use Rattle.xr_model.specs.machine.Publication.{seen, first_seen}
+use Rattle.xr_model.specs.machine.Rules.Session.{changed_in}
+use Rattle.xr_model.specs.machine.SessionLife.{Life, Changed, changes, most_changes, last_of, is_state, settled_session, ended_session, exiting_session, synced_session}
+use Rattle.xr_model.specs.machine.SessionRule.{loss_of}
+use Rattle.xr_model.proofs.Listed.{found_once}
+
+-- ---- the table of states
+
+-- to settle is neither to come into the pending loss nor out of it
+settles : (w : Wish) (exit : Bool) (state : SessionState) → is_state (last_of state (changes most_changes w exit state)) LossPending ≡ is_state state LossPending
+settles wish.Rest true Idle = refl
+settles wish.Rest true _ = refl
+settles wish.Rest false Idle = refl
+settles wish.Rest false _ = refl
+settles wish.Ready true Idle = refl
+settles wish.Ready true _ = refl
+settles wish.Ready false Idle = refl
+settles wish.Ready false _ = refl
+settles wish.Visible true Idle = refl
+settles wish.Visible true _ = refl
+settles wish.Visible false Idle = refl
+settles wish.Visible false _ = refl
+settles wish.Focused true Idle = refl
+settles wish.Focused true _ = refl
+settles wish.Focused false Idle = refl
+settles wish.Focused false _ = refl
+
+pub settled_loss : (w : Wish) (life : Life) → loss_of (settled_session w life).life ≡ loss_of life
+settled_loss w life = rw (settles w life.exit life.state) refl
+
+pub exiting_loss : (w : Wish) (life : Life) → loss_of (exiting_session w life).life ≡ loss_of life
+exiting_loss w life = rw (settles w true life.state) refl
+
+stopping_aside : (state : SessionState) → is_state state Stopping ≡ true → is_state state LossPending ≡ false
+stopping_aside LossPending is = absurd (true≢false (sym is))
+stopping_aside _ is = refl
+
+-- a session that stops has no loss pending, and neither has one that is idle
+pub ended_loss : (w : Wish) (life : Life) → is_state life.state Stopping ≡ true → loss_of (ended_session w life).life ≡ loss_of life
+ended_loss w life is = rw (settles w life.exit Idle, stopping_aside life.state is) refl
+
+ready_aside : (state : SessionState) → is_state state Ready ≡ true → is_state state LossPending ≡ false
+ready_aside LossPending is = absurd (true≢false (sym is))
+ready_aside _ is = refl
+
+pub synced_loss : (w : Wish) (life : Life) → loss_of (synced_session w life).life ≡ loss_of life
+synced_loss w life = by (is_state life.state Ready) refl
+  where
+    by : (b : Bool) → is_state life.state Ready ≡ b → loss_of (synced_session w life).life ≡ loss_of life
+    by true eb = rw (eb, settles w life.exit Synchronized, ready_aside life.state eb) refl
+    by false eb = rw eb refl
+
+-- ---- what is seen of the sessions
+
+-- one session changes, and nothing that is seen of it
+seen_at : (xs : List Session) (handle : ℕ) (f : Session → Session) → ((x : Session) → session_at xs handle ≡ Some x → seen (f x) ≡ seen x) → first_seen (with_session_at handle f xs) ≡ first_seen xs
+seen_at [] handle f same = refl
+seen_at (x ∷ xs) handle f same = by (x.handle == handle) (same x)
+  where
+    by : (b : Bool) → ((if b then Some x else session_at xs handle) ≡ Some x → seen (f x) ≡ seen x) → first_seen (if b then f x ∷ xs else x ∷ with_session_at handle f xs) ≡ Some (seen x)
+    by true here = ap Some (here refl)
+    by false here = refl
+
+pub change_seen : (xs : List Session) (session : ℕ) (f : Life → Changed) → ((x : Session) → session_at xs session ≡ Some x → loss_of (f x.life).life ≡ loss_of x.life)
+    → first_seen (changed_in (session_at xs session) f xs) ≡ first_seen xs
+change_seen xs session f same = by (session_at xs session) refl
+  where
+    by : (o : Option Session) → session_at xs session ≡ o → first_seen (changed_in o f xs) ≡ first_seen xs
+    by None eo = refl
+    by (Some x) eo = seen_at xs x.handle (with_life (f x.life).life) (λ y there. let one = found_once xs session x y eo there in rw (same x eo, one) refl)
+
+-- each session settles
+pub each_seen : (f : Life → Changed) (xs : List Session) → ((life : Life) → loss_of (f life).life ≡ loss_of life) → first_seen (each_changed f xs) ≡ first_seen xs
+each_seen f [] same = refl
+each_seen f (x ∷ xs) same = rw (same x.life) refl
