@@ -1,15 +1,13 @@
 // Runs of scenarios on one thread, without reading their texts and without their reports.
-ghost use Rattle.std.specs.Prelude.{◌≡◌, ◌≤◌, ◌<◌, ◌^◌, true, length};
+ghost use Rattle.std.specs.Prelude.{◌≤◌, ◌<◌, ◌^◌, length};
 ghost use Rattle.xr_types.specs.declared.limits.TheConstants.{MOST_SCRIPTS};
-ghost use Rattle.std.specs.List.{list_all, sum_by};
-ghost use Rattle.xr_model.specs.scenario.Built.{is_built_op};
+ghost use Rattle.std.specs.List.{sum_by};
 ghost use Rattle.xr_model.specs.scenario.ScriptForm.{AllInForm};
 
 use std::alloc::{AllocError, Global};
 use std::io;
 use std::time::{Clock, Instant};
 use xr_device::ListDevice;
-use xr_drive::are_built;
 use xr_scenario::read;
 use xr_serial::run;
 use xr_types::{DeviceEvent, Lists, NoMemory, Scenario, Wish};
@@ -120,7 +118,6 @@ fn run_again(alloc: Global, scenario: &Scenario) -> Result<u64, NoMemory>
     requires most { length scenario.now.scripts ≤ MOST_SCRIPTS }
     requires few { sum_by length scenario.now.scripts < 2 ^ 22 }
     requires formed { AllInForm scenario.now.scripts }
-    requires built { list_all (list_all is_built_op) scenario.now.scripts ≡ true }
 {
     let mut calls: u64 = 0;
     for _ in 0..TIMES {
@@ -151,9 +148,6 @@ pub(crate) fn time_runs<R: Clock>(
     let Ok(scenario) = read(alloc, text) else {
         return Ok(None);
     };
-    if !are_built(scenario.scripts.as_slice()) {
-        return Ok(None);
-    }
     let start = Instant::now(rt)?;
     let Ok(calls) = run_again(alloc, &scenario) else {
         return Ok(None);

@@ -1,11 +1,10 @@
 // A core with actions that are synced, and how one of them is read.
 use crate::asking::{answer, ask, handle, tell};
 use crate::frames::{Running, set_running, submit, take};
-use crate::suggests::atom;
+use crate::suggests::suggestions_of;
 use xr_core::PlainCore;
 use xr_types::{
-    ActionType, ActiveSet, Binding, Call, Code, DeviceEvent, MOST_SUGGESTED, Profile, Shown, User,
-    Wish,
+    ActionType, ActiveSet, Call, Code, DeviceEvent, MOST_SUGGESTED, Profile, Shown, User, Wish,
 };
 
 /// A session that is focused, the set that it has attached, and an action of it.
@@ -37,30 +36,9 @@ fn action(core: &mut PlainCore, set: u64, number: usize) -> u64 {
 
 /// Suggests bindings of these actions in turn, so many of them, for a controller that is connected at both hands.
 fn suggest(core: &mut PlainCore, instance: u64, actions: &[u64], count: usize) {
-    let profile = atom(
-        core,
-        instance,
-        b"/interaction_profiles/oculus/touch_controller",
-    );
-    let paths = [
-        atom(core, instance, b"/user/hand/left/input/x/click"),
-        atom(core, instance, b"/user/hand/left/input/trigger"),
-        atom(core, instance, b"/user/hand/right/input/thumbstick/touch"),
-        atom(core, instance, b"/user/hand/right/input/squeeze/value"),
-    ];
-    let mut list = [Binding::default(); MOST_SUGGESTED];
-    for (place, binding) in list.iter_mut().enumerate() {
-        let number = if actions.is_empty() {
-            0
-        } else {
-            place % actions.len()
-        };
-        *binding = Binding {
-            action: *actions.get(number).unwrap_or(&0),
-            path: paths[place % 4],
-        };
-    }
-    let list = list.get(..count).unwrap_or(&[]);
+    let all = suggestions_of(core, instance, actions);
+    let profile = all.profile;
+    let list = all.list.get(..count).unwrap_or(&[]);
     let _ = ask(
         core,
         &Call::SuggestBindings {

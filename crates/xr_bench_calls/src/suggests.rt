@@ -7,8 +7,8 @@ use xr_types::{ActionType, Binding, Call, Code, Gives, MOST_SUGGESTED};
 #[derive(Drop)]
 pub(crate) struct Suggestions {
     instance: u64,
-    profile: u64,
-    list: [Binding; MOST_SUGGESTED],
+    pub(crate) profile: u64,
+    pub(crate) list: [Binding; MOST_SUGGESTED],
 }
 
 /// The atom of a text, or 0.
@@ -16,6 +16,38 @@ pub(crate) fn atom(core: &mut PlainCore, instance: u64, text: &[u8]) -> u64 {
     match ask(core, &Call::StringToPath { instance, text }) {
         Gives::Number(atom) => atom,
         _ => 0,
+    }
+}
+
+/// Bindings of these actions in turn, to four parts of a controller.
+pub(crate) fn suggestions_of(core: &mut PlainCore, instance: u64, actions: &[u64]) -> Suggestions {
+    let profile = atom(
+        core,
+        instance,
+        b"/interaction_profiles/oculus/touch_controller",
+    );
+    let paths = [
+        atom(core, instance, b"/user/hand/left/input/x/click"),
+        atom(core, instance, b"/user/hand/left/input/trigger"),
+        atom(core, instance, b"/user/hand/right/input/thumbstick/touch"),
+        atom(core, instance, b"/user/hand/right/input/squeeze/value"),
+    ];
+    let mut list = [Binding::default(); MOST_SUGGESTED];
+    for (place, binding) in list.iter_mut().enumerate() {
+        let number = if actions.is_empty() {
+            0
+        } else {
+            place % actions.len()
+        };
+        *binding = Binding {
+            action: *actions.get(number).unwrap_or(&0),
+            path: paths[place % 4],
+        };
+    }
+    Suggestions {
+        instance,
+        profile,
+        list,
     }
 }
 
@@ -41,29 +73,7 @@ pub(crate) fn set_up(core: &mut PlainCore) -> Suggestions {
             localized: b"Fire",
         },
     ));
-    let profile = atom(
-        core,
-        instance,
-        b"/interaction_profiles/oculus/touch_controller",
-    );
-    let paths = [
-        atom(core, instance, b"/user/hand/left/input/x/click"),
-        atom(core, instance, b"/user/hand/left/input/trigger"),
-        atom(core, instance, b"/user/hand/right/input/thumbstick/touch"),
-        atom(core, instance, b"/user/hand/right/input/squeeze/value"),
-    ];
-    let mut list = [Binding::default(); MOST_SUGGESTED];
-    for (place, binding) in list.iter_mut().enumerate() {
-        *binding = Binding {
-            action,
-            path: paths[place % 4],
-        };
-    }
-    Suggestions {
-        instance,
-        profile,
-        list,
-    }
+    suggestions_of(core, instance, &[action])
 }
 
 /// Suggests them all so often; how many bindings were taken.

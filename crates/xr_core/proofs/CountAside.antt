@@ -1,5 +1,5 @@
 -- No rule changes the count of calls or the number of what was published last, and what a call comes to is the same, whatever these are.
-use Rattle.std.proofs.Common.{◌≡◌, ◌≤◌, ◌+◌, ℕ, Bool, true, List, ◌∷◌, length, Option, Some, None, refl, ap, arith}
+use Rattle.std.proofs.Common.{◌≡◌, ◌≤◌, ◌+◌, ℕ, Bool, List, ◌∷◌, length, Option, Some, None, refl, ap, arith}
 use Rattle.xr_types.specs.declared.calls.Actor.{Actor}
 use Rattle.xr_types.specs.declared.device.DeviceEvent.{DeviceEvent}
 use Rattle.xr_types.specs.declared.device.DeviceEvent.TheVariants as event
@@ -11,7 +11,6 @@ use Rattle.xr_model.specs.machine.Rules.Device.{behind_event, device_rule}
 use Rattle.xr_model.specs.machine.Machine.{effect, rule_of, cell_calls, as_unused}
 use Rattle.xr_model.specs.machine.Frames.{one_if}
 use Rattle.xr_model.specs.machine.SessionRule.{Loss}
-use Rattle.xr_model.specs.machine.CoreCalls.{is_built}
 
 -- a state with this count, and with this number of what was published last
 abbrev pub counting : CoreState → ℕ → ℕ → CoreState
@@ -102,15 +101,6 @@ module _ (s : CoreState) (short : Bool) (reads : CellReads) (who : Actor) (given
       let r = rule_of s reads who given what in
       let more = one_if (is_locked what) in
       unless_grows s more (refusal short r) (told_on r.on r.effect) (record { apps = refl; given = no_less (length s.handles.given) more; created = no_less s.created more; ended = no_less s.ended more })
-
--- ---- a call that is built
-
-pub built_is_there : (s : CoreState) (reads : CellReads) (who : Actor) (given : ℕ) (what : Request) → is_built what ≡ true → (rule_of s reads who given what).is_there ≡ true
-built_is_there s reads who given = by
-  where
-    by : (r : Request) → is_built r ≡ true → (rule_of s reads who given r).is_there ≡ true
-    by (device what) built = built
-    by _ built = refl
 
 -- ---- calls on cells
 

@@ -17,18 +17,18 @@ use Rattle.xr_model.specs.machine.State.{CoreState, CellReads}
 use Rattle.xr_model.specs.machine.Rule.{carried_out}
 use Rattle.xr_model.specs.machine.Frames.{one_if}
 use Rattle.xr_model.specs.machine.Machine.{rule_of, IsPresent}
-use Rattle.xr_model.specs.machine.CoreCalls.{Lent, CoreAnswers, CoreWaits, is_built, given_by, entry_of}
+use Rattle.xr_model.specs.machine.CoreCalls.{Lent, CoreAnswers, CoreWaits, given_by, entry_of}
 use Rattle.xr_model.specs.machine.OverCells.{World, entry_by, AppliesOver}
 use Rattle.xr_core.specs.declared.halt.Halt.TheVariants.{Refused, NotReady}
 use Rattle.xr_core.specs.inside.Deciding.{Comes, HasToWait, DecidesAlong}
-use Rattle.xr_core.proofs.CountAside.{counting, SameRule, same_rule, Grows, grows, built_is_there, counted_calls, counted_did}
+use Rattle.xr_core.proofs.CountAside.{counting, SameRule, same_rule, Grows, grows, counted_calls, counted_did}
 
 -- how much is counted
 pub counted_is : (b : Bool) (n : ℕ) → (if b then n + 1 else n) ≡ n + one_if b
 counted_is true n = refl
 counted_is false n = omega arith
 
-module _ (s new : CoreState) (n p : ℕ) (who : Actor) (what : Request) (before after : Lent) (built : is_built what ≡ true) where
+module _ (s new : CoreState) (n p : ℕ) (who : Actor) (what : Request) (before after : Lent) where
   -- how many are counted behind a call, the place in its reply, and what was published last
   abbrev count : ℕ
   count = if is_locked what then n + 1 else n
@@ -52,7 +52,6 @@ module _ (s new : CoreState) (n p : ℕ) (who : Actor) (what : Request) (before 
         let effect = same.effect in
         record {
           allowed = record {
-            ruled = built_is_there (counting s n p) reads who (given_by gives) what built;
             handle = rw (effect, same.creates, ← m.code) m.handle;
             memory = λ short. let wants = m.memory short in (same.memory ∙ wants.0, ap first_of same.refusals_same ∙ wants.1);
             present = present;
@@ -89,7 +88,7 @@ module _ {C : Type 0} (does : C → CellCall → C → Type 0) where
   abbrev pub counted_in : World C → ℕ → ℕ → World C
   counted_in w n p = record w { core = record w.core { kept = counting w.core.kept n p } }
 
-  module _ (old new : World C) (n p : ℕ) (who : Actor) (call : Call) (built : is_built (request_of call) ≡ true) where
+  module _ (old new : World C) (n p : ℕ) (who : Actor) (call : Call) where
     pub made_over : (d : Reply) → IsPresent old.core.kept who → DecidesAlong does old new who (request_of call) (Ok d)
         → AppliesOver does (counted_in old n p) (counted_in new (if is_locked (request_of call) then n + 1 else n) (if publishes (request_of call) d.code then n + 1 else p)) who call
         (step.Done (record d { place = if is_locked (request_of call) then n + 1 else (if is_getter (request_of call) then p else 0) }))
@@ -102,7 +101,7 @@ module _ {C : Type 0} (does : C → CellCall → C → Type 0) where
           own = x.own;
           each = rw same x.each;
           cells = rw (counted_calls old.core.kept n p x.reads e) x.cells;
-          applies = made_answers old.core.kept new.core.kept n p who what old.lent new.lent built d.code d.gives x.reads x.decides present;
+          applies = made_answers old.core.kept new.core.kept n p who what old.lent new.lent d.code d.gives x.reads x.decides present;
           holds = rw same x.holds;
         }
 
@@ -114,6 +113,6 @@ module _ {C : Type 0} (does : C → CellCall → C → Type 0) where
           own = x.own;
           each = x.each;
           cells = rw (counted_calls old.core.kept n p x.reads e) x.cells;
-          applies = λ given short. waits_so old.core.kept new.core.kept n p who (request_of call) old.lent new.lent built x.reads x.decides given short;
+          applies = λ given short. waits_so old.core.kept new.core.kept n p who (request_of call) old.lent new.lent x.reads x.decides given short;
           holds = x.holds;
         }

@@ -29,3 +29,4 @@ pub mod Suggesting
 pub mod CountAside
 pub mod Counting
 pub mod PlainPairs
+pub mod Viewed

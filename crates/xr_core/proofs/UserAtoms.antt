@@ -13,6 +13,7 @@ use Rattle.xr_types.specs.Users.{user_place}
 use Rattle.xr_model.specs.machine.Paths.{is_new, atom_of, with_text}
 use Rattle.xr_model.specs.machine.Profiles.{user_of}
 use Rattle.xr_model.specs.machine.Publication.{is_of_user, user_atom, column_from}
+use Rattle.xr_model.proofs.UserAtoms.{known_user}
 use Rattle.xr_core.specs.inside.Users.{users_with}
 
 -- ---- places of texts
@@ -26,16 +27,6 @@ module _ {T : Type 0} (p : T → Bool) where
       by : (b : Bool) → position_from p (k + 1) (xs ++ y ∷ []) ≡ position_from p (k + 1) xs → (if b then Some k else position_from p (k + 1) (xs ++ y ∷ [])) ≡ (if b then Some k else position_from p (k + 1) xs)
       by true more = refl
       by false more = more
-
-  -- what stands in the list is the first
-  place_first : (xs : List T) (y : T) (k i : ℕ) → position_from p k xs ≡ Some i → position_from p k (xs ++ y ∷ []) ≡ Some i
-  place_first [] y k i found = cc
-  place_first (x ∷ xs) y k i found = by (p x) found (place_first xs y (k + 1) i)
-    where
-      by : (b : Bool) → (if b then Some k else position_from p (k + 1) xs) ≡ Some i → (position_from p (k + 1) xs ≡ Some i → position_from p (k + 1) (xs ++ y ∷ []) ≡ Some i)
-          → (if b then Some k else position_from p (k + 1) (xs ++ y ∷ [])) ≡ Some i
-      by true found more = found
-      by false found more = more found
 
   -- else one that passes is behind all
   place_last : (xs : List T) (y : T) (k : ℕ) → position_from p k xs ≡ None → p y ≡ true → position_from p k (xs ++ y ∷ []) ≡ Some (k + length xs)
@@ -88,16 +79,6 @@ module _ (atoms : List (List ℕ)) (text : List ℕ) (who : User) where
       by : (b : Bool) → user_atom (if b then atoms ++ text ∷ [] else atoms) who ≡ user_atom atoms who
       by true = rw (place_stays (is_of_user who) atoms text 0 other) refl
       by false = refl
-
-  -- one that had an atom keeps it
-  pub known_user : (user_atom atoms who == 0) ≡ false → user_atom (with_text atoms text) who ≡ user_atom atoms who
-  known_user known = by (is_new atoms text) (position_from (is_of_user who) 0 atoms) refl known
-    where
-      by : (b : Bool) (o : Option ℕ) → position_from (is_of_user who) 0 atoms ≡ o → (unwrap_or (option_map (λ place. place + 1) o) 0 == 0) ≡ false
-          → user_atom (if b then atoms ++ text ∷ [] else atoms) who ≡ user_atom atoms who
-      by false o eo known = refl
-      by true None eo known = absurd (true≢false known)
-      by true (Some i) eo known = rw (place_first (is_of_user who) atoms text 0 i eo, eo) refl
 
   -- and one that had none gets that of the text
   pub new_user : is_of_user who text ≡ true → (user_atom atoms who == 0) ≡ true → user_atom (with_text atoms text) who ≡ atom_of atoms text

@@ -9,3 +9,4 @@ pub mod Ranked
 pub mod Refusing
 pub mod Sights
 pub mod Users
+pub mod Viewing

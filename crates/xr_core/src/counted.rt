@@ -16,7 +16,7 @@ use crate::halt::{Halt, refusal};
 use crate::uncounted::Uncounted;
 use std::alloc::Global;
 use std::marker::Model;
-use xr_model::Cells;
+use xr_model::{Cells, Machine};
 use xr_types::{Actor, Call, Code, DeviceEvent, Image, NoMemory, Reply, Shown, Step};
 
 /// What the machine of one thread has beside its cells: what it keeps, and the images of the frame taken last that aren't given
@@ -185,7 +185,7 @@ impl Core {
         self.inside.held.as_slice()
     }
 
-    /// Makes a call that is built, or says that it has to wait and leaves all as it was. `text` is the buffer that
+    /// Makes a call, or says that it has to wait and leaves all as it was. `text` is the buffer that
     /// `path_to_string` is lent, of the call's `capacity`; for other calls it may have any size and stays. `shown` is the place
     /// for the frame that `NextFrame` shows; it stays where none is.
     /// By what the cells tell, the reply is the machine's to an allowed entry: it gives a handle exactly where a creation
@@ -214,4 +214,11 @@ impl Core {
         };
         answered(&mut self.calls, &mut self.published, call, reply)
     }
+}
+
+/// It stands for each state that keeps what it keeps, whatever the cells are and whichever images are held.
+impl Machine for Core {
+    ghost use Rattle.std.specs.Prelude.{◌≡◌};
+
+    ghost stands = { λ c s. c.kept ≡ s.core };
 }

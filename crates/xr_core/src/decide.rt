@@ -4,7 +4,7 @@ ghost use Rattle.std.specs.Prelude.{◌≡◌, ◌<◌, ◌^◌, true, length, L
 ghost use Rattle.xr_types.specs.declared.frames.Image.{Image};
 ghost use Rattle.xr_types.specs.Frames.{ShownFrame};
 ghost use Rattle.xr_model.specs.machine.Request.{request_of};
-ghost use Rattle.xr_model.specs.machine.CoreCalls.{Fits, asked, is_built};
+ghost use Rattle.xr_model.specs.machine.CoreCalls.{Fits, asked};
 ghost use Rattle.xr_model.specs.machine.Rule.{is_by};
 ghost use Rattle.xr_model.specs.machine.Machine.{IsPresent};
 ghost use Rattle.xr_model.proofs.HeldFits.{IsAside};
@@ -17,7 +17,7 @@ use xr_model::Cells;
 use xr_types::{Actor, Call, Reply};
 
 impl Parts {
-    /// Decides a call that is built and none of the compositor's: what it comes to, that it is refused, or that it has to
+    /// Decides a call that is none of the compositor's: what it comes to, that it is refused, or that it has to
     /// wait. `text` is the buffer that `path_to_string` is lent; other calls leave it. Memory is taken for a new path text and
     /// for suggestions.
     pub(crate) fn decide<C: Cells>(
@@ -32,7 +32,6 @@ impl Parts {
         requires created { self.old.created < 2 ^ 44 }
         requires ended { self.old.ended < 2 ^ 44 }
         requires present { IsPresent self.old who }
-        requires built { is_built (request_of call.now) ≡ true }
         requires caller { is_by (asked who (request_of call.now)).caller who ≡ true }
         requires numbers { (asked who (request_of call.now)).in_range ≡ true }
         requires buffer { Fits (asked who (request_of call.now)).lent (length text.old) }

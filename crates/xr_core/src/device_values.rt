@@ -1,9 +1,10 @@
 // What the device has told of itself.
-ghost use Rattle.std.specs.Prelude.{◌≡◌, ◌≤◌, ◌≤ℤ◌, pos, slice_set};
+ghost use Rattle.std.specs.Prelude.{◌≡◌, ◌≤◌, ◌≤ℤ◌, pos, true, slice_set};
 ghost use Rattle.xr_model.specs.machine.Device.{first_device};
 ghost use Rattle.xr_model.specs.machine.Inputs.{with_value, without_values};
 ghost use Rattle.xr_model.specs.machine.Rules.Device.{later_of};
 ghost use Rattle.xr_types.specs.declared.limits.TheConstants.{MOST_ROW};
+ghost use Rattle.xr_types.specs.Device.{is_time};
 ghost use Rattle.xr_types.specs.Users.{user_place};
 
 use std::marker::Model;
@@ -33,12 +34,13 @@ pub(crate) struct DeviceValues {
 }
 
 impl Model for DeviceValues {
-    ghost use Rattle.std.specs.Prelude.{◌≤ℤ◌, pos};
+    ghost use Rattle.std.specs.Prelude.{◌≡◌, ◌≤ℤ◌, pos, true};
+    ghost use Rattle.xr_types.specs.Device.{is_time};
     ghost use Rattle.xr_model.specs.machine.Device.{Device};
 
     ghost Value = { Device };
 
-    ghost invariant = { λ d. (pos 0 ≤ℤ d.clock) × (pos 1 ≤ℤ d.period) };
+    ghost invariant = { λ d. (pos 0 ≤ℤ d.clock) × (is_time d.clock ≡ true) × (pos 1 ≤ℤ d.period) };
 
     ghost view = { λ d. record { clock = d.clock; base = d.base; period = d.period; wish = d.wish; stage = d.stage; profiles = d.profiles; inputs = d.inputs } };
 }
@@ -59,10 +61,11 @@ impl DeviceValues {
         }
     }
 
-    /// The clock, never negative.
+    /// The clock, 0 to 2^62 - 1.
     pub(crate) fn clock(&self) -> i64
         ensures clock { result ≡ self.now.clock }
         ensures begun { pos 0 ≤ℤ result }
+        ensures time { is_time result ≡ true }
     {
         self.clock
     }
@@ -107,8 +110,9 @@ impl DeviceValues {
         &self.inputs
     }
 
-    /// The clock goes on, and never back.
+    /// The clock goes on to a time, 0 to 2^62 - 1, and never back.
     pub(crate) fn advance(&mut self, time: i64)
+        requires { is_time time ≡ true }
         ensures { self.new ≡ record self.old { clock = later_of self.old.clock time } }
     {
         if self.clock <= time {

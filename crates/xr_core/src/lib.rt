@@ -18,6 +18,7 @@ mod standing;
 mod subactions;
 mod uncounted;
 mod users;
+mod view;
 
 pub use counted::Core;
 pub use plain_core::PlainCore;

@@ -15,6 +15,7 @@ use crate::Core;
 use std::alloc::Global;
 use std::marker::Model;
 use xr_chains::PlainCells;
+use xr_model::Machine;
 use xr_types::{Actor, Call, NoMemory, Shown, Step};
 
 /// The machine of one thread: a core over plain cells, seen by contracts as its state.
@@ -101,7 +102,7 @@ impl PlainCore {
         self.core.next_frame_waits() && self.core.taken().is_empty()
     }
 
-    /// Makes a call that is built, or says that it has to wait and leaves all as it was. `text` is the buffer that
+    /// Makes a call, or says that it has to wait and leaves all as it was. `text` is the buffer that
     /// `path_to_string` is lent, of the call's `capacity`; for other calls it may have any size and stays. `shown` is the place
     /// for the frame that `NextFrame` shows; it stays where none is.
     /// The reply is the machine's to an allowed entry: it gives a handle exactly where a creation succeeds, and
@@ -113,4 +114,11 @@ impl PlainCore {
     {
         self.core.apply(&mut self.cells, who, call, text, shown)
     }
+}
+
+/// It stands for the state that it is.
+impl Machine for PlainCore {
+    ghost use Rattle.std.specs.Prelude.{◌≡◌};
+
+    ghost stands = { λ p s. p ≡ s };
 }

@@ -187,6 +187,20 @@ impl Session {
         matches!(self.life.state(), SessionState::Focused)
     }
 
+    /// Whether the device was lost since it was created.
+    pub(crate) fn is_lost(&self) -> bool
+        ensures { result ≡ (loss_of self.now.life).lost }
+    {
+        self.life.lost()
+    }
+
+    /// Whether its loss is pending.
+    pub(crate) fn is_loss_pending(&self) -> bool
+        ensures { result ≡ (loss_of self.now.life).pending }
+    {
+        matches!(self.life.state(), SessionState::LossPending)
+    }
+
     /// Whether it has attached this action set.
     pub(crate) fn has_set(&self, set: u64) -> bool
         ensures { result ≡ is_attached self.now.attached set }

@@ -3,7 +3,7 @@ ghost use Rattle.std.specs.Prelude.{◌≡◌, ◌≤◌, ◌<◌, ◌^◌, [], 
 ghost use Rattle.xr_types.specs.declared.calls.Actor.{Actor};
 ghost use Rattle.xr_types.specs.declared.limits.TheConstants.{MOST_SCRIPTS};
 ghost use Rattle.xr_model.specs.machine.CellCalls.{MayCall, Leads, peek_calls, return_calls};
-ghost use Rattle.xr_model.specs.machine.CoreCalls.{Lent, Fits, asked, is_built};
+ghost use Rattle.xr_model.specs.machine.CoreCalls.{Lent, Fits, asked};
 ghost use Rattle.std.specs.List.{list_all};
 ghost use Rattle.xr_model.specs.machine.Frames.{is_empty};
 ghost use Rattle.xr_model.specs.machine.Images.{first_images};
@@ -144,7 +144,7 @@ impl Uncounted {
         done(Code::Success)
     }
 
-    /// Decides a call that is built: what it comes to, that it is refused, or that it has to wait. `text` is the buffer that
+    /// Decides a call: what it comes to, that it is refused, or that it has to wait. `text` is the buffer that
     /// `path_to_string` is lent, and `shown` the place of the frame that `next_frame` shows; other calls leave them. Memory is
     /// taken for a new path text and for suggestions.
     pub(crate) fn decide<C: Cells>(
@@ -160,7 +160,6 @@ impl Uncounted {
         requires created { self.old.kept.created < 2 ^ 44 }
         requires ended { self.old.kept.ended < 2 ^ 44 }
         requires present { IsPresent self.old.kept who }
-        requires built { is_built (request_of call.now) ≡ true }
         requires caller { is_by (asked who (request_of call.now)).caller who ≡ true }
         requires numbers { (asked who (request_of call.now)).in_range ≡ true }
         requires buffer { Fits (asked who (request_of call.now)).lent (length text.old) }

@@ -1,6 +1,5 @@
 -- What a run over the bytes that were read says of the bytes that there were, and what its status means.
-use Rattle.std.proofs.Common.{◌≡◌, ◌<◌, ◌≤◌, ◌+◌, inl, inr, ℕ, Bool, true, false, List, length, take, nat_lt, Option, Some, None, IfSome, Result, Ok, Err, refl, sym, subst, ap, ◌∙◌, arith}
-use Rattle.std.specs.Prelude.{if◌then◌else◌}
+use Rattle.std.proofs.Common.{◌≡◌, ◌<◌, ◌≤◌, ◌+◌, inl, inr, ℕ, Bool, true, false, List, length, take, nat_lt, Option, Some, None, IfSome, Ok, Err, refl, sym, subst, ap, ◌∙◌, arith}
 use Rattle.std.proofs.lemmas.Grind.{common_steps}
 use Rattle.std.proofs.lemmas.Bool.{ltb-true, ltb-false, lt-ltb}
 use Rattle.std.proofs.lemmas.Option.{none-some, same_Some}
@@ -10,10 +9,9 @@ use Rattle.xr_types.specs.declared.scenario.Scenario.{Scenario}
 use Rattle.xr_types.specs.declared.status.Status.{Status}
 use Rattle.xr_types.specs.declared.status.Status.TheVariants.{Done, Usage, OpenFault, ReadFault, ScenarioRefused, DeviceFailed, DeviceGarbled, Stuck, WriteFault, NoMemory}
 use Rattle.xr_types.specs.declared.status.Refusal.{Refusal}
-use Rattle.xr_types.specs.declared.status.Refusal.TheVariants.{TooLong, Unbuilt}
+use Rattle.xr_types.specs.declared.status.Refusal.TheVariants.{TooLong}
 use Rattle.xr_model.specs.command_line.Words.{RunOptions, options_of}
 use Rattle.xr_model.specs.scenario.Scenario.{scenario_of}
-use Rattle.xr_model.specs.scenario.Built.{are_built, if_built, run_scenario_of}
 use Rattle.xr_model.specs.device_text.DeviceText.{DeviceStream, ends}
 use Rattle.xr_drive.specs.Run.{Run}
 use Rattle.xr_drive.specs.Top.{told_under, RunsText, EndsSo, Means, Faults, NoneRose, HasItsCause, IsComplete}
@@ -52,22 +50,6 @@ scenario_of-take bytes = by (nat_lt 1048576 (length bytes)) refl
         let all : take 1048577 bytes ≡ bytes = whole_take 1048576 bytes short in
         rw all refl
 
--- what is run is a scenario
-abbrev accepted : Bool → Scenario → Result Scenario Refusal
-accepted b s = if b then Ok s else Err Unbuilt
-
-accept : (b : Bool) (scenario s : Scenario) → accepted b scenario ≡ accepted true s → accepted true scenario ≡ accepted true s
-accept true scenario s e = e
-accept false scenario s e = absurd (err_is_not s Unbuilt e)
-
-built_read : (r : Result Scenario Refusal) (s : Scenario) → if_built r ≡ Ok s → r ≡ Ok s
-built_read (Err why) s e = absurd (err_is_not s why e)
-built_read (Ok scenario) s e = accept (are_built scenario.scripts) scenario s e
-
--- a scenario that is built is run, and one that isn't is refused
-pub run_if_built : (text : List ℕ) (s : Scenario) → scenario_of text ≡ Ok s → are_built s.scripts ≡ true → run_scenario_of text ≡ Ok s
-run_if_built text s reads built = ap if_built reads ∙ rw built refl
-
 -- a scenario isn't too long
 scenario_short : (text : List ℕ) (s : Scenario) → scenario_of text ≡ Ok s → length text ≤ 1048576
 scenario_short text s e = by (nat_lt 1048576 (length text)) refl
@@ -77,18 +59,18 @@ scenario_short text s e = by (nat_lt 1048576 (length text)) refl
     by false h = ltb-false 1048576 (length text) h
 
 -- where what was read is a scenario, it is all that there was
-whole_of_read : (bytes text : List ℕ) (s : Scenario) → text ≡ take 1048577 bytes → run_scenario_of text ≡ Ok s → bytes ≡ text
+whole_of_read : (bytes text : List ℕ) (s : Scenario) → text ≡ take 1048577 bytes → scenario_of text ≡ Ok s → bytes ≡ text
 whole_of_read bytes text s e reads =
-    let short : length (take 1048577 bytes) ≤ 1048576 = subst (λ (t : List ℕ). length t ≤ 1048576) e (scenario_short text s (built_read (scenario_of text) s reads)) in
+    let short : length (take 1048577 bytes) ≤ 1048576 = subst (λ (t : List ℕ). length t ≤ 1048576) e (scenario_short text s reads) in
     short_take 1048576 bytes short ∙ sym e
 
 runs_text : (all : Option (List ℕ)) (text : List ℕ) (told : Option DeviceStream) (lists : Lists) → IfSome all (λ bytes. text ≡ take 1048577 bytes) → Run text told lists → RunsText all told lists
 runs_text None text told lists read run = (text, tt, run)
 runs_text (Some bytes) text told lists read run = (text, whole_of_read bytes text run.scenario read run.reads, run)
 
-refused_if_told : (told : Option (List ℕ)) (text : List ℕ) (why : Refusal) → IfSome told (λ bytes. text ≡ take 1048577 bytes) → run_scenario_of text ≡ Err why → IfSome told (λ bytes. run_scenario_of bytes ≡ Err why)
+refused_if_told : (told : Option (List ℕ)) (text : List ℕ) (why : Refusal) → IfSome told (λ bytes. text ≡ take 1048577 bytes) → scenario_of text ≡ Err why → IfSome told (λ bytes. scenario_of bytes ≡ Err why)
 refused_if_told None text why read e = tt
-refused_if_told (Some bytes) text why read e = ap if_built (sym (scenario_of-take bytes)) ∙ rw (← read) e
+refused_if_told (Some bytes) text why read e = sym (scenario_of-take bytes) ∙ rw (← read) e
 
 -- what holds of the bytes that were read holds of all that there were
 pub means_ran : (all : Option (List ℕ)) (text : List ℕ) (told : Option DeviceStream) (lists : Lists) → IfSome all (λ bytes. text ≡ take 1048577 bytes) → MeansText text told (Ok lists) → MeansRun all told (Ok lists)
@@ -135,7 +117,7 @@ cause_ending old new lists cause = by (ending_of lists) refl (is_ending lists.ev
 -- ---- completeness
 
 abbrev IsRefusedIfTold : Refusal → Option (List ℕ) → Type 0
-IsRefusedIfTold why told = IfSome told (λ bytes. run_scenario_of bytes ≡ Err why)
+IsRefusedIfTold why told = IfSome told (λ bytes. scenario_of bytes ≡ Err why)
 
 no_opening : (old new : Faults) → NoneRose old new → HasItsCause old new OpenFault → ⊥
 no_opening old new none (inl rose) = none.opens which.Scenario rose

@@ -2,7 +2,7 @@
 use Rattle.std.specs.Prelude.{ℕ, List, [], ◌++◌, codes, decimal}
 use Rattle.xr_types.specs.Field.{name_of_field}
 use Rattle.xr_types.specs.declared.status.Refusal.{Refusal}
-use Rattle.xr_types.specs.declared.status.Refusal.TheVariants.{TooLong, Json, BadShape, Unbuilt}
+use Rattle.xr_types.specs.declared.status.Refusal.TheVariants.{TooLong, Json, BadShape}
 use Rattle.xr_types.specs.declared.status.Status.{Status}
 use Rattle.xr_types.specs.declared.status.Status.TheVariants.{Done, Usage, OpenFault, ReadFault, ScenarioRefused, DeviceFailed, DeviceGarbled, Stuck, WriteFault, NoMemory}
 use Rattle.xr_types.specs.declared.status.What.{What}
@@ -22,7 +22,6 @@ abbrev pub reason_of : Refusal → List ℕ
 reason_of TooLong = codes "too long"
 reason_of Json = codes "json"
 reason_of (BadShape script op what) = codes "script " ++ decimal script ++ codes " op " ++ decimal op ++ codes " " ++ name_of_part what
-reason_of Unbuilt = codes "unbuilt"
 
 -- without its line feed; a run that is done has none
 abbrev pub line_of : Status → List ℕ

@@ -9,7 +9,7 @@ use Rattle.xr_types.specs.declared.scenario.Scenario.{Scenario}
 use Rattle.xr_types.specs.declared.status.Status.{Status}
 use Rattle.xr_types.specs.declared.status.Status.TheVariants.{Done, Usage, OpenFault, ReadFault, ScenarioRefused, DeviceFailed, DeviceGarbled, Stuck, WriteFault, NoMemory}
 use Rattle.xr_model.specs.command_line.Words.{RunOptions, options_of}
-use Rattle.xr_model.specs.scenario.Built.{run_scenario_of}
+use Rattle.xr_model.specs.scenario.Scenario.{scenario_of}
 use Rattle.xr_model.specs.device_text.DeviceText.{DeviceStream, ends, nothing_more, told_in}
 use Rattle.xr_model.specs.report.RunEnding.{ending_of, exit_of}
 use Rattle.xr_model.specs.report.Report.{report_of}
@@ -43,7 +43,7 @@ Means words bytes before after Done = EndsSo words bytes before after Done
 Means words bytes before after Usage = (options_of words ≡ None) × Keeps before after
 Means words bytes before after OpenFault = OfForm words (λ form. Keeps before after)
 Means words bytes before after ReadFault = OfForm words (λ form. Keeps before after)
-Means words bytes before after (ScenarioRefused why) = OfForm words (λ form. IfSome (bytes form.file) (λ text. run_scenario_of text ≡ Err why) × Keeps before after)
+Means words bytes before after (ScenarioRefused why) = OfForm words (λ form. IfSome (bytes form.file) (λ text. scenario_of text ≡ Err why) × Keeps before after)
 Means words bytes before after DeviceFailed = EndsSo words bytes before after DeviceFailed
 Means words bytes before after (DeviceGarbled line) = EndsSo words bytes before after (DeviceGarbled line)
 Means words bytes before after Stuck = EndsSo words bytes before after Stuck
@@ -124,11 +124,11 @@ pub record NoneRose (old new : Faults) : Type 0 where
   pub reads : (which : Which) → ¬ Rose (old.reads which) (new.reads which)
   pub writes : ¬ Rose old.writes new.writes
 
--- Where the words have a form, the file's bytes are told and are a scenario that is run, what the device gives is told
+-- Where the words have a form, the file's bytes are told and are a scenario, what the device gives is told
 -- and it ends at the end of its text, and no count of faults rose, the run is done, or stuck, or memory was short.
 abbrev pub IsComplete : List (List ℕ) → (List ℕ → Option (List ℕ)) → Faults → Faults → Status → Type 0
 IsComplete words bytes old new status =
-    (form : RunOptions) (text : List ℕ) (scenario : Scenario) (told : DeviceStream) → options_of words ≡ Some form → bytes form.file ≡ Some text → run_scenario_of text ≡ Ok scenario
+    (form : RunOptions) (text : List ℕ) (scenario : Scenario) (told : DeviceStream) → options_of words ≡ Some form → bytes form.file ≡ Some text → scenario_of text ≡ Ok scenario
     → told_under bytes form.device ≡ Some told → told.ending ≡ ends → NoneRose old new → (status ≡ Done) ⊎ ((status ≡ Stuck) ⊎ (status ≡ NoMemory))
 
 -- What a status says, all of it: what it means, why it comes, that no other count changed, and that good input is run.

@@ -24,7 +24,7 @@ fn name_of_part(what: What) -> &'static str
     }
 }
 
-/// Why a scenario is refused: `json`, `too long`, `unbuilt`, or the script and the op from 1 with the part of them that
+/// Why a scenario is refused: `json`, `too long`, or the script and the op from 1 with the part of them that
 /// is wrong.
 #[derive(Clone, Copy)]
 struct Reason {
@@ -45,7 +45,6 @@ impl fmt::Display for Reason {
                 let part = name_of_part(what);
                 write!(f, "script {script} op {op} {part}")
             }
-            Refusal::Unbuilt => f.write_str("unbuilt"),
         }
     }
 }

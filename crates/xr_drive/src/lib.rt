@@ -1,10 +1,9 @@
 //! The top call, over any files and any output: from the words and the files' bytes to the bytes of the report, with
 //! the status of each way to end, its number, and the line that tells it. It knows the crates below by their public
-//! clauses alone. `serial` has the call; reading, writing and the choice of the scenarios that are run are private.
+//! clauses alone. `serial` has the call; reading and writing are private.
 //! `program` adds what a program does with a status. A program gives them real files and standard output.
 #![tactic(auto)]
 
-mod built;
 mod explanation;
 mod faults;
 mod input;
@@ -12,7 +11,6 @@ mod output;
 mod program;
 mod serial;
 
-pub use built::are_built;
 pub use explanation::{Explanation, explanation_of};
 pub use output::write_all;
 pub use program::{end_with, run_program};

@@ -11,7 +11,6 @@ ghost use Rattle.xr_drive.specs.Top.{Means, HasItsCause, OnlyItsFault, IsComplet
 ghost use Rattle.xr_drive.specs.inside.Input.{RoseIfStopped, KeptUnlessFailed};
 ghost use Rattle.xr_drive.specs.inside.Parts.{MeansText, MeansRun, HasRunCause, KeepsCounts, KeptIfRefused, OpenedInTurn, status_in, MeansWritten, RoseIfUnwritten, KeptUnlessUnwritten};
 
-use crate::built::are_built;
 use crate::faults::{RunFault, Unwritten};
 use crate::input::{Stop, read_all};
 use crate::output::write_all;
@@ -21,7 +20,7 @@ use xr_device::{Device, LineDevice, ListDevice};
 use xr_io::{Opener, Sink, Source, Which};
 use xr_report::{ending_of, report};
 use xr_scenario::{ScenarioFault, read};
-use xr_types::{Lists, Refusal, Status};
+use xr_types::{Lists, Status};
 
 /// The bytes of the scenario's opened file, or why there are none. The source is closed.
 fn read_text<O: Opener>(alloc: Global, opener: &mut O, source: O::S) -> Result<Vec<u8>, Stop>
@@ -59,9 +58,6 @@ fn run_text<D: Device>(alloc: Global, text: &[u8], device: &mut D) -> Result<Lis
     ensures which { (D.prospect device.new).which ≡ (D.prospect device.old).which }
 {
     let scenario = read(alloc, text)?;
-    if !are_built(scenario.scripts.as_slice()) {
-        return Err(ScenarioFault::Refused(Refusal::Unbuilt));
-    }
     match xr_serial::run(alloc, &scenario, device) {
         Ok(lists) => Ok(lists),
         Err(_) => Err(ScenarioFault::NoMemory),
@@ -193,8 +189,8 @@ fn write_report<K: Sink>(
 /// `DeviceFailed` comes where the device couldn't be read on, else `DeviceGarbled` with the first malformed line of its
 /// text, else `Stuck` where somebody waits for ever. `Usage` comes exactly where the words have no form; `OpenFault`,
 /// `ReadFault`, `DeviceFailed` and `WriteFault` only where that object's count of faults rose; `ScenarioRefused` exactly
-/// where the text is no scenario that is run, with the reason: `TooLong`, `Json`, `BadShape` with the first wrong place,
-/// or `Unbuilt` for a scenario with an op that isn't built. `NoMemory` is free.
+/// where the text is no scenario, with the reason: `TooLong`, `Json`, or `BadShape` with the first wrong place. `NoMemory`
+/// is free.
 /// Under the others nothing is written, but under `WriteFault` a first part of the report.
 pub fn run_serial<O: Opener, K: Sink>(
     alloc: Global,

@@ -228,7 +228,7 @@ impl Handles {
     }
 
     /// A handle was destroyed of a kind below which nothing stands: its place is free. Where it isn't live, all stays as it
-    /// was. OpenXR 1.0 chapter 7, xrDestroySpace.
+    /// was. OpenXR 1.0 chapter 7, xrDestroySpace, and chapter 10, xrDestroySwapchain.
     pub fn remove(&mut self, kind: Kind, handle: u64)
         ensures { self.new ≡ without_alone self.old kind handle }
     {

@@ -60,15 +60,14 @@ layers_codes look (Projection space count views ∷ layers) =
 layers_codes look (Quad space image pose ∷ layers) =
     ap (λ (cs : List Code). HandleInvalid ∷ HandleInvalid ∷ SwapchainRectInvalid ∷ LayerInvalid ∷ PoseInvalid ∷ cs) (layers_codes look layers)
 
--- a call that has a rule succeeds plainly, or on a session tells of a pending loss
+-- a call succeeds plainly, or on a session tells of a pending loss
 abbrev succeeds_on : Option Loss → List Code
 succeeds_on None = Success ∷ []
 succeeds_on (Some loss) = Success ∷ SessionLossPending ∷ []
 
-on_success : (on : Option Loss) (x : Effect) (b : Bool) → b ≡ true → x.code ≡ Success → IsOneOf (if b then succeeds_on on else []) (told_on on x).code
-on_success on x false there plain = absurd (true≢false (sym there))
-on_success None x true there plain = inl plain
-on_success (Some loss) x true there plain = subst (λ (c : Code). IsOneOf (Success ∷ SessionLossPending ∷ []) (code_on loss c)) (sym plain) (by loss.pending)
+on_success : (on : Option Loss) (x : Effect) → x.code ≡ Success → IsOneOf (succeeds_on on) (told_on on x).code
+on_success None x plain = inl plain
+on_success (Some loss) x plain = subst (λ (c : Code). IsOneOf (Success ∷ SessionLossPending ∷ []) (code_on loss c)) (sym plain) (by loss.pending)
   where
     by : (b : Bool) → IsOneOf (Success ∷ SessionLossPending ∷ []) (if b then SessionLossPending else Success)
     by true = inr (inl refl)
@@ -98,47 +97,47 @@ synced_success loss false = inr (inr (inl refl))
 pub refusals_are_the_table : RefusalsAreTheTable
 refusals_are_the_table s reads e = by e.request
   where
-    by : (r : Request) → (rule s reads (record e { request = r })).is_there ≡ true → IsOfRow (answers_of r) (items_of s r) (rule s reads (record e { request = r }))
-    by (create_action set name type subs localized) there = record {
+    by : (r : Request) → IsOfRow (answers_of r) (items_of s r) (rule s reads (record e { request = r }))
+    by (create_action set name type subs localized) = record {
       refusals = ap (λ (cs : List Code). HandleInvalid ∷ ActionsetsAlreadyAttached ∷ NameInvalid ∷ PathFormatInvalid ∷ NameDuplicated ∷ cs) (subs_codes s.atoms no_users subs _);
       order = λ none. refl;
       memory = λ none. refl;
       success = inl refl;
     }
-    by (suggest_bindings instance profile list) there = record {
+    by (suggest_bindings instance profile list) = record {
       refusals = ap (λ (cs : List Code). HandleInvalid ∷ PathInvalid ∷ PathUnsupported ∷ ValidationFailure ∷ LimitReached ∷ cs) (bindings_codes s (profile_at s.atoms profile) list);
       order = λ none. refl;
       memory = λ none. absurd (true≢false none);
       success = inl refl;
     }
-    by (attach_sets session handles) there = record {
+    by (attach_sets session handles) = record {
       refusals = ap (λ (cs : List Code). HandleInvalid ∷ SessionLost ∷ ActionsetsAlreadyAttached ∷ ValidationFailure ∷ cs) (handles_codes s.handles kind.ActionSet handles);
       order = λ none. refl;
       memory = λ none. refl;
-      success = on_success (Some (loss_of (life_of s session))) (rule s reads (record e { request = attach_sets session handles })).effect true refl refl;
+      success = on_success (Some (loss_of (life_of s session))) (rule s reads (record e { request = attach_sets session handles })).effect refl;
     }
-    by (sync_actions session active) there = record {
+    by (sync_actions session active) = record {
       refusals = ap (λ (cs : List Code). HandleInvalid ∷ SessionLost ∷ LimitReached ∷ cs) (items_codes s session active);
       order = λ none. refl;
       memory = λ none. refl;
       success = synced_success (loss_of (life_of s session)) (is_state (life_of s session).state Focused);
     }
-    by (begin_frame session) there = record {
+    by (begin_frame session) = record {
       refusals = refl;
       order = λ none. cc;
       memory = λ none. refl;
       success = begun_success (loss_of (life_of s session)) s.frames.frame_loop;
     }
-    by (end_frame session time blend layers) there = record {
+    by (end_frame session time blend layers) = record {
       refusals = ap (λ (cs : List Code). HandleInvalid ∷ SessionLost ∷ SessionNotRunning ∷ CallOrderInvalid ∷ TimeInvalid ∷ EnvironmentBlendModeUnsupported ∷ LayerLimitExceeded ∷ cs) (layers_codes (look_of s) layers);
       order = λ none. cc;
       memory = λ none. refl;
-      success = on_success (Some (loss_of (life_of s session))) (rule s reads (record e { request = end_frame session time blend layers })).effect true refl refl;
+      success = on_success (Some (loss_of (life_of s session))) (rule s reads (record e { request = end_frame session time blend layers })).effect refl;
     }
-    by (device what) there = record { refusals = refl; order = λ none. refl; memory = λ none. refl; success = inl refl }
-    by r there =
+    by (device what) = record { refusals = refl; order = λ none. refl; memory = λ none. refl; success = inl refl }
+    by r =
         let f = rule s reads (record e { request = r }) in
-        record { refusals = refl; order = λ none. cc; memory = λ none. cc; success = on_success f.on f.effect f.is_there there refl }
+        record { refusals = refl; order = λ none. cc; memory = λ none. cc; success = on_success f.on f.effect refl }
 
 -- ---- what is answered is one of the row's codes
 
@@ -220,4 +219,4 @@ module _ (s : CoreState) (short : Bool) (row : Row) (items : List ℕ) (r : Rule
       by true eb (Some x) eo = refused_by x eo
 
 pub answers_are_the_table : AnswersAreTheTable
-answers_are_the_table s e there = answered s.core e.short (answers_of e.request) (items_of s.core e.request) (rule s.core (reads_of s e.request) e) (refusals_are_the_table s.core (reads_of s e.request) e there)
+answers_are_the_table s e = answered s.core e.short (answers_of e.request) (items_of s.core e.request) (rule s.core (reads_of s e.request) e) (refusals_are_the_table s.core (reads_of s e.request) e)

@@ -1,10 +1,10 @@
 -- What a getter does: nothing, and what it is answered.
-use Rattle.std.proofs.Common.{◌≡◌, ℕ, Bool, true, false, Option, Some, None, refl, sym, ap, true≢false}
+use Rattle.std.proofs.Common.{◌≡◌, ℕ, true, Option, Some, None, refl, sym, ap, true≢false}
 use Rattle.xr_types.specs.declared.input.ActionType.{ActionType}
 use Rattle.xr_types.specs.declared.input.ActionType.TheVariants as type
 use Rattle.xr_model.specs.machine.Publication.{Publication, publication_of, published_at, getter_gives}
 use Rattle.xr_model.specs.machine.Refusals.{Refusal, first_of}
-use Rattle.xr_model.specs.machine.Request.{Request, Entry, is_getter, is_locked, get_boolean, get_float, get_vector, get_pose_active}
+use Rattle.xr_model.specs.machine.Request.{Request, Entry, is_getter, get_boolean, get_float, get_vector, get_pose_active}
 use Rattle.xr_model.specs.machine.Reads.{answered, reads}
 use Rattle.xr_model.specs.machine.Rule.{Rule, refusals, refusal, unless_refused, told_on, decided_call}
 use Rattle.xr_model.specs.machine.Rules.Sync.{getter_rule}

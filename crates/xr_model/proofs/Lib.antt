@@ -84,3 +84,5 @@ pub mod PublishedContents
 pub mod PublishedLast
 pub mod MovedGetters
 pub mod WordsBack
+pub mod FittingColumns
+pub mod FittingPublications

@@ -1,7 +1,6 @@
 -- A getter may stand at each place from a publication to the next.
-use Rattle.std.proofs.Common.{◌≡◌, ◌≤◌, ◌-◌, ◌==◌, ◌&&◌, ◌++◌, ℕ, ℤ, not, IsTrue, Bool, true, false, List, [], ◌∷◌, Option, Some, None, refl, sym, ap, subst, ◌∙◌, arith, true≢false}
-use Rattle.std.specs.Prelude.{slice_get, slice_set, if◌then◌else◌}
-use Rattle.std.specs.List.{list_all}
+use Rattle.std.proofs.Common.{◌≡◌, ◌≤◌, ◌-◌, ◌==◌, ◌++◌, ℕ, ℤ, not, IsTrue, Bool, true, false, List, [], ◌∷◌, Option, Some, None, refl, sym, ap, subst, ◌∙◌, arith, true≢false}
+use Rattle.std.specs.Prelude.{slice_get, if◌then◌else◌}
 use Rattle.xr_types.specs.declared.calls.Actor.{Actor}
 use Rattle.xr_types.specs.declared.calls.Actor.TheVariants.{App, Compositor, Device}
 use Rattle.xr_types.specs.declared.device.DeviceEvent.{DeviceEvent}
@@ -10,13 +9,13 @@ use Rattle.xr_model.specs.machine.Publication.{Publication, publication_of}
 use Rattle.xr_model.specs.machine.Reads.{reads}
 use Rattle.xr_model.specs.machine.Refusals.{Refusal}
 use Rattle.xr_model.specs.machine.Request.{Request, Entry, Outcome, Exchange, is_actor, is_getter, is_locked, get_boolean, get_float, get_vector, get_pose_active, leave, device}
-use Rattle.xr_model.specs.machine.Rule.{Rule, Effect, refusal, unless_refused, told_on}
+use Rattle.xr_model.specs.machine.Rule.{Effect, refusal, unless_refused, told_on}
 use Rattle.xr_model.specs.machine.Rules.Device.{behind_event}
 use Rattle.xr_model.specs.machine.Rules.Own.{left_with}
-use Rattle.xr_model.specs.machine.State.{CoreState, CellReads, Settings, State, opening}
+use Rattle.xr_model.specs.machine.State.{CoreState, CellReads, State, opening}
 use Rattle.xr_model.specs.machine.Machine.{IsAllowed, IsPresent, core_step, ready, reads_of, rule, step}
-use Rattle.xr_model.specs.machine.History.{after, calls_from, clock_of, with_clock, clocks_after, opening_clocks, StartsAt, IsLegal, IsLegalFrom}
-use Rattle.xr_model.specs.laws.PublicationLaws.{NonePublishes, none_is_by, Moves, GettersMove}
+use Rattle.xr_model.specs.machine.History.{after, calls_from, clock_of, with_clock, clocks_after, opening_clocks, StartsAt, IsLegalFrom}
+use Rattle.xr_model.specs.laws.PublicationLaws.{NonePublishes, none_is_by, GettersMove}
 use Rattle.xr_model.proofs.DestroyedForGood.{clocks_behind, legal_behind}
 use Rattle.xr_model.proofs.GetterSteps.{getters_change_nothing, getters_are_ready, getters_read}
 use Rattle.xr_model.proofs.Histories.{fronts_are_legal}
@@ -85,10 +84,10 @@ module _ (e : Entry) (is : is_getter e.request ≡ true) where
   allowed_at s t allowed there = by e.request is allowed
     where
       by : (r : Request) → is_getter r ≡ true → IsAllowed s (record e { request = r }) → IsAllowed t (record e { request = r })
-      by (get_boolean session action sub) is a = record { ruled = refl; handle = a.handle; memory = λ short. absurd (true≢false (sym (a.memory short).0)); present = there }
-      by (get_float session action sub) is a = record { ruled = refl; handle = a.handle; memory = λ short. absurd (true≢false (sym (a.memory short).0)); present = there }
-      by (get_vector session action sub) is a = record { ruled = refl; handle = a.handle; memory = λ short. absurd (true≢false (sym (a.memory short).0)); present = there }
-      by (get_pose_active session action sub) is a = record { ruled = refl; handle = a.handle; memory = λ short. absurd (true≢false (sym (a.memory short).0)); present = there }
+      by (get_boolean session action sub) is a = record { handle = a.handle; memory = λ short. absurd (true≢false (sym (a.memory short).0)); present = there }
+      by (get_float session action sub) is a = record { handle = a.handle; memory = λ short. absurd (true≢false (sym (a.memory short).0)); present = there }
+      by (get_vector session action sub) is a = record { handle = a.handle; memory = λ short. absurd (true≢false (sym (a.memory short).0)); present = there }
+      by (get_pose_active session action sub) is a = record { handle = a.handle; memory = λ short. absurd (true≢false (sym (a.memory short).0)); present = there }
       by _ is a = absurd (true≢false (sym is))
 
   starts : (clock : ℤ) → StartsAt clock e.request

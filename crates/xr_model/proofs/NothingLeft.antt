@@ -1,10 +1,10 @@
 -- With the instance all actions go, since there is one place for an instance.
-use Rattle.std.proofs.Common.{◌≡◌, ◌==◌, ◌&&◌, ◌||◌, ◌++◌, ℕ, not, Bool, true, false, List, [], ◌∷◌, length, Option, Some, None, refl, sym, subst, ◌∙◌, true≢false}
+use Rattle.std.proofs.Common.{◌≡◌, ◌==◌, ◌&&◌, ◌||◌, ℕ, not, Bool, true, false, List, [], ◌∷◌, length, refl, sym, subst, ◌∙◌, true≢false}
 use Rattle.std.specs.Prelude.{is_some}
 use Rattle.std.specs.List.{find}
 use Rattle.xr_types.specs.declared.handles.Kind.TheVariants as kind
 use Rattle.xr_types.specs.declared.handles.Slot.{Slot}
-use Rattle.xr_model.specs.machine.Handles.{Handles, has, is_live, cleared, without, destroyed_by}
+use Rattle.xr_model.specs.machine.Handles.{has, is_live, cleared, without, destroyed_by}
 use Rattle.xr_model.specs.machine.Sets.{Action, without_inputs}
 use Rattle.xr_model.specs.machine.State.{CoreState}
 use Rattle.xr_model.specs.laws.HandleLaws.{StandOnce, is_under, AreUnder}

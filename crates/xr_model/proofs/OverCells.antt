@@ -203,7 +203,6 @@ AreTold held next_frame ns ms = held ≡ [] → ns ≡ ms
 AreTold held _ ns ms = Unit {0}
 
 record Agrees (s : CoreState) (r q : CellReads) (e : Entry) : Type 0 where
-  there : (rule s r e).is_there ≡ (rule s q e).is_there
   creates : (rule s r e).creates ≡ (rule s q e).creates
   takes : (rule s r e).takes_memory ≡ (rule s q e).takes_memory
   first : first_of (refusals (rule s r e)) ≡ first_of (refusals (rule s q e))
@@ -228,11 +227,11 @@ module _ (s : CoreState) (held : List Image) (u v : Bool) (ns ms : List ℕ) whe
         where
           at : (a : Bool) → is_live s.handles Swapchain chain ≡ a → (b : Bool) → (life_of s (session_above s.handles chain)).lost ≡ b → (d : Bool) → is_wait_wrong (chain_at s.chains chain) ≡ d
               → Agrees s told other (record e { request = wait_image chain timeout start })
-          at false live b lost d order = record { there = refl; creates = refl; takes = refl; first = rw live refl; readies = rw live (or_true _ ∙ sym (or_true _)) }
-          at true live true lost d order = record { there = refl; creates = refl; takes = refl; first = rw (lost, live) refl; readies = rw (lost, live) (or_true _ ∙ sym (or_true _)) }
-          at true live false lost true order = record { there = refl; creates = refl; takes = refl; first = rw (lost, order, live) refl; readies = rw (lost, order, live) (or_true _ ∙ sym (or_true _)) }
-          at true live false lost false order = let same : u ≡ v = is (live, lost, order) in rw same (record { there = refl; creates = refl; takes = refl; first = refl; readies = refl })
-      by r is = record { there = refl; creates = refl; takes = refl; first = refl; readies = refl }
+          at false live b lost d order = record { creates = refl; takes = refl; first = rw live refl; readies = rw live (or_true _ ∙ sym (or_true _)) }
+          at true live true lost d order = record { creates = refl; takes = refl; first = rw (lost, live) refl; readies = rw (lost, live) (or_true _ ∙ sym (or_true _)) }
+          at true live false lost true order = record { creates = refl; takes = refl; first = rw (lost, order, live) refl; readies = rw (lost, order, live) (or_true _ ∙ sym (or_true _)) }
+          at true live false lost false order = let same : u ≡ v = is (live, lost, order) in rw same (record { creates = refl; takes = refl; first = refl; readies = refl })
+      by r is = record { creates = refl; takes = refl; first = refl; readies = refl }
 
   same_effect : (e : Entry) → IsTold s e.request u v → AreTold held e.request ns ms → effect s told e ≡ effect s other e
   same_effect e = by e.request
@@ -309,7 +308,6 @@ plainly s new held held2 c d who asked lent left (Done answer) counts x =
     let a = x.applies in
     record {
       allowed = record {
-        ruled = sym here.there ∙ a.allowed.ruled;
         handle = subst (λ (k : Option Kind). IsGiven (is_some k && is_success (decided_call s e.request (effect s q e)).1.reply.code) s.handles e.given) here.creates
             (subst (λ (y : Effect). IsGiven (is_some (rule s x.reads e).creates && is_success (decided_call s e.request y).1.reply.code) s.handles e.given) effects a.allowed.handle);
         memory = λ short. let both = a.allowed.memory short in (sym here.takes ∙ both.0, sym here.first ∙ both.1);

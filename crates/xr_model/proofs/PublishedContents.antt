@@ -1,6 +1,6 @@
 -- What is published stays as long as nobody publishes.
-use Rattle.std.proofs.Common.{◌≡◌, ◌==◌, ◌||◌, ◌++◌, ℕ, not, Bool, true, false, List, [], ◌∷◌, map, length, Option, Some, None, refl, sym, ap, subst, ◌∙◌, true≢false}
-use Rattle.std.specs.List.{list_any, filter}
+use Rattle.std.proofs.Common.{◌≡◌, ◌==◌, ℕ, not, Bool, true, false, List, [], ◌∷◌, Option, Some, None, refl, sym, ap, ◌∙◌, true≢false}
+use Rattle.std.specs.List.{list_any}
 use Rattle.std.specs.Prelude.{if◌then◌else◌}
 use Rattle.xr_types.specs.declared.code.Code.{Code}
 use Rattle.xr_types.specs.declared.code.Code.TheVariants.{Success, CallOrderInvalid, SessionNotRunning, SessionNotStopping}
@@ -10,20 +10,20 @@ use Rattle.xr_types.specs.declared.handles.Kind.TheVariants as kind
 use Rattle.xr_types.specs.declared.input.User.{User}
 use Rattle.xr_types.specs.declared.input.User.TheVariants as user
 use Rattle.xr_types.specs.declared.session.SessionState.TheVariants.{Focused, Stopping}
-use Rattle.xr_model.specs.machine.Handles.{is_live, is_among, destroyed_by, no_handle}
+use Rattle.xr_model.specs.machine.Handles.{no_handle}
 use Rattle.xr_model.specs.machine.LiveSessions.{Session, session_at, life_in}
 use Rattle.xr_model.specs.machine.Paths.{with_text}
 use Rattle.xr_model.specs.machine.Publication.{publication_of, first_seen, user_atom, atom_of_user}
 use Rattle.xr_model.specs.machine.Publishing.{publishes, is_published}
-use Rattle.xr_model.specs.machine.Refusals.{Refusal, when, first_of}
+use Rattle.xr_model.specs.machine.Refusals.{Refusal, when}
 use Rattle.xr_model.specs.machine.Request.{Request, Entry, create_session, destroy_session, create_action, destroy_action, destroy_action_set, destroy_instance, attach_sets, sync_actions, string_to_path, begin_session, end_session, request_exit_session, end_frame, device}
-use Rattle.xr_model.specs.machine.Rule.{Rule, Effect, refusal, refusals, unless_refused, told_on}
+use Rattle.xr_model.specs.machine.Rule.{Effect, refusal, unless_refused, told_on}
 use Rattle.xr_model.specs.machine.Rules.Device.{behind_event}
 use Rattle.xr_model.specs.machine.Rules.Session.{life_of, changed_in}
 use Rattle.xr_model.specs.machine.Rules.Sync.{synced_code}
 use Rattle.xr_model.specs.machine.SessionLife.{Life, Changed, begun_session, unchanged, ended_session, exiting_session, synced_session, settled_session, is_state, is_lost}
 use Rattle.xr_model.specs.machine.SessionRule.{Loss, code_on, loss_of}
-use Rattle.xr_model.specs.machine.Sets.{Action, is_declared}
+use Rattle.xr_model.specs.machine.Sets.{is_declared}
 use Rattle.xr_model.specs.machine.State.{CoreState, CellReads}
 use Rattle.xr_model.specs.machine.Machine.{effect, rule}
 use Rattle.xr_model.proofs.HandleSteps.{first_fails}

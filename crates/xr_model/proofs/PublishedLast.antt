@@ -1,18 +1,18 @@
 -- What was published last in a legal history is what the state behind it gives.
-use Rattle.std.proofs.Common.{◌≡◌, ◌+◌, ◌==◌, ◌&&◌, ◌||◌, ◌++◌, ◌⊎◌, inl, inr, ℕ, ℤ, not, Bool, true, false, List, [], ◌∷◌, length, Option, Some, None, refl, sym, ap, subst, ◌∙◌, true≢false}
+use Rattle.std.proofs.Common.{◌≡◌, ◌+◌, ◌||◌, ◌++◌, ◌⊎◌, inl, inr, ℕ, ℤ, not, Bool, true, false, List, [], ◌∷◌, length, Option, Some, None, refl, sym, ap, subst, ◌∙◌, true≢false}
 use Rattle.std.specs.List.{list_any, filter}
 use Rattle.std.specs.Prelude.{if◌then◌else◌}
 use Rattle.xr_types.specs.declared.code.Code.TheVariants.{HandleInvalid, CallOrderInvalid}
 use Rattle.xr_types.specs.declared.handles.Kind.TheVariants as kind
 use Rattle.xr_types.specs.declared.input.User.{User}
 use Rattle.xr_types.specs.declared.input.User.TheVariants as user
-use Rattle.xr_model.specs.machine.Handles.{Handles, is_live, is_among, destroyed_by, destroyed_instances}
-use Rattle.xr_model.specs.machine.Publication.{Publication, publication_of, user_atom}
+use Rattle.xr_model.specs.machine.Handles.{is_live, is_among, destroyed_by}
+use Rattle.xr_model.specs.machine.Publication.{Publication, publication_of}
 use Rattle.xr_model.specs.machine.Publishing.{publishes}
 use Rattle.xr_model.specs.machine.Reads.{published_behind, published_from}
-use Rattle.xr_model.specs.machine.Refusals.{Refusal, when, first_of}
+use Rattle.xr_model.specs.machine.Refusals.{Refusal, when}
 use Rattle.xr_model.specs.machine.Request.{Request, Entry, create_action, destroy_session, destroy_action, destroy_action_set, destroy_instance, string_to_path, device}
-use Rattle.xr_model.specs.machine.Rule.{Rule, Effect, refusal, unless_refused, told_on}
+use Rattle.xr_model.specs.machine.Rule.{Effect, refusal, unless_refused, told_on}
 use Rattle.xr_model.specs.machine.Rules.Device.{behind_event}
 use Rattle.xr_model.specs.machine.Sets.{Action, is_declared, no_users, without_inputs}
 use Rattle.xr_model.specs.machine.State.{CoreState, CellReads, Settings, State, opening}
@@ -29,7 +29,7 @@ use Rattle.xr_model.proofs.ListSteps.{Has}
 use Rattle.xr_model.proofs.Lists.{Kept, kept_step, none_kept}
 use Rattle.xr_model.proofs.NothingLeft.{none_left}
 use Rattle.xr_model.proofs.Orphans.{under_step}
-use Rattle.xr_model.proofs.PublishedContents.{Alike, contents_stay}
+use Rattle.xr_model.proofs.PublishedContents.{contents_stay}
 use Rattle.xr_model.proofs.StandOnce.{once_step, none_once}
 use Rattle.xr_model.proofs.UserAtoms.{known_user, declared_known, KnowsDeclared}
 

@@ -1,11 +1,11 @@
 -- Which changes of sessions change nothing of what is published: all but the device's loss.
-use Rattle.std.proofs.Common.{◌≡◌, ◌==◌, ◌||◌, ℕ, Bool, true, false, List, [], ◌∷◌, Option, Some, None, refl, ap, sym, ◌∙◌, true≢false}
+use Rattle.std.proofs.Common.{◌≡◌, ◌==◌, ℕ, Bool, true, false, List, [], ◌∷◌, Option, Some, None, refl, ap, sym, true≢false}
 use Rattle.std.specs.Prelude.{if◌then◌else◌}
 use Rattle.xr_types.specs.declared.device.Wish.{Wish}
 use Rattle.xr_types.specs.declared.device.Wish.TheVariants as wish
 use Rattle.xr_types.specs.declared.session.SessionState.{SessionState}
-use Rattle.xr_types.specs.declared.session.SessionState.TheVariants.{Idle, Ready, Synchronized, Visible, Focused, Stopping, LossPending, Exiting}
-use Rattle.xr_model.specs.machine.LiveSessions.{Session, session_at, with_session_at, with_life, life_in, each_changed}
+use Rattle.xr_types.specs.declared.session.SessionState.TheVariants.{Idle, Ready, Synchronized, Stopping, LossPending}
+use Rattle.xr_model.specs.machine.LiveSessions.{Session, session_at, with_session_at, with_life, each_changed}
 use Rattle.xr_model.specs.machine.Publication.{seen, first_seen}
 use Rattle.xr_model.specs.machine.Rules.Session.{changed_in}
 use Rattle.xr_model.specs.machine.SessionLife.{Life, Changed, changes, most_changes, last_of, is_state, settled_session, ended_session, exiting_session, synced_session}

@@ -1,16 +1,16 @@
 -- The atoms of user paths: a new text changes none of those that are known, and what an action declares is known.
-use Rattle.std.proofs.Common.{◌≡◌, ◌-◌, ◌+◌, ◌==◌, ◌&&◌, ◌||◌, ◌++◌, ◌⊎◌, inl, inr, ℕ, zero, suc, not, Bool, true, false, List, [], ◌∷◌, map, Option, Some, None, option_map, refl, sym, ap, ◌∙◌, arith, nat_eq, true≢false}
+use Rattle.std.proofs.Common.{◌≡◌, ◌-◌, ◌+◌, ◌==◌, ◌++◌, ◌⊎◌, inl, inr, ℕ, zero, suc, Bool, true, false, List, [], ◌∷◌, Option, Some, None, option_map, refl, sym, ap, ◌∙◌, arith, true≢false}
 use Rattle.std.proofs.lemmas.Bool.Decides.{nat_tests}
 use Rattle.std.specs.List.{list_any, position_from}
-use Rattle.std.specs.Prelude.{is_none, slice_get, slice_set, unwrap_or, option_and_then, if◌then◌else◌}
+use Rattle.std.specs.Prelude.{slice_get, slice_set, unwrap_or, option_and_then, if◌then◌else◌}
 use Rattle.xr_types.specs.declared.input.User.{User}
 use Rattle.xr_types.specs.declared.input.User.TheVariants as user
 use Rattle.xr_types.specs.Users.{user_place}
-use Rattle.xr_model.specs.machine.Paths.{is_new, with_text, text_at}
+use Rattle.xr_model.specs.machine.Paths.{is_new, with_text}
 use Rattle.xr_model.specs.machine.Profiles.{user_of}
-use Rattle.xr_model.specs.machine.Publication.{is_of_user, user_atom, atom_of_user}
+use Rattle.xr_model.specs.machine.Publication.{is_of_user, user_atom}
 use Rattle.xr_model.specs.machine.Rules.Sets.{user_at, with_user, declared_by}
-use Rattle.xr_model.specs.machine.Sets.{Action, is_declared, no_users}
+use Rattle.xr_model.specs.machine.Sets.{Action, is_declared}
 use Rattle.xr_model.proofs.ChainPlaces.{suc_apart}
 
 -- ---- places of texts

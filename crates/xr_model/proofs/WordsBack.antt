@@ -1,15 +1,15 @@
 -- The words of a publication read back.
-use Rattle.std.proofs.Common.{◌≡◌, ◌==◌, ◌+◌, ◌-◌, ◌*◌, ◌/◌, ◌%◌, ◌^◌, ◌<◌, ◌≤ℤ◌, ℕ, ℤ, pos, negsuc, zero, suc, Bool, true, false, List, [], ◌∷◌, ◌++◌, refl, ap, ◌∙◌, sym, arith, length, take, drop, to_z-of_z}
+use Rattle.std.proofs.Common.{◌≡◌, ◌==◌, ◌+◌, ◌*◌, ◌/◌, ◌^◌, ◌<◌, ◌≤ℤ◌, ℕ, ℤ, pos, negsuc, zero, suc, Bool, true, false, List, [], ◌∷◌, refl, ap, ◌∙◌, arith, length, to_z-of_z}
 use Rattle.std.specs.Prelude.{unsigned_abs, flat_map, All, FitsSigned}
-use Rattle.std.specs.Int.{w32, cast_unsigned, cast_signed}
+use Rattle.std.specs.Int.{w32, cast_unsigned}
 use Rattle.std.proofs.lemmas.Nat.{div-mul-add, mod-mul-add}
-use Rattle.std.proofs.lemmas.List.{take_at, drop_at, append_assoc}
-use Rattle.std.proofs.lemmas.Bool.Decides.{nat_tests}
+use Rattle.std.proofs.lemmas.List.{take_at, drop_at}
 use Rattle.xr_types.specs.declared.input.ActionType.{ActionType}
 use Rattle.xr_types.specs.declared.input.ActionType.TheVariants as type
 use Rattle.xr_model.specs.machine.Publication.{ShownColumn, PublishedAction, Publication}
-use Rattle.xr_model.specs.machine.PublicationWords.{bit, with_bit, bits, type_number, column_words, action_words, flags_word, words, low_bit, bits_in, type_in, column_in, columns_in, action_in, actions_in, publication_in}
-use Rattle.xr_model.specs.laws.WordLaws.{ColumnFits, ActionFits, PublicationFits, WordsGiveBack}
+use Rattle.xr_model.specs.machine.PublicationWords.{bit, with_bit, bits, type_number, column_words, action_words, low_bit, bits_in, type_in, column_in, columns_in, action_in, actions_in}
+use Rattle.xr_model.specs.machine.Reads.{reads}
+use Rattle.xr_model.specs.laws.WordLaws.{ColumnFits, ActionFits, WordsGiveBack, WordsAreRead}
 
 first_fits : {T : Type 0} (P : T → Type 0) (x : T) (xs : List T) → All P (x ∷ xs) → P x
 first_fits P x xs each = each 0 x (omega arith)
@@ -110,3 +110,6 @@ words_give_back p fits =
       drop_at p.atoms (flat_map action_words p.actions) 5 fits.atoms,
       actions_back p.actions fits.each,
     ) refl
+
+pub words_are_read : WordsAreRead
+words_are_read p what fits = ap (λ (q : Publication). reads q what) (words_give_back p fits)

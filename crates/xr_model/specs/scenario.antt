@@ -8,4 +8,3 @@ pub mod OpReading
 pub mod InRange
 pub mod ScriptForm
 pub mod Scenario
-pub mod Built

@@ -1,6 +1,6 @@
 //! What must be believed: the machine of one thread, its histories, scenarios and reports, as
-//! definitions in `specs/`. The code here is one empty function for each law that holds of them, and
-//! the trait of the cells that a core stands beside.
+//! definitions in `specs/`. The code here is one empty function for each law that holds of them, the
+//! trait of the cells that a core stands beside, and that of what stands for a state.
 #![tactic(auto)]
 
 ghost use Rattle.xr_model.specs.laws.AnswerLaws.{AnswersAreAHistory};
@@ -22,11 +22,13 @@ ghost use Rattle.xr_model.specs.laws.SpaceLaws.{SampleTimesFall, PoseIsTheNewest
 ghost use Rattle.xr_model.specs.laws.StateLaws.{NoRowFits};
 ghost use Rattle.xr_model.specs.laws.PublicationLaws.{GettersChangeNothing, GettersAreReady, GettersRead, PublishedIsCurrent, GettersMove};
 ghost use Rattle.xr_model.specs.laws.SyncLaws.{BooleansAreDownOnce, FloatsAreLargest, VectorsAreLongest, PosesAreTheFirst, NothingIsInactive, ChangedIsActive, FirstColumnIsOfAll, UndeclaredIsInactive, PicksAreInRange};
-ghost use Rattle.xr_model.specs.laws.WordLaws.{WordsGiveBack};
+ghost use Rattle.xr_model.specs.laws.WordLaws.{WordsGiveBack, WordsAreRead, PublicationsFit};
 
 mod cells;
+mod machine;
 
 pub use cells::Cells;
+pub use machine::Machine;
 
 /// A refusal, a timeout and the want of an event change nothing but the count of locked calls.
 #[tactic(auto, using(crate::proofs::Histories::refusals_change_nothing))]
@@ -557,4 +559,16 @@ pub fn getters_move()
 #[tactic(auto, using(crate::proofs::WordsBack::words_give_back))]
 pub fn words_give_back()
     ensures { WordsGiveBack }
+{}
+
+/// What a legal history publishes has room in words, where the device tells numbers in range.
+#[tactic(auto, using(crate::proofs::FittingPublications::publications_fit))]
+pub fn publications_fit()
+    ensures { PublicationsFit }
+{}
+
+/// What a getter reads of the words of a publication is what it reads of the publication.
+#[tactic(auto, using(crate::proofs::WordsBack::words_are_read))]
+pub fn words_are_read()
+    ensures { WordsAreRead }
 {}

@@ -1,8 +1,6 @@
 -- What the loop keeps in an application's turn.
 use Rattle.std.proofs.Common.{◌≡◌, ◌+◌, ◌-◌, ◌<◌, ◌≤◌, ℕ, ℤ, pos, Bool, true, false, not, List, [], ◌∷◌, ◌++◌, length, drop, map, get_or, set, refl, sym, ap, subst, ◌∙◌, arith, append-nil}
 use Rattle.std.specs.Prelude.{if◌then◌else◌, zero, suc, Option, Some, option_map, unwrap_or}
-use Rattle.std.specs.List.{list_all}
-use Rattle.std.proofs.lemmas.Bool.{and_parts}
 use Rattle.std.proofs.lemmas.Option.{slice_get-map, slice_get-get_or}
 use Rattle.std.proofs.lemmas.List.{map-set, set-get_or, drop_all, get_or_default}
 use Rattle.std.proofs.Math.Seq.{map-set_same}
@@ -17,7 +15,6 @@ use Rattle.xr_model.specs.machine.CoreCalls.{entry_of}
 use Rattle.xr_model.specs.machine.State.{State}
 use Rattle.xr_model.specs.machine.History.{clock_of, StartsAt}
 use Rattle.xr_model.specs.machine.Machine.{IsPresent}
-use Rattle.xr_model.specs.scenario.Built.{is_built_op}
 use Rattle.xr_model.specs.scenario.ScriptForm.{IsInForm, AllInForm}
 use Rattle.xr_model.specs.runs.Scripts.{request_for}
 use Rattle.xr_model.specs.runs.Lists.{done_at, made_at}
@@ -274,16 +271,11 @@ pub has_left_from : (scenario : Scenario) (place idle : ℕ) (s : State) (run : 
     → RunInvariant scenario (turn_behind place (actors_of scenario)) (idle + 1) s (record run { apps = set run.apps place old }) start now
 has_left_from scenario place idle s run start now old within few is gone kept = has_left scenario place idle s s run start now old within few (app_here scenario place idle s run start now old within is kept) gone kept
 
--- each script is in form, and has only ops that are built
+-- each script is in form
 pub in_form_at : (scripts : List (List Op)) (place : ℕ) → AllInForm scripts → place < length scripts → IsInForm (get_or scripts place [])
 in_form_at [] place all within = let no : ⊥ = omega (arith, within) in absurd no
 in_form_at (ops ∷ scripts) zero all within = all.0
 in_form_at (ops ∷ scripts) (suc place) all within = in_form_at scripts place all.1 (omega (arith, within))
-
-pub built_in : (scripts : List (List Op)) (place : ℕ) → list_all (list_all is_built_op) scripts ≡ true → place < length scripts → list_all is_built_op (get_or scripts place []) ≡ true
-built_in [] place all within = let no : ⊥ = omega (arith, within) in absurd no
-built_in (ops ∷ scripts) zero all within = (and_parts (list_all is_built_op ops) (list_all (list_all is_built_op) scripts) all).0
-built_in (ops ∷ scripts) (suc place) all within = built_in scripts place (and_parts (list_all is_built_op ops) (list_all (list_all is_built_op) scripts) all).1 (omega (arith, within))
 
 -- ---- how many calls were made
 

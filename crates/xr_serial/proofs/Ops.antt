@@ -1,15 +1,12 @@
 -- What is known of a script's op and of its call.
-use Rattle.std.proofs.Common.{◌≡◌, ◌<◌, ◌≤◌, ◌+◌, ℕ, ℤ, pos, true, true≢false, sym, List, [], ◌∷◌, length, drop, get_or, refl, add-one, drop-cons, arith, zero, suc}
+use Rattle.std.proofs.Common.{◌≡◌, ◌<◌, ◌≤◌, ◌+◌, ℕ, ℤ, pos, true, true≢false, sym, List, [], ◌∷◌, length, drop, get_or, refl, add-one, drop-cons, arith}
 use Rattle.std.specs.Prelude.{◌≤ℤ◌, int_le, ◌&&◌, ◌||◌, Bool, Option, Some, None, is_none, is_some, not, false}
 use Rattle.xr_model.specs.machine.Refusals.{Refusal, when, first_of}
 use Rattle.std.proofs.lemmas.Bool.Decides.{nat_tests}
-use Rattle.std.specs.List.{list_all}
-use Rattle.std.proofs.lemmas.Bool.{and_parts}
 use Rattle.xr_types.specs.declared.scenario.Op.{Op}
 use Rattle.xr_types.specs.declared.scenario.Op.TheVariants as op
 use Rattle.xr_types.specs.Device.{is_mark}
 use Rattle.xr_types.specs.Op.{call_name}
-use Rattle.xr_model.specs.scenario.Built.{is_built_op}
 use Rattle.xr_model.specs.scenario.InRange.{IsMark}
 use Rattle.xr_model.specs.scenario.ScriptForm.{IsInRange}
 use Rattle.xr_model.specs.runs.Lists.{name_of, mark_of, start_of, done_at}
@@ -30,11 +27,6 @@ use Rattle.xr_serial.specs.inside.Lent.{lent_size}
 use Rattle.xr_serial.specs.inside.RunInvariant.{is_getter_name}
 use Rattle.xr_serial.specs.inside.Sides.{op_mark, op_start}
 
-pub built_at : (ops : List Op) (i : ℕ) (d : Op) → list_all is_built_op ops ≡ true → i < length ops → is_built_op (get_or ops i d) ≡ true
-built_at [] i d all h = let none : ⊥ = omega (arith, h) in absurd none
-built_at (o ∷ ops) zero d all h = (and_parts (is_built_op o) (list_all is_built_op ops) all).0
-built_at (o ∷ ops) (suc i) d all h = built_at ops i d (and_parts (is_built_op o) (list_all is_built_op ops) all).1 (omega (arith, h))
-
 pub here_at : (ops : List Op) (i : ℕ) (o : Op) → i < length ops → o ≡ get_or ops i o → drop i ops ≡ o ∷ drop (i + 1) ops
 here_at ops i o h here = rw (add-one, drop-cons ops i o h, ← here) refl
 
@@ -44,14 +36,14 @@ mark_in_range n m = let low = m.0 in let high = m.1 in grind (arith, nat_tests, 
 up_from : (timeout clock : ℤ) → pos 0 ≤ℤ timeout → pos 0 ≤ℤ clock → int_le (pos 0) timeout && int_le (pos 0) clock ≡ true
 up_from timeout clock a b = grind (arith, a, b)
 
-pub op_asks : (clock : ℤ) (values : List ℕ) (number : ℕ) (o : Op) → pos 0 ≤ℤ clock → is_built_op o ≡ true → IsInRange o
+pub op_asks : (clock : ℤ) (values : List ℕ) (number : ℕ) (o : Op) → pos 0 ≤ℤ clock → IsInRange o
     → MayAsk (App number) (with_start clock (request_for values o)) (lent_size (with_start clock (request_for values o)))
-op_asks clock values number (op.CreateInstance major minor) begun built r = record { built = refl; caller = refl; numbers = refl; buffer = tt }
-op_asks clock values number (op.PathToString instance path capacity) begun built r = record { built = refl; caller = refl; numbers = refl; buffer = refl }
-op_asks clock values number (op.Mark number' value) begun built r = record { built = refl; caller = refl; numbers = mark_in_range number' r.0; buffer = tt }
-op_asks clock values number (op.Await number') begun built r = record { built = refl; caller = refl; numbers = mark_in_range number' r; buffer = tt }
-op_asks clock values number (op.WaitImage chain timeout) begun built r = record { built = refl; caller = refl; numbers = up_from timeout clock r.1.0 begun; buffer = tt }
-op_asks clock values number _ begun built r = record { built = built; caller = refl; numbers = refl; buffer = tt }
+op_asks clock values number (op.CreateInstance major minor) begun r = record { caller = refl; numbers = refl; buffer = tt }
+op_asks clock values number (op.PathToString instance path capacity) begun r = record { caller = refl; numbers = refl; buffer = refl }
+op_asks clock values number (op.Mark number' value) begun r = record { caller = refl; numbers = mark_in_range number' r.0; buffer = tt }
+op_asks clock values number (op.Await number') begun r = record { caller = refl; numbers = mark_in_range number' r; buffer = tt }
+op_asks clock values number (op.WaitImage chain timeout) begun r = record { caller = refl; numbers = up_from timeout clock r.1.0 begun; buffer = tt }
+op_asks clock values number _ begun r = record { caller = refl; numbers = refl; buffer = tt }
 
 -- no op asks for a frame to be shown
 pub op_hidden : (clock : ℤ) (values : List ℕ) (o : Op) → IsHidden (with_start clock (request_for values o))

@@ -1,8 +1,6 @@
 // An application of a run: how far it is in its script, and what its calls gave.
 ghost use Rattle.std.specs.Prelude.{◌≡◌, ◌<◌, ◌≤◌, ◌≤ℤ◌, ◌^◌, ℕ, pos, List, false, true, IfOk, OnOk, length};
-ghost use Rattle.std.specs.List.{list_all};
 ghost use Rattle.xr_types.specs.declared.calls.Actor.TheVariants.{App};
-ghost use Rattle.xr_model.specs.scenario.Built.{is_built_op};
 ghost use Rattle.xr_model.specs.scenario.ScriptForm.{IsInForm};
 ghost use Rattle.xr_model.specs.machine.Machine.{IsPresent};
 ghost use Rattle.xr_model.specs.machine.Request.{is_locked};
@@ -112,7 +110,6 @@ impl Application {
         requires present { IsPresent machine.old.core (App number) }
         requires few { length ops.now < 2 ^ 22 }
         requires formed { IsInForm ops.now }
-        requires built { list_all is_built_op ops.now ≡ true }
         requires within { self.old.made < length ops.now }
         requires names { length self.old.names ≡ length ops.now }
         ensures { IfOk result (λ went. OpTurn number ops.now self.old self.new machine.old machine.new went) }

@@ -5,9 +5,8 @@
 
 ghost use Rattle.std.specs.Prelude.{◌≡◌, ◌≤◌, ◌<◌, ◌^◌, ◌+◌, ℕ, true, false, IfOk, length};
 ghost use Rattle.xr_types.specs.declared.limits.TheConstants.{MOST_SCRIPTS};
-ghost use Rattle.std.specs.List.{list_all, list_any, sum_by};
+ghost use Rattle.std.specs.List.{list_any, sum_by};
 ghost use Rattle.xr_io.specs.Outside.{Rose};
-ghost use Rattle.xr_model.specs.scenario.Built.{is_built_op};
 ghost use Rattle.xr_model.specs.scenario.ScriptForm.{AllInForm};
 ghost use Rattle.xr_model.specs.report.RunEnding.{is_fault};
 ghost use Rattle.xr_serial.specs.Ran.{Ran};
@@ -34,7 +33,7 @@ use xr_types::{Lists, NoMemory, Scenario};
 ///
 /// A turn goes to each script in order, to the device and to the compositor, round after round (the order is this
 /// project's own). In its turn an actor makes its next call, unless that has to wait; the device is asked for its next
-/// event only then, once the one before is done. The scenario has 1 to 8 scripts and fewer than 2^22 ops, each built, in
+/// event only then, once the one before is done. The scenario has 1 to 8 scripts and fewer than 2^22 ops, each in
 /// range and with names that earlier ops of its script gave. Answers `NoMemory` where memory was short, and nothing else
 /// but the lists.
 pub fn run<D: Device>(alloc: Global, scenario: &Scenario, device: &mut D) -> Result<Lists, NoMemory>
@@ -42,7 +41,6 @@ pub fn run<D: Device>(alloc: Global, scenario: &Scenario, device: &mut D) -> Res
     requires most { length scenario.now.scripts ≤ MOST_SCRIPTS }
     requires few { sum_by length scenario.now.scripts < 2 ^ 22 }
     requires formed { AllInForm scenario.now.scripts }
-    requires built { list_all (list_all is_built_op) scenario.now.scripts ≡ true }
     ensures ran { IfOk result (λ lists. (count : ℕ) × ((D.prospect device.new).given ≡ (D.prospect device.old).given + count) × Ran scenario.now (D.prospect device.old).remaining count lists) }
     ensures fault { IfOk result (λ lists. list_any is_fault lists.events ≡ true → Rose (D.prospect device.old).faults (D.prospect device.new).faults) }
     ensures unfailed { IfOk result (λ lists. list_any is_fault lists.events ≡ false → (D.prospect device.new).faults ≡ (D.prospect device.old).faults) }

@@ -7,7 +7,6 @@ ghost use Rattle.xr_model.specs.machine.Machine.{IsPresent, ready};
 ghost use Rattle.xr_model.specs.machine.CoreCalls.{MayAsk};
 ghost use Rattle.xr_model.specs.machine.Request.{request_of, next_frame, image_done};
 ghost use Rattle.xr_model.specs.machine.State.{with_apps, opening};
-ghost use Rattle.xr_model.specs.scenario.Built.{is_built_op};
 ghost use Rattle.xr_model.specs.scenario.ScriptForm.{IsInRange};
 ghost use Rattle.xr_model.specs.machine.Frames.{is_empty};
 ghost use Rattle.xr_model.specs.runs.Robin.{with_start};
@@ -86,7 +85,6 @@ fn ask(
     requires calls { core.old.core.locked < 2 ^ 44 }
     requires present { IsPresent core.old.core (App number) }
     requires ranged { IsInRange op.now }
-    requires built { is_built_op op.now ≡ true }
     requires begun { pos 0 ≤ℤ clock }
     requires size { MOST_LENT ≤ length buffer.old }
     ensures { IfOk result (λ answered. AnsweredOrWaits core.old core.new (App number) (with_start clock (request_for names.now op.now)) shown.new answered) }
@@ -218,7 +216,6 @@ impl Machine {
         requires calls { self.old.core.locked < 2 ^ 44 }
         requires present { IsPresent self.old.core (App number) }
         requires ranged { IsInRange op.now }
-        requires built { is_built_op op.now ≡ true }
         requires begun { pos 0 ≤ℤ clock }
         ensures { (shown : ShownFrame) × IfOk result (λ answered. AnsweredOrWaits self.old self.new (App number) (with_start clock (request_for names.now op.now)) shown answered) }
     {

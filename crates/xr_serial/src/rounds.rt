@@ -1,8 +1,7 @@
 // A run on its way, turn by turn, until no unfinished actor can make its call.
 ghost use Rattle.std.specs.Prelude.{◌≡◌, ◌≤◌, ◌<◌, ◌^◌, ◌+◌, ℕ, [], true, false, None, IfOk, OnOk, length, map, if◌then◌else◌};
 ghost use Rattle.xr_types.specs.declared.limits.TheConstants.{MOST_SCRIPTS};
-ghost use Rattle.std.specs.List.{list_all, sum_by};
-ghost use Rattle.xr_model.specs.scenario.Built.{is_built_op};
+ghost use Rattle.std.specs.List.{sum_by};
 ghost use Rattle.xr_model.specs.scenario.ScriptForm.{AllInForm};
 ghost use Rattle.xr_model.specs.machine.State.{opening};
 ghost use Rattle.xr_serial.specs.Ran.{settings_of};
@@ -81,7 +80,6 @@ fn app_turn(
     requires most { length scenario.now.scripts ≤ MOST_SCRIPTS }
     requires few { sum_by length scenario.now.scripts < 2 ^ 22 }
     requires formed { AllInForm scenario.now.scripts }
-    requires built { list_all (list_all is_built_op) scenario.now.scripts ≡ true }
     requires within { place < length scenario.now.scripts }
     requires kept { (idle : ℕ) × (start : Prospect) × (now : Prospect) × (idle < actors_of scenario.now) × RunInvariant scenario.now place idle machine.old run.old start now }
     ensures kept { IfOk result (λ went. (idle : ℕ) (start now : Prospect) → idle < actors_of scenario.now
@@ -168,7 +166,6 @@ fn one_turn<D: Device>(
     requires most { length scenario.now.scripts ≤ MOST_SCRIPTS }
     requires few { sum_by length scenario.now.scripts < 2 ^ 22 }
     requires formed { AllInForm scenario.now.scripts }
-    requires built { list_all (list_all is_built_op) scenario.now.scripts ≡ true }
     requires within { turn < actors_of scenario.now }
     requires kept { (idle : ℕ) × (start : Prospect) × (idle < actors_of scenario.now)
         × RunInvariant scenario.now turn idle machine.old run.old start (D.prospect device.old) }
@@ -201,7 +198,6 @@ pub(crate) fn go_on<D: Device>(
     requires most { length scenario.now.scripts ≤ MOST_SCRIPTS }
     requires few { sum_by length scenario.now.scripts < 2 ^ 22 }
     requires formed { AllInForm scenario.now.scripts }
-    requires built { list_all (list_all is_built_op) scenario.now.scripts ≡ true }
     requires kept { (start : Prospect) × RunInvariant scenario.now 0 0 machine.old run.old start (D.prospect device.old) }
     ensures kept { OnOk result ((start : Prospect)
         → RunInvariant scenario.now 0 0 machine.old run.old start (D.prospect device.old)

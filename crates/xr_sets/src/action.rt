@@ -48,6 +48,12 @@ impl Default for Action {
 }
 
 impl Action {
+    pub fn handle(&self) -> u64
+        ensures { result ≡ self.now.handle }
+    {
+        self.handle
+    }
+
     /// The handle of its set.
     pub fn set(&self) -> u64
         ensures { result ≡ self.now.set }

@@ -1,10 +1,10 @@
 // The action sets with their actions, and the calls on them.
-ghost use Rattle.std.specs.Prelude.{◌≡◌, ◌<◌, ◌==◌, ◌&&◌, None, length};
+ghost use Rattle.std.specs.Prelude.{◌≡◌, ◌≤◌, ◌<◌, ◌==◌, ◌&&◌, None, length};
 ghost use Rattle.std.specs.List.{list_any};
 ghost use Rattle.std.specs.Option.{option_copied};
 ghost use Rattle.xr_model.specs.machine.PartAnswers.{code_by};
 ghost use Rattle.xr_model.specs.machine.Refusals.{first_of};
-ghost use Rattle.xr_model.specs.machine.Sets.{no_sets, same_text, set_at, action_at, set_priority, set_of_action, type_of_action, is_sealed, is_in_sealed_set, action_declares, set_declares, set_checks, action_checks, action_label_checks, with_set, with_action, without_input, sets_named, with_sealed};
+ghost use Rattle.xr_model.specs.machine.Sets.{no_sets, same_text, set_at, action_at, set_priority, set_of_action, type_of_action, is_sealed, is_in_sealed_set, action_declares, set_declares, is_declared, set_checks, action_checks, action_label_checks, with_set, with_action, without_input, sets_named, with_sealed};
 
 use crate::action::Action;
 use crate::set::{Set, named_among, seal_sets};
@@ -248,6 +248,24 @@ impl Sets {
         ensures { option_copied result ≡ set_at self.now handle }
     {
         self.sets.iter().find(|set| set.handle == handle)
+    }
+
+    /// All actions, in the order of their creation, 64 at most.
+    pub fn actions(&self) -> &[Action]
+        ensures actions { result.now ≡ self.now.actions }
+        ensures few { length result.now ≤ 64 }
+    {
+        self.actions.as_slice()
+    }
+
+    /// Whether some action declares a user path.
+    pub fn some_declares(&self, user: User) -> bool
+        ensures { result ≡ list_any (λ x. is_declared x.declared user) self.now.actions }
+    {
+        self.actions
+            .as_slice()
+            .iter()
+            .any(|action| action.declares(user))
     }
 
     /// The action of a handle, where it is one's. OpenXR 1.0 chapter 11, xrCreateAction.

@@ -11,10 +11,10 @@ use Rattle.xr_model.specs.machine.Sync.{each_from, is_of, counts_in, with_bindin
 use Rattle.xr_sync.specs.Ranks.{live_bindings}
 use Rattle.xr_sync.specs.Tables.{no_table, row_with, table_from, row_after, rows_after}
 
-first_is : {T : Type 0} (P : T → Type 0) (x : T) (xs : List T) → All P (x ∷ xs) → P x
+pub first_is : {T : Type 0} (P : T → Type 0) (x : T) (xs : List T) → All P (x ∷ xs) → P x
 first_is P x xs each = each 0 x (omega arith)
 
-rest_are : {T : Type 0} (P : T → Type 0) (x : T) (xs : List T) → All P (x ∷ xs) → All P xs
+pub rest_are : {T : Type 0} (P : T → Type 0) (x : T) (xs : List T) → All P (x ∷ xs) → All P xs
 rest_are P x xs each k d h = each (suc k) d (omega (arith, h))
 
 abbrev line : (ℕ → Found) → ℕ → ℕ → List Found

@@ -31,7 +31,7 @@ first_after clock c f = by f.active refl
     by true e = rw e refl
     by false e = rw e refl
 
-none_after : (clock : ℤ) (row : List Column) → length row ≡ 6 → row_after clock row no_row ≡ inactive_row
+pub none_after : (clock : ℤ) (row : List Column) → length row ≡ 6 → row_after clock row no_row ≡ inactive_row
 unfolding column_after
 none_after clock [] h = absurd (omega (arith, h))
 none_after clock (a ∷ []) h = absurd (omega (arith, h))

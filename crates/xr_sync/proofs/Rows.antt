@@ -77,7 +77,7 @@ given_active f (given.Vector x y) = by (is_longer (f.x, f.y) (x, y))
 given_active f (given.Pose pose) = refl
 given_active f given.Vibration = refl
 
-untouched : (g : List Found → List Found) (m n : ℕ) (rows : List (List Found)) → m < n → each_from (λ p r. if m == p then g r else r) n rows ≡ rows
+pub untouched : (g : List Found → List Found) (m n : ℕ) (rows : List (List Found)) → m < n → each_from (λ p r. if m == p then g r else r) n rows ≡ rows
 untouched g m n [] h = refl
 untouched g m n (r ∷ rs) h =
     let other : (m == n) ≡ false = grind (arith, nat_tests, h) in

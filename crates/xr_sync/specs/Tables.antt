@@ -1,9 +1,11 @@
 -- A table of what all columns find, what one more live binding changes in it, and the columns that it leads to.
-use Rattle.std.specs.Prelude.{◌≡◌, ℤ, ◌==◌, false, List, [], ◌∷◌, replicate, slice_index_or, if◌then◌else◌}
+use Rattle.std.specs.Prelude.{◌≡◌, ◌≤◌, ◌-◌, ℕ, ℤ, ◌==◌, true, false, List, [], ◌∷◌, drop, replicate, slice_index_or, if◌then◌else◌}
+use Rattle.std.specs.List.{list_all}
 use Rattle.xr_types.specs.declared.input.Column.{Column}
 use Rattle.xr_types.specs.declared.input.Found.{Found}
 use Rattle.xr_types.specs.declared.input.Inputs.{Inputs}
 use Rattle.xr_types.specs.declared.input.Ranked.{Ranked}
+use Rattle.xr_types.specs.Device.{is_time}
 use Rattle.xr_model.specs.machine.Sync.{nothing_found, inactive, inactive_row, with_binding, counts_in, each_from, column_after}
 
 -- ---- what is found
@@ -43,3 +45,12 @@ rows_after clock (r ∷ rs) (f ∷ fs) = row_after clock r f ∷ rows_after cloc
 -- where the first column is inactive, each is
 abbrev pub IsTidy : List Column → Type 0
 IsTidy row = (slice_index_or row 0 inactive).active ≡ false → row ≡ inactive_row
+
+-- Places below this one are as they are; from it on nothing was found, or each column is inactive.
+pub record AreBeyond {T : Type 0} (reach : ℕ) (none : T) (rows : List T) : Type 0 where
+  pub within : reach ≤ 64
+  pub rest : drop reach rows ≡ replicate (64 - reach) none
+
+-- the time of each column is one that a device's clock shows
+abbrev pub AreTimed : List (List Column) → Type 0
+AreTimed columns = list_all (λ row. list_all (λ c. is_time c.time) row) columns ≡ true

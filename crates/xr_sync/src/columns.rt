@@ -1,11 +1,14 @@
 // The columns of a core, which syncs change in place.
-ghost use Rattle.std.specs.Prelude.{◌≡◌, false, slice_get, slice_index_or, option_and_then, All};
+ghost use Rattle.std.specs.Prelude.{◌≡◌, true, false, slice_get, slice_index_or, option_and_then, All};
+ghost use Rattle.std.specs.Option.{option_copied};
 ghost use Rattle.xr_model.specs.machine.Sync.{no_columns, columns_after, left_columns};
+ghost use Rattle.xr_types.specs.Device.{is_time};
 ghost use Rattle.xr_sync.specs.Ranks.{IsPlaced};
+ghost use Rattle.xr_sync.specs.Tables.{AreTimed};
 
 use crate::after::INACTIVE;
 use crate::found::{ACTIONS, COLUMNS, NOTHING};
-use crate::settle::{leave, sync_tidy};
+use crate::settle::{clear, leave, sync_tidy};
 use std::marker::Model;
 use xr_types::{Column, Found, Heard, Inputs, Ranked, States};
 
@@ -21,18 +24,21 @@ pub struct Columns {
     states: States,
     /// What the columns have found: nothing between two syncs.
     found: [[Found; COLUMNS]; ACTIONS],
+    /// The place from which on each column is inactive, so that none is looked at.
+    reach: usize,
 }
 
 impl Model for Columns {
     ghost use Rattle.std.specs.Prelude.{◌≡◌, All, List};
     ghost use Rattle.xr_types.specs.declared.input.Column as input;
-    ghost use Rattle.xr_sync.specs.Tables.{no_table, IsTidy};
+    ghost use Rattle.xr_model.specs.machine.Sync.{inactive_row};
+    ghost use Rattle.xr_sync.specs.Tables.{no_table, AreBeyond, IsTidy, AreTimed};
 
     ghost Value = { List (List input.Column) };
 
     ghost view = { λ c. c.states.columns };
 
-    ghost invariant = { λ c. (c.found ≡ no_table) × All IsTidy c.states.columns };
+    ghost invariant = { λ c. (c.found ≡ no_table) × All IsTidy c.states.columns × AreTimed c.states.columns × AreBeyond c.reach inactive_row c.states.columns };
 }
 
 impl Columns {
@@ -43,23 +49,26 @@ impl Columns {
         Columns {
             states: NO_STATES,
             found: [[NOTHING; COLUMNS]; ACTIONS],
+            reach: 0,
         }
     }
 
     /// Syncs: the sets that are heard, the suggestions for the controllers that are connected, in the order of the user paths and
-    /// then of the suggestions, what the inputs show, and the device's clock in ns. Each binding has a place below 64 and one of
-    /// the 30 identifiers. Nothing is refused, and no memory is taken.
+    /// then of the suggestions, what the inputs show, and the device's clock, 0 to 2^62 - 1 ns. Each binding has a place below 64
+    /// and one of the 30 identifiers. Nothing is refused, and no memory is taken.
     pub fn sync(&mut self, active: &[Heard], bindings: &[Ranked], inputs: &Inputs, clock: i64)
-        requires { All IsPlaced bindings.now }
+        requires placed { All IsPlaced bindings.now }
+        requires time { is_time clock ≡ true }
         ensures { self.new ≡ columns_after active.now bindings.now inputs.now clock self.old }
     {
-        sync_tidy(
+        self.reach = sync_tidy(
             active,
             bindings,
             inputs,
             &clock,
             &mut self.states.columns,
             &mut self.found,
+            self.reach,
         );
     }
 
@@ -67,27 +76,29 @@ impl Columns {
     pub fn clear(&mut self)
         ensures { self.new ≡ no_columns }
     {
-        self.states = NO_STATES;
+        clear(&mut self.states.columns, self.reach);
+        self.reach = 0;
     }
 
     /// Only the actions in these places are left: the columns of the others are inactive from now on.
     pub fn leave(&mut self, there: &[bool; ACTIONS])
         ensures { self.new ≡ left_columns (λ place. slice_index_or there.now place false) self.old }
     {
-        leave(&mut self.states.columns, there);
+        leave(&mut self.states.columns, there, self.reach);
     }
 
-    /// What is known since the last sync.
+    /// What is known since the last sync. Each time is 0 to 2^62 - 1 ns of device time.
     pub fn states(&self) -> &States
-        ensures { result.now.columns ≡ self.now }
+        ensures columns { result.now.columns ≡ self.now }
+        ensures times { AreTimed result.now.columns }
     {
         &self.states
     }
 
     /// A column of the action in a place, where there is such a place and column.
-    pub fn column(&self, place: usize, column: usize) -> Option<Column>
-        ensures { result ≡ option_and_then (λ row. slice_get row column) (slice_get self.now place) }
+    pub fn column(&self, place: usize, column: usize) -> Option<&Column>
+        ensures { option_copied result ≡ option_and_then (λ row. slice_get row column) (slice_get self.now place) }
     {
-        self.states.columns.get(place)?.get(column).copied()
+        self.states.columns.get(place)?.get(column)
     }
 }

@@ -100,7 +100,7 @@ impl Code {
         }
     }
 
-    /// Whether the call had its effect: success, loss pending, or a discarded frame.
+    /// Whether the call had its effect: success, loss pending, a session that isn't focused, or a discarded frame.
     pub fn is_success(self) -> bool
         ensures { result ≡ is_success self }
     {

@@ -20,6 +20,7 @@ mod session;
 mod spaces;
 mod status;
 mod users;
+mod view;
 mod words;
 
 pub use calls::Actor;
@@ -130,6 +131,8 @@ pub use status::Status;
 pub use status::What;
 pub use users::USERS;
 pub use users::user_place;
+pub use view::MOST_WORDS;
+pub use view::View;
 pub use words::Word;
 pub use words::behind;
 pub use words::named;

@@ -37,8 +37,6 @@ pub enum Refusal {
     TooLong,
     Json,
     BadShape { script: u32, op: u32, what: What },
-    /// The text is a scenario, and it has an op that isn't built.
-    Unbuilt,
 }
 
 /// The part of a scenario that is wrong.

@@ -38,8 +38,8 @@ fn is_same_type(a: ActionType, b: ActionType) -> bool
 }
 
 /// What a column shows to a getter of this type.
-fn shown_by(wanted: ActionType, it: Column) -> Gives
-    ensures { result ≡ shown_by wanted (shown_of it) }
+fn shown_by(wanted: ActionType, it: &Column) -> Gives
+    ensures { result ≡ shown_by wanted (shown_of it.now) }
 {
     let Column {
         x,
@@ -48,7 +48,7 @@ fn shown_by(wanted: ActionType, it: Column) -> Gives
         time,
         active,
         origin: _,
-    } = it;
+    } = *it;
     match wanted {
         ActionType::Boolean => Gives::Boolean(BoolState {
             value: x != 0,

@@ -1,5 +1,5 @@
 // The call that syncs actions (OpenXR 1.0 chapter 11, xrSyncActions).
-ghost use Rattle.std.specs.Prelude.{◌≡◌, ◌≤◌, map, length, flat_map, IfOk};
+ghost use Rattle.std.specs.Prelude.{◌≡◌, ◌≤◌, [], map, length, flat_map};
 ghost use Rattle.std.specs.Result.{result_map_both};
 ghost use Rattle.xr_types.specs.declared.limits.TheConstants.{MOST_SYNCED};
 ghost use Rattle.xr_model.specs.machine.LiveSessions.{session_at, attached_in};
@@ -69,23 +69,24 @@ impl Parts {
     }
 
     /// How the items of a sync are heard, in their order, or the refusal of the first that is refused. There are 96 of them
-    /// at most.
+    /// at most. They are filled in where they stay, since a list of so many is kilobytes to move.
     fn hear_all(
         &self,
         session: u64,
         active: &[ActiveSet],
-    ) -> Result<ArrayVec<Heard, MOST_SYNCED>, Code>
-        requires { length active.now ≤ MOST_SYNCED }
-        ensures { result_map_both (λ heard. heard.items) (λ code. code) result ≡ or_refused (first_of (flat_map (item_checks self.now session) active.now)) (map (heard_by self.now) active.now) }
+        heard: &mut ArrayVec<Heard, MOST_SYNCED>,
+    ) -> Result<(), Code>
+        requires few { length active.now ≤ MOST_SYNCED }
+        requires none { heard.old.items ≡ [] }
+        ensures { result_map_both (λ done. heard.new.items) (λ code. code) result ≡ or_refused (first_of (flat_map (item_checks self.now session) active.now)) (map (heard_by self.now) active.now) }
     {
-        let mut heard = ArrayVec::new();
         for item in active {
             match self.hear(session, *item) {
                 Ok(one) => heard.push(one),
                 Err(code) => return Err(code),
             }
         }
-        Ok(heard)
+        Ok(())
     }
 
     /// What refuses a sync, or how its items are heard.
@@ -93,15 +94,17 @@ impl Parts {
         &self,
         session: u64,
         active: &[ActiveSet],
-    ) -> Result<ArrayVec<Heard, MOST_SYNCED>, Code>
-        ensures { result_map_both (λ heard. heard.items) (λ code. code) result ≡ or_refused (first_of (refusals (sync_actions_rule self.now session active.now))) (map (heard_by self.now) active.now) }
+        heard: &mut ArrayVec<Heard, MOST_SYNCED>,
+    ) -> Result<(), Code>
+        requires none { heard.old.items ≡ [] }
+        ensures { result_map_both (λ done. heard.new.items) (λ code. code) result ≡ or_refused (first_of (refusals (sync_actions_rule self.now session active.now))) (map (heard_by self.now) active.now) }
     {
         self.live(Kind::Session, session)?;
         self.on_session(session)?;
         if active.len() > MOST_SYNCED {
             return Err(Code::LimitReached);
         }
-        self.hear_all(session, active)
+        self.hear_all(session, active, heard)
     }
 
     /// Every column is inactive from now on.
@@ -135,7 +138,8 @@ impl Parts {
     pub(crate) fn sync_actions(&mut self, session: u64, active: &[ActiveSet]) -> Result<Reply, Halt>
         ensures { Decides self.old (sync_actions session active.now) self.new result }
     {
-        let heard = self.may_sync_actions(session, active)?;
+        let mut heard = ArrayVec::new();
+        self.may_sync_actions(session, active, &mut heard)?;
         if !self.is_focused(session) {
             self.clear_columns();
             return done(Code::SessionNotFocused);

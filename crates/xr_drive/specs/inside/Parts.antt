@@ -8,7 +8,7 @@ use Rattle.xr_io.specs.declared.Which.TheVariants as which
 use Rattle.xr_types.specs.declared.made.Lists.{Lists}
 use Rattle.xr_types.specs.declared.status.Status.{Status}
 use Rattle.xr_types.specs.declared.status.Status.TheVariants as status
-use Rattle.xr_model.specs.scenario.Built.{run_scenario_of}
+use Rattle.xr_model.specs.scenario.Scenario.{scenario_of}
 use Rattle.xr_model.specs.device_text.DeviceText.{DeviceStream}
 use Rattle.xr_model.specs.report.RunEnding.{is_fault}
 use Rattle.xr_model.specs.report.Report.{report_of}
@@ -28,7 +28,7 @@ use Rattle.xr_drive.specs.declared.faults.Unwritten.TheVariants as unwritten
 -- the lists are those of a run of the text beside a device that is known to give this, or the text is refused
 abbrev pub MeansText : List ℕ → Option DeviceStream → Result Lists ScenarioFault → Type 0
 MeansText text told (Ok lists) = Run text told lists
-MeansText text told (Err (scenario_fault.Refused why)) = run_scenario_of text ≡ Err why
+MeansText text told (Err (scenario_fault.Refused why)) = scenario_of text ≡ Err why
 MeansText text told (Err scenario_fault.NoMemory) = ⊤
 
 -- ---- files
@@ -44,7 +44,7 @@ fault_of_scenario scenario_fault.NoMemory = NoMemory
 -- the same of a file of which these bytes are all, where they are told
 abbrev pub MeansRun : Option (List ℕ) → Option DeviceStream → Result Lists RunFault → Type 0
 MeansRun all told (Ok lists) = RunsText all told lists
-MeansRun all told (Err (Refused why)) = IfSome all (λ text. run_scenario_of text ≡ Err why)
+MeansRun all told (Err (Refused why)) = IfSome all (λ text. scenario_of text ≡ Err why)
 MeansRun all told (Err _) = ⊤
 
 -- why the files were not run, or how the device failed, by the opener's counts of faults before and after

@@ -1,5 +1,5 @@
 -- What each call may answer is what the table says, in its order.
-use Rattle.std.specs.Prelude.{◌≡◌, ℕ, Bool, true, false, List, [], ◌∷◌, ◌++◌, ◌⊎◌, length, map, is_some, if◌then◌else◌}
+use Rattle.std.specs.Prelude.{◌≡◌, ℕ, Bool, false, List, [], ◌∷◌, ◌++◌, ◌⊎◌, length, map, is_some, if◌then◌else◌}
 use Rattle.xr_types.specs.declared.code.Code.{Code}
 use Rattle.xr_types.specs.declared.code.Code.TheVariants.{CallOrderInvalid}
 use Rattle.xr_model.specs.machine.Request.{Request, create_action, suggest_bindings, attach_sets, sync_actions, Entry}
@@ -7,7 +7,7 @@ use Rattle.xr_model.specs.machine.Refusals.{Refusal}
 use Rattle.xr_model.specs.machine.State.{CoreState, CellReads, State}
 use Rattle.xr_model.specs.machine.Rule.{Rule, ahead, told_on}
 use Rattle.xr_model.specs.machine.Rules.Bindings.{profile_at}
-use Rattle.xr_model.specs.machine.Machine.{rule, reads_of, step}
+use Rattle.xr_model.specs.machine.Machine.{rule, step}
 use Rattle.xr_model.specs.laws.AnswerTable.{Row, answers_of, spelt_out, all_codes, is_ordered}
 
 -- it is one of these codes
@@ -38,14 +38,12 @@ pub record IsOfRow (row : Row) (items : List ℕ) (r : Rule) : Type 0 where
   pub memory : row.memory ≡ false → r.takes_memory ≡ false
   pub success : IsOneOf row.succeeds (told_on r.on r.effect).code
 
--- so it is for each call that has a rule, in any state
+-- so it is for each call, in any state
 abbrev pub RefusalsAreTheTable : Type 0
 RefusalsAreTheTable =
-    (s : CoreState) (reads : CellReads) (e : Entry) → (rule s reads e).is_there ≡ true
-    → IsOfRow (answers_of e.request) (items_of s e.request) (rule s reads e)
+    (s : CoreState) (reads : CellReads) (e : Entry) → IsOfRow (answers_of e.request) (items_of s e.request) (rule s reads e)
 
 -- what is answered to a call is one of the codes of its row
 abbrev pub AnswersAreTheTable : Type 0
 AnswersAreTheTable =
-    (s : State) (e : Entry) → (rule s.core (reads_of s e.request) e).is_there ≡ true
-    → IsOneOf (all_codes (answers_of e.request)) (step s e).1.reply.code
+    (s : State) (e : Entry) → IsOneOf (all_codes (answers_of e.request)) (step s e).1.reply.code

@@ -1,9 +1,15 @@
 -- The words of a publication give it back, where its numbers have room in them.
-use Rattle.std.specs.Prelude.{◌≡◌, ◌≤ℤ◌, ℕ, ℤ, pos, length, All, List}
+use Rattle.std.specs.Prelude.{◌≡◌, ◌≤ℤ◌, pos, length, All, List, Bool, true}
+use Rattle.std.specs.List.{list_all}
 use Rattle.std.specs.Int.{w32}
 use Rattle.std.specs.Prelude.{FitsSigned}
-use Rattle.xr_model.specs.machine.Publication.{ShownColumn, PublishedAction, Publication}
+use Rattle.xr_types.specs.Device.{checks}
+use Rattle.xr_model.specs.machine.Publication.{ShownColumn, PublishedAction, Publication, publication_of}
 use Rattle.xr_model.specs.machine.PublicationWords.{words, publication_in}
+use Rattle.xr_model.specs.machine.Reads.{reads}
+use Rattle.xr_model.specs.machine.Request.{Request, Entry, device}
+use Rattle.xr_model.specs.machine.State.{Settings, opening}
+use Rattle.xr_model.specs.machine.History.{after, IsLegal}
 
 -- numbers of 32 bits, and a time that isn't negative
 pub record ColumnFits (c : ShownColumn) : Type 0 where
@@ -25,3 +31,18 @@ pub record PublicationFits (p : Publication) : Type 0 where
 -- no number and no bit is lost in the words
 abbrev pub WordsGiveBack : Type 0
 WordsGiveBack = (p : Publication) → PublicationFits p → publication_in (words p) ≡ p
+
+-- so a getter may read the words as well
+abbrev pub WordsAreRead : Type 0
+WordsAreRead = (p : Publication) (what : Request) → PublicationFits p → reads (publication_in (words p)) what ≡ reads p what
+
+-- the numbers of an event are in range
+abbrev pub has_good_numbers : Request → Bool
+has_good_numbers (device what) = checks what
+has_good_numbers _ = true
+
+-- what a legal history publishes has room in words, where the device tells numbers in range
+abbrev pub PublicationsFit : Type 0
+PublicationsFit =
+    (settings : Settings) (es : List Entry) → IsLegal settings es → list_all (λ e. has_good_numbers e.request) es ≡ true
+    → PublicationFits (publication_of (after (opening settings) es).core)

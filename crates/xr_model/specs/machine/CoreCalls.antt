@@ -10,7 +10,7 @@ use Rattle.xr_types.specs.declared.calls.Step.{Step}
 use Rattle.xr_types.specs.declared.calls.Step.TheVariants.{Done, NotReady}
 use Rattle.xr_types.specs.Frames.{ShownFrame}
 use Rattle.xr_model.specs.machine.Rule.{Rule, is_by}
-use Rattle.xr_model.specs.machine.Request.{Request, create_instance, destroy_instance, get_system, string_to_path, path_to_string, poll_event, create_session, destroy_session, begin_session, end_session, request_exit_session, create_reference_space, destroy_space, locate_space, create_action_set, destroy_action_set, create_action, destroy_action, suggest_bindings, attach_sets, sync_actions, get_boolean, get_float, get_vector, get_pose_active, create_action_space, create_swapchain, destroy_swapchain, acquire_image, wait_image, paint, release_image, wait_frame, begin_frame, end_frame, mark, await_mark, leave, device, next_frame, image_done, Entry, Outcome, request_of}
+use Rattle.xr_model.specs.machine.Request.{Request, Entry, Outcome, request_of}
 use Rattle.xr_model.specs.machine.State.{CoreState, State, CellReads, with_apps, opening_core}
 use Rattle.xr_model.specs.machine.Machine.{rule_of, step, ready, core_step, core_ready, IsPresent, IsAllowed, CoreAllows}
 
@@ -45,50 +45,6 @@ entry_of who what answer = record { actor = who; request = what; given = given_b
 
 -- ---- what it is asked
 
--- the calls that the core answers
-abbrev pub is_built : Request → Bool
-is_built (create_instance major minor) = true
-is_built (destroy_instance instance) = true
-is_built (get_system instance form) = true
-is_built (string_to_path instance text) = true
-is_built (path_to_string instance path capacity) = true
-is_built (poll_event instance) = true
-is_built (create_session instance system) = true
-is_built (destroy_session session) = true
-is_built (begin_session session view) = true
-is_built (end_session session) = true
-is_built (request_exit_session session) = true
-is_built (create_reference_space session kind offset) = true
-is_built (destroy_space space) = true
-is_built (locate_space space base time) = true
-is_built (create_action_set instance name localized priority) = true
-is_built (destroy_action_set set) = true
-is_built (create_action set name kind subs localized) = true
-is_built (destroy_action action) = true
-is_built (suggest_bindings instance profile list) = true
-is_built (attach_sets session handles) = true
-is_built (sync_actions session active) = true
-is_built (get_boolean session action sub) = true
-is_built (get_float session action sub) = true
-is_built (get_vector session action sub) = true
-is_built (get_pose_active session action sub) = true
-is_built (create_action_space session action sub offset) = true
-is_built (create_swapchain session format width height fixed) = true
-is_built (destroy_swapchain chain) = true
-is_built (acquire_image chain) = true
-is_built (wait_image chain timeout start) = true
-is_built (paint chain stamp) = true
-is_built (release_image chain) = true
-is_built (wait_frame session) = true
-is_built (begin_frame session) = true
-is_built (end_frame session time blend layers) = true
-is_built (mark number value) = true
-is_built (await_mark number) = true
-is_built leave = true
-is_built (device what) = true
-is_built next_frame = true
-is_built image_done = true
-
 -- The rule of a call that is asked for. Who makes a call, what it is lent and which numbers it may have is the same in every
 -- state, so it is read off in the state before any call.
 abbrev pub no_reads : CellReads
@@ -102,10 +58,9 @@ abbrev pub Fits : Option ℕ → ℕ → Type 0
 Fits None size = Unit {0}
 Fits (Some wanted) size = size ≡ wanted
 
--- What an actor may ask of a core, whatever the core keeps: the call is built and the actor's own, its numbers are in range,
--- and the buffer has the size asked for.
+-- What an actor may ask of a core, whatever the core keeps: the call is the actor's own, its numbers are in range, and the
+-- buffer has the size asked for.
 pub record MayAsk (who : Actor) (what : Request) (size : ℕ) : Type 0 where
-  pub built : is_built what ≡ true
   pub caller : is_by (asked who what).caller who ≡ true
   pub numbers : (asked who what).in_range ≡ true
   pub buffer : Fits (asked who what).lent size

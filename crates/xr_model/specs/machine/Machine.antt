@@ -142,10 +142,9 @@ IsPresent s (App k) = (1 ≤ k) × (k ≤ s.apps) × (slice_get s.left (k - 1) �
 IsPresent s Compositor = Unit {0}
 IsPresent s Device = Unit {0}
 
--- An entry is allowed where its call has a rule, a new handle is given exactly by a successful creation, memory is short
--- only where the call takes some and nothing else refuses it, and its application hasn't left.
+-- An entry is allowed where a new handle is given exactly by a successful creation, memory is short only where the call takes
+-- some and nothing else refuses it, and its application hasn't left.
 pub record CoreAllows (s : CoreState) (reads : CellReads) (e : Entry) : Type 0 where
-  pub ruled : (rule s reads e).is_there ≡ true
   pub handle : IsGiven (is_some (rule s reads e).creates && is_success (core_step s reads e).1.reply.code) s.handles e.given
   pub memory : e.short ≡ true → ((rule s reads e).takes_memory ≡ true) × (first_of (refusals (rule s reads e)) ≡ None)
   pub present : IsPresent s e.actor

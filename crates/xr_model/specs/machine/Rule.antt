@@ -73,13 +73,12 @@ is_by compositor Compositor = true
 is_by device Device = true
 is_by _ _ = false
 
--- A rule says of a call, in the state that it meets: whether there is a rule; who makes it; how many bytes it is lent, where
+-- A rule says of a call, in the state that it meets: who makes it; how many bytes it is lent, where
 -- it wants a buffer; whether its numbers are ones that it may have; whether it would have to wait, were it not refused; the
 -- loss of the session that it is made on, if it is made on one; what refuses it by its handles, before the check of the call
 -- order, by that check, and behind it; whether it takes memory, which is asked for last; the kind of the handle that it
 -- gives, if it gives one; and its effect where nothing refuses it.
 pub record Rule : Type 0 where
-  pub is_there : Bool
   pub caller : Caller
   pub lent : Option ℕ
   pub in_range : Bool
@@ -96,7 +95,6 @@ pub record Rule : Type 0 where
 -- A call of an application that nothing refuses and that does nothing. Each rule says what differs.
 abbrev pub ordinary : CoreState → Rule
 ordinary s = record {
-  is_there = true;
   caller = application;
   lent = None;
   in_range = true;

@@ -15,7 +15,6 @@ use Rattle.xr_types.specs.declared.scenario.Op.TheVariants as op
 use Rattle.xr_model.specs.machine.Request.{Request, leave, device, next_frame, image_done, Outcome, Exchange}
 use Rattle.xr_model.specs.machine.State.{State}
 use Rattle.xr_model.specs.machine.Frames.{is_empty}
-use Rattle.xr_model.specs.scenario.Built.{is_built_op}
 use Rattle.xr_model.specs.scenario.ScriptForm.{IsInRange}
 use Rattle.xr_model.specs.runs.Robin.{with_start, clock_behind}
 use Rattle.xr_model.specs.machine.Machine.{ready}
@@ -63,7 +62,6 @@ pub record OpMade (number : ℕ) (ops : List Op) (old new : AppState) (s after :
   pub op : Op
   pub outcome : Outcome
   pub here : drop old.made ops ≡ op ∷ drop (old.made + 1) ops
-  pub built : is_built_op op ≡ true
   pub ranged : IsInRange op
   pub call : IsAnswered s after (App number) (op_request old op) outcome
   pub app : new ≡ app_with old op (exchange_of (op_request old op) outcome) (clock_behind old.clock (request_for old.names op) after)

@@ -12,8 +12,8 @@ use std::thread::{Threads, join};
 use xr_chains::PlainCells;
 use xr_core::{Core, PlainCore};
 use xr_types::{
-    Actor, Blend, Call, Code, DeviceEvent, Gives, Layer, RefKind, Shown, ShownLayer, Step,
-    SubImage, ViewConfig, Wish,
+    ActionType, Actor, Blend, Call, Code, DeviceEvent, Gives, Layer, RefKind, Shown, ShownLayer,
+    Step, SubImage, View, ViewConfig, Wish,
 };
 
 /// Makes a call of a core over a loan of its cells, which ends. They have had what the machine's step calls on them.
@@ -42,6 +42,10 @@ fn is_own(call: &Call<'_>) -> bool
         Call::CreateInstance { .. }
             | Call::CreateSession { .. }
             | Call::BeginSession { .. }
+            | Call::StringToPath { .. }
+            | Call::CreateActionSet { .. }
+            | Call::CreateAction { .. }
+            | Call::AttachSets { .. }
             | Call::CreateReferenceSpace { .. }
             | Call::CreateSwapchain { .. }
             | Call::DestroySession { .. }
@@ -325,6 +329,72 @@ fn a_core_answers_alike_over_cells_that_are_lent(rt: HostRuntime) -> Result<(), 
     };
     assert_eq!(rt; story(&mut own), STORY);
     assert_eq!(rt; story(&mut apart), STORY);
+    Ok(())
+}
+
+#[test]
+fn a_core_shows_nothing_at_first(rt: HostRuntime) -> Result<(), Fail> {
+    let core = Core::start(rt.alloc(), 1).ok().ok_or("memory")?;
+    let mut view = View::start();
+    core.view(&mut view);
+    core.view(&mut view);
+    assert!(rt; view.words.as_slice() == [0; 8].as_slice());
+    Ok(())
+}
+
+/// A vector action at the left hand, attached: its session, the hand's atom and its handle.
+fn attach<M: Machine>(machine: &mut M) -> [u64; 3] {
+    let instance = handle(machine, &Call::CreateInstance { major: 1, minor: 0 });
+    let system = 1;
+    let session = handle(machine, &Call::CreateSession { instance, system });
+    let text = b"/user/hand/left";
+    let left = match given(machine, &Call::StringToPath { instance, text }) {
+        Gives::Number(atom) => atom,
+        _ => 0,
+    };
+    let set = handle(
+        machine,
+        &Call::CreateActionSet {
+            instance,
+            name: b"play",
+            localized: b"Play",
+            priority: 0,
+        },
+    );
+    let action = handle(
+        machine,
+        &Call::CreateAction {
+            set,
+            name: b"aim",
+            kind: ActionType::Vector,
+            subs: &[left],
+            localized: b"Aim",
+        },
+    );
+    let _ = given(
+        machine,
+        &Call::AttachSets {
+            session,
+            sets: &[set],
+        },
+    );
+    [session, left, action]
+}
+
+#[test]
+fn a_core_shows_an_action_that_is_attached(rt: HostRuntime) -> Result<(), Fail> {
+    let mut apart = Apart {
+        core: Core::start(rt.alloc(), 1).ok().ok_or("memory")?,
+        cells: PlainCells::new(),
+    };
+    let [session, left, action] = attach(&mut apart);
+    let mut view = View::start();
+    apart.core.view(&mut view);
+    let words = view.words.as_slice();
+    assert!(rt; words.get(..8) == Some([6, session, 4, left, 0, 0, 0, 0].as_slice()));
+    assert!(rt;
+        words.get(8..) == Some([action, 26, 0, 0, 0, 0, 0, 0, 0, 0, 0, 0, 0, 0].as_slice())
+    );
     Ok(())
 }
 

@@ -1,5 +1,6 @@
 // Syncs, beside results that are written out: which bindings are live, what columns show, and when that changed.
-ghost use Rattle.std.specs.Prelude.{◌<◌, All};
+ghost use Rattle.std.specs.Prelude.{◌≡◌, ◌<◌, true, All};
+ghost use Rattle.xr_types.specs.Device.{is_time};
 ghost use Rattle.xr_sync.specs.Ranks.{IsPlaced};
 
 use std::test::Fail;
@@ -313,6 +314,20 @@ fn each_user_path_has_its_column_where_it_is_declared(rt: HostRuntime) -> Result
     Ok(())
 }
 
+/// The last time that a device's clock shows.
+const LAST: i64 = (1 << 62) - 1;
+
+/// A time that a device's clock shows: this one, where it is one.
+fn time(clock: i64) -> i64
+    ensures { is_time result ≡ true }
+{
+    if 0 <= clock && clock <= LAST {
+        clock
+    } else {
+        0
+    }
+}
+
 #[test]
 fn changes_have_the_time_of_their_sync(rt: HostRuntime) -> Result<(), Fail> {
     let list = [trigger(0, 1, 0, User::Left)];
@@ -332,7 +347,7 @@ fn changes_have_the_time_of_their_sync(rt: HostRuntime) -> Result<(), Fail> {
             &[all_of(heard)],
             &list,
             &inputs(&[(User::Left, 16, value)]),
-            clock,
+            time(clock),
         );
         assert!(rt; shown(&columns, 0, 0) == wanted, "{clock}");
     }
@@ -390,8 +405,8 @@ fn an_action_has_as_many_bindings_as_there_may_be(rt: HostRuntime) -> Result<(),
         &[all_of(1)],
         &list,
         &inputs(&[(User::Left, 16, -32768)]),
-        i64::MAX,
+        time(LAST),
     );
-    assert!(rt; shown(&columns, 5, 0) == (-32768, 0, true, i64::MAX, true));
+    assert!(rt; shown(&columns, 5, 0) == (-32768, 0, true, LAST, true));
     Ok(())
 }

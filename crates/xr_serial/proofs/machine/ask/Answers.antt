@@ -28,7 +28,7 @@ pub make-requires-clause-asks : goal.make-requires-clause-asks
 make-requires-clause-asks c =
     let read : to_z w64 (of_z w64 c.args.clock) ≡ c.args.clock = search rules in
     let same : request_of c.with_start-call.result ≡ with_start c.args.clock (request_for c.args.names.now c.args.op.now) = c.with_start-call.ensures ∙ ap (λ (n : ℤ). with_start n (request_of c.call_of.result)) read ∙ ap (with_start c.args.clock) c.call_of.ensures in
-    subst (λ (r : Request). MayAsk (App c.args.number) r (lent_size r)) (sym same) (op_asks c.args.clock c.args.names.now c.args.number c.args.op.now c.requires.begun c.requires.built c.requires.ranged)
+    subst (λ (r : Request). MayAsk (App c.args.number) r (lent_size r)) (sym same) (op_asks c.args.clock c.args.names.now c.args.number c.args.op.now c.requires.begun c.requires.ranged)
 
 pub returns : goal.returns
 returns c =

@@ -7,6 +7,7 @@ use Rattle.xr_sync.proofs.settle.leave.Given as goal
 abbrev pub invariant-loop-place : goal.invariant-loop-place
 invariant-loop-place l = record {
   long : length l.rows ≡ 64;
+  rest : drop l.place l.rows ≡ drop l.place l.initial.rows;
   tidy : All IsTidy l.rows;
   same : left_columns (λ place. slice_index_or l.there place false) l.initial.rows ≡ take l.place l.rows ++ each_from (λ place row. if slice_index_or l.there place false then row else inactive_row) l.place (drop l.place l.rows);
 }

@@ -10,6 +10,7 @@ invariant-loop-place l = record {
   wide : length l.found ≡ 64;
   rest : drop l.place l.rows ≡ drop l.place l.initial.rows;
   six : (k : ℕ) (d : List Column) → k < l.place → length (get_or l.initial.rows k d) ≡ 6;
+  later : drop l.place l.found ≡ drop l.place l.initial.found;
   clean : take l.place l.found ≡ replicate l.place no_row;
   quiet : All IsQuiet l.found;
   tidy : All IsTidy l.rows;

@@ -28,12 +28,12 @@ pub returns : goal.returns
 returns g c =
     let present = subst (λ (w : WholeCore). IsPresent w.kept c.args.who) (sym c.self.view_is) c.requires.may.present in
     rw (c.answered.ensures.reply, c.answered.ensures.count, c.answered.ensures.published, ← c.self.view_is)
-    (made_over g.C.Cells.does (world c.self.inside.inside c.args.cells.now c.args.text.now c.args.shown.now) (world c.decide.new.self c.decide.new.cells c.decide.new.text c.decide.new.shown) c.self.inside.calls c.self.inside.published c.args.who c.args.call.now c.requires.may.asks.built c.match-decide.reply present (comes g c))
+    (made_over g.C.Cells.does (world c.self.inside.inside c.args.cells.now c.args.text.now c.args.shown.now) (world c.decide.new.self c.decide.new.cells c.decide.new.text c.decide.new.shown) c.self.inside.calls c.self.inside.published c.args.who c.args.call.now c.match-decide.reply present (comes g c))
 
 pub returns-in-Err-NotReady : goal.returns-in-Err-NotReady
 returns-in-Err-NotReady g c =
     rw (← c.self.view_is)
-    (waits_over g.C.Cells.does (world c.self.inside.inside c.args.cells.now c.args.text.now c.args.shown.now) (world c.decide.new.self c.decide.new.cells c.decide.new.text c.decide.new.shown) c.self.inside.calls c.self.inside.published c.args.who c.args.call.now c.requires.may.asks.built (subst (λ (r : Result Reply Halt). DecidesAlong g.C.Cells.does (world c.self.inside.inside c.args.cells.now c.args.text.now c.args.shown.now) (world c.decide.new.self c.decide.new.cells c.decide.new.text c.decide.new.shown) c.args.who (request_of c.args.call.now) r) (c.in-Err-NotReady.is ∙ ap Err c.in-Err-NotReady.field-0-is) c.decide.ensures))
+    (waits_over g.C.Cells.does (world c.self.inside.inside c.args.cells.now c.args.text.now c.args.shown.now) (world c.decide.new.self c.decide.new.cells c.decide.new.text c.decide.new.shown) c.self.inside.calls c.self.inside.published c.args.who c.args.call.now (subst (λ (r : Result Reply Halt). DecidesAlong g.C.Cells.does (world c.self.inside.inside c.args.cells.now c.args.text.now c.args.shown.now) (world c.decide.new.self c.decide.new.cells c.decide.new.text c.decide.new.shown) c.args.who (request_of c.args.call.now) r) (c.in-Err-NotReady.is ∙ ap Err c.in-Err-NotReady.field-0-is) c.decide.ensures))
 
 pub invariant_of-self : goal.invariant_of-self
 invariant_of-self g c =
@@ -44,7 +44,7 @@ pub invariant_of-self-2 : goal.invariant_of-self-2
 invariant_of-self-2 g c =
     let x = comes g c in
     let what = request_of c.args.call.now in
-    let grows = grown c.self.inside.inside.kept c.decide.new.self.kept c.self.inside.calls c.self.inside.published c.args.who what (record { text = c.args.text.now; frame = c.args.shown.now }) (record { text = c.decide.new.text; frame = c.decide.new.shown }) c.requires.may.asks.built c.match-decide.reply.code c.match-decide.reply.gives x.reads x.decides in
+    let grows = grown c.self.inside.inside.kept c.decide.new.self.kept c.self.inside.calls c.self.inside.published c.args.who what (record { text = c.args.text.now; frame = c.args.shown.now }) (record { text = c.decide.new.text; frame = c.decide.new.shown }) c.match-decide.reply.code c.match-decide.reply.gives x.reads x.decides in
     let count = c.answered.ensures.count ∙ counted_is (is_locked what) c.self.inside.calls in
     let given = grows.given in
     let created = grows.created in

@@ -24,7 +24,6 @@ decide-requires g c =
       created = c.requires.created;
       ended = c.requires.ended;
       present = c.requires.present;
-      built = c.requires.built;
       caller = c.requires.caller;
       numbers = c.requires.numbers;
       buffer = c.requires.buffer;

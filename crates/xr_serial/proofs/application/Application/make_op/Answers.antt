@@ -12,7 +12,7 @@ use Rattle.xr_serial.specs.inside.RunState.{AppState}
 use Rattle.xr_serial.specs.inside.Sides.{op_mark, op_start}
 use Rattle.xr_serial.specs.declared.calls.Answered.{Answered}
 use Rattle.xr_serial.proofs.Apps.{same_app}
-use Rattle.xr_serial.proofs.Ops.{built_at, here_at, name_is, mark_is, start_is}
+use Rattle.xr_serial.proofs.Ops.{here_at, name_is, mark_is, start_is}
 use Rattle.xr_serial.proofs.application.Application.make_op.Goals as goal
 
 pub make_op-requires-clause-ranged : goal.make_op-requires-clause-ranged
@@ -38,7 +38,6 @@ returns c =
       op = o;
       outcome = outcome;
       here = here_at c.args.ops.now c.self.inside.made o within c.index-ops-self.is;
-      built = rw c.index-ops-self.is (built_at c.args.ops.now c.self.inside.made o c.requires.built within);
       ranged = rw c.index-ops-self.is (in_range-item c.args.ops.now c.self.inside.made o c.requires.formed within);
       call = comes;
       app = same_app refl c.learn.ensures (rw (c.in_ok-add.ensures, c.name.ensures, c.op_mark.ensures, begun, c.op_start-start.ensures, read, kept) refl) (shown ∙ c.clock_behind-self-inside.ensures.clock names) refl;

@@ -1,6 +1,6 @@
-use Rattle.std.proofs.Common.{refl}
+use Rattle.std.proofs.Common.{refl, arith}
 use Rattle.xr_sync.proofs.Quiet.{tidy_columns}
 use Rattle.xr_sync.proofs.columns.Columns.start.Goals as goal
 
 pub invariant_of-result : goal.invariant_of-result
-invariant_of-result c = (refl, tidy_columns)
+invariant_of-result c = (refl, tidy_columns, refl, record { within = omega arith; rest = refl })

@@ -1,0 +1,33 @@
+// The words of what getters of input answer from.
+ghost use Rattle.std.specs.Prelude.{◌≡◌, []};
+
+use arrayvec::ArrayVec;
+use std::marker::Model;
+
+/// How many words there are at most: eight, and fourteen for each of 64 actions.
+pub const MOST_WORDS: usize = 904;
+
+/// What getters of input answer from, as words that threads can share. Contracts see the list of the words.
+#[derive(Drop)]
+pub struct View {
+    pub words: ArrayVec<u64, MOST_WORDS>,
+}
+
+impl Model for View {
+    ghost use Rattle.std.specs.Prelude.{ℕ, List};
+
+    ghost Value = { List ℕ };
+
+    ghost view = { λ v. v.words.items };
+}
+
+impl View {
+    /// No word yet.
+    pub fn start() -> View
+        ensures { result ≡ [] }
+    {
+        View {
+            words: ArrayVec::new(),
+        }
+    }
+}
