@@ -1,13 +1,12 @@
 // A case that is one run over real files: it is to end with a status, a report and a line on standard error.
-ghost use Rattle.std.specs.Prelude.{◌≡◌, None};
-ghost use Rattle.xr_io.specs.declared.Which.{Which};
+ghost use Rattle.xr_io.specs.Outside.{AreUnasked};
 
 use crate::compare::{Count, is_same};
 use crate::files::{Stop, bytes_of, words_of};
 use std::alloc::{AllocError, Global};
 use std::io::Print;
 use std::rt::Files;
-use xr_drive::{exit_of, explanation_of, run_serial};
+use xr_drive::{exit_of, explain, run_serial};
 use xr_io::{FileOpener, MemorySink, Opener};
 use xr_types::Status;
 
@@ -27,7 +26,7 @@ pub(crate) fn run<O: Opener>(
     words: &[String],
     opener: &mut O,
 ) -> Result<Ended, AllocError>
-    requires fresh { (which : Which) → O.asked opener.old which ≡ None }
+    requires fresh { AreUnasked (O.files opener.old) }
 {
     let mut sink = MemorySink::new(alloc, MOST, &[], &[])?;
     let status = run_serial(alloc, words, opener, &mut sink);
@@ -36,11 +35,10 @@ pub(crate) fn run<O: Opener>(
 }
 
 /// What the program says of a status on standard error.
-fn line_of(alloc: Global, status: Status) -> Result<String, AllocError> {
-    match explanation_of(status) {
-        Some(line) => format!(in alloc; "{line}\n"),
-        None => Ok(String::new(alloc)),
-    }
+pub(crate) fn line_of(alloc: Global, status: Status) -> Result<Vec<u8>, AllocError> {
+    let mut errors = MemorySink::new(alloc, MOST, &[], &[])?;
+    explain(&mut errors, status);
+    errors.bytes().to_vec(alloc)
 }
 
 /// Whether a file of a case has these bytes.
@@ -71,7 +69,7 @@ fn has_line<R: Files + Print + AllocGlobal>(
     status: Status,
 ) -> Result<bool, Stop> {
     let line = line_of(rt.alloc(), status)?;
-    has_file(rt, case, "stderr", line.as_bytes())
+    has_file(rt, case, "stderr", line.as_slice())
 }
 
 /// Runs the words of a case over the files that they name.

@@ -2,11 +2,10 @@
 // are not compared.
 use crate::compare::{Count, is_same};
 use crate::files::{Stop, bytes_of, words_of};
-use crate::run::run;
+use crate::run::{line_of, run};
 use std::alloc::{AllocError, Global};
 use std::io::Print;
 use std::rt::Files;
-use xr_drive::explanation_of;
 use xr_io::{Failing, MemoryFile, MemoryOpener};
 use xr_types::Status;
 
@@ -59,13 +58,14 @@ fn with_words(alloc: Global, words: &[String], text: &str) -> Result<Vec<String>
 
 /// What a table says of a status: `read` where the scenario and the device's text are of their formats, and else the line
 /// on standard error.
-fn said_of(alloc: Global, status: Status) -> Result<String, AllocError> {
+fn said_of(alloc: Global, status: Status) -> Result<Vec<u8>, AllocError> {
     match status {
-        Status::Done | Status::Stuck => String::from_str(alloc, "read"),
-        _ => match explanation_of(status) {
-            Some(line) => format!(in alloc; "{line}"),
-            None => Ok(String::new(alloc)),
-        },
+        Status::Done | Status::Stuck => b"read".to_vec(alloc),
+        _ => {
+            let mut line = line_of(alloc, status)?;
+            let _ = line.pop();
+            Ok(line)
+        }
     }
 }
 
@@ -121,7 +121,7 @@ fn run_row<R: Print + AllocGlobal>(
     let (wanted, text) = parts_of(row);
     let status = run_text(rt.alloc(), table, text)?;
     let said = said_of(rt.alloc(), status)?;
-    Ok(Count::of(is_same(rt, case, shown(text), said.as_bytes(), wanted)))
+    Ok(Count::of(is_same(rt, case, shown(text), said.as_slice(), wanted)))
 }
 
 /// What a table has for all of its rows.

@@ -1,9 +1,11 @@
 -- What the answers of a device say.
-use Rattle.std.specs.Prelude.{◌≡◌, ℕ, ◌+◌, ◌&&◌, Bool, true, [], ◌∷◌, Option, Some, None}
+use Rattle.std.specs.Prelude.{◌≡◌, ◌<◌, ◌≤◌, ℕ, ◌+◌, ◌&&◌, Bool, true, [], ◌∷◌, Option, Some, None}
+use Rattle.xr_io.specs.Outside.{Rose}
 use Rattle.xr_types.specs.declared.device.DeviceEvent.{DeviceEvent}
 use Rattle.xr_types.specs.Device.{checks}
 use Rattle.xr_model.specs.laws.DeviceLaws.{is_of_line}
 use Rattle.xr_model.specs.device_text.DeviceText.{DeviceStream, nothing_more, garbled_at}
+use Rattle.xr_device.specs.Prospect.{Prospect}
 use Rattle.xr_device.specs.declared.Next.{Next}
 use Rattle.xr_device.specs.declared.Next.TheVariants as next
 
@@ -74,3 +76,20 @@ Tells (Some before) after (next.Event e) = IsFirst e before after
 Tells (Some before) after next.End = before ≡ nothing_more
 Tells (Some before) after (next.Garbled line) = before ≡ garbled line
 Tells (Some before) after next.Failed = Unit {0}
+
+-- ---- an answer, all of it
+
+-- What an answer says of the device before and behind it. After any answer but an event nothing is to come, and the answer is
+-- `End` from then on. A count of faults changes only where it couldn't be read on.
+pub record NextOf (old : Prospect) (answer : Next) (new : Prospect) : Type 0 where
+  pub remaining : Tells old.remaining new.remaining answer
+  pub sound : OnEvent answer (λ e. IsTold e)
+  pub given : new.given ≡ given_with answer old.given
+  pub last : UnlessEvent answer ((new.remaining ≡ Some nothing_more) × (new.over ≡ true))
+  pub over : old.over ≡ true → answer ≡ next.End
+  pub fewer : OnEvent answer (λ e. new.bound < old.bound)
+  pub bound : new.bound ≤ old.bound
+  pub later : old.faults ≤ new.faults
+  pub kept : UnlessFailed answer (new.faults ≡ old.faults)
+  pub cause : OnFailed answer (Rose old.faults new.faults)
+  pub which : new.which ≡ old.which

@@ -2,12 +2,10 @@
 //! line, or from a list. It knows the form of device texts, and nothing of what the events do.
 #![tactic(auto)]
 
-ghost use Rattle.std.specs.Prelude.{◌≡◌, ◌≤◌, ◌<◌, true, Some};
+ghost use Rattle.std.specs.Prelude.{◌≤◌};
 ghost use Rattle.xr_types.specs.declared.limits.TheConstants.{MOST_DEVICE};
-ghost use Rattle.xr_io.specs.Outside.{Rose};
-ghost use Rattle.xr_model.specs.device_text.DeviceText.{nothing_more};
 ghost use Rattle.xr_device.specs.Prospect.{Prospect};
-ghost use Rattle.xr_device.specs.Answers.{Tells, IsTold, given_with, OnEvent, UnlessEvent, OnFailed, UnlessFailed};
+ghost use Rattle.xr_device.specs.Answers.{NextOf};
 
 mod bytes;
 mod held;
@@ -46,21 +44,7 @@ pub trait Device {
 
     /// The next event, or why there is none.
     fn next(&mut self) -> Next
-        ensures remaining { Tells (prospect self.old).remaining (prospect self.new).remaining result }
-        ensures sound { OnEvent result (λ e. IsTold e) }
-        ensures given { (prospect self.new).given ≡ given_with result (prospect self.old).given }
-
-        // After any answer but an event nothing is to come, and the answer is `End` from then on.
-        ensures last { UnlessEvent result (((prospect self.new).remaining ≡ Some nothing_more) × ((prospect self.new).over ≡ true)) }
-        ensures over { (prospect self.old).over ≡ true → result ≡ Next.End }
-
-        ensures fewer { OnEvent result (λ e. (prospect self.new).bound < (prospect self.old).bound) }
-        ensures bound { (prospect self.new).bound ≤ (prospect self.old).bound }
-
-        ensures later { (prospect self.old).faults ≤ (prospect self.new).faults }
-        ensures kept { UnlessFailed result ((prospect self.new).faults ≡ (prospect self.old).faults) }
-        ensures cause { OnFailed result (Rose (prospect self.old).faults (prospect self.new).faults) }
-        ensures which { (prospect self.new).which ≡ (prospect self.old).which };
+        ensures { NextOf (prospect self.old) result (prospect self.new) };
 
     ghost few: { (device : Self) → (prospect device).bound ≤ MOST_DEVICE };
 }

@@ -1,8 +1,7 @@
 // The device that reads a text.
-ghost use Rattle.std.specs.Prelude.{◌≡◌, ◌≤◌, ◌<◌, true, false, [], Some, option_map};
-ghost use Rattle.xr_io.specs.Outside.{Rose};
-ghost use Rattle.xr_model.specs.device_text.DeviceText.{told_in, nothing_more};
-ghost use Rattle.xr_device.specs.Answers.{Tells, IsTold, given_with, OnEvent, UnlessEvent, OnFailed, UnlessFailed};
+ghost use Rattle.std.specs.Prelude.{◌≡◌, ◌≤◌, false, [], option_map};
+ghost use Rattle.xr_model.specs.device_text.DeviceText.{told_in};
+ghost use Rattle.xr_device.specs.Answers.{NextOf, OnFailed};
 ghost use Rattle.xr_device.specs.Kinds.{of_text};
 ghost use Rattle.xr_device.specs.Texts.{KeepsTold, IsUndecided};
 
@@ -80,20 +79,7 @@ impl<S: Source> Device for LineDevice<S> {
     /// Lines that came whole are told before a read that fails: the source is asked for more only where the held bytes
     /// decide no line.
     fn next(&mut self) -> Next
-        ensures remaining { Tells (of_text self.old).remaining (of_text self.new).remaining result }
-        ensures sound { OnEvent result (λ e. IsTold e) }
-        ensures given { self.new.given ≡ given_with result self.old.given }
-
-        ensures last { UnlessEvent result (((of_text self.new).remaining ≡ Some nothing_more) × (self.new.over ≡ true)) }
-        ensures over { self.old.over ≡ true → result ≡ Next.End }
-
-        ensures fewer { OnEvent result (λ e. (of_text self.new).bound < (of_text self.old).bound) }
-        ensures bound { (of_text self.new).bound ≤ (of_text self.old).bound }
-
-        ensures later { self.old.faults ≤ self.new.faults }
-        ensures kept { UnlessFailed result (self.new.faults ≡ self.old.faults) }
-        ensures cause { OnFailed result (Rose self.old.faults self.new.faults) }
-        ensures which { self.new.which ≡ self.old.which }
+        ensures next { NextOf (of_text self.old) result (of_text self.new) }
 
         // Where a read failed, no line of the text was lost, and the held bytes decide none.
         ensures whole { OnFailed result (KeepsTold self.old.text self.new.text) }

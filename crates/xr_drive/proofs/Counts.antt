@@ -1,5 +1,6 @@
 -- Which counts of faults stay as they were.
 use Rattle.std.proofs.Common.{◌≡◌, ◌≢◌, ℕ, Ok, Err, Result, ◌∙◌}
+use Rattle.xr_io.specs.Outside.{Files}
 use Rattle.xr_io.specs.declared.Which.{Which}
 use Rattle.xr_io.specs.declared.Which.TheVariants as which
 use Rattle.xr_types.specs.declared.made.Lists.{Lists}
@@ -17,10 +18,10 @@ opened old new this others which.Scenario = this
 opened old new this others which.Device = others which.Device device_is_not
 
 -- what came before changed none
-pub counts_from : (opens reads mid_opens mid_reads new_opens new_reads : Which → ℕ) (result : Result Lists RunFault) → SameCounts opens mid_opens → SameCounts reads mid_reads → KeepsCounts mid_opens mid_reads new_opens new_reads result
-    → KeepsCounts opens reads new_opens new_reads result
-counts_from opens reads mid_opens mid_reads new_opens new_reads (Ok lists) o r c = ((λ w. c.0 w ∙ o w), c.1 ∙ r which.Scenario, (λ none. c.2 none ∙ r which.Device))
-counts_from opens reads mid_opens mid_reads new_opens new_reads (Err fault.OpenFault) o r c = λ w. c w ∙ r w
-counts_from opens reads mid_opens mid_reads new_opens new_reads (Err fault.ReadFault) o r c = ((λ w. c.0 w ∙ o w), c.1 ∙ r which.Device)
-counts_from opens reads mid_opens mid_reads new_opens new_reads (Err (fault.Refused why)) o r c = ((λ w. c.0 w ∙ o w), λ w. c.1 w ∙ r w)
-counts_from opens reads mid_opens mid_reads new_opens new_reads (Err fault.NoMemory) o r c = ((λ w. c.0 w ∙ o w), c.1 ∙ r which.Scenario)
+pub counts_from : (old mid new : Files) (result : Result Lists RunFault) → SameCounts old.open_faults mid.open_faults → SameCounts old.read_faults mid.read_faults → KeepsCounts mid new result
+    → KeepsCounts old new result
+counts_from old mid new (Ok lists) o r c = ((λ w. c.0 w ∙ o w), c.1 ∙ r which.Scenario, (λ none. c.2 none ∙ r which.Device))
+counts_from old mid new (Err fault.OpenFault) o r c = λ w. c w ∙ r w
+counts_from old mid new (Err fault.ReadFault) o r c = ((λ w. c.0 w ∙ o w), c.1 ∙ r which.Device)
+counts_from old mid new (Err (fault.Refused why)) o r c = ((λ w. c.0 w ∙ o w), λ w. c.1 w ∙ r w)
+counts_from old mid new (Err fault.NoMemory) o r c = ((λ w. c.0 w ∙ o w), c.1 ∙ r which.Scenario)

@@ -1,4 +1,5 @@
 pub mod Pieces
+pub mod Digits
 pub mod Status
 pub mod Clean
 pub mod Runs

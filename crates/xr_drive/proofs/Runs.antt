@@ -14,7 +14,7 @@ use Rattle.xr_model.specs.command_line.Words.{RunOptions, options_of}
 use Rattle.xr_model.specs.scenario.Scenario.{scenario_of}
 use Rattle.xr_model.specs.device_text.DeviceText.{DeviceStream, ends}
 use Rattle.xr_drive.specs.Run.{Run}
-use Rattle.xr_drive.specs.Top.{told_under, RunsText, EndsSo, Means, Faults, NoneRose, HasItsCause, IsComplete}
+use Rattle.xr_drive.specs.Top.{Outside, Writes, told_under, RunsText, EndsSo, Means, NoneRose, HasItsCause, IsComplete}
 use Rattle.xr_drive.specs.inside.Parts.{MeansText, fault_of_scenario, MeansRun, HasRunCause}
 use Rattle.xr_scenario.specs.declared.fault.ScenarioFault.{ScenarioFault}
 use Rattle.xr_scenario.specs.declared.fault.ScenarioFault.TheVariants as scenario_fault
@@ -22,7 +22,6 @@ use Rattle.xr_drive.proofs.Clean.{told_clean, run_clean}
 use Rattle.xr_drive.proofs.Status.{IsEnding, is_ending, fault_of_failed, never_garbled}
 use Rattle.xr_model.specs.report.RunEnding.{ending_of}
 use Rattle.xr_model.specs.report.Report.{report_of}
-use Rattle.std.specs.Io.KnownBytes.{Appends}
 
 long_take : (n : ℕ) (bytes : List ℕ) → n < length bytes → n < length (take (n + 1) bytes)
 long_take n bytes h = grind (arith, common_steps)
@@ -83,11 +82,11 @@ means_unrun all text told scenario_fault.NoMemory read e = tt
 -- ---- what a status means
 
 -- behind a whole report
-pub means_ending : (words : List (List ℕ)) (bytes : List ℕ → Option (List ℕ)) (before after : Option (List ℕ)) (form : RunOptions) (lists : Lists) → options_of words ≡ Some form
-    → RunsText (bytes form.file) (told_under bytes form.device) lists → Appends before after (report_of lists form.places) → Means words bytes before after (ending_of lists)
-means_ending words bytes before after form lists is run written = by (ending_of lists) (is_ending lists.events lists.next) (form, is, (lists, run, (refl, written)))
+pub means_ending : (words : List (List ℕ)) (old new : Outside) (form : RunOptions) (lists : Lists) → options_of words ≡ Some form
+    → RunsText (old.files.bytes form.file) (told_under old.files.bytes form.device) lists → Writes old new (report_of lists form.places) → Means words old new (ending_of lists)
+means_ending words old new form lists is run written = by (ending_of lists) (is_ending lists.events lists.next) (form, is, (lists, run, (refl, written)))
   where
-    by : (status : Status) → IsEnding status → EndsSo words bytes before after status → Means words bytes before after status
+    by : (status : Status) → IsEnding status → EndsSo words old new status → Means words old new status
     by Done ok so = so
     by DeviceFailed ok so = so
     by (DeviceGarbled line) ok so = so
@@ -99,7 +98,7 @@ means_ending words bytes before after form lists is run written = by (ending_of 
     by WriteFault ok so = absurd ok
     by NoMemory ok so = absurd ok
 
-pub cause_ending : (old new : Faults) (lists : Lists) → HasRunCause old.opens old.reads new.opens new.reads (Ok lists) → HasItsCause old new (ending_of lists)
+pub cause_ending : (old new : Outside) (lists : Lists) → HasRunCause old.files new.files (Ok lists) → HasItsCause old new (ending_of lists)
 cause_ending old new lists cause = by (ending_of lists) refl (is_ending lists.events lists.next)
   where
     by : (status : Status) → ending_of lists ≡ status → IsEnding status → HasItsCause old new status
@@ -119,7 +118,7 @@ cause_ending old new lists cause = by (ending_of lists) refl (is_ending lists.ev
 abbrev IsRefusedIfTold : Refusal → Option (List ℕ) → Type 0
 IsRefusedIfTold why told = IfSome told (λ bytes. scenario_of bytes ≡ Err why)
 
-no_opening : (old new : Faults) → NoneRose old new → HasItsCause old new OpenFault → ⊥
+no_opening : (old new : Outside) → NoneRose old new → HasItsCause old new OpenFault → ⊥
 no_opening old new none (inl rose) = none.opens which.Scenario rose
 no_opening old new none (inr rose) = none.opens which.Device rose
 
@@ -131,21 +130,20 @@ no_garbled bytes device all told lists line is end runs status =
     never_garbled lists.events lists.next line (run_clean run.scenario told run.count lists (told_clean bytes device told is) end run.ran) status
 
 -- good words, a good text, a good device and no fault leave a run that is done or stuck, or want of memory
-pub complete : (words : List (List ℕ)) (bytes : List ℕ → Option (List ℕ)) (before after : Option (List ℕ)) (old new : Faults) (status : Status) → Means words bytes before after status → HasItsCause old new status
-    → IsComplete words bytes old new status
-complete words bytes before after old new Done means cause = λ form text scenario told is there good tells end none. inl refl
-complete words bytes before after old new Usage means cause = λ form text scenario told is there good tells end none. absurd (none-some form (sym means.0 ∙ is))
-complete words bytes before after old new OpenFault means cause = λ form text scenario told is there good tells end none. absurd (no_opening old new none cause)
-complete words bytes before after old new ReadFault means cause = λ form text scenario told is there good tells end none. absurd (none.reads which.Scenario cause)
-complete words bytes before after old new (ScenarioRefused why) means cause = λ form text scenario told is there good tells end none.
+pub complete : (words : List (List ℕ)) (old new : Outside) (status : Status) → Means words old new status → HasItsCause old new status → IsComplete words old new status
+complete words old new Done means cause = λ form text scenario told is there good tells end none. inl refl
+complete words old new Usage means cause = λ form text scenario told is there good tells end none. absurd (none-some form (sym means.0 ∙ is))
+complete words old new OpenFault means cause = λ form text scenario told is there good tells end none. absurd (no_opening old new none cause)
+complete words old new ReadFault means cause = λ form text scenario told is there good tells end none. absurd (none.reads which.Scenario cause)
+complete words old new (ScenarioRefused why) means cause = λ form text scenario told is there good tells end none.
     let same : means.0 ≡ form = same_Some means.0 form (sym means.1 ∙ is) in
-    let refused : IsRefusedIfTold why (Some text) = subst (IsRefusedIfTold why) (ap (λ (f : RunOptions). bytes f.file) same ∙ there) means.2.0 in
+    let refused : IsRefusedIfTold why (Some text) = subst (IsRefusedIfTold why) (ap (λ (f : RunOptions). old.files.bytes f.file) same ∙ there) means.2.0 in
     absurd (err_is_not scenario why (sym refused ∙ good))
-complete words bytes before after old new DeviceFailed means cause = λ form text scenario told is there good tells end none. absurd (none.reads which.Device cause)
-complete words bytes before after old new (DeviceGarbled line) means cause = λ form text scenario told is there good tells end none.
+complete words old new DeviceFailed means cause = λ form text scenario told is there good tells end none. absurd (none.reads which.Device cause)
+complete words old new (DeviceGarbled line) means cause = λ form text scenario told is there good tells end none.
     let same : means.0 ≡ form = same_Some means.0 form (sym means.1 ∙ is) in
-    let known : told_under bytes means.0.device ≡ Some told = ap (λ (f : RunOptions). told_under bytes f.device) same ∙ tells in
-    absurd (no_garbled bytes means.0.device (bytes means.0.file) told means.2.0 line known end means.2.1 means.2.2.0)
-complete words bytes before after old new Stuck means cause = λ form text scenario told is there good tells end none. inr (inl refl)
-complete words bytes before after old new WriteFault means cause = λ form text scenario told is there good tells end none. absurd (none.writes cause)
-complete words bytes before after old new NoMemory means cause = λ form text scenario told is there good tells end none. inr (inr refl)
+    let known : told_under old.files.bytes means.0.device ≡ Some told = ap (λ (f : RunOptions). told_under old.files.bytes f.device) same ∙ tells in
+    absurd (no_garbled old.files.bytes means.0.device (old.files.bytes means.0.file) told means.2.0 line known end means.2.1 means.2.2.0)
+complete words old new Stuck means cause = λ form text scenario told is there good tells end none. inr (inl refl)
+complete words old new WriteFault means cause = λ form text scenario told is there good tells end none. absurd (none.writes cause)
+complete words old new NoMemory means cause = λ form text scenario told is there good tells end none. inr (inr refl)

@@ -1,7 +1,7 @@
 -- What a top call means, and why each of its answers comes.
 use Rattle.std.specs.Prelude.{◌≡◌, ◌⊎◌, ℕ, Bool, true, false, List, take, Option, Some, None, option_map, option_and_then, Ok, Err, IfSome, ⊤}
 use Rattle.std.specs.Io.KnownBytes.{Keeps, Appends}
-use Rattle.xr_io.specs.Outside.{Rose}
+use Rattle.xr_io.specs.Outside.{Rose, Files, Output}
 use Rattle.xr_io.specs.declared.Which.{Which}
 use Rattle.xr_io.specs.declared.Which.TheVariants as which
 use Rattle.xr_types.specs.declared.made.Lists.{Lists}
@@ -11,9 +11,29 @@ use Rattle.xr_types.specs.declared.status.Status.TheVariants.{Done, Usage, OpenF
 use Rattle.xr_model.specs.command_line.Words.{RunOptions, options_of}
 use Rattle.xr_model.specs.scenario.Scenario.{scenario_of}
 use Rattle.xr_model.specs.device_text.DeviceText.{DeviceStream, ends, nothing_more, told_in}
-use Rattle.xr_model.specs.report.RunEnding.{ending_of, exit_of}
+use Rattle.xr_model.specs.report.RunEnding.{ending_of}
 use Rattle.xr_model.specs.report.Report.{report_of}
 use Rattle.xr_drive.specs.Run.{Run}
+
+-- ---- what is outside
+
+-- What a top call is handed, as it is seen: the files, and the output of its report.
+pub record Outside : Type 0 where
+  pub files : Files
+  pub output : Output
+
+abbrev pub outside : Files → Output → Outside
+outside files output = record { files = files; output = output }
+
+-- nothing was written
+abbrev pub WritesNothing : Outside → Outside → Type 0
+WritesNothing old new = Keeps old.output.bytes new.output.bytes
+
+-- this was written, and nothing else
+abbrev pub Writes : Outside → Outside → List ℕ → Type 0
+Writes old new bytes = Appends old.output.bytes new.output.bytes bytes
+
+-- ---- what was run
 
 -- The words have a form, and this is so of it.
 abbrev pub OfForm : List (List ℕ) → (RunOptions → Type 0) → Type 0
@@ -33,40 +53,31 @@ abbrev pub Reports : (List ℕ → Option (List ℕ)) → RunOptions → (Lists 
 Reports bytes form P = (lists : Lists) × RunsText (bytes form.file) (told_under bytes form.device) lists × P lists
 
 -- The run ended so, and its whole report was written.
-abbrev pub EndsSo : List (List ℕ) → (List ℕ → Option (List ℕ)) → Option (List ℕ) → Option (List ℕ) → Status → Type 0
-EndsSo words bytes before after status =
-    OfForm words (λ form. Reports bytes form (λ lists. (ending_of lists ≡ status) × Appends before after (report_of lists form.places)))
+abbrev pub EndsSo : List (List ℕ) → Outside → Outside → Status → Type 0
+EndsSo words old new status =
+    OfForm words (λ form. Reports old.files.bytes form (λ lists. (ending_of lists ≡ status) × Writes old new (report_of lists form.places)))
 
--- What each status says of the words, of the bytes under each name, and of what the sink had and has.
-abbrev pub Means : List (List ℕ) → (List ℕ → Option (List ℕ)) → Option (List ℕ) → Option (List ℕ) → Status → Type 0
-Means words bytes before after Done = EndsSo words bytes before after Done
-Means words bytes before after Usage = (options_of words ≡ None) × Keeps before after
-Means words bytes before after OpenFault = OfForm words (λ form. Keeps before after)
-Means words bytes before after ReadFault = OfForm words (λ form. Keeps before after)
-Means words bytes before after (ScenarioRefused why) = OfForm words (λ form. IfSome (bytes form.file) (λ text. scenario_of text ≡ Err why) × Keeps before after)
-Means words bytes before after DeviceFailed = EndsSo words bytes before after DeviceFailed
-Means words bytes before after (DeviceGarbled line) = EndsSo words bytes before after (DeviceGarbled line)
-Means words bytes before after Stuck = EndsSo words bytes before after Stuck
-Means words bytes before after WriteFault = OfForm words (λ form. Reports bytes form (λ lists. (n : ℕ) × Appends before after (take n (report_of lists form.places))))
-Means words bytes before after NoMemory = Keeps before after
+-- What each status says of the words, of the bytes under each name, and of what the output had and has.
+abbrev pub Means : List (List ℕ) → Outside → Outside → Status → Type 0
+Means words old new Done = EndsSo words old new Done
+Means words old new Usage = (options_of words ≡ None) × WritesNothing old new
+Means words old new OpenFault = OfForm words (λ form. WritesNothing old new)
+Means words old new ReadFault = OfForm words (λ form. WritesNothing old new)
+Means words old new (ScenarioRefused why) = OfForm words (λ form. IfSome (old.files.bytes form.file) (λ text. scenario_of text ≡ Err why) × WritesNothing old new)
+Means words old new DeviceFailed = EndsSo words old new DeviceFailed
+Means words old new (DeviceGarbled line) = EndsSo words old new (DeviceGarbled line)
+Means words old new Stuck = EndsSo words old new Stuck
+Means words old new WriteFault = OfForm words (λ form. Reports old.files.bytes form (λ lists. (n : ℕ) × Writes old new (take n (report_of lists form.places))))
+Means words old new NoMemory = WritesNothing old new
 
 -- ---- causes
 
--- the counts of faults of what was handed in, of the opener by the file
-pub record Faults : Type 0 where
-  pub opens : Which → ℕ
-  pub reads : Which → ℕ
-  pub writes : ℕ
-
-abbrev pub faults : (Which → ℕ) → (Which → ℕ) → ℕ → Faults
-faults o r w = record { opens = o; reads = r; writes = w }
-
 -- each fault comes only where its count rose
-abbrev pub HasItsCause : Faults → Faults → Status → Type 0
-HasItsCause old new OpenFault = Rose (old.opens which.Scenario) (new.opens which.Scenario) ⊎ Rose (old.opens which.Device) (new.opens which.Device)
-HasItsCause old new ReadFault = Rose (old.reads which.Scenario) (new.reads which.Scenario)
-HasItsCause old new DeviceFailed = Rose (old.reads which.Device) (new.reads which.Device)
-HasItsCause old new WriteFault = Rose old.writes new.writes
+abbrev pub HasItsCause : Outside → Outside → Status → Type 0
+HasItsCause old new OpenFault = Rose (old.files.open_faults which.Scenario) (new.files.open_faults which.Scenario) ⊎ Rose (old.files.open_faults which.Device) (new.files.open_faults which.Device)
+HasItsCause old new ReadFault = Rose (old.files.read_faults which.Scenario) (new.files.read_faults which.Scenario)
+HasItsCause old new DeviceFailed = Rose (old.files.read_faults which.Device) (new.files.read_faults which.Device)
+HasItsCause old new WriteFault = Rose old.output.faults new.output.faults
 HasItsCause old new _ = ⊤
 
 -- ---- counts that stay
@@ -95,52 +106,47 @@ may_hide_device NoMemory = true
 may_hide_device _ = false
 
 -- Each count stays as it was, unless the status is its fault.
-pub record OnlyItsFault (old new : Faults) (status : Status) : Type 0 where
-  pub opens : is_open_fault status ≡ false → SameCounts old.opens new.opens
-  pub scenario : is_read_fault status ≡ false → new.reads which.Scenario ≡ old.reads which.Scenario
-  pub device : may_hide_device status ≡ false → new.reads which.Device ≡ old.reads which.Device
-  pub writes : is_write_fault status ≡ false → new.writes ≡ old.writes
+pub record OnlyItsFault (old new : Outside) (status : Status) : Type 0 where
+  pub opens : is_open_fault status ≡ false → SameCounts old.files.open_faults new.files.open_faults
+  pub scenario : is_read_fault status ≡ false → new.files.read_faults which.Scenario ≡ old.files.read_faults which.Scenario
+  pub device : may_hide_device status ≡ false → new.files.read_faults which.Device ≡ old.files.read_faults which.Device
+  pub writes : is_write_fault status ≡ false → new.output.faults ≡ old.output.faults
 
 -- Of two openings that which failed is the scenario's, and then the device was not asked for, or it is the device's.
-abbrev pub IsOpenedInTurn : Option (List ℕ) → (Which → ℕ) → (Which → ℕ) → Type 0
-IsOpenedInTurn asked old new = ((asked ≡ None) × Rose (old which.Scenario) (new which.Scenario)) ⊎ ((new which.Scenario ≡ old which.Scenario) × Rose (old which.Device) (new which.Device))
+abbrev pub IsOpenedInTurn : Files → Files → Type 0
+IsOpenedInTurn old new =
+    ((new.asked which.Device ≡ None) × Rose (old.open_faults which.Scenario) (new.open_faults which.Scenario))
+    ⊎ ((new.open_faults which.Scenario ≡ old.open_faults which.Scenario) × Rose (old.open_faults which.Device) (new.open_faults which.Device))
 
 -- so where a file couldn't be opened
-abbrev pub OpensInTurn : Option (List ℕ) → (Which → ℕ) → (Which → ℕ) → Status → Type 0
-OpensInTurn asked old new OpenFault = IsOpenedInTurn asked old new
-OpensInTurn asked old new _ = ⊤
+abbrev pub OpensInTurn : Files → Files → Status → Type 0
+OpensInTurn old new OpenFault = IsOpenedInTurn old new
+OpensInTurn old new _ = ⊤
 
--- ---- sources
+-- ---- files that stay
 
 -- No source is left open: one that is open now was so before.
-abbrev pub NoneLeftOpen : (Which → Bool) → (Which → Bool) → Type 0
-NoneLeftOpen old new = (which : Which) → new which ≡ true → old which ≡ true
+abbrev pub NoneLeftOpen : Files → Files → Type 0
+NoneLeftOpen old new = (which : Which) → new.is_open which ≡ true → old.is_open which ≡ true
+
+-- the bytes under each name
+abbrev pub SameBytes : Files → Files → Type 0
+SameBytes old new = (name : List ℕ) → new.bytes name ≡ old.bytes name
 
 -- ---- completeness
 
 -- no count rose
-pub record NoneRose (old new : Faults) : Type 0 where
-  pub opens : (which : Which) → ¬ Rose (old.opens which) (new.opens which)
-  pub reads : (which : Which) → ¬ Rose (old.reads which) (new.reads which)
-  pub writes : ¬ Rose old.writes new.writes
+pub record NoneRose (old new : Outside) : Type 0 where
+  pub opens : (which : Which) → ¬ Rose (old.files.open_faults which) (new.files.open_faults which)
+  pub reads : (which : Which) → ¬ Rose (old.files.read_faults which) (new.files.read_faults which)
+  pub writes : ¬ Rose old.output.faults new.output.faults
 
 -- Where the words have a form, the file's bytes are told and are a scenario, what the device gives is told
 -- and it ends at the end of its text, and no count of faults rose, the run is done, or stuck, or memory was short.
-abbrev pub IsComplete : List (List ℕ) → (List ℕ → Option (List ℕ)) → Faults → Faults → Status → Type 0
-IsComplete words bytes old new status =
-    (form : RunOptions) (text : List ℕ) (scenario : Scenario) (told : DeviceStream) → options_of words ≡ Some form → bytes form.file ≡ Some text → scenario_of text ≡ Ok scenario
-    → told_under bytes form.device ≡ Some told → told.ending ≡ ends → NoneRose old new → (status ≡ Done) ⊎ ((status ≡ Stuck) ⊎ (status ≡ NoMemory))
-
--- What a status says, all of it: what it means, why it comes, that no other count changed, and that good input is run.
-pub record IsAnswer (words : List (List ℕ)) (bytes : List ℕ → Option (List ℕ)) (before after : Option (List ℕ)) (old new : Faults) (status : Status) : Type 0 where
-  pub means : Means words bytes before after status
-  pub causes : HasItsCause old new status
-  pub counts : OnlyItsFault old new status
-  pub complete : IsComplete words bytes old new status
-
--- Some status is the answer, and a program ends with its number.
-abbrev pub EndsWith : List (List ℕ) → (List ℕ → Option (List ℕ)) → Option (List ℕ) → Option (List ℕ) → Faults → Faults → ℕ → Type 0
-EndsWith words bytes before after old new number = (status : Status) × (number ≡ exit_of status) × IsAnswer words bytes before after old new status
+abbrev pub IsComplete : List (List ℕ) → Outside → Outside → Status → Type 0
+IsComplete words old new status =
+    (form : RunOptions) (text : List ℕ) (scenario : Scenario) (told : DeviceStream) → options_of words ≡ Some form → old.files.bytes form.file ≡ Some text → scenario_of text ≡ Ok scenario
+    → told_under old.files.bytes form.device ≡ Some told → told.ending ≡ ends → NoneRose old new → (status ≡ Done) ⊎ ((status ≡ Stuck) ⊎ (status ≡ NoMemory))
 
 -- ---- what was asked for
 
@@ -162,12 +168,28 @@ IsDeviceAskedFor device asked NoMemory = (asked ≡ device) ⊎ (asked ≡ None)
 IsDeviceAskedFor device asked _ = asked ≡ device
 
 -- the device was not asked for, and its counts are as they were
-pub record KeepsDevice {O : Type 0} (asked : O → Which → Option (List ℕ)) (open_faults read_faults : O → Which → ℕ) (old new : O) : Type 0 where
-  pub unasked : asked new which.Device ≡ asked old which.Device
-  pub opens : open_faults new which.Device ≡ open_faults old which.Device
-  pub reads : read_faults new which.Device ≡ read_faults old which.Device
+pub record KeepsDevice (old new : Files) : Type 0 where
+  pub unasked : new.asked which.Device ≡ old.asked which.Device
+  pub opens : new.open_faults which.Device ≡ old.open_faults which.Device
+  pub reads : new.read_faults which.Device ≡ old.read_faults which.Device
 
 -- this is so where there is no device
 abbrev pub UnlessDevice : Option (List ℕ) → Type 0 → Type 0
 UnlessDevice None P = P
 UnlessDevice (Some name) P = ⊤
+
+-- ---- all of it
+
+-- What a status says, all of it: what it means, why it comes, that no other count changed, and that good input is run; that just
+-- the files of the words were asked for, in their turn; and that no source is left open, and no file's bytes changed.
+pub record IsAnswer (words : List (List ℕ)) (old new : Outside) (status : Status) : Type 0 where
+  pub means : Means words old new status
+  pub causes : HasItsCause old new status
+  pub counts : OnlyItsFault old new status
+  pub complete : IsComplete words old new status
+  pub asked : IsAskedFor (options_of words) (new.files.asked which.Scenario) status
+  pub device : IsDeviceAskedFor (device_of (options_of words)) (new.files.asked which.Device) status
+  pub alone : UnlessDevice (device_of (options_of words)) (KeepsDevice old.files new.files)
+  pub turn : OpensInTurn old.files new.files status
+  pub closed : NoneLeftOpen old.files new.files
+  pub same : SameBytes old.files new.files

@@ -11,8 +11,8 @@ mod output;
 mod program;
 mod serial;
 
-pub use explanation::{Explanation, explanation_of};
+pub use explanation::explain;
 pub use output::write_all;
-pub use program::{end_with, run_program};
+pub use program::{end_with, print, run_program};
 pub use serial::run_serial;
 pub use xr_report::exit_of;

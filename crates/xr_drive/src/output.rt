@@ -8,10 +8,10 @@ use xr_types::Failed;
 
 /// Writes all of the bytes, piece by piece. After a fault a first part of them is written.
 pub fn write_all<K: Sink>(sink: &mut K, bytes: &[u8]) -> Result<(), Failed>
-    ensures written { OnOk result (Appends (K.written sink.old) (K.written sink.new) bytes.now) }
-    ensures part { OnErr result ((n : ℕ) × Appends (K.written sink.old) (K.written sink.new) (take n bytes.now)) }
-    ensures cause { HasCause (K.faults sink.old) (K.faults sink.new) result }
-    ensures kept { OnOk result (K.faults sink.new ≡ K.faults sink.old) }
+    ensures written { OnOk result (Appends (K.output sink.old).bytes (K.output sink.new).bytes bytes.now) }
+    ensures part { OnErr result ((n : ℕ) × Appends (K.output sink.old).bytes (K.output sink.new).bytes (take n bytes.now)) }
+    ensures cause { HasCause (K.output sink.old).faults (K.output sink.new).faults result }
+    ensures kept { OnOk result ((K.output sink.new).faults ≡ (K.output sink.old).faults) }
 {
     let mut done = 0;
     while done < bytes.len() {

@@ -1,13 +1,13 @@
 // The top call of one thread.
-ghost use Rattle.std.specs.Prelude.{◌≡◌, ◌≤◌, ◌+◌, ℕ, true, false, List, map, take, IfOk, IfErr, IfSome, Some, None, length, string_bytes, option_map};
+ghost use Rattle.std.specs.Prelude.{◌≡◌, ◌≤◌, ◌+◌, true, false, map, take, IfOk, IfErr, IfSome, Some, None, length, string_bytes, option_map};
 ghost use Rattle.std.specs.List.{list_any};
 ghost use Rattle.xr_types.specs.declared.limits.TheConstants.{MOST_SCENARIO};
-ghost use Rattle.xr_io.specs.Outside.{Rose};
+ghost use Rattle.xr_io.specs.Outside.{Rose, AreUnasked};
 ghost use Rattle.xr_io.specs.declared.Which.{Which};
 ghost use Rattle.xr_model.specs.device_text.DeviceText.{nothing_more};
 ghost use Rattle.xr_model.specs.report.RunEnding.{is_fault};
 ghost use Rattle.xr_model.specs.command_line.Words.{options_of};
-ghost use Rattle.xr_drive.specs.Top.{Means, HasItsCause, OnlyItsFault, IsComplete, OpensInTurn, IsAskedFor, IsDeviceAskedFor, device_of, faults, KeepsDevice, UnlessDevice, NoneLeftOpen, told_under};
+ghost use Rattle.xr_drive.specs.Top.{outside, Means, HasItsCause, OnlyItsFault, IsComplete, OpensInTurn, IsAskedFor, IsDeviceAskedFor, device_of, KeepsDevice, UnlessDevice, NoneLeftOpen, SameBytes, IsAnswer, told_under};
 ghost use Rattle.xr_drive.specs.inside.Input.{RoseIfStopped, KeptUnlessFailed};
 ghost use Rattle.xr_drive.specs.inside.Parts.{MeansText, MeansRun, HasRunCause, KeepsCounts, KeptIfRefused, OpenedInTurn, status_in, MeansWritten, RoseIfUnwritten, KeptUnlessUnwritten};
 
@@ -27,14 +27,14 @@ fn read_text<O: Opener>(alloc: Global, opener: &mut O, source: O::S) -> Result<V
     requires which { O.S.which source ≡ Which.Scenario }
     requires sound { O.S.faults source ≡ 0 }
     ensures bytes { IfOk result (λ text. IfSome (O.S.left source) (λ bytes. text.items ≡ take (MOST_SCENARIO + 1) bytes)) }
-    ensures cause { IfErr result (RoseIfStopped (O.read_faults opener.old Which.Scenario) (O.read_faults opener.new Which.Scenario)) }
-    ensures asked { (which : Which) → O.asked opener.new which ≡ O.asked opener.old which }
-    ensures opens { (which : Which) → O.open_faults opener.new which ≡ O.open_faults opener.old which }
-    ensures reads { O.read_faults opener.new Which.Device ≡ O.read_faults opener.old Which.Device }
-    ensures kept { KeptUnlessFailed (O.read_faults opener.old Which.Scenario) (O.read_faults opener.new Which.Scenario) result }
-    ensures closed { O.is_open opener.new Which.Scenario ≡ false }
-    ensures stays { O.is_open opener.new Which.Device ≡ O.is_open opener.old Which.Device }
-    ensures same { (name : List ℕ) → O.bytes opener.new name ≡ O.bytes opener.old name }
+    ensures cause { IfErr result (RoseIfStopped ((O.files opener.old).read_faults Which.Scenario) ((O.files opener.new).read_faults Which.Scenario)) }
+    ensures asked { (which : Which) → (O.files opener.new).asked which ≡ (O.files opener.old).asked which }
+    ensures opens { (which : Which) → (O.files opener.new).open_faults which ≡ (O.files opener.old).open_faults which }
+    ensures reads { (O.files opener.new).read_faults Which.Device ≡ (O.files opener.old).read_faults Which.Device }
+    ensures kept { KeptUnlessFailed ((O.files opener.old).read_faults Which.Scenario) ((O.files opener.new).read_faults Which.Scenario) result }
+    ensures closed { (O.files opener.new).is_open Which.Scenario ≡ false }
+    ensures stays { (O.files opener.new).is_open Which.Device ≡ (O.files opener.old).is_open Which.Device }
+    ensures same { SameBytes (O.files opener.old) (O.files opener.new) }
 {
     let mut source = source;
     match read_all(alloc, &mut source) {
@@ -69,14 +69,14 @@ fn run_alone<O: Opener>(alloc: Global, opener: &mut O, source: O::S) -> Result<L
     requires which { O.S.which source ≡ Which.Scenario }
     requires sound { O.S.faults source ≡ 0 }
     ensures means { MeansRun (O.S.left source) (Some nothing_more) result }
-    ensures cause { HasRunCause (O.open_faults opener.old) (O.read_faults opener.old) (O.open_faults opener.new) (O.read_faults opener.new) result }
-    ensures counts { KeepsCounts (O.open_faults opener.old) (O.read_faults opener.old) (O.open_faults opener.new) (O.read_faults opener.new) result }
-    ensures asked { (which : Which) → O.asked opener.new which ≡ O.asked opener.old which }
-    ensures turn { OpenedInTurn (O.asked opener.new Which.Device) (O.open_faults opener.old) (O.open_faults opener.new) result }
-    ensures device { KeepsDevice O.asked O.open_faults O.read_faults opener.old opener.new }
-    ensures closed { O.is_open opener.new Which.Scenario ≡ false }
-    ensures stays { O.is_open opener.new Which.Device ≡ O.is_open opener.old Which.Device }
-    ensures same { (name : List ℕ) → O.bytes opener.new name ≡ O.bytes opener.old name }
+    ensures cause { HasRunCause (O.files opener.old) (O.files opener.new) result }
+    ensures counts { KeepsCounts (O.files opener.old) (O.files opener.new) result }
+    ensures asked { (which : Which) → (O.files opener.new).asked which ≡ (O.files opener.old).asked which }
+    ensures turn { OpenedInTurn (O.files opener.old) (O.files opener.new) result }
+    ensures device { KeepsDevice (O.files opener.old) (O.files opener.new) }
+    ensures closed { (O.files opener.new).is_open Which.Scenario ≡ false }
+    ensures stays { (O.files opener.new).is_open Which.Device ≡ (O.files opener.old).is_open Which.Device }
+    ensures same { SameBytes (O.files opener.old) (O.files opener.new) }
 {
     let text = match read_text(alloc, opener, source) {
         Ok(text) => text,
@@ -98,17 +98,17 @@ fn run_beside<O: Opener>(
 ) -> Result<Lists, RunFault>
     requires which { O.S.which source ≡ Which.Scenario }
     requires sound { O.S.faults source ≡ 0 }
-    requires fresh { O.asked opener.old Which.Device ≡ None }
+    requires fresh { (O.files opener.old).asked Which.Device ≡ None }
     requires short { length name.now ≤ 4095 }
-    ensures means { MeansRun (O.S.left source) (told_under (O.bytes opener.old) (Some name.now)) result }
-    ensures cause { HasRunCause (O.open_faults opener.old) (O.read_faults opener.old) (O.open_faults opener.new) (O.read_faults opener.new) result }
-    ensures counts { KeepsCounts (O.open_faults opener.old) (O.read_faults opener.old) (O.open_faults opener.new) (O.read_faults opener.new) result }
-    ensures asked { O.asked opener.new Which.Scenario ≡ O.asked opener.old Which.Scenario }
-    ensures turn { OpenedInTurn (O.asked opener.new Which.Device) (O.open_faults opener.old) (O.open_faults opener.new) result }
-    ensures device { O.asked opener.new Which.Device ≡ Some name.now }
-    ensures closed { O.is_open opener.new Which.Scenario ≡ false }
-    ensures device_closed { O.is_open opener.new Which.Device ≡ true → O.is_open opener.old Which.Device ≡ true }
-    ensures same { (name : List ℕ) → O.bytes opener.new name ≡ O.bytes opener.old name }
+    ensures means { MeansRun (O.S.left source) (told_under (O.files opener.old).bytes (Some name.now)) result }
+    ensures cause { HasRunCause (O.files opener.old) (O.files opener.new) result }
+    ensures counts { KeepsCounts (O.files opener.old) (O.files opener.new) result }
+    ensures asked { (O.files opener.new).asked Which.Scenario ≡ (O.files opener.old).asked Which.Scenario }
+    ensures turn { OpenedInTurn (O.files opener.old) (O.files opener.new) result }
+    ensures device { (O.files opener.new).asked Which.Device ≡ Some name.now }
+    ensures closed { (O.files opener.new).is_open Which.Scenario ≡ false }
+    ensures device_closed { (O.files opener.new).is_open Which.Device ≡ true → (O.files opener.old).is_open Which.Device ≡ true }
+    ensures same { SameBytes (O.files opener.old) (O.files opener.new) }
 {
     let Ok(events) = opener.open_file(Which::Device, name) else {
         opener.close(source);
@@ -138,18 +138,18 @@ fn run_files<O: Opener>(
     file: &str,
     device: Option<&str>,
 ) -> Result<Lists, RunFault>
-    requires fresh { (which : Which) → O.asked opener.old which ≡ None }
+    requires fresh { AreUnasked (O.files opener.old) }
     requires short { length file.now ≤ 4095 }
     requires short_device { IfSome device (λ name. length name.now ≤ 4095) }
-    ensures means { MeansRun (O.bytes opener.old file.now) (told_under (O.bytes opener.old) (option_map (λ name. name.now) device.entry)) result }
-    ensures cause { HasRunCause (O.open_faults opener.old) (O.read_faults opener.old) (O.open_faults opener.new) (O.read_faults opener.new) result }
-    ensures counts { KeepsCounts (O.open_faults opener.old) (O.read_faults opener.old) (O.open_faults opener.new) (O.read_faults opener.new) result }
-    ensures asked { O.asked opener.new Which.Scenario ≡ Some file.now }
-    ensures turn { OpenedInTurn (O.asked opener.new Which.Device) (O.open_faults opener.old) (O.open_faults opener.new) result }
-    ensures device { IsDeviceAskedFor (option_map (λ name. name.now) device.entry) (O.asked opener.new Which.Device) (status_in result) }
-    ensures alone { UnlessDevice (option_map (λ name. name.now) device.entry) (KeepsDevice O.asked O.open_faults O.read_faults opener.old opener.new) }
-    ensures closed { NoneLeftOpen (O.is_open opener.old) (O.is_open opener.new) }
-    ensures same { (name : List ℕ) → O.bytes opener.new name ≡ O.bytes opener.old name }
+    ensures means { MeansRun ((O.files opener.old).bytes file.now) (told_under (O.files opener.old).bytes (option_map (λ name. name.now) device.entry)) result }
+    ensures cause { HasRunCause (O.files opener.old) (O.files opener.new) result }
+    ensures counts { KeepsCounts (O.files opener.old) (O.files opener.new) result }
+    ensures asked { (O.files opener.new).asked Which.Scenario ≡ Some file.now }
+    ensures turn { OpenedInTurn (O.files opener.old) (O.files opener.new) result }
+    ensures device { IsDeviceAskedFor (option_map (λ name. name.now) device.entry) ((O.files opener.new).asked Which.Device) (status_in result) }
+    ensures alone { UnlessDevice (option_map (λ name. name.now) device.entry) (KeepsDevice (O.files opener.old) (O.files opener.new)) }
+    ensures closed { NoneLeftOpen (O.files opener.old) (O.files opener.new) }
+    ensures same { SameBytes (O.files opener.old) (O.files opener.new) }
 {
     let Ok(source) = opener.open_file(Which::Scenario, file) else {
         return Err(RunFault::OpenFault);
@@ -167,9 +167,9 @@ fn write_report<K: Sink>(
     lists: &Lists,
     places: bool,
 ) -> Result<(), Unwritten>
-    ensures means { MeansWritten lists.now places (K.written sink.old) (K.written sink.new) result }
-    ensures cause { RoseIfUnwritten (K.faults sink.old) (K.faults sink.new) result }
-    ensures kept { KeptUnlessUnwritten (K.faults sink.old) (K.faults sink.new) result }
+    ensures means { MeansWritten lists.now places (K.output sink.old) (K.output sink.new) result }
+    ensures cause { RoseIfUnwritten (K.output sink.old) (K.output sink.new) result }
+    ensures kept { KeptUnlessUnwritten (K.output sink.old) (K.output sink.new) result }
 {
     let Ok(report) = report(alloc, lists, places) else {
         return Err(Unwritten::NoMemory);
@@ -177,6 +177,41 @@ fn write_report<K: Sink>(
     match write_all(sink, report.as_slice()) {
         Ok(()) => Ok(()),
         Err(_) => Err(Unwritten::Failed),
+    }
+}
+
+/// Runs the words, and says how that ended.
+fn answer<O: Opener, K: Sink>(
+    alloc: Global,
+    words: &[String],
+    opener: &mut O,
+    sink: &mut K,
+) -> Status
+    requires fresh { AreUnasked (O.files opener.old) }
+    ensures means { Means (map string_bytes words.now) (outside (O.files opener.old) (K.output sink.old)) (outside (O.files opener.new) (K.output sink.new)) result }
+    ensures causes { HasItsCause (outside (O.files opener.old) (K.output sink.old)) (outside (O.files opener.new) (K.output sink.new)) result }
+    ensures counts { OnlyItsFault (outside (O.files opener.old) (K.output sink.old)) (outside (O.files opener.new) (K.output sink.new)) result }
+    ensures complete { IsComplete (map string_bytes words.now) (outside (O.files opener.old) (K.output sink.old)) (outside (O.files opener.new) (K.output sink.new)) result }
+    ensures asked { IsAskedFor (options_of (map string_bytes words.now)) ((O.files opener.new).asked Which.Scenario) result }
+    ensures device { IsDeviceAskedFor (device_of (options_of (map string_bytes words.now))) ((O.files opener.new).asked Which.Device) result }
+    ensures alone { UnlessDevice (device_of (options_of (map string_bytes words.now))) (KeepsDevice (O.files opener.old) (O.files opener.new)) }
+    ensures turn { OpensInTurn (O.files opener.old) (O.files opener.new) result }
+    ensures closed { NoneLeftOpen (O.files opener.old) (O.files opener.new) }
+    ensures same { SameBytes (O.files opener.old) (O.files opener.new) }
+{
+    let form = match options_of(alloc, words) {
+        Ok(form) => form,
+        Err(WordsFault::Usage) => return Status::Usage,
+        Err(WordsFault::NoMemory) => return Status::NoMemory,
+    };
+    let lists = match run_files(alloc, opener, form.file, form.device) {
+        Ok(lists) => lists,
+        Err(fault) => return fault.status(),
+    };
+    match write_report(alloc, sink, &lists, form.places) {
+        Ok(()) => ending_of(&lists),
+        Err(Unwritten::Failed) => Status::WriteFault,
+        Err(Unwritten::NoMemory) => Status::NoMemory,
     }
 }
 
@@ -198,40 +233,8 @@ pub fn run_serial<O: Opener, K: Sink>(
     opener: &mut O,
     sink: &mut K,
 ) -> Status
-    requires fresh { (which : Which) → O.asked opener.old which ≡ None }
-
-    // What the status says of the words, the files' bytes and what was written.
-    ensures means { Means (map string_bytes words.now) (O.bytes opener.old) (K.written sink.old) (K.written sink.new) result }
-
-    // Why a fault comes, that no other count changes, and that good input is run where none does.
-    ensures causes { HasItsCause (faults (O.open_faults opener.old) (O.read_faults opener.old) (K.faults sink.old))
-        (faults (O.open_faults opener.new) (O.read_faults opener.new) (K.faults sink.new)) result }
-    ensures counts { OnlyItsFault (faults (O.open_faults opener.old) (O.read_faults opener.old) (K.faults sink.old))
-        (faults (O.open_faults opener.new) (O.read_faults opener.new) (K.faults sink.new)) result }
-    ensures complete { IsComplete (map string_bytes words.now) (O.bytes opener.old)
-        (faults (O.open_faults opener.old) (O.read_faults opener.old) (K.faults sink.old))
-        (faults (O.open_faults opener.new) (O.read_faults opener.new) (K.faults sink.new)) result }
-
-    // The files that are asked for are those of the words, and without a device nothing of it changes.
-    ensures asked { IsAskedFor (options_of (map string_bytes words.now)) (O.asked opener.new Which.Scenario) result }
-    ensures device { IsDeviceAskedFor (device_of (options_of (map string_bytes words.now))) (O.asked opener.new Which.Device) result
-        × UnlessDevice (device_of (options_of (map string_bytes words.now))) (KeepsDevice O.asked O.open_faults O.read_faults opener.old opener.new) }
-    ensures turn { OpensInTurn (O.asked opener.new Which.Device) (O.open_faults opener.old) (O.open_faults opener.new) result }
-    ensures closed { NoneLeftOpen (O.is_open opener.old) (O.is_open opener.new) }
-    ensures same { (name : List ℕ) → O.bytes opener.new name ≡ O.bytes opener.old name }
+    requires fresh { AreUnasked (O.files opener.old) }
+    ensures { IsAnswer (map string_bytes words.now) (outside (O.files opener.old) (K.output sink.old)) (outside (O.files opener.new) (K.output sink.new)) result }
 {
-    let form = match options_of(alloc, words) {
-        Ok(form) => form,
-        Err(WordsFault::Usage) => return Status::Usage,
-        Err(WordsFault::NoMemory) => return Status::NoMemory,
-    };
-    let lists = match run_files(alloc, opener, form.file, form.device) {
-        Ok(lists) => lists,
-        Err(fault) => return fault.status(),
-    };
-    match write_report(alloc, sink, &lists, form.places) {
-        Ok(()) => ending_of(&lists),
-        Err(Unwritten::Failed) => Status::WriteFault,
-        Err(Unwritten::NoMemory) => Status::NoMemory,
-    }
+    answer(alloc, words, opener, sink)
 }

@@ -2,7 +2,7 @@
 use Rattle.std.specs.Prelude.{ℕ, nat_lt, Bool, true, false, List, Option, None, Some, if◌then◌else◌}
 use Rattle.xr_io.specs.declared.Which.{Which}
 use Rattle.xr_io.specs.declared.Which.TheVariants.{Scenario, Device}
-use Rattle.xr_io.specs.Outside.{raised_if}
+use Rattle.xr_io.specs.Outside.{raised_if, Files}
 
 -- the name that was asked for, if one was; whether its source is open; how often opening it failed;
 -- and how many closed sources of it had a fault
@@ -78,3 +78,7 @@ after_opening both which name failed =
 abbrev pub after_closing : BothRequests → Which → ℕ → BothRequests
 after_closing both which faults =
     with_request both which (closed_request (request_of both which) faults)
+
+-- what is seen of an opener that was asked for this, and has these bytes under names
+abbrev pub files_of : (List ℕ → Option (List ℕ)) → BothRequests → Files
+files_of bytes both = record { asked = name_of both; is_open = is_open_of both; bytes = bytes; open_faults = open_faults_of both; read_faults = read_faults_of both }

@@ -1,12 +1,12 @@
 // Files and standard output behind the traits. These few lines are trusted to pass on what the
 // system does: they tell no bytes, and count each error. A count stops at the largest u64. A call that was
 // interrupted is made again, some times.
-ghost use Rattle.std.specs.Prelude.{◌≡◌, ◌≢◌, ◌≤◌, ◌<◌, true, false, length, Some, None, IfOk, OnOk, OnErr, is_err};
+ghost use Rattle.std.specs.Prelude.{◌≡◌, ◌≤◌, ◌<◌, true, false, length, None, IfOk, OnOk, is_err};
 ghost use Rattle.std.specs.Io.{ReadsAtMost, WritesAtMost};
-ghost use Rattle.std.specs.Io.KnownBytes.{ReadConsumes, WriteAppends};
+ghost use Rattle.std.specs.Io.KnownBytes.{ReadConsumes};
 ghost use Rattle.xr_io.specs.declared.Which.{Which};
-ghost use Rattle.xr_io.specs.Outside.{Rose, HasCause, raised_if};
-ghost use Rattle.xr_io.specs.Requests.{name_of, is_open_of, open_faults_of, read_faults_of, no_requests, after_opening, after_closing};
+ghost use Rattle.xr_io.specs.Outside.{HasCause, Opened, Closed, Wrote, raised_if};
+ghost use Rattle.xr_io.specs.Requests.{name_of, is_open_of, open_faults_of, read_faults_of, files_of, no_requests, after_opening, after_closing};
 ghost use Rattle.xr_io.specs.Files.{no_bytes, is_write_fault};
 
 use crate::requests::Requests;
@@ -130,38 +130,17 @@ impl<'r, R: Files> FileOpener<'r, R> {
 impl<'r, R: Files> Opener for FileOpener<'r, R> {
     type S = FileSource<R::File>;
 
-    ghost bytes = { λ opener name. no_bytes };
-
-    ghost open_faults = { open_faults_of };
-
-    ghost read_faults = { read_faults_of };
-
-    ghost asked = { name_of };
-
-    ghost is_open = { is_open_of };
+    ghost files = { files_of (λ name. no_bytes) };
 
     /// `Failed` comes where the system opens no file of this name, and there alone the count rises.
     fn open_file(&mut self, which: Which, name: &str) -> Result<FileSource<R::File>, Failed>
         requires first { name_of self.old which ≡ None }
         requires short { length name.now ≤ MOST_NAME }
-
-        ensures asked { name_of self.new which ≡ Some name.now }
-        ensures others { (w : Which) → w ≢ which → name_of self.new w ≡ name_of self.old w }
+        ensures opened { Opened which name.now (files_of (λ name. no_bytes) self.old) (files_of (λ name. no_bytes) self.new) result }
 
         // Neither the opener nor the source tells bytes.
         ensures left { IfOk result (λ source. no_bytes ≡ no_bytes) }
         ensures source { IfOk result (λ source. (source.opened_as ≡ which) × (source.faults ≡ 0)) }
-
-        ensures opened { OnOk result (is_open_of self.new which ≡ true) }
-        ensures unopened { OnErr result (is_open_of self.new which ≡ is_open_of self.old which) }
-        ensures stays { (w : Which) → w ≢ which → is_open_of self.new w ≡ is_open_of self.old w }
-
-        ensures cause { HasCause (open_faults_of self.old which)
-            (open_faults_of self.new which) result }
-        ensures kept { OnOk result (open_faults_of self.new which ≡ open_faults_of self.old which) }
-        ensures opens { (w : Which) → w ≢ which →
-            open_faults_of self.new w ≡ open_faults_of self.old w }
-        ensures reads { (w : Which) → read_faults_of self.new w ≡ read_faults_of self.old w }
 
         // All of that at once, exactly.
         ensures new { self.new ≡ after_opening self.old which name.now (is_err result) }
@@ -179,20 +158,7 @@ impl<'r, R: Files> Opener for FileOpener<'r, R> {
     }
 
     fn close(&mut self, source: FileSource<R::File>)
-        ensures closed { is_open_of self.new source.opened_as ≡ false }
-        ensures stays { (w : Which) → w ≢ source.opened_as → is_open_of self.new w ≡ is_open_of self.old w }
-
-        ensures asked { (w : Which) → name_of self.new w ≡ name_of self.old w }
-        ensures opens { (w : Which) → open_faults_of self.new w ≡ open_faults_of self.old w }
-
-        ensures kept { source.faults ≡ 0 →
-            (w : Which) → read_faults_of self.new w ≡ read_faults_of self.old w }
-        ensures other { (w : Which) → w ≢ source.opened_as →
-            read_faults_of self.new w ≡ read_faults_of self.old w }
-        ensures raised { 0 < source.faults →
-            Rose (read_faults_of self.old source.opened_as)
-            (read_faults_of self.new source.opened_as) }
-        ensures later { (w : Which) → read_faults_of self.old w ≤ read_faults_of self.new w }
+        ensures closed { Closed source.opened_as source.faults (files_of (λ name. no_bytes) self.old) (files_of (λ name. no_bytes) self.new) }
 
         // All of that at once, exactly.
         ensures new { self.new ≡ after_closing self.old source.opened_as source.faults }
@@ -248,20 +214,13 @@ impl<'r, P> StdSink<'r, P> {
 }
 
 impl<'r, P: Print> Sink for StdSink<'r, P> {
-    ghost written = { λ sink. no_bytes };
-
-    ghost faults = { λ sink. sink };
+    ghost output = { λ sink. record { bytes = no_bytes; faults = sink } };
 
     /// Makes one call of the system, and another where that was interrupted. `Failed` comes where it fails, or was
     /// interrupted a hundred times in a row. The count rises there, and where nothing was taken of a piece that has
     /// bytes, and nowhere else.
     fn write(&mut self, piece: &[u8]) -> Result<usize, Failed>
-        ensures bound { WritesAtMost result piece.now }
-        ensures bytes { WriteAppends no_bytes no_bytes result piece.now }
-        ensures none { IfOk result (λ n. n ≡ 0 → 0 < length piece.now → Rose self.old self.new) }
-        ensures cause { HasCause self.old self.new result }
-        ensures kept { IfOk result (λ n. 0 < n → self.new ≡ self.old) }
-        ensures empty { OnOk result (length piece.now ≡ 0 → self.new ≡ self.old) }
+        ensures wrote { Wrote piece.now (record { bytes = no_bytes; faults = self.old }) (record { bytes = no_bytes; faults = self.new }) result }
         ensures rises { self.new ≡ raised_if (is_write_fault result (length piece.now)) self.old }
     {
         let Ok(count) = write_again(self.out, piece) else {

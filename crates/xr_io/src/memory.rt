@@ -1,11 +1,11 @@
 // Files and output in memory, whose calls fail where a list says so. Nothing here touches the
 // outside. Calls are numbered from 0, and a count stops at the largest u64.
-ghost use Rattle.std.specs.Prelude.{◌≡◌, ◌≢◌, ◌≤◌, ◌<◌, ◌↔◌, ℕ, List, [], true, false, length, Some, None, IsTrue, IsErr, IfOk, OnOk, OnErr, option_map};
-ghost use Rattle.std.specs.Io.{ReadsAtMost, WritesAtMost};
-ghost use Rattle.std.specs.Io.KnownBytes.{ReadConsumes, WriteAppends};
+ghost use Rattle.std.specs.Prelude.{◌≡◌, ◌≤◌, ◌<◌, ◌↔◌, [], true, false, length, Some, None, IsTrue, IsErr, IfOk, OnOk, option_map};
+ghost use Rattle.std.specs.Io.{ReadsAtMost};
+ghost use Rattle.std.specs.Io.KnownBytes.{ReadConsumes};
 ghost use Rattle.xr_io.specs.declared.Which.{Which};
-ghost use Rattle.xr_io.specs.Outside.{Rose, HasCause};
-ghost use Rattle.xr_io.specs.Requests.{name_of, is_open_of, open_faults_of, read_faults_of, no_requests, after_opening, after_closing};
+ghost use Rattle.xr_io.specs.Outside.{HasCause, Opened, Closed, Wrote};
+ghost use Rattle.xr_io.specs.Requests.{name_of, is_open_of, open_faults_of, read_faults_of, files_of, no_requests, after_opening, after_closing};
 ghost use Rattle.xr_io.specs.Memory.{is_listed, given_count, fails_to_read, buffer_after_read, after_read, taken_count, fails_to_write, after_write, bytes_under, failing_of, fails_to_open, with_requests};
 ghost use Rattle.xr_io.specs.Held.{held_files, failing_calls};
 
@@ -184,22 +184,13 @@ impl<'a> MemorySink<'a> {
 }
 
 impl<'a> Sink for MemorySink<'a> {
-    ghost written = { λ sink. Some sink.written };
-
-    ghost faults = { λ sink. sink.faults };
+    ghost output = { λ sink. record { bytes = Some sink.written; faults = sink.faults } };
 
     /// `Failed` comes exactly at the writes of the one list. The count rises there and, for a piece
     /// that has bytes, at the writes of the other list. Beside these it rises in one place: where
     /// no room is left, a piece that has bytes is counted too, and nothing of it is taken.
     fn write(&mut self, piece: &[u8]) -> Result<usize, Failed>
-        ensures bound { WritesAtMost result piece.now }
-        ensures bytes { WriteAppends (Some self.old.written)
-            (Some self.new.written) result piece.now }
-        ensures none { IfOk result (λ n.
-            n ≡ 0 → 0 < length piece.now → Rose self.old.faults self.new.faults) }
-        ensures cause { HasCause self.old.faults self.new.faults result }
-        ensures kept { IfOk result (λ n. 0 < n → self.new.faults ≡ self.old.faults) }
-        ensures empty { OnOk result (length piece.now ≡ 0 → self.new.faults ≡ self.old.faults) }
+        ensures wrote { Wrote piece.now (record { bytes = Some self.old.written; faults = self.old.faults }) (record { bytes = Some self.new.written; faults = self.new.faults }) result }
 
         // All of that, exactly.
         ensures fails { IsErr result ↔ IsTrue (fails_to_write self.old) }
@@ -323,45 +314,17 @@ impl<'a> MemoryOpener<'a> {
 impl<'a> Opener for MemoryOpener<'a> {
     type S = MemorySource<'a>;
 
-    ghost bytes = { λ opener name. bytes_under opener.files name };
-
-    ghost open_faults = { λ opener which. open_faults_of opener.requests which };
-
-    ghost read_faults = { λ opener which. read_faults_of opener.requests which };
-
-    ghost asked = { λ opener which. name_of opener.requests which };
-
-    ghost is_open = { λ opener which. is_open_of opener.requests which };
+    ghost files = { λ opener. files_of (bytes_under opener.files) opener.requests };
 
     /// `Failed` comes exactly where this one's opening is to fail or no file has the name, and
     /// there alone the count rises.
     fn open_file(&mut self, which: Which, name: &str) -> Result<MemorySource<'a>, Failed>
         requires first { name_of self.old.requests which ≡ None }
         requires short { length name.now ≤ MOST_NAME }
-
-        ensures asked { name_of self.new.requests which ≡ Some name.now }
-        ensures others { (w : Which) → w ≢ which →
-            name_of self.new.requests w ≡ name_of self.old.requests w }
-        ensures bytes { (n : List ℕ) → bytes_under self.new.files n ≡ bytes_under self.old.files n }
-
+        ensures opened { Opened which name.now (files_of (bytes_under self.old.files) self.old.requests) (files_of (bytes_under self.new.files) self.new.requests) result }
         ensures left { IfOk result (λ source.
             Some source.left ≡ bytes_under self.old.files name.now) }
         ensures source { IfOk result (λ source. (source.opened_as ≡ which) × (source.faults ≡ 0)) }
-
-        ensures opened { OnOk result (is_open_of self.new.requests which ≡ true) }
-        ensures unopened { OnErr result (is_open_of self.new.requests which ≡ is_open_of self.old.requests which) }
-        ensures stays { (w : Which) → w ≢ which →
-            is_open_of self.new.requests w ≡ is_open_of self.old.requests w }
-
-        ensures cause { HasCause
-            (open_faults_of self.old.requests which)
-            (open_faults_of self.new.requests which)
-            result }
-        ensures kept { OnOk result (open_faults_of self.new.requests which ≡ open_faults_of self.old.requests which) }
-        ensures opens { (w : Which) → w ≢ which →
-            open_faults_of self.new.requests w ≡ open_faults_of self.old.requests w }
-        ensures reads { (w : Which) →
-            read_faults_of self.new.requests w ≡ read_faults_of self.old.requests w }
 
         // All of that, exactly.
         ensures fails { IsErr result ↔ IsTrue (fails_to_open self.old which name.now) }
@@ -387,25 +350,7 @@ impl<'a> Opener for MemoryOpener<'a> {
     }
 
     fn close(&mut self, source: MemorySource<'a>)
-        ensures closed { is_open_of self.new.requests source.entry.opened_as ≡ false }
-        ensures stays { (w : Which) → w ≢ source.entry.opened_as →
-            is_open_of self.new.requests w ≡ is_open_of self.old.requests w }
-
-        ensures asked { (w : Which) → name_of self.new.requests w ≡ name_of self.old.requests w }
-        ensures bytes { (n : List ℕ) → bytes_under self.new.files n ≡ bytes_under self.old.files n }
-        ensures opens { (w : Which) →
-            open_faults_of self.new.requests w ≡ open_faults_of self.old.requests w }
-
-        ensures kept { source.entry.faults ≡ 0 → (w : Which) →
-            read_faults_of self.new.requests w ≡ read_faults_of self.old.requests w }
-        ensures other { (w : Which) → w ≢ source.entry.opened_as →
-            read_faults_of self.new.requests w ≡ read_faults_of self.old.requests w }
-        ensures raised { 0 < source.entry.faults →
-            Rose
-            (read_faults_of self.old.requests source.entry.opened_as)
-            (read_faults_of self.new.requests source.entry.opened_as) }
-        ensures later { (w : Which) →
-            read_faults_of self.old.requests w ≤ read_faults_of self.new.requests w }
+        ensures closed { Closed source.entry.opened_as source.entry.faults (files_of (bytes_under self.old.files) self.old.requests) (files_of (bytes_under self.new.files) self.new.requests) }
 
         // All of that at once, exactly.
         ensures new { self.new ≡ with_requests self.old

@@ -1,8 +1,9 @@
 // Runs over files in memory whose opening, reading or writing fails.
 use std::alloc::{AllocError, Global};
 use std::test::Fail;
-use xr_drive::{exit_of, run_serial};
+use xr_drive::{exit_of, explain, run_serial};
 use xr_io::{Failing, MemoryFile, MemoryOpener, MemorySink};
+use xr_types::{FieldName, Refusal, Status, What};
 
 /// What of a file fails.
 #[derive(Clone, Copy)]
@@ -159,5 +160,51 @@ fn a_fault_of_the_output_leaves_a_first_part(rt: HostRuntime) -> Result<(), Fail
         b"xrsim report 1\n",
     )?;
     assert!(rt; fails && takes_nothing && is_short);
+    Ok(())
+}
+
+/// Whether this is said of a status on an output with room for so many bytes.
+fn says(alloc: Global, status: Status, room: usize, line: &[u8]) -> Result<bool, AllocError> {
+    let mut errors = MemorySink::new(alloc, room, &[], &[])?;
+    explain(&mut errors, status);
+    Ok(errors.bytes() == line)
+}
+
+#[test]
+fn a_fault_of_the_output_for_errors_leaves_a_first_part_of_the_line(
+    rt: HostRuntime,
+) -> Result<(), Fail> {
+    let alloc = rt.alloc();
+    assert!(rt; says(alloc, Status::Stuck, 6, b"xrsim:")?);
+    assert!(rt; says(alloc, Status::Stuck, 0, b"")?);
+    assert!(rt; says(alloc, Status::Done, 100, b"")?);
+    Ok(())
+}
+
+#[test]
+fn the_longest_lines_are_said_whole(rt: HostRuntime) -> Result<(), Fail> {
+    let alloc = rt.alloc();
+    let garbled = Status::DeviceGarbled(u64::MAX);
+    assert!(rt;
+        says(
+            alloc,
+            garbled,
+            100,
+            b"xrsim: device line 18446744073709551615 garbled\n"
+        )?
+    );
+    let refused = Status::ScenarioRefused(Refusal::BadShape {
+        script: u32::MAX,
+        op: u32::MAX,
+        what: What::Field(FieldName::Subactions),
+    });
+    assert!(rt;
+        says(
+            alloc,
+            refused,
+            100,
+            b"xrsim: scenario refused: script 4294967295 op 4294967295 subactions\n",
+        )?
+    );
     Ok(())
 }

@@ -8,10 +8,10 @@ mod help;
 use help::text_for;
 use std::alloc::Global;
 use std::env;
-use std::io::{ErrorKind, Print};
+use std::io::ErrorKind;
 use std::process::ExitCode;
 use std::rt::Env;
-use xr_drive::{end_with, run_program, write_all};
+use xr_drive::{end_with, print, run_program};
 use xr_io::{FileOpener, StdSink};
 use xr_types::Status;
 
@@ -28,23 +28,24 @@ fn words<R: Env + Alloc<A = Global>>(rt: &R) -> Result<Vec<String>, Status> {
     }
 }
 
-/// Prints what the program says of itself.
-fn print<R: Print>(rt: &R, text: &str) -> Status {
-    match write_all(&mut StdSink::new(rt), text.as_bytes()) {
-        Ok(()) => Status::Done,
-        Err(_) => Status::WriteFault,
-    }
-}
-
 fn main(rt: HostRuntime) -> ExitCode {
+    let stderr = rt.stderr();
+    let mut errors = StdSink::new(&stderr);
+    let mut sink = StdSink::new(&rt);
     let words = match words(&rt) {
         Ok(words) => words,
-        Err(status) => return end_with(&rt, status),
+        Err(status) => return end_with(&mut errors, status),
     };
     if let Some(text) = text_for(words.as_slice()) {
-        return end_with(&rt, print(&rt, text));
+        let status = print(&mut sink, text);
+        return end_with(&mut errors, status);
     }
     let mut opener = FileOpener::new(&rt);
-    let mut sink = StdSink::new(&rt);
-    run_program(&rt, rt.alloc(), words.as_slice(), &mut opener, &mut sink)
+    run_program(
+        rt.alloc(),
+        words.as_slice(),
+        &mut opener,
+        &mut sink,
+        &mut errors,
+    )
 }

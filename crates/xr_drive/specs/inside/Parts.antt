@@ -2,8 +2,7 @@
 use Rattle.std.specs.Prelude.{◌≡◌, ◌⊎◌, ℕ, Bool, true, false, List, take, Option, Result, Ok, Err, IfSome, ⊤}
 use Rattle.std.specs.List.{list_any}
 use Rattle.std.specs.Io.KnownBytes.{Keeps, Appends}
-use Rattle.xr_io.specs.Outside.{Rose}
-use Rattle.xr_io.specs.declared.Which.{Which}
+use Rattle.xr_io.specs.Outside.{Rose, Files, Output}
 use Rattle.xr_io.specs.declared.Which.TheVariants as which
 use Rattle.xr_types.specs.declared.made.Lists.{Lists}
 use Rattle.xr_types.specs.declared.status.Status.{Status}
@@ -48,19 +47,20 @@ MeansRun all told (Err (Refused why)) = IfSome all (λ text. scenario_of text �
 MeansRun all told (Err _) = ⊤
 
 -- why the files were not run, or how the device failed, by the opener's counts of faults before and after
-abbrev pub HasRunCause : (Which → ℕ) → (Which → ℕ) → (Which → ℕ) → (Which → ℕ) → Result Lists RunFault → Type 0
-HasRunCause opens reads new_opens new_reads (Ok lists) = list_any is_fault lists.events ≡ true → Rose (reads which.Device) (new_reads which.Device)
-HasRunCause opens reads new_opens new_reads (Err OpenFault) = Rose (opens which.Scenario) (new_opens which.Scenario) ⊎ Rose (opens which.Device) (new_opens which.Device)
-HasRunCause opens reads new_opens new_reads (Err ReadFault) = Rose (reads which.Scenario) (new_reads which.Scenario)
-HasRunCause opens reads new_opens new_reads (Err _) = ⊤
+abbrev pub HasRunCause : Files → Files → Result Lists RunFault → Type 0
+HasRunCause old new (Ok lists) = list_any is_fault lists.events ≡ true → Rose (old.read_faults which.Device) (new.read_faults which.Device)
+HasRunCause old new (Err OpenFault) = Rose (old.open_faults which.Scenario) (new.open_faults which.Scenario) ⊎ Rose (old.open_faults which.Device) (new.open_faults which.Device)
+HasRunCause old new (Err ReadFault) = Rose (old.read_faults which.Scenario) (new.read_faults which.Scenario)
+HasRunCause old new (Err _) = ⊤
 
 -- each count is as it was, but for that of the fault; a device that failed may be behind want of memory
-abbrev pub KeepsCounts : (Which → ℕ) → (Which → ℕ) → (Which → ℕ) → (Which → ℕ) → Result Lists RunFault → Type 0
-KeepsCounts opens reads new_opens new_reads (Ok lists) = SameCounts opens new_opens × (new_reads which.Scenario ≡ reads which.Scenario) × (list_any is_fault lists.events ≡ false → new_reads which.Device ≡ reads which.Device)
-KeepsCounts opens reads new_opens new_reads (Err OpenFault) = SameCounts reads new_reads
-KeepsCounts opens reads new_opens new_reads (Err ReadFault) = SameCounts opens new_opens × (new_reads which.Device ≡ reads which.Device)
-KeepsCounts opens reads new_opens new_reads (Err (Refused why)) = SameCounts opens new_opens × SameCounts reads new_reads
-KeepsCounts opens reads new_opens new_reads (Err NoMemory) = SameCounts opens new_opens × (new_reads which.Scenario ≡ reads which.Scenario)
+abbrev pub KeepsCounts : Files → Files → Result Lists RunFault → Type 0
+KeepsCounts old new (Ok lists) =
+    SameCounts old.open_faults new.open_faults × (new.read_faults which.Scenario ≡ old.read_faults which.Scenario) × (list_any is_fault lists.events ≡ false → new.read_faults which.Device ≡ old.read_faults which.Device)
+KeepsCounts old new (Err OpenFault) = SameCounts old.read_faults new.read_faults
+KeepsCounts old new (Err ReadFault) = SameCounts old.open_faults new.open_faults × (new.read_faults which.Device ≡ old.read_faults which.Device)
+KeepsCounts old new (Err (Refused why)) = SameCounts old.open_faults new.open_faults × SameCounts old.read_faults new.read_faults
+KeepsCounts old new (Err NoMemory) = SameCounts old.open_faults new.open_faults × (new.read_faults which.Scenario ≡ old.read_faults which.Scenario)
 
 -- a text that is refused leaves the device alone
 abbrev pub KeptIfRefused : ℕ → ℕ → ScenarioFault → Type 0
@@ -68,9 +68,9 @@ KeptIfRefused before after (scenario_fault.Refused why) = after ≡ before
 KeptIfRefused before after scenario_fault.NoMemory = ⊤
 
 -- Where a file couldn't be opened it is the scenario's, and then the device was not asked for, or the device's.
-abbrev pub OpenedInTurn : Option (List ℕ) → (Which → ℕ) → (Which → ℕ) → Result Lists RunFault → Type 0
-OpenedInTurn asked opens new_opens (Err OpenFault) = IsOpenedInTurn asked opens new_opens
-OpenedInTurn asked opens new_opens _ = ⊤
+abbrev pub OpenedInTurn : Files → Files → Result Lists RunFault → Type 0
+OpenedInTurn old new (Err OpenFault) = IsOpenedInTurn old new
+OpenedInTurn old new _ = ⊤
 
 abbrev pub status_of_fault : RunFault → Status
 status_of_fault OpenFault = status.OpenFault
@@ -86,19 +86,19 @@ status_in (Err fault) = status_of_fault fault
 -- ---- the report
 
 -- what was written of the report of these lists
-abbrev pub MeansWritten : {T : Type 0} → Lists → Bool → Option (List ℕ) → Option (List ℕ) → Result T Unwritten → Type 0
-MeansWritten lists places before after (Ok written) = Appends before after (report_of lists places)
-MeansWritten lists places before after (Err unwritten.Failed) = (n : ℕ) × Appends before after (take n (report_of lists places))
-MeansWritten lists places before after (Err unwritten.NoMemory) = Keeps before after
+abbrev pub MeansWritten : {T : Type 0} → Lists → Bool → Output → Output → Result T Unwritten → Type 0
+MeansWritten lists places old new (Ok written) = Appends old.bytes new.bytes (report_of lists places)
+MeansWritten lists places old new (Err unwritten.Failed) = (n : ℕ) × Appends old.bytes new.bytes (take n (report_of lists places))
+MeansWritten lists places old new (Err unwritten.NoMemory) = Keeps old.bytes new.bytes
 
 -- the count of write faults is as it was, but where a write failed
-abbrev pub KeptUnlessUnwritten : {T : Type 0} → ℕ → ℕ → Result T Unwritten → Type 0
-KeptUnlessUnwritten before after (Ok written) = after ≡ before
-KeptUnlessUnwritten before after (Err unwritten.Failed) = ⊤
-KeptUnlessUnwritten before after (Err unwritten.NoMemory) = after ≡ before
+abbrev pub KeptUnlessUnwritten : {T : Type 0} → Output → Output → Result T Unwritten → Type 0
+KeptUnlessUnwritten old new (Ok written) = new.faults ≡ old.faults
+KeptUnlessUnwritten old new (Err unwritten.Failed) = ⊤
+KeptUnlessUnwritten old new (Err unwritten.NoMemory) = new.faults ≡ old.faults
 
 -- a write fault comes only where the count rose
-abbrev pub RoseIfUnwritten : {T : Type 0} → ℕ → ℕ → Result T Unwritten → Type 0
-RoseIfUnwritten before after (Ok written) = ⊤
-RoseIfUnwritten before after (Err unwritten.Failed) = Rose before after
-RoseIfUnwritten before after (Err unwritten.NoMemory) = ⊤
+abbrev pub RoseIfUnwritten : {T : Type 0} → Output → Output → Result T Unwritten → Type 0
+RoseIfUnwritten old new (Ok written) = ⊤
+RoseIfUnwritten old new (Err unwritten.Failed) = Rose old.faults new.faults
+RoseIfUnwritten old new (Err unwritten.NoMemory) = ⊤

@@ -8,7 +8,7 @@ use Rattle.xr_drive.proofs.serial.run_beside.Goals as goal
 pub returns-in-Ok-lists-clause-means : goal.returns-in-Ok-lists-clause-means
 returns-in-Ok-lists-clause-means g c =
     let read : IfSome (g.O.S.Source.left c.args.source) (λ bytes. c.as_slice.result.now ≡ take 1048577 bytes) = rw c.as_slice.ensures.value c.in-Ok-read_text.ensures.bytes in
-    let told : Option DeviceStream = option_map told_in (g.O.Opener.bytes c.args.opener.now c.args.name.now) in
+    let told : Option DeviceStream = option_map told_in ((g.O.Opener.files c.args.opener.now).bytes c.args.name.now) in
     let known : (of_text c.new-device.result).remaining ≡ told = c.new-device.ensures.remaining ∙ ap (λ (bytes : Option (List ℕ)). option_map told_in bytes) c.in-Ok.ensures.left in
     means_ran _ c.as_slice.result.now told c.in-Ok-lists.lists read
     (subst (λ (t : Option DeviceStream). MeansText c.as_slice.result.now t (Ok c.in-Ok-lists.lists)) known c.in-Ok-lists.ensures.means)
@@ -16,7 +16,7 @@ returns-in-Ok-lists-clause-means g c =
 pub returns-clause-means : goal.returns-clause-means
 returns-clause-means g c =
     let read : IfSome (g.O.S.Source.left c.args.source) (λ bytes. c.as_slice.result.now ≡ take 1048577 bytes) = rw c.as_slice.ensures.value c.in-Ok-read_text.ensures.bytes in
-    let told : Option DeviceStream = option_map told_in (g.O.Opener.bytes c.args.opener.now c.args.name.now) in
+    let told : Option DeviceStream = option_map told_in ((g.O.Opener.files c.args.opener.now).bytes c.args.name.now) in
     let known : (of_text c.new-device.result).remaining ≡ told = c.new-device.ensures.remaining ∙ ap (λ (bytes : Option (List ℕ)). option_map told_in bytes) c.in-Ok.ensures.left in
     rw c.of_scenario.ensures
     (means_unrun _ c.as_slice.result.now told c.in-Err-lists.fault read

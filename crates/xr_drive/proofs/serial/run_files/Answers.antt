@@ -3,6 +3,5 @@ use Rattle.xr_drive.proofs.serial.run_files.Goals as goal
 
 pub returns-in-Some-clause-counts : goal.returns-in-Some-clause-counts
 returns-in-Some-clause-counts g c =
-    counts_from (g.O.Opener.open_faults c.args.opener.now) (g.O.Opener.read_faults c.args.opener.now) (g.O.Opener.open_faults c.open_file.new.self) (g.O.Opener.read_faults c.open_file.new.self)
-    (g.O.Opener.open_faults c.run_beside.new.opener) (g.O.Opener.read_faults c.run_beside.new.opener) c.run_beside.result
-    (opened _ _ c.in-Ok.ensures.kept c.in-Ok.ensures.opens) c.in-Ok.ensures.reads c.run_beside.ensures.counts
+    counts_from (g.O.Opener.files c.args.opener.now) (g.O.Opener.files c.open_file.new.self) (g.O.Opener.files c.run_beside.new.opener) c.run_beside.result
+    (opened _ _ c.in-Ok.ensures.opened.kept c.in-Ok.ensures.opened.opens) c.in-Ok.ensures.opened.reads c.run_beside.ensures.counts
