@@ -174,19 +174,19 @@ pub(crate) fn give(handles: &mut Handles, kind: Kind, parent: u64) -> u64
 }
 
 impl Parts {
-    /// The parts of a core of 1 to 8 applications before any call. Takes all memory but that of new path texts and of
-    /// suggestions.
+    /// The parts of a core of 1 to 8 applications before any call, where they stay: they are some 70 KB, which nobody moves.
+    /// Takes all memory but that of new path texts and of suggestions.
     #[tactic(auto, using(crate::proofs::Start::none_left))]
-    pub(crate) fn start(alloc: Global, apps: u8) -> Result<Parts, NoMemory>
+    pub(crate) fn start(alloc: Global, apps: u8) -> Result<Box<Parts>, NoMemory>
         requires some { 1 ≤ apps }
         requires few { apps ≤ MOST_SCRIPTS }
-        ensures { IfOk result (λ parts. parts ≡ opening_core (with_apps apps)) }
+        ensures { IfOk result (λ parts. parts.value ≡ opening_core (with_apps apps)) }
     {
         let paths = Paths::start(alloc)?;
         let events = Events::start(alloc)?;
         let spaces = Spaces::start(alloc)?;
         let ranking = Ranking::start(alloc)?;
-        Ok(Parts {
+        let parts = Parts {
             handles: Handles::start(),
             paths,
             users: [0; USERS],
@@ -206,7 +206,8 @@ impl Parts {
             marks: [None; MARKS],
             apps,
             left: [false; MOST_SCRIPTS],
-        })
+        };
+        Box::new(alloc, parts).map_err(|_| NoMemory)
     }
 
     /// Whether there is such an application, from 1, and it hasn't left: whether it may make calls.

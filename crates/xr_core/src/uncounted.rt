@@ -28,7 +28,7 @@ use xr_types::{Actor, Call, Code, Frame, Gives, Image, MOST_LAYERS, NoMemory, Re
 /// what a core has, with no call counted.
 #[derive(Drop)]
 pub(crate) struct Uncounted {
-    pub(crate) parts: Parts,
+    pub(crate) parts: Box<Parts>,
     pub(crate) held: ArrayVec<Image, MOST_LAYERS>,
 }
 
@@ -37,7 +37,7 @@ impl Model for Uncounted {
 
     ghost Value = { WholeCore };
 
-    ghost view = { λ c. record { kept = c.parts; held = c.held.items } };
+    ghost view = { λ c. record { kept = c.parts.value; held = c.held.items } };
 }
 
 /// The stamps of these images, in order.

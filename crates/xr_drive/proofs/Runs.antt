@@ -14,7 +14,8 @@ use Rattle.xr_model.specs.command_line.Words.{RunOptions, options_of}
 use Rattle.xr_model.specs.scenario.Scenario.{scenario_of}
 use Rattle.xr_model.specs.device_text.DeviceText.{DeviceStream, ends}
 use Rattle.xr_drive.specs.Run.{Run}
-use Rattle.xr_drive.specs.Top.{Outside, Writes, told_under, RunsText, EndsSo, Means, NoneRose, HasItsCause, IsComplete}
+use Rattle.xr_drive.specs.Top.{Outside, Writes, told_under, RunsText, EndsSo, Means, HasItsCause}
+use Rattle.xr_drive.specs.TopLaws.{NoneRose, IsComplete, GoodInputIsRun}
 use Rattle.xr_drive.specs.inside.Parts.{MeansText, fault_of_scenario, MeansRun, HasRunCause}
 use Rattle.xr_scenario.specs.declared.fault.ScenarioFault.{ScenarioFault}
 use Rattle.xr_scenario.specs.declared.fault.ScenarioFault.TheVariants as scenario_fault
@@ -130,7 +131,7 @@ no_garbled bytes device all told lists line is end runs status =
     never_garbled lists.events lists.next line (run_clean run.scenario told run.count lists (told_clean bytes device told is) end run.ran) status
 
 -- good words, a good text, a good device and no fault leave a run that is done or stuck, or want of memory
-pub complete : (words : List (List ℕ)) (old new : Outside) (status : Status) → Means words old new status → HasItsCause old new status → IsComplete words old new status
+complete : (words : List (List ℕ)) (old new : Outside) (status : Status) → Means words old new status → HasItsCause old new status → IsComplete words old new status
 complete words old new Done means cause = λ form text scenario told is there good tells end none. inl refl
 complete words old new Usage means cause = λ form text scenario told is there good tells end none. absurd (none-some form (sym means.0 ∙ is))
 complete words old new OpenFault means cause = λ form text scenario told is there good tells end none. absurd (no_opening old new none cause)
@@ -147,3 +148,6 @@ complete words old new (DeviceGarbled line) means cause = λ form text scenario 
 complete words old new Stuck means cause = λ form text scenario told is there good tells end none. inr (inl refl)
 complete words old new WriteFault means cause = λ form text scenario told is there good tells end none. absurd (none.writes cause)
 complete words old new NoMemory means cause = λ form text scenario told is there good tells end none. inr (inr refl)
+
+pub good_input_is_run : GoodInputIsRun
+good_input_is_run words old new status answer = complete words old new status answer.means answer.causes

@@ -1,5 +1,6 @@
 pub mod Run
 pub mod Top
+pub mod TopLaws
 pub mod Program
 pub mod Lines
 pub mod inside

@@ -1,16 +1,15 @@
 -- What a top call means, and why each of its answers comes.
-use Rattle.std.specs.Prelude.{◌≡◌, ◌⊎◌, ℕ, Bool, true, false, List, take, Option, Some, None, option_map, option_and_then, Ok, Err, IfSome, ⊤}
+use Rattle.std.specs.Prelude.{◌≡◌, ◌⊎◌, ℕ, Bool, true, false, List, take, Option, Some, None, option_map, option_and_then, Err, IfSome, ⊤}
 use Rattle.std.specs.Io.KnownBytes.{Keeps, Appends}
 use Rattle.xr_io.specs.Outside.{Rose, Files, Output}
 use Rattle.xr_io.specs.declared.Which.{Which}
 use Rattle.xr_io.specs.declared.Which.TheVariants as which
 use Rattle.xr_types.specs.declared.made.Lists.{Lists}
-use Rattle.xr_types.specs.declared.scenario.Scenario.{Scenario}
 use Rattle.xr_types.specs.declared.status.Status.{Status}
 use Rattle.xr_types.specs.declared.status.Status.TheVariants.{Done, Usage, OpenFault, ReadFault, ScenarioRefused, DeviceFailed, DeviceGarbled, Stuck, WriteFault, NoMemory}
 use Rattle.xr_model.specs.command_line.Words.{RunOptions, options_of}
 use Rattle.xr_model.specs.scenario.Scenario.{scenario_of}
-use Rattle.xr_model.specs.device_text.DeviceText.{DeviceStream, ends, nothing_more, told_in}
+use Rattle.xr_model.specs.device_text.DeviceText.{DeviceStream, nothing_more, told_in}
 use Rattle.xr_model.specs.report.RunEnding.{ending_of}
 use Rattle.xr_model.specs.report.Report.{report_of}
 use Rattle.xr_drive.specs.Run.{Run}
@@ -133,21 +132,6 @@ NoneLeftOpen old new = (which : Which) → new.is_open which ≡ true → old.is
 abbrev pub SameBytes : Files → Files → Type 0
 SameBytes old new = (name : List ℕ) → new.bytes name ≡ old.bytes name
 
--- ---- completeness
-
--- no count rose
-pub record NoneRose (old new : Outside) : Type 0 where
-  pub opens : (which : Which) → ¬ Rose (old.files.open_faults which) (new.files.open_faults which)
-  pub reads : (which : Which) → ¬ Rose (old.files.read_faults which) (new.files.read_faults which)
-  pub writes : ¬ Rose old.output.faults new.output.faults
-
--- Where the words have a form, the file's bytes are told and are a scenario, what the device gives is told
--- and it ends at the end of its text, and no count of faults rose, the run is done, or stuck, or memory was short.
-abbrev pub IsComplete : List (List ℕ) → Outside → Outside → Status → Type 0
-IsComplete words old new status =
-    (form : RunOptions) (text : List ℕ) (scenario : Scenario) (told : DeviceStream) → options_of words ≡ Some form → old.files.bytes form.file ≡ Some text → scenario_of text ≡ Ok scenario
-    → told_under old.files.bytes form.device ≡ Some told → told.ending ≡ ends → NoneRose old new → (status ≡ Done) ⊎ ((status ≡ Stuck) ⊎ (status ≡ NoMemory))
-
 -- ---- what was asked for
 
 -- The scenario's file that was asked for is that of the words. Where memory was short it may not have
@@ -180,13 +164,12 @@ UnlessDevice (Some name) P = ⊤
 
 -- ---- all of it
 
--- What a status says, all of it: what it means, why it comes, that no other count changed, and that good input is run; that just
--- the files of the words were asked for, in their turn; and that no source is left open, and no file's bytes changed.
+-- What a status says, all of it: what it means, why it comes, and that no other count changed; that just the files of the words were
+-- asked for, in their turn; and that no source is left open, and no file's bytes changed.
 pub record IsAnswer (words : List (List ℕ)) (old new : Outside) (status : Status) : Type 0 where
   pub means : Means words old new status
   pub causes : HasItsCause old new status
   pub counts : OnlyItsFault old new status
-  pub complete : IsComplete words old new status
   pub asked : IsAskedFor (options_of words) (new.files.asked which.Scenario) status
   pub device : IsDeviceAskedFor (device_of (options_of words)) (new.files.asked which.Device) status
   pub alone : UnlessDevice (device_of (options_of words)) (KeepsDevice old.files new.files)

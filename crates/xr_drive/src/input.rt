@@ -10,7 +10,7 @@ use xr_types::MOST_SCENARIO;
 /// How many bytes are read at most: one more than a scenario may have.
 const LIMIT: usize = MOST_SCENARIO + 1;
 
-const CHUNK: usize = 65_536;
+const CHUNK: usize = 16_384;
 
 /// Why a reading stops before the end.
 pub(crate) enum Stop {

@@ -7,7 +7,7 @@ ghost use Rattle.xr_io.specs.declared.Which.{Which};
 ghost use Rattle.xr_model.specs.device_text.DeviceText.{nothing_more};
 ghost use Rattle.xr_model.specs.report.RunEnding.{is_fault};
 ghost use Rattle.xr_model.specs.command_line.Words.{options_of};
-ghost use Rattle.xr_drive.specs.Top.{outside, Means, HasItsCause, OnlyItsFault, IsComplete, OpensInTurn, IsAskedFor, IsDeviceAskedFor, device_of, KeepsDevice, UnlessDevice, NoneLeftOpen, SameBytes, IsAnswer, told_under};
+ghost use Rattle.xr_drive.specs.Top.{outside, Means, HasItsCause, OnlyItsFault, OpensInTurn, IsAskedFor, IsDeviceAskedFor, device_of, KeepsDevice, UnlessDevice, NoneLeftOpen, SameBytes, IsAnswer, told_under};
 ghost use Rattle.xr_drive.specs.inside.Input.{RoseIfStopped, KeptUnlessFailed};
 ghost use Rattle.xr_drive.specs.inside.Parts.{MeansText, MeansRun, HasRunCause, KeepsCounts, KeptIfRefused, OpenedInTurn, status_in, MeansWritten, RoseIfUnwritten, KeptUnlessUnwritten};
 
@@ -191,7 +191,6 @@ fn answer<O: Opener, K: Sink>(
     ensures means { Means (map string_bytes words.now) (outside (O.files opener.old) (K.output sink.old)) (outside (O.files opener.new) (K.output sink.new)) result }
     ensures causes { HasItsCause (outside (O.files opener.old) (K.output sink.old)) (outside (O.files opener.new) (K.output sink.new)) result }
     ensures counts { OnlyItsFault (outside (O.files opener.old) (K.output sink.old)) (outside (O.files opener.new) (K.output sink.new)) result }
-    ensures complete { IsComplete (map string_bytes words.now) (outside (O.files opener.old) (K.output sink.old)) (outside (O.files opener.new) (K.output sink.new)) result }
     ensures asked { IsAskedFor (options_of (map string_bytes words.now)) ((O.files opener.new).asked Which.Scenario) result }
     ensures device { IsDeviceAskedFor (device_of (options_of (map string_bytes words.now))) ((O.files opener.new).asked Which.Device) result }
     ensures alone { UnlessDevice (device_of (options_of (map string_bytes words.now))) (KeepsDevice (O.files opener.old) (O.files opener.new)) }

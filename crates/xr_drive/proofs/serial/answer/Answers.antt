@@ -1,7 +1,7 @@
 use Rattle.std.proofs.Common.{map, string_bytes}
 use Rattle.xr_command.specs.Reads.{shown}
 use Rattle.xr_drive.specs.Top.{Outside, outside}
-use Rattle.xr_drive.proofs.Runs.{means_ending, cause_ending, complete}
+use Rattle.xr_drive.proofs.Runs.{means_ending, cause_ending}
 use Rattle.xr_drive.proofs.serial.answer.Goals as goal
 
 pub returns-in-Ok-write_report-clause-means : goal.returns-in-Ok-write_report-clause-means
@@ -16,12 +16,3 @@ returns-in-Ok-write_report-clause-causes g c =
     let old : Outside = outside (g.O.Opener.files c.args.opener.now) (g.K.Sink.output c.args.sink.now) in
     let new : Outside = outside (g.O.Opener.files c.run_files.new.opener) (g.K.Sink.output c.write_report.new.sink) in
     rw c.ending_of.ensures (cause_ending old new c.in-Ok-run_files.lists c.in-Ok-run_files.ensures.cause)
-
-pub returns-in-Ok-write_report-clause-complete : goal.returns-in-Ok-write_report-clause-complete
-returns-in-Ok-write_report-clause-complete g c =
-    let old : Outside = outside (g.O.Opener.files c.args.opener.now) (g.K.Sink.output c.args.sink.now) in
-    let new : Outside = outside (g.O.Opener.files c.run_files.new.opener) (g.K.Sink.output c.write_report.new.sink) in
-    rw c.ending_of.ensures
-    (complete (map string_bytes c.args.words.now) old new _
-    (means_ending (map string_bytes c.args.words.now) old new (shown c.in-Ok.form) c.in-Ok-run_files.lists c.in-Ok.ensures.form c.in-Ok-run_files.ensures.means c.in-Ok-write_report.ensures.means)
-    (cause_ending old new c.in-Ok-run_files.lists c.in-Ok-run_files.ensures.cause))

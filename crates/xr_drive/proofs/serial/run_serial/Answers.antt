@@ -7,7 +7,6 @@ returns g c =
       means = a.means;
       causes = a.causes;
       counts = a.counts;
-      complete = a.complete;
       asked = a.asked;
       device = a.device;
       alone = a.alone;

@@ -1,4 +1,4 @@
-use Rattle.std.proofs.Common.{ap, sym, subst}
+use Rattle.std.proofs.Common.{ap, sym, subst, ◌∙◌}
 use Rattle.xr_model.specs.machine.OverCells.{MayApply}
 use Rattle.xr_model.specs.machine.Request.{Request, request_of}
 use Rattle.xr_model.specs.machine.State.{WholeCore}
@@ -17,7 +17,7 @@ image_done-requires g c =
 
 pub decide-requires : goal.decide-requires
 decide-requires g c =
-    let kept = ap (λ (w : WholeCore). w.kept) c.self.view_is in
+    let kept = c.deref_mut.ensures.value ∙ ap (λ (w : WholeCore). w.kept) c.self.view_is in
     let aside = aside_where c.args.call.now c.in_default.not-NextFrame c.in_default.not-ImageDone in
     rw kept (record {
       given = c.requires.given;
@@ -42,4 +42,4 @@ returns-in-ImageDone g c =
     (sym (ap request_of c.in-ImageDone.is)) (c.image_done.ensures c.args.who (record { text = c.args.text.now; frame = c.args.shown.now }))
 
 pub returns-in_default : goal.returns-in_default
-returns-in_default g c = rw (← c.self.view_is) (c.decide.ensures c.self.inside.held.items c.args.shown.now)
+returns-in_default g c = rw (← c.self.view_is, ← c.deref_mut.ensures.value) (c.decide.ensures c.self.inside.held.items c.args.shown.now)
