@@ -29,7 +29,7 @@ const MOST_LENT: usize = MOST_CAPACITY as usize;
 #[derive(Drop)]
 pub(crate) struct Machine {
     core: PlainCore,
-    scratch: Scratch,
+    scratch: Box<Scratch>,
     buffer: [u8; MOST_LENT],
     shown: Shown,
 }
@@ -115,9 +115,10 @@ impl Machine {
         ensures { IfOk result (λ machine. machine ≡ opening (with_apps apps)) }
     {
         let core = PlainCore::start(alloc, apps)?;
+        let scratch = Box::new(alloc, Scratch::new()).map_err(|_| NoMemory)?;
         Ok(Machine {
             core,
-            scratch: Scratch::new(),
+            scratch,
             buffer: [0; MOST_LENT],
             shown: Shown::default(),
         })
