@@ -1,2 +1,2 @@
-pub mod Going
+pub mod ChainsLeft
 pub mod Waited

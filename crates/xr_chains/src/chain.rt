@@ -3,7 +3,7 @@ ghost use Rattle.std.specs.Prelude.{◌≡◌, ◌<◌, ◌==◌, ◌&&◌, not,
 ghost use Rattle.xr_model.specs.machine.Chains.{free_place, kept_place, new_chain, is_chain, is_acquire_wrong, is_wait_wrong, is_paint_wrong, oldest_of, index_behind, unless_acquired, acquiring, waiting, releasing, info_of};
 ghost use Rattle.xr_model.specs.machine.PartAnswers.{answer_by};
 ghost use Rattle.xr_model.specs.machine.Refusals.{when, first_of, unless};
-ghost use Rattle.xr_chains.specs.Going.{left_one};
+ghost use Rattle.xr_chains.specs.ChainsLeft.{left_one};
 
 use crate::standing::Standing;
 use arrayvec::ArrayVec;
@@ -40,7 +40,7 @@ pub(crate) struct Chain {
 impl Model for Chain {
     ghost use Rattle.std.specs.Prelude.{◌≡◌, ◌≤◌, ◌<◌, true, length, if◌then◌else◌};
     ghost use Rattle.xr_model.specs.machine.Chains as machine;
-    ghost use Rattle.xr_chains.specs.Going.{IsFree};
+    ghost use Rattle.xr_chains.specs.ChainsLeft.{IsFree};
 
     ghost Value = { machine.Chain };
 

@@ -5,7 +5,7 @@ ghost use Rattle.xr_model.specs.machine.Chains.{no_chains, new_chain, chain_at, 
 ghost use Rattle.xr_model.specs.machine.Images.{unstamped};
 ghost use Rattle.xr_model.specs.machine.PartAnswers.{code_by, answer_by};
 ghost use Rattle.xr_model.specs.machine.Refusals.{when, first_of, unless};
-ghost use Rattle.xr_chains.specs.Going.{left_where, freed_where};
+ghost use Rattle.xr_chains.specs.ChainsLeft.{left_where, freed_where};
 ghost use Rattle.xr_chains.specs.Waited.{waited_images};
 
 use crate::chain::{Chain, OUT_OF_ORDER};

@@ -5,7 +5,7 @@ ghost use Rattle.xr_model.specs.machine.CellCalls.{MayCall, Leads, free_calls};
 ghost use Rattle.xr_model.specs.machine.Chains.{is_chain, chain_at, with_chain, with_chain_at, is_acquire_wrong, is_wait_wrong, is_paint_wrong, next_index, oldest_index, acquiring, waiting, releasing, info_of};
 ghost use Rattle.xr_model.specs.machine.PartAnswers.{answer_by};
 ghost use Rattle.xr_model.specs.machine.Refusals.{when, first_of, unless};
-ghost use Rattle.xr_chains.specs.Going.{left_where, freed_where};
+ghost use Rattle.xr_chains.specs.ChainsLeft.{left_where, freed_where};
 
 use crate::chain::Chain;
 use crate::standing::Standing;

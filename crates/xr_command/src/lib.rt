@@ -9,8 +9,7 @@ ghost use Rattle.xr_command.specs.Reads.{shown, ReadsForm, ReadsRows};
 use clap::error::ErrorKind;
 use clap::{Arg, ArgAction, ArgMatches, Command};
 use std::alloc::{AllocError, Global};
-
-const MOST_FILE: usize = 4095;
+use xr_types::MOST_FILE_NAME;
 
 /// What the words ask for: a run of the scenario under `file`, with the device under `device` where
 /// one is named, and with or without the places of replies in its report.
@@ -88,7 +87,7 @@ fn is_serial(words: &[String]) -> bool
 fn is_file(name: &str) -> bool
     ensures { result ≡ is_file name.now }
 {
-    !name.is_empty() && name.len() <= MOST_FILE
+    !name.is_empty() && name.len() <= MOST_FILE_NAME
 }
 
 /// Whether the name is a file's, or there is none.
@@ -112,8 +111,8 @@ fn text_of<'a>(matches: &ArgMatches<'a>, id: &str) -> Option<&'a str>
 /// The form of what the command found.
 fn options_in<'a>(matches: &ArgMatches<'a>) -> Option<RunOptions<'a>>
     ensures form { option_map shown result ≡ options_in (rows_of (found_of matches.now)) }
-    ensures short { IfSome result (λ form. length form.file.now ≤ 4095) }
-    ensures short_device { IfSome result (λ form. IfSome form.device (λ name. length name.now ≤ 4095)) }
+    ensures short { IfSome result (λ form. length form.file.now ≤ MOST_FILE_NAME) }
+    ensures short_device { IfSome result (λ form. IfSome form.device (λ name. length name.now ≤ MOST_FILE_NAME)) }
 {
     let Some(file) = text_of(matches, "file") else {
         return None;
@@ -134,8 +133,8 @@ fn options_in<'a>(matches: &ArgMatches<'a>) -> Option<RunOptions<'a>>
 /// `Usage` comes exactly where they have no form, and `NoMemory` is free.
 pub fn options_of<'a>(alloc: Global, words: &'a [String]) -> Result<RunOptions<'a>, WordsFault>
     ensures form { ReadsForm result (options_of (map string_bytes words.entry.now)) }
-    ensures short { IfOk result (λ form. length form.file.now ≤ 4095) }
-    ensures short_device { IfOk result (λ form. IfSome form.device (λ name. length name.now ≤ 4095)) }
+    ensures short { IfOk result (λ form. length form.file.now ≤ MOST_FILE_NAME) }
+    ensures short_device { IfOk result (λ form. IfSome form.device (λ name. length name.now ≤ MOST_FILE_NAME)) }
 {
     if !is_serial(words) {
         return Err(WordsFault::Usage);

@@ -11,13 +11,13 @@ use Rattle.xr_types.specs.declared.code.Code.{Code}
 use Rattle.xr_types.specs.Code.{is_out_of_memory}
 use Rattle.xr_model.specs.machine.CellCalls.{CellCall}
 use Rattle.xr_model.specs.machine.Publishing.{publishes}
-use Rattle.xr_model.specs.machine.Request.{Request, request_of, is_locked, is_getter}
+use Rattle.xr_model.specs.machine.Request.{Request, Entry, request_of, is_locked, is_getter}
 use Rattle.xr_model.specs.machine.Refusals.{first_of}
 use Rattle.xr_model.specs.machine.State.{CoreState, CellReads}
 use Rattle.xr_model.specs.machine.Rule.{carried_out}
 use Rattle.xr_model.specs.machine.Frames.{one_if}
-use Rattle.xr_model.specs.machine.Machine.{rule_of, IsPresent}
-use Rattle.xr_model.specs.machine.CoreCalls.{Lent, CoreAnswers, CoreWaits, given_by, entry_of}
+use Rattle.xr_model.specs.machine.Machine.{rule_of, core_step, core_ready, IsPresent, CoreAllows}
+use Rattle.xr_model.specs.machine.CoreCalls.{Lent, AnswersBy, WaitsBy, given_by, entry_of}
 use Rattle.xr_model.specs.machine.OverCells.{World, entry_by, AppliesOver}
 use Rattle.xr_core.specs.declared.halt.Halt.TheVariants.{Refused, NotReady}
 use Rattle.xr_core.specs.inside.Deciding.{Comes, HasToWait, DecidesAlong}
@@ -27,6 +27,13 @@ use Rattle.xr_core.proofs.CountAside.{counting, SameRule, same_rule, Grows, grow
 pub counted_is : (b : Bool) (n : ℕ) → (if b then n + 1 else n) ≡ n + one_if b
 counted_is true n = refl
 counted_is false n = omega arith
+
+-- what an entry is answered, and how it waits, where the cells tell so much
+abbrev IsAnsweredBy : CellReads → CoreState → Entry → CoreState → Reply → Lent → Lent → Type 0
+IsAnsweredBy reads old e new answer before after = AnswersBy (CoreAllows old reads e) (core_ready old reads e) (core_step old reads e) new answer before after
+
+abbrev IsWaitedBy : CellReads → CoreState → Entry → CoreState → Lent → Lent → Type 0
+IsWaitedBy reads old e new before after = WaitsBy (core_ready old reads e) old new before after
 
 module _ (s new : CoreState) (n p : ℕ) (who : Actor) (what : Request) (before after : Lent) where
   -- how many are counted behind a call, the place in its reply, and what was published last
@@ -47,7 +54,7 @@ module _ (s new : CoreState) (n p : ℕ) (who : Actor) (what : Request) (before 
     stays : (carried_out s (is_out_of_memory code) (rule_of s reads who (given_by gives) what)).state.apps ≡ s.apps
     stays = (grows s (is_out_of_memory code) reads who (given_by gives) what).apps
 
-    pub made_answers : IsPresent s who → CoreAnswers reads (counting s n p) (entry_of who what (record { code = code; gives = gives; place = place })) (counting new count (number code)) (record { code = code; gives = gives; place = place }) before after
+    pub made_answers : IsPresent s who → IsAnsweredBy reads (counting s n p) (entry_of who what (record { code = code; gives = gives; place = place })) (counting new count (number code)) (record { code = code; gives = gives; place = place }) before after
     made_answers present =
         let effect = same.effect in
         record {
@@ -68,7 +75,7 @@ module _ (s new : CoreState) (n p : ℕ) (who : Actor) (what : Request) (before 
 
   -- a call that has to wait
   pub waits_so : (reads : CellReads) → HasToWait s (λ given. rule_of s reads who given what) new before after → (given : ℕ) (short : Bool)
-      → CoreWaits reads (counting s n p) (record { actor = who; request = what; given = given; short = short }) (counting new n p) before after
+      → IsWaitedBy reads (counting s n p) (record { actor = who; request = what; given = given; short = short }) (counting new n p) before after
   waits_so reads wait given short =
       let same = same_rule s n p short reads who given what in
       record {

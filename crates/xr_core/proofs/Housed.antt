@@ -8,7 +8,7 @@ use Rattle.xr_model.specs.laws.HandleLaws.{count_in}
 use Rattle.xr_model.proofs.Rows.{one_later, put_first, put_is_first, same_key, itself, both_of, not_true, not_zero}
 use Rattle.xr_model.proofs.Keyed.{filters_agree}
 use Rattle.xr_core.specs.inside.Housed.{count_listed, AreHoused}
-use Rattle.xr_core.proofs.Going.{equals_back}
+use Rattle.xr_core.proofs.DestroyedAtOnce.{equals_back}
 
 one_if : Bool → ℕ
 one_if true = 1

@@ -22,8 +22,8 @@ pub mod SessionCalls
 pub mod Housed
 pub mod Listed
 pub mod LeftPlaces
-pub mod Kept
-pub mod Going
+pub mod KeptLive
+pub mod DestroyedAtOnce
 pub mod SessionEvents
 pub mod Suggesting
 pub mod CountAside

@@ -6,7 +6,7 @@ use Rattle.xr_model.specs.machine.Chains.{Chain, with_chain, with_chain_at, left
 use Rattle.xr_model.specs.machine.Handles.{Handles, is_live}
 use Rattle.xr_model.specs.machine.Refusals.{Refusal, unless}
 use Rattle.xr_model.proofs.ChainPlaces.{length_left, length_changed, length_new}
-use Rattle.xr_chains.specs.Going.{left_where, freed_where}
+use Rattle.xr_chains.specs.ChainsLeft.{left_where, freed_where}
 
 pub left_same : (h : Handles) (used : ℕ → Bool) (place : ℕ) (cs : List Chain) → left_where (is_live h Swapchain) used place cs ≡ left_in_places h used place cs
 left_same h used place [] = refl

@@ -4,7 +4,7 @@ use Rattle.xr_types.specs.declared.handles.Kind.{Kind}
 use Rattle.xr_model.specs.machine.Handles.{Handles, was_given, with_handle, without, without_alone}
 use Rattle.xr_model.proofs.Destroying.{known_put, known_without, known_alone}
 use Rattle.xr_model.proofs.StandOnce.{once_put, once_without, once_alone}
-use Rattle.xr_handles.specs.Kept.{IsKept}
+use Rattle.xr_handles.specs.HandleRows.{IsKept}
 use Rattle.xr_handles.specs.Numbers.{counted}
 use Rattle.xr_handles.proofs.Numbers.{new_number}
 

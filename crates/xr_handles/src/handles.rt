@@ -33,7 +33,7 @@ pub struct Handles {
 
 impl Model for Handles {
     ghost use Rattle.xr_model.specs.machine.Handles as model;
-    ghost use Rattle.xr_handles.specs.Kept.{rows_of, IsKept};
+    ghost use Rattle.xr_handles.specs.HandleRows.{rows_of, IsKept};
 
     ghost Value = { model.Handles };
 

@@ -28,7 +28,7 @@ use Rattle.xr_model.specs.machine.Handles.{is_among}
 use Rattle.std.specs.List.{find, filter}
 use Rattle.xr_model.proofs.HandleSteps.{first_fails}
 use Rattle.xr_model.proofs.ListSteps.{none_behind}
-use Rattle.xr_model.proofs.Kept.{first_doesnt, sealed_in, found_sealed, sealed_named}
+use Rattle.xr_model.proofs.AtomsAndSeals.{first_doesnt, sealed_in, found_sealed, sealed_named}
 use Rattle.xr_model.proofs.SessionAnswers.{none_with, none_in, first_none}
 use Rattle.xr_model.proofs.SessionSteps.{kept_by_step}
 use Rattle.xr_model.proofs.LostSessions.{new_session_given, sessions_are_listed}

@@ -13,7 +13,7 @@ use Rattle.xr_model.specs.machine.Rule.{Rule, ahead}
 use Rattle.xr_model.specs.machine.SessionRule.{losses}
 use Rattle.xr_model.specs.machine.Machine.{rule, reads_of}
 use Rattle.xr_model.specs.machine.History.{after}
-use Rattle.xr_model.specs.laws.Past.{Decided, past_of, waits, begins, taken_images, given_back, is_disorder}
+use Rattle.xr_model.specs.laws.DecidedEntries.{Decided, past_of, waits, begins, taken_images, given_back, is_disorder}
 use Rattle.xr_model.specs.laws.OrderLaws.{CallOrder}
 use Rattle.xr_model.proofs.Rows.{itself}
 use Rattle.xr_model.proofs.OrderCodes.{coded}

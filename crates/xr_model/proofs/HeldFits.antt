@@ -12,7 +12,7 @@ use Rattle.xr_model.specs.machine.Rule.{Rule, Did, nothing_done, refusal, told_o
 use Rattle.xr_model.specs.machine.Images.{first_images}
 use Rattle.xr_model.specs.machine.Machine.{effect, rule, step, reads_of, held_after}
 use Rattle.xr_model.specs.machine.History.{after}
-use Rattle.xr_model.specs.laws.Past.{Decided, decided, past_from, past_of, taken_images, given_back}
+use Rattle.xr_model.specs.laws.DecidedEntries.{Decided, decided, past_from, past_of, taken_images, given_back}
 use Rattle.xr_model.proofs.FrameOrder.{clear, not_false}
 
 -- ---- what a call did

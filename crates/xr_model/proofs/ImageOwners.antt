@@ -19,7 +19,7 @@ use Rattle.xr_model.specs.machine.History.{after, opening_clocks, clocks_after, 
 use Rattle.xr_model.specs.laws.HandleLaws.{AreUnder, StandOnce}
 use Rattle.xr_model.specs.laws.ImageLaws.{IsPlaced, did_at, has_index, is_had, count_now, OwnersFit, NoTwoOwners, WaitedImageIsNobodys, OwnersAreInTheState, ImagesStep, CountsAreFew, ChainsArePlaced, PlacesAreOwn, FreePlacesAreUnused}
 use Rattle.xr_model.specs.laws.Owners.{has_image, has_behind, is_applications, times_used, times_returned}
-use Rattle.xr_model.specs.laws.Past.{Decided, decided, past_from, past_of}
+use Rattle.xr_model.specs.laws.DecidedEntries.{Decided, decided, past_from, past_of}
 use Rattle.xr_model.proofs.Histories.{fronts_are_legal}
 use Rattle.xr_model.proofs.Rows.{same_key, both_of}
 use Rattle.xr_model.proofs.Destroying.{AreKnown, known_step, known_opening}

@@ -19,7 +19,7 @@ use Rattle.xr_model.specs.machine.Machine.{rule, step, reads_of}
 use Rattle.xr_model.specs.machine.History.{after, opening_clocks}
 use Rattle.xr_model.specs.laws.ImageLaws.{count_now, StampsStay}
 use Rattle.xr_model.specs.laws.Owners.{times_used, times_returned}
-use Rattle.xr_model.specs.laws.Past.{past_of}
+use Rattle.xr_model.specs.laws.DecidedEntries.{past_of}
 use Rattle.xr_model.proofs.Histories.{fronts_are_legal}
 use Rattle.xr_model.proofs.Rows.{same_key, neither_of, is_false}
 use Rattle.xr_model.proofs.FrameOrder.{clear, none_first, not_false}

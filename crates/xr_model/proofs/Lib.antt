@@ -13,7 +13,7 @@ pub mod Keyed
 pub mod ListSteps
 pub mod Lists
 pub mod AttachedSets
-pub mod Kept
+pub mod AtomsAndSeals
 pub mod Filters
 pub mod Attaching
 pub mod Places

@@ -13,7 +13,7 @@ use Rattle.xr_model.specs.machine.State.{State, opening}
 use Rattle.xr_model.specs.machine.Machine.{step}
 use Rattle.xr_model.specs.machine.History.{calls_from}
 use Rattle.xr_model.specs.runs.NameValues.{no_values}
-use Rattle.xr_model.specs.runs.Scripts.{request_for, unstarted, FollowsSoFarFrom}
+use Rattle.xr_model.specs.runs.Scripts.{request_for, unstarted, FollowsFrom}
 use Rattle.xr_model.specs.runs.Robin.{Agenda, script, events, compositor, actor_of, next_call, with_start, is_ended, agenda_after, NextMove, next_move, IsCallOf, agendas_after, agendas_behind, script_agendas, device_agendas, first_agendas, agendas_of}
 use Rattle.xr_model.specs.runs.Lists.{events_in}
 use Rattle.xr_model.specs.laws.RunLaws.{script_of, count_of, CallsFollowScripts}
@@ -49,7 +49,7 @@ undue who (x ∷ xs) none = by (is_actor who (actor_of x)) x none (undue who xs)
 
 -- these calls are what an actor has still to do, as far as they go
 abbrev Does : Agenda → List Exchange → Type 0
-Does (script app place ops values clock) ts = FollowsSoFarFrom place values ops ts
+Does (script app place ops values clock) ts = FollowsFrom false place values ops ts
 Does (events e es) ts = (rest : List DeviceEvent) × (e ∷ es ≡ events_in ts ++ rest)
 Does (compositor held) ts = Unit {0}
 
@@ -60,7 +60,7 @@ DoAll (x ∷ y ∷ xs) ts = Unit {0}
 
 none_made : (agendas : List Agenda) → DoAll agendas []
 none_made [] = refl
-none_made (script app place ops values clock ∷ []) = tt
+none_made (script app place ops values clock ∷ []) = refl
 none_made (events e es ∷ []) = (e ∷ es, refl)
 none_made (compositor held ∷ []) = tt
 none_made (x ∷ y ∷ xs) = tt
@@ -72,7 +72,7 @@ not_started _ values clock = refl
 -- a call, and then what is left to do
 one_more : (x : Agenda) (s : State) (t : Exchange) (ts : List Exchange) → t.request ≡ next_call x → DoAll (agenda_after x s t.outcome) ts
     → Does x (t ∷ ts)
-one_more (script app place [] values clock) s t ts is more = subst (λ l. FollowsSoFarFrom place values [] (t ∷ l)) (sym more) is
+one_more (script app place [] values clock) s t ts is more = subst (λ l. FollowsFrom false place values [] (t ∷ l)) (sym more) is
 one_more (script app place (o ∷ os) values clock) s t ts is more = (ap unstarted is ∙ not_started o values clock, more)
 one_more (events e []) s t ts is more = ([], subst (λ l. e ∷ [] ≡ events_in (t ∷ l) ++ []) (sym more) (rw is refl))
 one_more (events e (f ∷ fs)) s t ts is more = (more.0, rw is (ap (λ (l : List DeviceEvent). e ∷ l) more.1))

@@ -15,7 +15,7 @@ pub mod EventLaws
 pub mod SessionLifeLaws
 pub mod SpaceLaws
 pub mod FrameLaws
-pub mod Past
+pub mod DecidedEntries
 pub mod OrderLaws
 pub mod Owners
 pub mod ImageLaws

@@ -139,13 +139,13 @@ pub fn listed_where_live()
 {}
 
 /// An atom keeps its text until the instance goes.
-#[tactic(auto, using(crate::proofs::Kept::atoms_stay))]
+#[tactic(auto, using(crate::proofs::AtomsAndSeals::atoms_stay))]
 pub fn atoms_stay()
     ensures { AtomsStay }
 {}
 
 /// A set that is sealed stays so as long as it is listed, and no action joins it.
-#[tactic(auto, using(crate::proofs::Kept::sealed_stays))]
+#[tactic(auto, using(crate::proofs::AtomsAndSeals::sealed_stays))]
 pub fn sealed_stays()
     ensures { SealedStays }
 {}
@@ -184,7 +184,7 @@ pub fn new_sessions_are_bare()
 {}
 
 /// No atom is left behind the end of the instance.
-#[tactic(auto, using(crate::proofs::Kept::atoms_go))]
+#[tactic(auto, using(crate::proofs::AtomsAndSeals::atoms_go))]
 pub fn atoms_go()
     ensures { AtomsGo }
 {}

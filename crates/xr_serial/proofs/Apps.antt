@@ -50,10 +50,8 @@ op_more ops app calls o outcome clock within here stays kept =
       named = length-set app.names (app.made + 1 - 1) (value_given o outcome.reply.gives) ∙ kept.named;
       list_is = sym (made_snoc 1 calls t ∙ rw (place, ← kept.list_is) refl);
       count = length-append calls (t ∷ []) ∙ rw stays (omega (arith, count));
-      follows = λ more here_yet h. rw append_assoc (kept.follows (t ∷ more) stays (rw here (same_request app.clock app.names o, h)));
-      so_far = λ more here_yet h. rw append_assoc (kept.so_far (t ∷ more) stays (rw here (same_request app.clock app.names o, h)));
-      whole = λ e. absurd (true≢false (sym e ∙ stays));
-      front = λ e. absurd (true≢false (sym e ∙ stays));
+      follows = λ all more here_yet h. rw append_assoc (kept.follows all (t ∷ more) stays (rw here (same_request app.clock app.names o, h)));
+      whole = λ all e. absurd (true≢false (sym e ∙ stays));
     }
 
 pub leave_more : (ops : List Op) (app : AppState) (calls : List request.Exchange) (outcome : Outcome) (clock : ℤ) → app.made ≡ length ops → app.has_left ≡ false → AppKept ops app calls
@@ -68,10 +66,8 @@ leave_more ops app calls outcome clock all stays kept =
       named = kept.named;
       list_is = sym (made_snoc 1 calls t ∙ rw (place, ← kept.list_is) refl);
       count = length-append calls (t ∷ []) ∙ omega (arith, count);
-      follows = λ more e. absurd (true≢false e);
-      so_far = λ more e. absurd (true≢false e);
-      whole = λ e. kept.follows (t ∷ []) stays (rw none refl);
-      front = λ e. kept.so_far (t ∷ []) stays (rw none refl);
+      follows = λ all more e. absurd (true≢false e);
+      whole = λ all e. kept.follows all (t ∷ []) stays (rw none refl);
     }
 
 -- ---- all of them, where one has made a call

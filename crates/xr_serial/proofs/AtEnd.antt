@@ -49,8 +49,8 @@ follows_so_far : (ops : List Op) (app : AppState) (calls : List request.Exchange
 follows_so_far ops app calls kept = by app.has_left refl
   where
     by : (left : Bool) → app.has_left ≡ left → FollowsSoFar ops calls
-    by true e = kept.front e
-    by false e = subst (FollowsSoFar ops) (append-nil calls) (kept.so_far [] e tt)
+    by true e = kept.whole false e
+    by false e = subst (FollowsSoFar ops) (append-nil calls) (kept.follows false [] e refl)
 
 -- ---- the compositor
 
@@ -275,7 +275,7 @@ module _ (scenario : Scenario) (turn : ℕ) (s : State) (run : RunState) (start 
       let both : apps ++ told ≡ [] = front_none (apps ++ told) ends none in
       let unknown : run.side.pending ≡ None = no_pending run.side.pending (behind_none apps told both) in
       record {
-        follow = λ place within. rw (calls_are (App (place + 1))) ((kept_at place within).whole (all_gone 1 scenario.scripts run.apps place nobody all (front_none apps told both) within));
+        follow = λ place within. rw (calls_are (App (place + 1))) ((kept_at place within).whole true (all_gone 1 scenario.scripts run.apps place nobody all (front_none apps told both) within));
         ends = rw (calls_are Compositor) (ends_once run.compositor.ended (inv.calls Compositor) inv.kept.compositor.end (behind_none (apps ++ told) ends none));
         device =
             ap events_in (calls_are Device)

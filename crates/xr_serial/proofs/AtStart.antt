@@ -64,10 +64,8 @@ app_starts ops = record {
   named = grind (arith, common_steps);
   list_is = refl;
   count = refl;
-  follows = λ more here h. h;
-  so_far = λ more here h. h;
-  whole = λ e. absurd (true≢false (sym e));
-  front = λ e. absurd (true≢false (sym e));
+  follows = λ all more here h. h;
+  whole = λ all e. absurd (true≢false (sym e));
 }
 
 pub starts : (scenario : Scenario) (start : Prospect) → start.bound ≤ 16777216 → RunInvariant scenario 0 0 (opening (settings_of scenario)) (start_of scenario) start start

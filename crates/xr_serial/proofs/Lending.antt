@@ -34,11 +34,10 @@ use Rattle.xr_model.specs.machine.Refusals.{Refusal, first_of}
 use Rattle.xr_model.specs.machine.State.{CoreState, State}
 use Rattle.xr_model.specs.machine.SessionRule.{Loss}
 use Rattle.xr_model.specs.machine.Rule.{Rule, Effect, refusals, or_short, refusal, told_on, unless_refused, carried_out}
-use Rattle.xr_model.specs.machine.CoreCalls.{Lent, written_over, shown_over}
+use Rattle.xr_model.specs.machine.CoreCalls.{Lent, AnswersBy, written_over, shown_over}
 use Rattle.xr_types.specs.Frames.{PendingFrame, ShownFrame}
 use Rattle.xr_model.specs.machine.Rules.Frames.{look_of, told_frame, oldest_shown, next_frame_rule}
-use Rattle.xr_model.specs.machine.Machine.{reads_of, step, rule, ready}
-use Rattle.xr_model.specs.machine.CoreCalls.{Answers}
+use Rattle.xr_model.specs.machine.Machine.{reads_of, step, rule, ready, IsAllowed}
 use Rattle.xr_serial.specs.inside.Lent.{lent_size, written_size}
 use Rattle.xr_serial.specs.inside.Made.{IsAnswered, frame_told, frame_shown}
 
@@ -256,7 +255,7 @@ same_outcome : (o : Outcome) (answer : Reply) (bytes : List ℕ) (shown : Option
 same_outcome o answer bytes shown e f g = rw (e, f, g) refl
 
 -- It is a call that was made, with the bytes at the front of its buffer and the frame in its place.
-pub made_of : (old new : State) (who : Actor) (what : Request) (answer : Reply) (before written : Lent) (bytes : List ℕ) (n : ℕ) → Answers old (entry_of who what answer) new answer before written
+pub made_of : (old new : State) (who : Actor) (what : Request) (answer : Reply) (before written : Lent) (bytes : List ℕ) (n : ℕ) → AnswersBy (IsAllowed old (entry_of who what answer)) (ready old (entry_of who what answer)) (step old (entry_of who what answer)) new answer before written
     → n ≡ written_size answer.gives (lent_size what) → bytes ≡ take n written.text
     → IsAnswered old new who what (record { reply = answer; text = bytes; shown = frame_shown what answer.gives written.frame })
 made_of old new who what answer before written bytes n a size front =

@@ -9,7 +9,7 @@ use Rattle.xr_types.specs.Device.{is_mark}
 use Rattle.xr_types.specs.Op.{call_name}
 use Rattle.xr_model.specs.scenario.InRange.{IsMark}
 use Rattle.xr_model.specs.scenario.ScriptForm.{IsInRange}
-use Rattle.xr_model.specs.runs.Lists.{name_of, mark_of, start_of, done_at}
+use Rattle.xr_model.specs.runs.Lists.{name_of_request, mark_of, start_of, done_at}
 use Rattle.xr_types.specs.declared.code.Code.TheVariants.{CallOrderInvalid}
 use Rattle.xr_model.specs.machine.Machine.{ready}
 use Rattle.xr_model.specs.machine.CoreCalls.{MayAsk}
@@ -55,7 +55,7 @@ pub op_lent : (clock : ℤ) (values : List ℕ) (o : Op) → IsInRange o → len
 op_lent clock values (op.PathToString instance path capacity) r = r.2
 op_lent clock values _ r = omega arith
 
-pub name_is : (clock : ℤ) (values : List ℕ) (o : Op) → name_of (with_start clock (request_for values o)) ≡ call_name o
+pub name_is : (clock : ℤ) (values : List ℕ) (o : Op) → name_of_request (with_start clock (request_for values o)) ≡ call_name o
 name_is clock values (op.CreateInstance major minor) = refl
 name_is clock values _ = refl
 
@@ -94,7 +94,7 @@ starts clock (wait_image chain timeout start) = refl
 starts clock _ = tt
 
 -- a call is a locked one, or a getter by its name, whenever a wait begins
-pub getter_name : (clock : ℤ) (values : List ℕ) (o : Op) → is_getter_name (name_of (with_start clock (request_for values o))) ≡ not (is_locked (with_start clock (request_for values o)))
+pub getter_name : (clock : ℤ) (values : List ℕ) (o : Op) → is_getter_name (name_of_request (with_start clock (request_for values o))) ≡ not (is_locked (with_start clock (request_for values o)))
 getter_name clock values (op.CreateInstance major minor) = refl
 getter_name clock values _ = refl
 

@@ -7,6 +7,5 @@ pub mod InputValues
 pub mod Name
 pub mod Op
 pub mod Printed
-pub mod OpNumber
 pub mod Users
 pub mod Words

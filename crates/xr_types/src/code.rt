@@ -1,6 +1,6 @@
 // What a call answers, and the names of OpenXR.
 ghost use Rattle.std.specs.Prelude.{◌≡◌, Some};
-ghost use Rattle.xr_types.specs.Code.{name_of, is_success};
+ghost use Rattle.xr_types.specs.Code.{name_of_code, is_success};
 
 use std::fmt;
 
@@ -53,7 +53,7 @@ pub enum Code {
 impl Code {
     /// The name of the OpenXR result, as a report prints it.
     pub fn name(self) -> &'static str
-        ensures { result.now ≡ name_of self }
+        ensures { result.now ≡ name_of_code self }
     {
         match self {
             Code::Success => "XR_SUCCESS",
@@ -115,7 +115,7 @@ impl Code {
 }
 
 impl fmt::Display for Code {
-    ghost output = { λ code. Some (name_of code) };
+    ghost output = { λ code. Some (name_of_code code) };
 
     fn fmt<W: fmt::Write>(&self, f: &mut fmt::Formatter<W>) -> fmt::Result {
         f.write_str(self.name())

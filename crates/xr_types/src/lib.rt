@@ -80,6 +80,7 @@ pub use limits::MOST_ATTACHED;
 pub use limits::MOST_BINDINGS;
 pub use limits::MOST_CAPACITY;
 pub use limits::MOST_DEVICE;
+pub use limits::MOST_FILE_NAME;
 pub use limits::MOST_GIVEN;
 pub use limits::MOST_HANDLE_MARK;
 pub use limits::MOST_LINE;

@@ -62,3 +62,6 @@ pub const MOST_NAME: usize = 63;
 
 /// The bytes of a localized name. It has at least one.
 pub const MOST_LOCALIZED: usize = 127;
+
+/// The bytes of a file's name, as the system takes no longer ones. It has at least one.
+pub const MOST_FILE_NAME: usize = 4095;

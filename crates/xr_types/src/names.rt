@@ -1,7 +1,6 @@
 // The calls by their names in scenarios and reports.
 ghost use Rattle.std.specs.Prelude.{◌≡◌, Some};
 ghost use Rattle.xr_types.specs.Op.{name_of_call, all_ops};
-ghost use Rattle.xr_types.specs.OpNumber.{number_of_op};
 
 use std::fmt;
 
@@ -144,53 +143,6 @@ impl CallName {
             CallName::Device => "device",
             CallName::NextFrame => "next_frame",
             CallName::ImageDone => "image_done",
-        }
-    }
-
-    /// The number of an op, 1 to 37 in the order of the format; 0 for `leave`, `device`, `next_frame` and `image_done`,
-    /// which stand in no script.
-    pub fn number(self) -> u8
-        ensures { result ≡ number_of_op self }
-    {
-        match self {
-            CallName::CreateInstance => 1,
-            CallName::DestroyInstance => 2,
-            CallName::PollEvent => 3,
-            CallName::GetSystem => 4,
-            CallName::StringToPath => 5,
-            CallName::PathToString => 6,
-            CallName::CreateSession => 7,
-            CallName::DestroySession => 8,
-            CallName::EndSession => 9,
-            CallName::RequestExitSession => 10,
-            CallName::BeginFrame => 11,
-            CallName::BeginSession => 12,
-            CallName::CreateReferenceSpace => 13,
-            CallName::CreateActionSpace => 14,
-            CallName::DestroySpace => 15,
-            CallName::LocateSpace => 16,
-            CallName::CreateActionSet => 17,
-            CallName::DestroyActionSet => 18,
-            CallName::CreateAction => 19,
-            CallName::DestroyAction => 20,
-            CallName::SuggestBindings => 21,
-            CallName::AttachSets => 22,
-            CallName::SyncActions => 23,
-            CallName::GetBoolean => 24,
-            CallName::GetFloat => 25,
-            CallName::GetVector => 26,
-            CallName::GetPoseActive => 27,
-            CallName::CreateSwapchain => 28,
-            CallName::DestroySwapchain => 29,
-            CallName::AcquireImage => 30,
-            CallName::ReleaseImage => 31,
-            CallName::WaitImage => 32,
-            CallName::Paint => 33,
-            CallName::WaitFrame => 34,
-            CallName::EndFrame => 35,
-            CallName::Mark => 36,
-            CallName::Await => 37,
-            CallName::Leave | CallName::Device | CallName::NextFrame | CallName::ImageDone => 0,
         }
     }
 }

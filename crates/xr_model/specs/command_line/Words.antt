@@ -4,6 +4,7 @@ use Rattle.std.specs.Prelude.{ℕ, ◌&&◌, Bool, true, false, List, [], ◌∷
 use Rattle.std.specs.Str.{bytes_eq}
 use Rattle.clap.specs.Words.{App, Rule, Row, new_app, new_rule, with_rule, fault_of, matches_of, first_of}
 use Rattle.clap.specs.Walk.{is_empty}
+use Rattle.xr_types.specs.declared.limits.TheConstants.{MOST_FILE_NAME}
 use Rattle.clap.specs.declared.builder.action.ArgAction.TheVariants.{SetTrue}
 
 -- ---- the command that reads the words of a run
@@ -41,9 +42,9 @@ pub record RunOptions : Type 0 where
   pub device : Option (List ℕ)
   pub places : Bool
 
--- a file's name has 1 to 4095 bytes
+-- a file's name has a byte, and no more than the system takes
 abbrev pub is_file : List ℕ → Bool
-is_file name = nat_lt 0 (length name) && nat_le (length name) 4095
+is_file name = nat_lt 0 (length name) && nat_le (length name) MOST_FILE_NAME
 
 abbrev pub is_file_or_none : Option (List ℕ) → Bool
 is_file_or_none None = true

@@ -12,17 +12,17 @@ connected None = codes "none"
 connected (Some profile) = profile_name profile
 
 -- the line that gives an event; no line gives the two ways in which a device ends early
-abbrev pub line_of : DeviceEvent → List ℕ
-line_of (event.Clock time) = codes "clock " ++ signed_decimal time
-line_of (event.Grid base period) = codes "grid " ++ signed_decimal base ++ codes " " ++ signed_decimal period
-line_of (event.Wish wish) = codes "wish " ++ wish_name wish
-line_of event.Loss = codes "loss"
-line_of event.Lost = codes "lost"
-line_of (event.Stage on) = codes "stage " ++ (if on then codes "on" else codes "off")
-line_of (event.Profile user profile) = codes "profile " ++ user_path user ++ codes " " ++ connected profile
-line_of (event.Input user row value) = codes "input " ++ user_path user ++ codes "/input/" ++ input_name row ++ codes " " ++ signed_decimal value
-line_of (event.Pose origin time pose) = codes "pose " ++ origin_name origin ++ codes " " ++ signed_decimal time ++ codes " " ++ decimal pose
-line_of (event.Mark mark) = codes "mark " ++ decimal mark
-line_of (event.Await mark) = codes "await " ++ decimal mark
-line_of event.Fault = []
-line_of (event.Garbled line) = []
+abbrev pub event_line : DeviceEvent → List ℕ
+event_line (event.Clock time) = codes "clock " ++ signed_decimal time
+event_line (event.Grid base period) = codes "grid " ++ signed_decimal base ++ codes " " ++ signed_decimal period
+event_line (event.Wish wish) = codes "wish " ++ wish_name wish
+event_line event.Loss = codes "loss"
+event_line event.Lost = codes "lost"
+event_line (event.Stage on) = codes "stage " ++ (if on then codes "on" else codes "off")
+event_line (event.Profile user profile) = codes "profile " ++ user_path user ++ codes " " ++ connected profile
+event_line (event.Input user row value) = codes "input " ++ user_path user ++ codes "/input/" ++ input_name row ++ codes " " ++ signed_decimal value
+event_line (event.Pose origin time pose) = codes "pose " ++ origin_name origin ++ codes " " ++ signed_decimal time ++ codes " " ++ decimal pose
+event_line (event.Mark mark) = codes "mark " ++ decimal mark
+event_line (event.Await mark) = codes "await " ++ decimal mark
+event_line event.Fault = []
+event_line (event.Garbled line) = []

@@ -12,7 +12,7 @@ use Rattle.xr_model.specs.machine.State.{Settings, CoreState, CellReads, State, 
 use Rattle.xr_model.specs.machine.Machine.{effect, reads_of, step, ready, core_step}
 use Rattle.xr_model.specs.machine.History.{after, IsLegal}
 use Rattle.xr_model.specs.laws.Owners.{has_image, has_behind, is_applications, is_compositors, times_used, times_returned}
-use Rattle.xr_model.specs.laws.Past.{past_of}
+use Rattle.xr_model.specs.laws.DecidedEntries.{past_of}
 
 -- an image of one of the places: its place is below 16, and its index below 3
 abbrev pub IsPlaced : Image → Type 0

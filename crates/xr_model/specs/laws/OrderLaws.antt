@@ -9,7 +9,7 @@ use Rattle.xr_model.specs.machine.State.{Settings, opening}
 use Rattle.xr_model.specs.machine.Rule.{ahead}
 use Rattle.xr_model.specs.machine.Machine.{reads_of, rule, step}
 use Rattle.xr_model.specs.machine.History.{after, IsLegal}
-use Rattle.xr_model.specs.laws.Past.{past_of, waits, begins, is_disorder}
+use Rattle.xr_model.specs.laws.DecidedEntries.{past_of, waits, begins, is_disorder}
 
 -- After a legal history a call is answered as out of order exactly where no earlier refusal of it holds and the counts
 -- over the history say so.

@@ -5,7 +5,7 @@ use Rattle.std.specs.List.{list_any}
 use Rattle.xr_types.specs.declared.frames.Image.{Image}
 use Rattle.xr_model.specs.machine.Images.{is_image, slot_of, times_in}
 use Rattle.xr_model.specs.machine.Rule.{Did}
-use Rattle.xr_model.specs.laws.Past.{Decided}
+use Rattle.xr_model.specs.laws.DecidedEntries.{Decided}
 
 abbrev pub has_image : Image → List Image → Bool
 has_image i images = list_any (is_image i) images

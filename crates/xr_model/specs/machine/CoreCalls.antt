@@ -87,24 +87,17 @@ pub record WaitsBy {S : Type 0} (readiness : Bool) (old new : S) (before after :
   pub same : new ≡ old
   pub unwritten : after ≡ before
 
+-- What a call is answered, where these entries are allowed, these are ready, and each leads to this.
+abbrev pub AppliesBy : {S : Type 0} → (Entry → Type 0) → (Entry → Bool) → (Entry → S × Outcome) → S → S → Actor → Call → Lent → Lent → Step → Type 0
+AppliesBy allows is_ready leads old new who call before after (Done answer) =
+    AnswersBy (allows (entry_of who (request_of call) answer)) (is_ready (entry_of who (request_of call) answer)) (leads (entry_of who (request_of call) answer)) new answer before after
+AppliesBy allows is_ready leads old new who call before after NotReady =
+    (given : ℕ) (short : Bool) → WaitsBy (is_ready (record { actor = who; request = request_of call; given = given; short = short })) old new before after
+
 -- of what a core keeps, where the cells tell so much
-abbrev pub CoreAnswers : CellReads → CoreState → Entry → CoreState → Reply → Lent → Lent → Type 0
-CoreAnswers reads old e new answer before after = AnswersBy (CoreAllows old reads e) (core_ready old reads e) (core_step old reads e) new answer before after
-
-abbrev pub CoreWaits : CellReads → CoreState → Entry → CoreState → Lent → Lent → Type 0
-CoreWaits reads old e new before after = WaitsBy (core_ready old reads e) old new before after
-
 abbrev pub CoreApplies : CellReads → CoreState → CoreState → Actor → Call → Lent → Lent → Step → Type 0
-CoreApplies reads old new who call before after (Done answer) = CoreAnswers reads old (entry_of who (request_of call) answer) new answer before after
-CoreApplies reads old new who call before after NotReady = (given : ℕ) (short : Bool) → CoreWaits reads old (record { actor = who; request = request_of call; given = given; short = short }) new before after
+CoreApplies reads old = AppliesBy (CoreAllows old reads) (core_ready old reads) (core_step old reads) old
 
 -- the same of whole states, whose cells tell it
-abbrev pub Answers : State → Entry → State → Reply → Lent → Lent → Type 0
-Answers old e new answer before after = AnswersBy (IsAllowed old e) (ready old e) (step old e) new answer before after
-
-abbrev pub Waits : State → Entry → State → Lent → Lent → Type 0
-Waits old e new before after = WaitsBy (ready old e) old new before after
-
 abbrev pub Applies : State → State → Actor → Call → Lent → Lent → Step → Type 0
-Applies old new who call before after (Done answer) = Answers old (entry_of who (request_of call) answer) new answer before after
-Applies old new who call before after NotReady = (given : ℕ) (short : Bool) → Waits old (record { actor = who; request = request_of call; given = given; short = short }) new before after
+Applies old = AppliesBy (IsAllowed old) (ready old) (step old) old

@@ -23,7 +23,7 @@ place_behind places reply = if places then codes " @" ++ decimal reply.place els
 -- a call of a script: its place there, its name, its code and its values
 abbrev pub call_line : Bool → Made → List ℕ
 call_line places m =
-    decimal m.op ++ codes " " ++ op.name_of_call m.name ++ codes " " ++ code.name_of m.reply.code ++ values_of m
+    decimal m.op ++ codes " " ++ op.name_of_call m.name ++ codes " " ++ code.name_of_code m.reply.code ++ values_of m
     ++ place_behind places m.reply ++ codes "\n"
 
 -- a layer of a frame, by the stamps of its images
@@ -55,7 +55,7 @@ ended_line places (Some reply) = codes "ended" ++ place_behind places reply ++ c
 abbrev pub event_text : ℕ → DeviceEvent → List ℕ
 event_text number event.Fault = codes "fault"
 event_text number (event.Garbled line) = codes "garbled " ++ decimal line
-event_text number event = decimal number ++ codes " " ++ device.line_of event
+event_text number event = decimal number ++ codes " " ++ device.event_line event
 
 abbrev pub event_line : Bool → ℕ → DeviceEvent → Made → List ℕ
 event_line places number event m = event_text number event ++ place_behind places m.reply ++ codes "\n"

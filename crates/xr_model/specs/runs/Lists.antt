@@ -16,48 +16,48 @@ use Rattle.xr_model.specs.machine.Machine.{step}
 use Rattle.xr_model.specs.machine.History.{shown_if, calls_of}
 use Rattle.xr_model.specs.runs.Robin.{Agenda, script, events, compositor, next_call, in_round, is_ended}
 
-abbrev pub name_of : Request → CallName
-name_of (create_instance major minor) = call.CreateInstance
-name_of (destroy_instance instance) = call.DestroyInstance
-name_of (get_system instance form) = call.GetSystem
-name_of (string_to_path instance text) = call.StringToPath
-name_of (path_to_string instance path capacity) = call.PathToString
-name_of (poll_event instance) = call.PollEvent
-name_of (create_session instance system) = call.CreateSession
-name_of (destroy_session session) = call.DestroySession
-name_of (begin_session session view) = call.BeginSession
-name_of (end_session session) = call.EndSession
-name_of (request_exit_session session) = call.RequestExitSession
-name_of (create_reference_space session kind offset) = call.CreateReferenceSpace
-name_of (create_action_space session action sub offset) = call.CreateActionSpace
-name_of (destroy_space space) = call.DestroySpace
-name_of (locate_space space base time) = call.LocateSpace
-name_of (create_action_set instance name localized priority) = call.CreateActionSet
-name_of (destroy_action_set set) = call.DestroyActionSet
-name_of (create_action set name kind subs localized) = call.CreateAction
-name_of (destroy_action action) = call.DestroyAction
-name_of (suggest_bindings instance profile list) = call.SuggestBindings
-name_of (attach_sets session sets) = call.AttachSets
-name_of (sync_actions session active) = call.SyncActions
-name_of (get_boolean session action sub) = call.GetBoolean
-name_of (get_float session action sub) = call.GetFloat
-name_of (get_vector session action sub) = call.GetVector
-name_of (get_pose_active session action sub) = call.GetPoseActive
-name_of (create_swapchain session format width height fixed) = call.CreateSwapchain
-name_of (destroy_swapchain chain) = call.DestroySwapchain
-name_of (acquire_image chain) = call.AcquireImage
-name_of (wait_image chain timeout start) = call.WaitImage
-name_of (paint chain stamp) = call.Paint
-name_of (release_image chain) = call.ReleaseImage
-name_of (wait_frame session) = call.WaitFrame
-name_of (begin_frame session) = call.BeginFrame
-name_of (end_frame session time blend layers) = call.EndFrame
-name_of (mark number value) = call.Mark
-name_of (await_mark number) = call.Await
-name_of leave = call.Leave
-name_of (device what) = call.Device
-name_of next_frame = call.NextFrame
-name_of image_done = call.ImageDone
+abbrev pub name_of_request : Request → CallName
+name_of_request (create_instance major minor) = call.CreateInstance
+name_of_request (destroy_instance instance) = call.DestroyInstance
+name_of_request (get_system instance form) = call.GetSystem
+name_of_request (string_to_path instance text) = call.StringToPath
+name_of_request (path_to_string instance path capacity) = call.PathToString
+name_of_request (poll_event instance) = call.PollEvent
+name_of_request (create_session instance system) = call.CreateSession
+name_of_request (destroy_session session) = call.DestroySession
+name_of_request (begin_session session view) = call.BeginSession
+name_of_request (end_session session) = call.EndSession
+name_of_request (request_exit_session session) = call.RequestExitSession
+name_of_request (create_reference_space session kind offset) = call.CreateReferenceSpace
+name_of_request (create_action_space session action sub offset) = call.CreateActionSpace
+name_of_request (destroy_space space) = call.DestroySpace
+name_of_request (locate_space space base time) = call.LocateSpace
+name_of_request (create_action_set instance name localized priority) = call.CreateActionSet
+name_of_request (destroy_action_set set) = call.DestroyActionSet
+name_of_request (create_action set name kind subs localized) = call.CreateAction
+name_of_request (destroy_action action) = call.DestroyAction
+name_of_request (suggest_bindings instance profile list) = call.SuggestBindings
+name_of_request (attach_sets session sets) = call.AttachSets
+name_of_request (sync_actions session active) = call.SyncActions
+name_of_request (get_boolean session action sub) = call.GetBoolean
+name_of_request (get_float session action sub) = call.GetFloat
+name_of_request (get_vector session action sub) = call.GetVector
+name_of_request (get_pose_active session action sub) = call.GetPoseActive
+name_of_request (create_swapchain session format width height fixed) = call.CreateSwapchain
+name_of_request (destroy_swapchain chain) = call.DestroySwapchain
+name_of_request (acquire_image chain) = call.AcquireImage
+name_of_request (wait_image chain timeout start) = call.WaitImage
+name_of_request (paint chain stamp) = call.Paint
+name_of_request (release_image chain) = call.ReleaseImage
+name_of_request (wait_frame session) = call.WaitFrame
+name_of_request (begin_frame session) = call.BeginFrame
+name_of_request (end_frame session time blend layers) = call.EndFrame
+name_of_request (mark number value) = call.Mark
+name_of_request (await_mark number) = call.Await
+name_of_request leave = call.Leave
+name_of_request (device what) = call.Device
+name_of_request next_frame = call.NextFrame
+name_of_request image_done = call.ImageDone
 
 -- the mark that a call awaits, else 0
 abbrev pub mark_of : Request → ℕ
@@ -71,7 +71,7 @@ start_of _ = pos 0
 
 -- a call at its place in the script
 abbrev pub made_at : ℕ → Exchange → Made
-made_at place t = record { op = place; name = name_of t.request; mark = mark_of t.request; start = start_of t.request; reply = t.outcome.reply; text = t.outcome.text }
+made_at place t = record { op = place; name = name_of_request t.request; mark = mark_of t.request; start = start_of t.request; reply = t.outcome.reply; text = t.outcome.text }
 
 -- calls, from a place on
 abbrev pub made_from : ℕ → List Exchange → List Made
@@ -125,7 +125,7 @@ mark_awaited (event.Await number) = number
 mark_awaited _ = 0
 
 abbrev pub waiting_of : Agenda → Waiting
-waiting_of (script app place ops values clock) = record { actor = App app; op = place; name = name_of (next_call (script app place ops values clock)) }
+waiting_of (script app place ops values clock) = record { actor = App app; op = place; name = name_of_request (next_call (script app place ops values clock)) }
 waiting_of (events e es) = record { actor = Device; op = mark_awaited e; name = call.Await }
 waiting_of (compositor held) = record { actor = Compositor; op = 0; name = call.NextFrame }
 

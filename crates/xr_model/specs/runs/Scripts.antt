@@ -1,5 +1,5 @@
 -- What a script asks, and when calls follow it.
-use Rattle.std.specs.Prelude.{◌≡◌, ℕ, ◌+◌, pos, map, List, [], ◌∷◌, length}
+use Rattle.std.specs.Prelude.{◌≡◌, ℕ, ◌+◌, pos, Bool, true, false, map, List, [], ◌∷◌, length}
 use Rattle.xr_types.specs.declared.scenario.Op.{Op}
 use Rattle.xr_types.specs.declared.scenario.Op.TheVariants as op
 use Rattle.xr_model.specs.machine.Request.{Request, create_instance, destroy_instance, poll_event, get_system, string_to_path, path_to_string, create_session, destroy_session, end_session, request_exit_session, begin_frame, begin_session, create_reference_space, create_action_space, destroy_space, locate_space, create_action_set, destroy_action_set, create_action, destroy_action, suggest_bindings, attach_sets, sync_actions, get_boolean, get_float, get_vector, get_pose_active, create_swapchain, destroy_swapchain, acquire_image, release_image, wait_image, paint, wait_frame, end_frame, mark, await_mark, leave, Exchange}
@@ -51,24 +51,21 @@ abbrev pub unstarted : Request → Request
 unstarted (wait_image chain timeout start) = wait_image chain timeout (pos 0)
 unstarted r = r
 
--- From a place of the script on, call i is what op i asks, with its names replaced by what the calls
--- before it gave, and `leave` comes last.
-abbrev pub FollowsFrom : ℕ → List ℕ → List Op → List Exchange → Type 0
-FollowsFrom place values [] [] = ⊥
-FollowsFrom place values [] (t ∷ []) = t.request ≡ leave
-FollowsFrom place values [] (t ∷ u ∷ ts) = ⊥
-FollowsFrom place values (o ∷ os) [] = ⊥
-FollowsFrom place values (o ∷ os) (t ∷ ts) = (unstarted t.request ≡ request_for values o) × FollowsFrom (place + 1) (with_name_value values place o t.outcome.reply) os ts
+-- From a place of the script on, call i is what op i asks, with its names replaced by what the calls before it gave, and
+-- `leave` comes last. The calls end before that only where not all have to be there.
+abbrev pub FollowsFrom : Bool → ℕ → List ℕ → List Op → List Exchange → Type 0
+FollowsFrom all place values ops [] = all ≡ false
+FollowsFrom all place values [] (t ∷ []) = t.request ≡ leave
+FollowsFrom all place values [] (t ∷ u ∷ ts) = ⊥
+FollowsFrom all place values (o ∷ os) (t ∷ ts) = (unstarted t.request ≡ request_for values o) × FollowsFrom all (place + 1) (with_name_value values place o t.outcome.reply) os ts
 
+abbrev pub FollowsBy : Bool → List Op → List Exchange → Type 0
+FollowsBy all script calls = FollowsFrom all 1 (no_values (length script)) script calls
+
+-- these are the calls of a script, all of them and then `leave`
 abbrev pub Follows : List Op → List Exchange → Type 0
-Follows script calls = FollowsFrom 1 (no_values (length script)) script calls
+Follows script calls = FollowsBy true script calls
 
--- The same of calls that may not be all of the script's, since the run can't go on.
-abbrev pub FollowsSoFarFrom : ℕ → List ℕ → List Op → List Exchange → Type 0
-FollowsSoFarFrom place values ops [] = Unit {0}
-FollowsSoFarFrom place values [] (t ∷ []) = t.request ≡ leave
-FollowsSoFarFrom place values [] (t ∷ u ∷ ts) = ⊥
-FollowsSoFarFrom place values (o ∷ os) (t ∷ ts) = (unstarted t.request ≡ request_for values o) × FollowsSoFarFrom (place + 1) (with_name_value values place o t.outcome.reply) os ts
-
+-- they may not be all, since the run can't go on
 abbrev pub FollowsSoFar : List Op → List Exchange → Type 0
-FollowsSoFar script calls = FollowsSoFarFrom 1 (no_values (length script)) script calls
+FollowsSoFar script calls = FollowsBy false script calls

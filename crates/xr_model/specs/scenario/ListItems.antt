@@ -50,23 +50,19 @@ handle_part names d = option_map (λ u. record { handle = u }) (handle_in names 
 abbrev pub atom_part : List NamedOp → Data → Option AtomUse
 atom_part names d = option_map (λ u. record { atom = u }) (atom_in names d)
 
-abbrev pub binding : Use → Use → BindingUse
-binding h a = record { action = h; path = a }
+-- an array of a handle and an atom
+abbrev pub pair_part : {T : Type 0} → (Use → Use → T) → List NamedOp → Data → Option T
+pair_part made_of names d =
+    if item_count d == 2 then option_and_then (λ h. option_map (made_of h) (option_and_then (atom_in names) (at 1 d))) (option_and_then (handle_in names) (at 0 d))
+    else None
 
--- an array of an action and a path
+-- an action and a path
 abbrev pub binding_part : List NamedOp → Data → Option BindingUse
-binding_part names d =
-    if item_count d == 2 then option_and_then (λ h. option_map (binding h) (option_and_then (atom_in names) (at 1 d))) (option_and_then (handle_in names) (at 0 d))
-    else None
+binding_part names d = pair_part (λ h a. record { action = h; path = a }) names d
 
-abbrev pub active_set : Use → Use → ActiveSetUse
-active_set h a = record { set = h; sub = a }
-
--- an array of an action set and a user path
+-- an action set and a user path
 abbrev pub active_set_part : List NamedOp → Data → Option ActiveSetUse
-active_set_part names d =
-    if item_count d == 2 then option_and_then (λ h. option_map (active_set h) (option_and_then (atom_in names) (at 1 d))) (option_and_then (handle_in names) (at 0 d))
-    else None
+active_set_part names d = pair_part (λ h a. record { set = h; sub = a }) names d
 
 -- a number of pixels, of 32 bits
 abbrev pub pixel_in : Data → Option ℤ

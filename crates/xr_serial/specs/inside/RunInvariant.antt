@@ -16,7 +16,7 @@ use Rattle.xr_io.specs.Outside.{Rose}
 use Rattle.xr_model.specs.machine.Request as request
 use Rattle.xr_model.specs.machine.Request.{Outcome, next_frame}
 use Rattle.xr_model.specs.machine.State.{State}
-use Rattle.xr_model.specs.runs.Scripts.{FollowsFrom, Follows, FollowsSoFarFrom, FollowsSoFar}
+use Rattle.xr_model.specs.runs.Scripts.{FollowsFrom, FollowsBy}
 use Rattle.xr_model.specs.device_text.DeviceText.{DeviceStream, Ending}
 use Rattle.xr_model.specs.runs.Robin.{last_event}
 use Rattle.xr_model.specs.report.RunEnding.{is_fault}
@@ -37,10 +37,8 @@ pub record AppKept (ops : List Op) (app : AppState) (calls : List request.Exchan
   pub named : length app.names ≡ length ops
   pub list_is : app.calls ≡ made_from 1 calls
   pub count : length calls ≡ app.made + (if app.has_left then 1 else 0)
-  pub follows : (more : List request.Exchange) → app.has_left ≡ false → FollowsFrom (app.made + 1) app.names (drop app.made ops) more → Follows ops (calls ++ more)
-  pub so_far : (more : List request.Exchange) → app.has_left ≡ false → FollowsSoFarFrom (app.made + 1) app.names (drop app.made ops) more → FollowsSoFar ops (calls ++ more)
-  pub whole : app.has_left ≡ true → Follows ops calls
-  pub front : app.has_left ≡ true → FollowsSoFar ops calls
+  pub follows : (all : Bool) (more : List request.Exchange) → app.has_left ≡ false → FollowsFrom all (app.made + 1) app.names (drop app.made ops) more → FollowsBy all ops (calls ++ more)
+  pub whole : (all : Bool) → app.has_left ≡ true → FollowsBy all ops calls
 
 -- each of them, and the state knows who has left
 pub record AppsKept (scripts : List (List Op)) (s : State) (apps : List AppState) (calls : Actor → List request.Exchange) : Type 0 where

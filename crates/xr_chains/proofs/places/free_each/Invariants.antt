@@ -1,5 +1,5 @@
 use Rattle.std.proofs.Common.{◌≡◌, drop, length}
-use Rattle.xr_chains.specs.Going.{freed_where}
+use Rattle.xr_chains.specs.ChainsLeft.{freed_where}
 use Rattle.xr_chains.proofs.Freeing.{IsFreeing}
 use Rattle.xr_chains.proofs.places.free_each.Given as goal
 

@@ -1,5 +1,5 @@
 use Rattle.std.proofs.Common.{◌≡◌, ◌++◌, take, drop, length}
-use Rattle.xr_chains.specs.Going.{left_where}
+use Rattle.xr_chains.specs.ChainsLeft.{left_where}
 use Rattle.xr_chains.proofs.places.sweep_each.Given as goal
 
 -- those up to the index are swept, and the others are to be

@@ -1,5 +1,5 @@
 use Rattle.std.proofs.Common.{sym, ◌∙◌}
-use Rattle.xr_core.proofs.Going.{inputs_go, no_input_goes}
+use Rattle.xr_core.proofs.DestroyedAtOnce.{inputs_go, no_input_goes}
 use Rattle.xr_core.proofs.parts.forget_sets.Goals as goal
 
 pub loop-handle-preserved : goal.loop-handle-preserved

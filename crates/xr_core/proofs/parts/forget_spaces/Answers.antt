@@ -1,5 +1,5 @@
 use Rattle.std.proofs.Common.{sym, ◌∙◌}
-use Rattle.xr_core.proofs.Going.{spaces_go, no_space_goes}
+use Rattle.xr_core.proofs.DestroyedAtOnce.{spaces_go, no_space_goes}
 use Rattle.xr_core.proofs.parts.forget_spaces.Goals as goal
 
 pub loop-handle-preserved : goal.loop-handle-preserved

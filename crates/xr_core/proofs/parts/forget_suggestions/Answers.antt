@@ -1,5 +1,5 @@
 use Rattle.std.proofs.Common.{sym, ◌∙◌}
-use Rattle.xr_core.proofs.Going.{suggestions_go, no_suggestion_goes}
+use Rattle.xr_core.proofs.DestroyedAtOnce.{suggestions_go, no_suggestion_goes}
 use Rattle.xr_core.proofs.parts.forget_suggestions.Goals as goal
 
 pub loop-handle-preserved : goal.loop-handle-preserved

@@ -5,7 +5,7 @@ use Rattle.xr_model.specs.machine.Handles.{has_room}
 use Rattle.xr_model.specs.machine.Spaces.{Space}
 use Rattle.xr_model.specs.machine.State.{CoreState}
 use Rattle.xr_core.proofs.Housed as housed
-use Rattle.xr_core.proofs.Kept.{names_count, kept_space}
+use Rattle.xr_core.proofs.KeptLive.{names_count, kept_space}
 use Rattle.xr_core.proofs.parts.Parts.add_space.Goals as goal
 
 pub add-requires : goal.add-requires

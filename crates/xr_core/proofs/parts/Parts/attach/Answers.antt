@@ -1,6 +1,6 @@
 use Rattle.std.proofs.Common.{refl}
 use Rattle.xr_model.proofs.Listed.{listed_lives}
-use Rattle.xr_core.proofs.Kept.{kept_sealed}
+use Rattle.xr_core.proofs.KeptLive.{kept_sealed}
 use Rattle.xr_core.proofs.parts.Parts.attach.Goals as goal
 
 pub invariant_of-self : goal.invariant_of-self

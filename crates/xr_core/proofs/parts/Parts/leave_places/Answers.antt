@@ -1,6 +1,6 @@
 use Rattle.std.proofs.Common.{false}
 use Rattle.std.specs.Prelude.{slice_index_or}
-use Rattle.xr_core.proofs.Kept.{kept_roots}
+use Rattle.xr_core.proofs.KeptLive.{kept_roots}
 use Rattle.xr_core.proofs.parts.Parts.leave_places.Goals as goal
 
 pub invariant_of-self : goal.invariant_of-self

@@ -5,7 +5,7 @@ use Rattle.xr_model.specs.machine.Handles.{has_room}
 use Rattle.xr_model.specs.machine.Sets.{Action}
 use Rattle.xr_model.specs.machine.State.{CoreState}
 use Rattle.xr_core.proofs.Housed as housed
-use Rattle.xr_core.proofs.Kept.{names_count, kept_action}
+use Rattle.xr_core.proofs.KeptLive.{names_count, kept_action}
 use Rattle.xr_core.proofs.parts.Parts.new_action.Goals as goal
 
 pub add_action-requires : goal.add_action-requires

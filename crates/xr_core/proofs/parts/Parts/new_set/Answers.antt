@@ -5,7 +5,7 @@ use Rattle.xr_model.specs.machine.Handles.{has_room}
 use Rattle.xr_model.specs.machine.Sets.{Set}
 use Rattle.xr_model.specs.machine.State.{CoreState}
 use Rattle.xr_core.proofs.Housed as housed
-use Rattle.xr_core.proofs.Kept.{names_count, kept_set}
+use Rattle.xr_core.proofs.KeptLive.{names_count, kept_set}
 use Rattle.xr_core.proofs.parts.Parts.new_set.Goals as goal
 
 pub add_set-requires : goal.add_set-requires

@@ -1,7 +1,7 @@
 use Rattle.std.proofs.Common.{refl, ◌∙◌}
 use Rattle.xr_types.specs.declared.handles.Kind.TheVariants as kind
 use Rattle.xr_model.specs.machine.Handles.{with_handle}
-use Rattle.xr_core.proofs.Kept.{kept_same}
+use Rattle.xr_core.proofs.KeptLive.{kept_same}
 use Rattle.xr_core.proofs.Swept.{length_added}
 use Rattle.xr_core.proofs.parts.Parts.new_swapchain.Goals as goal
 

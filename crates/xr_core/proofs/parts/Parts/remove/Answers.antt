@@ -1,5 +1,5 @@
 use Rattle.xr_model.proofs.Listed.{listed_left}
-use Rattle.xr_core.proofs.Kept.{kept_left}
+use Rattle.xr_core.proofs.KeptLive.{kept_left}
 use Rattle.xr_core.proofs.parts.Parts.remove.Goals as goal
 
 pub invariant_of-self : goal.invariant_of-self

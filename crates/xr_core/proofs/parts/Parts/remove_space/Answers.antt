@@ -1,4 +1,4 @@
-use Rattle.xr_core.proofs.Kept.{kept_alone}
+use Rattle.xr_core.proofs.KeptLive.{kept_alone}
 use Rattle.xr_core.proofs.parts.Parts.remove_space.Goals as goal
 
 pub invariant_of-self : goal.invariant_of-self
