@@ -22,3 +22,5 @@ pub mod ImageLaws
 pub mod SyncLaws
 pub mod PublicationLaws
 pub mod WordLaws
+pub mod NameLaws
+pub mod ReadingLaws
