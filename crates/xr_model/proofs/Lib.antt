@@ -90,3 +90,5 @@ pub mod DistinctNames
 pub mod RowOrder
 pub mod FirstWrong
 pub mod RowKeys
+pub mod Rounds
+pub mod PassedOver

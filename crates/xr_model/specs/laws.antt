@@ -24,3 +24,4 @@ pub mod PublicationLaws
 pub mod WordLaws
 pub mod NameLaws
 pub mod ReadingLaws
+pub mod RobinLaws

@@ -25,6 +25,7 @@ ghost use Rattle.xr_model.specs.laws.SyncLaws.{BooleansAreDownOnce, FloatsAreLar
 ghost use Rattle.xr_model.specs.laws.WordLaws.{WordsGiveBack, WordsAreRead, PublicationsFit};
 ghost use Rattle.xr_model.specs.laws.NameLaws.{NamesAreDistinct, OpsAreFound, WordsAreFound};
 ghost use Rattle.xr_model.specs.laws.ReadingLaws.{FirstWrongPlaceIsTold, OpsAreWhatTheyAreCalled, KeysAreTheRows};
+ghost use Rattle.xr_model.specs.laws.RobinLaws.{TurnsGoRound, NobodyHasTwoTurns, NobodyReadyIsPassedOver, RunsEndWhereNobodyIsReady, ImagesAreGivenBackFirst};
 
 mod cells;
 mod machine;
@@ -611,4 +612,33 @@ pub fn ops_are_what_they_are_called()
 /// key exactly where it has one.
 pub fn keys_are_the_rows()
     ensures { KeysAreTheRows }
+{}
+
+/// At each place of a run the turns to come go round: the scripts in order, the device and the compositor, each once.
+#[tactic(auto, using(crate::proofs::Rounds::turns_go_round))]
+pub fn turns_go_round()
+    ensures { TurnsGoRound }
+{}
+
+/// Between two turns of an actor no other has two, also where one of them has finished since, and each unfinished one has one.
+pub fn nobody_has_two_turns()
+    ensures { NobodyHasTwoTurns }
+{}
+
+/// Where an actor's next call is ready, the call that is made next is its own, or that of one whose turn comes before its.
+#[tactic(auto, using(crate::proofs::PassedOver::nobody_ready_is_passed_over))]
+pub fn nobody_ready_is_passed_over()
+    ensures { NobodyReadyIsPassedOver }
+{}
+
+/// A run ends only where nobody's next call is ready.
+#[tactic(auto, using(crate::proofs::PassedOver::runs_end_where_nobody_is_ready))]
+pub fn runs_end_where_nobody_is_ready()
+    ensures { RunsEndWhereNobodyIsReady }
+{}
+
+/// In a run the compositor gives back each image that it holds before it asks for the next frame.
+#[tactic(auto, using(crate::proofs::PassedOver::images_are_given_back_first))]
+pub fn images_are_given_back_first()
+    ensures { ImagesAreGivenBackFirst }
 {}
