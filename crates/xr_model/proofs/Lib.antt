@@ -86,3 +86,9 @@ pub mod MovedGetters
 pub mod WordsBack
 pub mod FittingColumns
 pub mod FittingPublications
+pub mod DistinctNames
+pub mod RowOrder
+pub mod FirstWrong
+pub mod RowKeys
+pub mod Rounds
+pub mod PassedOver

@@ -22,3 +22,6 @@ pub mod ImageLaws
 pub mod SyncLaws
 pub mod PublicationLaws
 pub mod WordLaws
+pub mod NameLaws
+pub mod ReadingLaws
+pub mod RobinLaws

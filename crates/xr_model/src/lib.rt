@@ -23,6 +23,9 @@ ghost use Rattle.xr_model.specs.laws.StateLaws.{NoRowFits};
 ghost use Rattle.xr_model.specs.laws.PublicationLaws.{GettersChangeNothing, GettersAreReady, GettersRead, PublishedIsCurrent, GettersMove};
 ghost use Rattle.xr_model.specs.laws.SyncLaws.{BooleansAreDownOnce, FloatsAreLargest, VectorsAreLongest, PosesAreTheFirst, NothingIsInactive, ChangedIsActive, FirstColumnIsOfAll, UndeclaredIsInactive, PicksAreInRange};
 ghost use Rattle.xr_model.specs.laws.WordLaws.{WordsGiveBack, WordsAreRead, PublicationsFit};
+ghost use Rattle.xr_model.specs.laws.NameLaws.{NamesAreDistinct, OpsAreFound, WordsAreFound};
+ghost use Rattle.xr_model.specs.laws.ReadingLaws.{FirstWrongPlaceIsTold, OpsAreWhatTheyAreCalled, KeysAreTheRows};
+ghost use Rattle.xr_model.specs.laws.RobinLaws.{TurnsGoRound, NobodyHasTwoTurns, NobodyReadyIsPassedOver, RunsEndWhereNobodyIsReady, ImagesAreGivenBackFirst};
 
 mod cells;
 mod machine;
@@ -571,4 +574,71 @@ pub fn publications_fit()
 #[tactic(auto, using(crate::proofs::WordsBack::words_are_read))]
 pub fn words_are_read()
     ensures { WordsAreRead }
+{}
+
+/// Names tell apart what they name: two calls with one name are the same, and so are two keys, results, states, inputs, and values
+/// that have words.
+#[tactic(auto, using(crate::proofs::DistinctNames::names_are_distinct))]
+pub fn names_are_distinct()
+    ensures { NamesAreDistinct }
+{}
+
+/// An op's name, as scenarios and reports write it, is read as that op.
+#[tactic(auto, using(crate::proofs::DistinctNames::ops_are_found))]
+pub fn ops_are_found()
+    ensures { OpsAreFound }
+{}
+
+/// A word of a scenario is read as the value whose word it is.
+#[tactic(auto, using(crate::proofs::DistinctNames::words_are_found))]
+pub fn words_are_found()
+    ensures { WordsAreFound }
+{}
+
+/// What is told of an op that isn't read is the first that is wrong: that it is no op, a key of its row in the row's order, or where
+/// none is wrong, that it has other keys.
+#[tactic(auto, using(crate::proofs::FirstWrong::first_wrong_place_is_told))]
+pub fn first_wrong_place_is_told()
+    ensures { FirstWrongPlaceIsTold }
+{}
+
+/// What is read of an op is the op that its object names.
+#[tactic(auto, using(crate::proofs::RowKeys::ops_are_what_they_are_called))]
+pub fn ops_are_what_they_are_called()
+    ensures { OpsAreWhatTheyAreCalled }
+{}
+
+/// An object whose fields are right for an op is read exactly where all its keys are those of the op's row, and is told to have another
+/// key exactly where it has one.
+pub fn keys_are_the_rows()
+    ensures { KeysAreTheRows }
+{}
+
+/// At each place of a run the turns to come go round: the scripts in order, the device and the compositor, each once.
+#[tactic(auto, using(crate::proofs::Rounds::turns_go_round))]
+pub fn turns_go_round()
+    ensures { TurnsGoRound }
+{}
+
+/// Between two turns of an actor no other has two, also where one of them has finished since, and each unfinished one has one.
+pub fn nobody_has_two_turns()
+    ensures { NobodyHasTwoTurns }
+{}
+
+/// Where an actor's next call is ready, the call that is made next is its own, or that of one whose turn comes before its.
+#[tactic(auto, using(crate::proofs::PassedOver::nobody_ready_is_passed_over))]
+pub fn nobody_ready_is_passed_over()
+    ensures { NobodyReadyIsPassedOver }
+{}
+
+/// A run ends only where nobody's next call is ready.
+#[tactic(auto, using(crate::proofs::PassedOver::runs_end_where_nobody_is_ready))]
+pub fn runs_end_where_nobody_is_ready()
+    ensures { RunsEndWhereNobodyIsReady }
+{}
+
+/// In a run the compositor gives back each image that it holds before it asks for the next frame.
+#[tactic(auto, using(crate::proofs::PassedOver::images_are_given_back_first))]
+pub fn images_are_given_back_first()
+    ensures { ImagesAreGivenBackFirst }
 {}
