@@ -1,8 +1,11 @@
 -- What reading the words came to.
-use Rattle.std.specs.Prelude.{◌≡◌, ℕ, true, false, List, Option, Some, None, option_map, Result, Ok, Err}
-use Rattle.clap.specs.Words.{found_of, rows_of}
+use Rattle.std.specs.Prelude.{◌≡◌, ◌≤◌, length, IfSome, Bool, true, false, List, Option, Some, None, option_map, Result, Ok, Err}
+use Rattle.clap.specs.Words.{Row, found_of, rows_of}
 use Rattle.clap.specs.declared.parser.matches.ArgMatches.{ArgMatches}
+use Rattle.xr_types.specs.declared.limits.TheConstants.{MOST_FILE_NAME, MOST_LOAD}
 use Rattle.xr_model.specs.command_line.Words as words
+use Rattle.xr_command.specs.declared.Form.{Form}
+use Rattle.xr_command.specs.declared.Form.TheVariants.{Run, Load}
 use Rattle.xr_command.specs.declared.RunOptions.{RunOptions}
 use Rattle.xr_command.specs.declared.WordsFault.{WordsFault}
 use Rattle.xr_command.specs.declared.WordsFault.TheVariants.{Usage, NoMemory}
@@ -11,14 +14,23 @@ use Rattle.xr_command.specs.declared.WordsFault.TheVariants.{Usage, NoMemory}
 abbrev pub shown : RunOptions → words.RunOptions
 shown form = record { file = form.file.now; device = option_map (λ name. name.now) form.device; places = form.places }
 
--- The answer is the form of the words, they have none, or memory was short.
-abbrev pub ReadsForm : Result RunOptions WordsFault → Option words.RunOptions → Type 0
-ReadsForm (Ok form) meant = meant ≡ Some (shown form)
-ReadsForm (Err Usage) meant = meant ≡ None
-ReadsForm (Err NoMemory) meant = Unit {0}
+abbrev pub shown_form : Form → words.Form
+shown_form (Run options) = words.run (shown options)
+shown_form (Load frames) = words.load frames
 
--- The answer is what the command makes of the words, it doesn't take them, or memory was short.
-abbrev pub ReadsRows : Result ArgMatches WordsFault → List (List ℕ) → Type 0
-ReadsRows (Ok found) given = (words.is_taken given ≡ true) × (rows_of (found_of found) ≡ words.rows_in given)
-ReadsRows (Err Usage) given = words.is_taken given ≡ false
-ReadsRows (Err NoMemory) given = Unit {0}
+-- The answer is what the words are to be read as, they can't be, or memory was short.
+abbrev pub ReadsAs : {T M : Type 0} → (T → M) → Result T WordsFault → Option M → Type 0
+ReadsAs shown_by (Ok read) meant = meant ≡ Some (shown_by read)
+ReadsAs shown_by (Err Usage) meant = meant ≡ None
+ReadsAs shown_by (Err NoMemory) meant = Unit {0}
+
+-- The answer is what a command makes of the words, it doesn't take them, or memory was short.
+abbrev pub ReadsRows : Result ArgMatches WordsFault → Bool → List Row → Type 0
+ReadsRows (Ok found) taken rows = (taken ≡ true) × (rows_of (found_of found) ≡ rows)
+ReadsRows (Err Usage) taken rows = taken ≡ false
+ReadsRows (Err NoMemory) taken rows = Unit {0}
+
+-- A file's name is no longer than the system takes, and a load has at most so many frames and one at least.
+abbrev pub FitsLimits : Form → Type 0
+FitsLimits (Run options) = (length options.file.now ≤ MOST_FILE_NAME) × IfSome options.device (λ name. length name.now ≤ MOST_FILE_NAME)
+FitsLimits (Load frames) = (1 ≤ frames) × (frames ≤ MOST_LOAD)

@@ -3,13 +3,14 @@
 
 ghost use Rattle.std.specs.Prelude.{◌≡◌, ◌≤◌, IfOk, IfSome, false, length, map, option_map, string_bytes};
 ghost use Rattle.clap.specs.Words.{app_of, rule_of, first_of, found_of, rows_of};
-ghost use Rattle.xr_model.specs.command_line.Words.{run_app, file_arg, device_arg, places_arg, is_file, is_file_or_none, is_serial, options_in, options_of};
-ghost use Rattle.xr_command.specs.Reads.{shown, ReadsForm, ReadsRows};
+ghost use Rattle.xr_model.specs.command_line.Words.{run_app, file_arg, device_arg, places_arg, load_app, frames_arg, is_taken, rows_in, is_load_taken, load_rows_in, is_file, is_file_or_none, begins_with, options_in, run_under, frames_of, frames_in, load_under, form_of};
+ghost use Rattle.xr_command.specs.Reads.{shown, shown_form, ReadsAs, ReadsRows, FitsLimits};
 
+use clap::builder::ValueParser;
 use clap::error::ErrorKind;
 use clap::{Arg, ArgAction, ArgMatches, Command};
 use std::alloc::{AllocError, Global};
-use xr_types::MOST_FILE_NAME;
+use xr_types::{MOST_FILE_NAME, MOST_LOAD};
 
 /// What the words ask for: a run of the scenario under `file`, with the device under `device` where
 /// one is named, and with or without the places of replies in its report.
@@ -18,6 +19,13 @@ pub struct RunOptions<'a> {
     pub file: &'a str,
     pub device: Option<&'a str>,
     pub places: bool,
+}
+
+/// What the words ask for: a run of files, or a load of so many frames, 1 to 200,000.
+#[derive(Clone, Copy)]
+pub enum Form<'a> {
+    Run(RunOptions<'a>),
+    Load(u32),
 }
 
 /// Why there is no form: the words have none, or memory was short.
@@ -61,10 +69,28 @@ fn run_command<'a>(alloc: Global) -> Result<Command<'a>, AllocError>
     Ok(command)
 }
 
-/// What the command makes of the words.
+fn frames_arg<'a>(alloc: Global) -> Arg<'a>
+    ensures rule { rule_of result ≡ frames_arg }
+    ensures local { result.global ≡ false }
+{
+    Arg::new(alloc, "n")
+        .required(true)
+        .value_parser(ValueParser::Unsigned(1, u64::from(MOST_LOAD)))
+}
+
+/// The command that reads the words of a load.
+fn load_command<'a>(alloc: Global) -> Result<Command<'a>, AllocError>
+    ensures { IfOk result (λ command. app_of command ≡ load_app) }
+{
+    let command = Command::new(alloc, "xrsim");
+    let command = command.arg(frames_arg(alloc))?;
+    Ok(command)
+}
+
+/// What the command of a run makes of the words.
 #[tactic(auto, unfolding(xr_model::specs::command_line::Words::is_taken, xr_model::specs::command_line::Words::rows_in))]
 fn run_matches<'a>(alloc: Global, words: &'a [String]) -> Result<ArgMatches<'a>, WordsFault>
-    ensures { ReadsRows result (map string_bytes words.entry.now) }
+    ensures { ReadsRows result (is_taken (map string_bytes words.entry.now)) (rows_in (map string_bytes words.entry.now)) }
 {
     let Ok(command) = run_command(alloc) else {
         return Err(WordsFault::NoMemory);
@@ -78,10 +104,28 @@ fn run_matches<'a>(alloc: Global, words: &'a [String]) -> Result<ArgMatches<'a>,
     }
 }
 
-fn is_serial(words: &[String]) -> bool
-    ensures { result ≡ is_serial (map string_bytes words.now) }
+/// What the command of a load makes of the words.
+#[tactic(auto, unfolding(xr_model::specs::command_line::Words::is_load_taken, xr_model::specs::command_line::Words::load_rows_in))]
+fn load_matches<'a>(alloc: Global, words: &'a [String]) -> Result<ArgMatches<'a>, WordsFault>
+    ensures { ReadsRows result (is_load_taken (map string_bytes words.entry.now)) (load_rows_in (map string_bytes words.entry.now)) }
 {
-    !words.is_empty() && words[0].as_str() == "serial"
+    let Ok(command) = load_command(alloc) else {
+        return Err(WordsFault::NoMemory);
+    };
+    match command.try_get_matches_from(words) {
+        Ok(matches) => Ok(matches),
+        Err(e) => match e.kind() {
+            ErrorKind::OutOfMemory => Err(WordsFault::NoMemory),
+            _ => Err(WordsFault::Usage),
+        },
+    }
+}
+
+/// Whether the first word is this one.
+fn begins_with(words: &[String], word: &str) -> bool
+    ensures { result ≡ begins_with word.now (map string_bytes words.now) }
+{
+    !words.is_empty() && words[0].as_str() == word
 }
 
 fn is_file(name: &str) -> bool
@@ -129,14 +173,17 @@ fn options_in<'a>(matches: &ArgMatches<'a>) -> Option<RunOptions<'a>>
     })
 }
 
-/// The form of the words: `serial FILE`, with `--device FILE` and `--places` where these are wanted.
-/// `Usage` comes exactly where they have no form, and `NoMemory` is free.
-pub fn options_of<'a>(alloc: Global, words: &'a [String]) -> Result<RunOptions<'a>, WordsFault>
-    ensures form { ReadsForm result (options_of (map string_bytes words.entry.now)) }
-    ensures short { IfOk result (λ form. length form.file.now ≤ MOST_FILE_NAME) }
-    ensures short_device { IfOk result (λ form. IfSome form.device (λ name. length name.now ≤ MOST_FILE_NAME)) }
+/// The form of a run under its word. `Usage` comes exactly where the words don't have it, and `NoMemory` is free.
+fn run_under<'a>(
+    alloc: Global,
+    word: &str,
+    words: &'a [String],
+) -> Result<RunOptions<'a>, WordsFault>
+    ensures form { ReadsAs shown result (run_under word.now (map string_bytes words.entry.now)) }
+    ensures short { IfOk result (λ options. length options.file.now ≤ MOST_FILE_NAME) }
+    ensures short_device { IfOk result (λ options. IfSome options.device (λ name. length name.now ≤ MOST_FILE_NAME)) }
 {
-    if !is_serial(words) {
+    if !begins_with(words, word) {
         return Err(WordsFault::Usage);
     }
     let matches = match run_matches(alloc, words) {
@@ -144,7 +191,59 @@ pub fn options_of<'a>(alloc: Global, words: &'a [String]) -> Result<RunOptions<'
         Err(e) => return Err(e),
     };
     match options_in(&matches) {
-        Some(form) => Ok(form),
+        Some(options) => Ok(options),
         None => Err(WordsFault::Usage),
     }
+}
+
+/// The number of frames that a text tells.
+fn frames_of(text: &str) -> Option<u32>
+    ensures { result ≡ frames_of text.now }
+{
+    let Ok(frames) = text.parse::<u64>() else {
+        return None;
+    };
+    if frames == 0 || frames > u64::from(MOST_LOAD) {
+        return None;
+    }
+    Some(frames as u32)
+}
+
+/// The number of frames in what the command found.
+fn frames_in<'a>(matches: &ArgMatches<'a>) -> Option<u32>
+    ensures { result ≡ frames_in (rows_of (found_of matches.now)) }
+{
+    frames_of(text_of(matches, "n")?)
+}
+
+/// The number of frames of a load. `Usage` comes exactly where the words aren't of that form, and `NoMemory` is free.
+fn load_under(alloc: Global, word: &str, words: &[String]) -> Result<u32, WordsFault>
+    ensures form { ReadsAs (λ frames. frames) result (load_under word.now (map string_bytes words.now)) }
+    ensures few { IfOk result (λ frames. (1 ≤ frames) × (frames ≤ MOST_LOAD)) }
+{
+    if !begins_with(words, word) {
+        return Err(WordsFault::Usage);
+    }
+    let matches = match load_matches(alloc, words) {
+        Ok(matches) => matches,
+        Err(e) => return Err(e),
+    };
+    match frames_in(&matches) {
+        Some(frames) => Ok(frames),
+        None => Err(WordsFault::Usage),
+    }
+}
+
+/// The form of the words on one thread: `serial FILE`, with `--device FILE` and `--places` where these are wanted, or
+/// `load N`. `Usage` comes exactly where they have no form, and `NoMemory` is free.
+pub fn form_of<'a>(alloc: Global, words: &'a [String]) -> Result<Form<'a>, WordsFault>
+    ensures form { ReadsAs shown_form result (form_of (map string_bytes words.entry.now)) }
+    ensures fits { IfOk result FitsLimits }
+{
+    if begins_with(words, "load") {
+        let frames = load_under(alloc, "load", words)?;
+        return Ok(Form::Load(frames));
+    }
+    let options = run_under(alloc, "serial", words)?;
+    Ok(Form::Run(options))
 }

@@ -85,6 +85,7 @@ pub use limits::MOST_GIVEN;
 pub use limits::MOST_HANDLE_MARK;
 pub use limits::MOST_LINE;
 pub use limits::MOST_LISTED;
+pub use limits::MOST_LOAD;
 pub use limits::MOST_LOCALIZED;
 pub use limits::MOST_MARK;
 pub use limits::MOST_NAME;
