@@ -1,4 +1,4 @@
--- Which texts are scenarios: names, fields, lists, the ops by groups, scripts, and the whole.
+-- Which texts are scenarios: names, fields, lists, the ops by groups, scripts, and the whole; and the scenario of a load.
 pub mod Names
 pub mod Fields
 pub mod ListItems
@@ -8,3 +8,4 @@ pub mod OpReading
 pub mod InRange
 pub mod ScriptForm
 pub mod Scenario
+pub mod LoadScenario

@@ -1,3 +1,4 @@
 pub mod Beginnings
+pub mod CodeNumbers
 mod InputNames
 pub mod RowSorts

@@ -1,6 +1,7 @@
 -- The results of OpenXR 1.0, by the names that reports print.
-use Rattle.std.specs.Prelude.{ℕ, Bool, true, false, List, codes}
+use Rattle.std.specs.Prelude.{◌≡◌, ℕ, Bool, true, false, List, length, slice_get, Some, codes}
 use Rattle.xr_types.specs.declared.code.Code.{Code}
+use Rattle.xr_types.specs.declared.code.TheConstants.Code.{ALL}
 use Rattle.xr_types.specs.declared.code.Code.TheVariants.{Success, TimeoutExpired, SessionLossPending, EventUnavailable, SessionNotFocused, FrameDiscarded, ValidationFailure, OutOfMemory, ApiVersionUnsupported, LimitReached, SizeInsufficient, HandleInvalid, SessionRunning, SessionNotRunning, SessionLost, SystemInvalid, PathInvalid, PathCountExceeded, PathFormatInvalid, PathUnsupported, LayerInvalid, LayerLimitExceeded, SwapchainRectInvalid, SwapchainFormatUnsupported, ActionTypeMismatch, SessionNotReady, SessionNotStopping, TimeInvalid, ReferenceSpaceUnsupported, FormFactorUnsupported, CallOrderInvalid, PoseInvalid, ViewConfigurationTypeUnsupported, EnvironmentBlendModeUnsupported, NameDuplicated, NameInvalid, ActionsetNotAttached, ActionsetsAlreadyAttached, LocalizedNameDuplicated, LocalizedNameInvalid}
 
 -- the name of a result
@@ -45,6 +46,58 @@ name_of_code ActionsetNotAttached = codes "XR_ERROR_ACTIONSET_NOT_ATTACHED"
 name_of_code ActionsetsAlreadyAttached = codes "XR_ERROR_ACTIONSETS_ALREADY_ATTACHED"
 name_of_code LocalizedNameDuplicated = codes "XR_ERROR_LOCALIZED_NAME_DUPLICATED"
 name_of_code LocalizedNameInvalid = codes "XR_ERROR_LOCALIZED_NAME_INVALID"
+
+-- all results, as the code lists them: first those that are no errors, then the errors, in the order of their names above
+abbrev pub every_code : List Code
+every_code = ALL
+
+-- the number of a result, this project's own: its place among all
+abbrev pub number_of_code : Code → ℕ
+number_of_code Success = 0
+number_of_code TimeoutExpired = 1
+number_of_code SessionLossPending = 2
+number_of_code EventUnavailable = 3
+number_of_code SessionNotFocused = 4
+number_of_code FrameDiscarded = 5
+number_of_code ValidationFailure = 6
+number_of_code OutOfMemory = 7
+number_of_code ApiVersionUnsupported = 8
+number_of_code LimitReached = 9
+number_of_code SizeInsufficient = 10
+number_of_code HandleInvalid = 11
+number_of_code SessionRunning = 12
+number_of_code SessionNotRunning = 13
+number_of_code SessionLost = 14
+number_of_code SystemInvalid = 15
+number_of_code PathInvalid = 16
+number_of_code PathCountExceeded = 17
+number_of_code PathFormatInvalid = 18
+number_of_code PathUnsupported = 19
+number_of_code LayerInvalid = 20
+number_of_code LayerLimitExceeded = 21
+number_of_code SwapchainRectInvalid = 22
+number_of_code SwapchainFormatUnsupported = 23
+number_of_code ActionTypeMismatch = 24
+number_of_code SessionNotReady = 25
+number_of_code SessionNotStopping = 26
+number_of_code TimeInvalid = 27
+number_of_code ReferenceSpaceUnsupported = 28
+number_of_code FormFactorUnsupported = 29
+number_of_code CallOrderInvalid = 30
+number_of_code PoseInvalid = 31
+number_of_code ViewConfigurationTypeUnsupported = 32
+number_of_code EnvironmentBlendModeUnsupported = 33
+number_of_code NameDuplicated = 34
+number_of_code NameInvalid = 35
+number_of_code ActionsetNotAttached = 36
+number_of_code ActionsetsAlreadyAttached = 37
+number_of_code LocalizedNameDuplicated = 38
+number_of_code LocalizedNameInvalid = 39
+
+-- There are forty results, and each stands among all at its number.
+pub record NumbersArePlaces : Type 0 where
+  pub forty : length every_code ≡ 40
+  pub placed : (c : Code) → slice_get every_code (number_of_code c) ≡ Some c
 
 -- the call had its effect
 abbrev pub is_success : Code → Bool

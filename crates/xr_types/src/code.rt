@@ -1,6 +1,6 @@
 // What a call answers, and the names of OpenXR.
-ghost use Rattle.std.specs.Prelude.{◌≡◌, Some};
-ghost use Rattle.xr_types.specs.Code.{name_of_code, is_success};
+ghost use Rattle.std.specs.Prelude.{◌≡◌, ◌<◌, Some};
+ghost use Rattle.xr_types.specs.Code.{name_of_code, number_of_code, NumbersArePlaces, is_success};
 
 use std::fmt;
 
@@ -51,6 +51,50 @@ pub enum Code {
 }
 
 impl Code {
+    /// All results: first those that are no errors, then the errors. A result's number is its place here, from 0.
+    pub const ALL: [Code; 40] = [
+        Code::Success,
+        Code::TimeoutExpired,
+        Code::SessionLossPending,
+        Code::EventUnavailable,
+        Code::SessionNotFocused,
+        Code::FrameDiscarded,
+        Code::ValidationFailure,
+        Code::OutOfMemory,
+        Code::ApiVersionUnsupported,
+        Code::LimitReached,
+        Code::SizeInsufficient,
+        Code::HandleInvalid,
+        Code::SessionRunning,
+        Code::SessionNotRunning,
+        Code::SessionLost,
+        Code::SystemInvalid,
+        Code::PathInvalid,
+        Code::PathCountExceeded,
+        Code::PathFormatInvalid,
+        Code::PathUnsupported,
+        Code::LayerInvalid,
+        Code::LayerLimitExceeded,
+        Code::SwapchainRectInvalid,
+        Code::SwapchainFormatUnsupported,
+        Code::ActionTypeMismatch,
+        Code::SessionNotReady,
+        Code::SessionNotStopping,
+        Code::TimeInvalid,
+        Code::ReferenceSpaceUnsupported,
+        Code::FormFactorUnsupported,
+        Code::CallOrderInvalid,
+        Code::PoseInvalid,
+        Code::ViewConfigurationTypeUnsupported,
+        Code::EnvironmentBlendModeUnsupported,
+        Code::NameDuplicated,
+        Code::NameInvalid,
+        Code::ActionsetNotAttached,
+        Code::ActionsetsAlreadyAttached,
+        Code::LocalizedNameDuplicated,
+        Code::LocalizedNameInvalid,
+    ];
+
     /// The name of the OpenXR result, as a report prints it.
     pub fn name(self) -> &'static str
         ensures { result.now ≡ name_of_code self }
@@ -100,6 +144,14 @@ impl Code {
         }
     }
 
+    /// The number of the result: its place in `ALL`, below 40. It is this project's own, and never printed.
+    pub fn number(self) -> usize
+        ensures value { result ≡ number_of_code self }
+        ensures few { result < 40 }
+    {
+        self as usize
+    }
+
     /// Whether the call had its effect: success, loss pending, a session that isn't focused, or a discarded frame.
     pub fn is_success(self) -> bool
         ensures { result ≡ is_success self }
@@ -121,3 +173,9 @@ impl fmt::Display for Code {
         f.write_str(self.name())
     }
 }
+
+/// The number of each result is its place in `Code::ALL`.
+#[tactic(auto, using(crate::proofs::CodeNumbers::numbers_are_places))]
+pub fn numbers_are_places()
+    ensures { NumbersArePlaces }
+{}

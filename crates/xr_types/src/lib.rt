@@ -31,6 +31,7 @@ pub use calls::NoMemory;
 pub use calls::Reply;
 pub use calls::Step;
 pub use code::Code;
+pub use code::numbers_are_places;
 pub use device::DeviceEvent;
 pub use device::Wish;
 pub use fields::FieldName;

@@ -9,6 +9,9 @@ pub const MOST_SCRIPTS: usize = 8;
 /// The bytes of a scenario's text.
 pub const MOST_SCENARIO: usize = 1_048_576;
 
+/// The frames of a load, a scenario that is made from a number. There is at least one.
+pub const MOST_LOAD: u32 = 200_000;
+
 /// The bytes of a text of an op.
 pub const MOST_TEXT: usize = 1024;
 
