@@ -28,7 +28,7 @@ use Rattle.xr_types.specs.declared.spaces.Origin.{Origin}
 use Rattle.xr_types.specs.declared.spaces.Origin.TheVariants as origin
 use Rattle.xr_types.specs.declared.spaces.RefKind.{RefKind}
 use Rattle.xr_types.specs.declared.spaces.RefKind.TheVariants as kind
-use Rattle.xr_types.specs.Code.{name_of}
+use Rattle.xr_types.specs.Code.{name_of_code}
 use Rattle.xr_types.specs.Field.{name_of_field}
 use Rattle.xr_types.specs.InputNames.{input_name, row_of}
 use Rattle.xr_types.specs.Op.{name_of_call, all_ops}
@@ -78,7 +78,7 @@ all_codes =
     ∷ code.ViewConfigurationTypeUnsupported ∷ code.EnvironmentBlendModeUnsupported ∷ code.NameDuplicated ∷ code.NameInvalid
     ∷ code.ActionsetNotAttached ∷ code.ActionsetsAlreadyAttached ∷ code.LocalizedNameDuplicated ∷ code.LocalizedNameInvalid ∷ []
 
-code_found : (c : Code) → named name_of all_codes (name_of c) ≡ Some c
+code_found : (c : Code) → named name_of_code all_codes (name_of_code c) ≡ Some c
 code_found code.Success = refl
 code_found _ = refl
 
@@ -178,7 +178,7 @@ pub names_are_distinct : NamesAreDistinct
 names_are_distinct = record {
   calls = distinct name_of_call all_calls call_found;
   keys = distinct name_of_field all_keys key_found;
-  codes = distinct name_of all_codes code_found;
+  codes = distinct name_of_code all_codes code_found;
   states = distinct state_name all_states state_found;
   inputs = inputs_distinct;
   forms = distinct form_name all_forms form_found;

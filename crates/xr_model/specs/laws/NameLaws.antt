@@ -16,7 +16,7 @@ use Rattle.xr_types.specs.declared.session.SessionState.{SessionState}
 use Rattle.xr_types.specs.declared.session.ViewConfig.{ViewConfig}
 use Rattle.xr_types.specs.declared.spaces.Origin.{Origin}
 use Rattle.xr_types.specs.declared.spaces.RefKind.{RefKind}
-use Rattle.xr_types.specs.Code.{name_of}
+use Rattle.xr_types.specs.Code.{name_of_code}
 use Rattle.xr_types.specs.Field.{name_of_field}
 use Rattle.xr_types.specs.InputNames.{input_name}
 use Rattle.xr_types.specs.Op.{call_name, name_of_call}
@@ -38,7 +38,7 @@ InputsAreDistinct = (j k : ℕ) → 1 ≤ j → j ≤ MOST_ROW → 1 ≤ k → k
 pub record NamesAreDistinct : Type 0 where
   pub calls : AreDistinct CallName name_of_call
   pub keys : AreDistinct FieldName name_of_field
-  pub codes : AreDistinct Code name_of
+  pub codes : AreDistinct Code name_of_code
   pub states : AreDistinct SessionState state_name
   pub inputs : InputsAreDistinct
   pub forms : AreDistinct Form form_name
