@@ -4,8 +4,8 @@ use Rattle.clap.specs.Words.{Row, found_of, rows_of}
 use Rattle.clap.specs.declared.parser.matches.ArgMatches.{ArgMatches}
 use Rattle.xr_types.specs.declared.limits.TheConstants.{MOST_FILE_NAME, MOST_LOAD}
 use Rattle.xr_model.specs.command_line.Words as words
-use Rattle.xr_command.specs.declared.Form.{Form}
-use Rattle.xr_command.specs.declared.Form.TheVariants.{Run, Load}
+use Rattle.xr_command.specs.declared.WordsForm.{WordsForm}
+use Rattle.xr_command.specs.declared.WordsForm.TheVariants.{Run, Load}
 use Rattle.xr_command.specs.declared.RunOptions.{RunOptions}
 use Rattle.xr_command.specs.declared.WordsFault.{WordsFault}
 use Rattle.xr_command.specs.declared.WordsFault.TheVariants.{Usage, NoMemory}
@@ -14,7 +14,7 @@ use Rattle.xr_command.specs.declared.WordsFault.TheVariants.{Usage, NoMemory}
 abbrev pub shown : RunOptions → words.RunOptions
 shown form = record { file = form.file.now; device = option_map (λ name. name.now) form.device; places = form.places }
 
-abbrev pub shown_form : Form → words.Form
+abbrev pub shown_form : WordsForm → words.WordsForm
 shown_form (Run options) = words.run (shown options)
 shown_form (Load frames) = words.load frames
 
@@ -31,6 +31,6 @@ ReadsRows (Err Usage) taken rows = taken ≡ false
 ReadsRows (Err NoMemory) taken rows = Unit {0}
 
 -- A file's name is no longer than the system takes, and a load has at most so many frames and one at least.
-abbrev pub FitsLimits : Form → Type 0
+abbrev pub FitsLimits : WordsForm → Type 0
 FitsLimits (Run options) = (length options.file.now ≤ MOST_FILE_NAME) × IfSome options.device (λ name. length name.now ≤ MOST_FILE_NAME)
 FitsLimits (Load frames) = (1 ≤ frames) × (frames ≤ MOST_LOAD)

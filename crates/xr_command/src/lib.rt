@@ -23,7 +23,7 @@ pub struct RunOptions<'a> {
 
 /// What the words ask for: a run of files, or a load of so many frames, 1 to 200,000.
 #[derive(Clone, Copy)]
-pub enum Form<'a> {
+pub enum WordsForm<'a> {
     Run(RunOptions<'a>),
     Load(u32),
 }
@@ -236,14 +236,14 @@ fn load_under(alloc: Global, word: &str, words: &[String]) -> Result<u32, WordsF
 
 /// The form of the words on one thread: `serial FILE`, with `--device FILE` and `--places` where these are wanted, or
 /// `load N`. `Usage` comes exactly where they have no form, and `NoMemory` is free.
-pub fn form_of<'a>(alloc: Global, words: &'a [String]) -> Result<Form<'a>, WordsFault>
+pub fn form_of<'a>(alloc: Global, words: &'a [String]) -> Result<WordsForm<'a>, WordsFault>
     ensures form { ReadsAs shown_form result (form_of (map string_bytes words.entry.now)) }
     ensures fits { IfOk result FitsLimits }
 {
     if begins_with(words, "load") {
         let frames = load_under(alloc, "load", words)?;
-        return Ok(Form::Load(frames));
+        return Ok(WordsForm::Load(frames));
     }
     let options = run_under(alloc, "serial", words)?;
-    Ok(Form::Run(options))
+    Ok(WordsForm::Run(options))
 }

@@ -104,10 +104,10 @@ abbrev pub load_under : List ℕ → List (List ℕ) → Option ℕ
 load_under word words = if begins_with word words && is_load_taken words then frames_in (load_rows_in words) else None
 
 -- What words ask for: a run of files, or a load of so many frames.
-pub data Form : Type 0 where
-  run : RunOptions → Form
-  load : ℕ → Form
+pub data WordsForm : Type 0 where
+  run : RunOptions → WordsForm
+  load : ℕ → WordsForm
 
 -- The form of the words on one thread, if they have one: `serial FILE` with its options, or `load N`.
-abbrev pub form_of : List (List ℕ) → Option Form
+abbrev pub form_of : List (List ℕ) → Option WordsForm
 form_of words = first_some (option_map run (run_under (codes "serial") words)) (option_map load (load_under (codes "load") words))
