@@ -68,6 +68,3 @@ pub const MOST_LOCALIZED: usize = 127;
 
 /// The bytes of a file's name, as the system takes no longer ones. It has at least one.
 pub const MOST_FILE_NAME: usize = 4095;
-
-/// The frames of a load. It has at least one.
-pub const MOST_LOAD: u32 = 200_000;
