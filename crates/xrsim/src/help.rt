@@ -3,11 +3,12 @@
 /// How the program is called, printed by `--help`.
 pub(crate) const HELP: &str = "\
 xrsim runs a scenario of OpenXR calls on a runtime core without graphics and
-prints a report.
+prints a report, or the summary of a load.
 
 usage:
   xrsim serial FILE [--device FILE] [--places]
                     run the scenario under FILE on one thread, print its report
+  xrsim load N      run a scenario of N frames, 1 to 200000, print a summary
   xrsim --help      print this
   xrsim --version   print the version
 
@@ -30,13 +31,17 @@ With --places each line of a call ends in '@' and its reply's place: the count
 of calls up to it, and of a getter, which isn't counted, the place of the call
 that published last.
 
+A load opens no file: its scenario is made from the number of frames, as
+docs/FORMATS.md tells, and so are the events of its device. The summary counts
+its calls by their results, and its frames.
+
 example:
   {\"version\":1,\"scripts\":[[
     {\"op\":\"create_instance\",\"major\":1,\"minor\":0,\"as\":\"i\"},
     {\"op\":\"string_to_path\",\"instance\":\"i\",\"text\":\"/user/hand/left\"}]]}
 
 exit status, with one line on standard error for each but 0:
-  0  all was read and the whole report was written
+  0  all was read and the whole report or summary was written
   1  the words aren't of a form above
   2  a file couldn't be opened
   3  the scenario couldn't be read
@@ -44,8 +49,8 @@ exit status, with one line on standard error for each but 0:
      the field
   5  the device couldn't be read on; the report is whole
   6  a line of the device's text is malformed; the report is whole
-  7  the run can't go on; the report tells the next calls
-  8  the report couldn't be written whole
+  7  the run can't go on; a report tells the next calls
+  8  the report or summary couldn't be written whole
   9  memory was short; nothing was written
 ";
 
