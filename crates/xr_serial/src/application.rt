@@ -89,10 +89,14 @@ impl Application {
         ensures { IfOk result (λ app. app ≡ new_app ops.now) }
     {
         let names = Names::start(alloc, ops.len())?;
+        // One call an op, and `leave`.
+        let Ok(calls) = Vec::with_capacity(alloc, ops.len() + 1) else {
+            return Err(NoMemory);
+        };
         Ok(Application {
             made: 0,
             names,
-            calls: Vec::new(alloc),
+            calls,
             clock: 0,
             has_left: false,
         })
