@@ -1,6 +1,8 @@
 -- The bytes of a buffer between two places, after a step of the first, a move to the front or a write behind the second.
-use Rattle.std.proofs.Common.{◌≡◌, ℕ, ◌+◌, ◌-◌, ◌≤◌, List, ◌++◌, length, take, drop, slice_range, refl, sym, ap, ◌∙◌, arith}
+use Rattle.std.proofs.Common.{◌≡◌, ◌==◌, ◌||◌, ◌&&◌, ℕ, ◌+◌, ◌-◌, ◌≤◌, ◌<◌, Bool, true, false, List, ◌++◌, length, take, drop, slice_range, refl, sym, ap, ◌∙◌, arith}
 use Rattle.std.proofs.lemmas.List.{take_at, drop_at, take-append-le, drop-append-le, drop-take, drop-drop, length-take-le, length-take, length-drop}
+use Rattle.std.proofs.lemmas.Bool.{lt-ltb}
+use Rattle.xr_io.specs.Outside.{is_end}
 use Rattle.std.proofs.lemmas.List.Edits.{take-paste}
 use Rattle.std.specs.List.{copy_within}
 use borrow.Rule.Slice.PartMut.{put_mid, post_of}
@@ -45,3 +47,11 @@ pub read_behind : (xs moved_xs ys held : List ℕ) (start end k n : ℕ) → sta
 read_behind xs moved_xs ys held start end k n ordered within is after same fits =
     grown moved_xs ys 0 (end - start) k n (omega arith) (omega arith) fits
     ∙ ap (λ l. l ++ take n ys) (ap (λ l. slice_range l 0 (end - start)) after ∙ moved xs start end ordered within ∙ is)
+
+-- no byte tells the end, since there was room for one
+and_true : (b : Bool) → (b && true) ≡ b
+and_true true = refl
+and_true false = refl
+
+pub with_room : (over : Bool) (n size : ℕ) → 0 < size → (over || is_end n size) ≡ (over || (n == 0))
+with_room over n size some = ap (λ b. over || ((n == 0) && b)) (lt-ltb 0 size some) ∙ ap (λ b. over || b) (and_true (n == 0))

@@ -4,3 +4,5 @@ pub mod Inputs
 pub mod Poses
 pub mod TextLines
 pub mod HeldBytes
+pub mod WholeFronts
+pub mod LineSteps

@@ -8,14 +8,14 @@ use Rattle.xr_device.specs.FirstByte.{is_free_of, IsFirstAt}
 use Rattle.xr_device.specs.Answers.{garbled}
 use Rattle.xr_device.proofs.FirstBytes.{first_parts}
 
-abbrev closed_line : List ℕ → Line
+abbrev pub closed_line : List ℕ → Line
 closed_line bytes = record { bytes = bytes; closed = true }
 
-abbrev open_line : List ℕ → Line
+abbrev pub open_line : List ℕ → Line
 open_line bytes = record { bytes = bytes; closed = false }
 
 -- bytes without a line feed, and then one
-lines_closed : (l rest : List ℕ) → is_free_of 10 l ≡ true → lines_in (l ++ 10 ∷ rest) ≡ closed_line l ∷ lines_in rest
+pub lines_closed : (l rest : List ℕ) → is_free_of 10 l ≡ true → lines_in (l ++ 10 ∷ rest) ≡ closed_line l ∷ lines_in rest
 lines_closed [] rest free = refl
 lines_closed (x ∷ xs) rest free = by (x == 10) refl (lines_closed xs rest)
   where
@@ -50,7 +50,7 @@ opens x (y ∷ ys) rest free = by (x == 10) refl (opens y ys rest)
     by false h more = subst (λ (ls : List Line). Opens (x ∷ y ∷ ys) ls) (rw h refl) (opens_more x (y ∷ ys) (lines_in (y ∷ (ys ++ rest))) (more (rw h at free)))
 
 -- bytes without a line feed alone
-lines_open : (x : ℕ) (xs : List ℕ) → is_free_of 10 (x ∷ xs) ≡ true → lines_in (x ∷ xs) ≡ open_line (x ∷ xs) ∷ []
+pub lines_open : (x : ℕ) (xs : List ℕ) → is_free_of 10 (x ∷ xs) ≡ true → lines_in (x ∷ xs) ≡ open_line (x ∷ xs) ∷ []
 lines_open x [] free = by (x == 10) refl
   where
     by : (t : Bool) → (x == 10) ≡ t → lines_in (x ∷ []) ≡ open_line (x ∷ []) ∷ []
@@ -79,7 +79,7 @@ late number used n line ls le h = rw (test_late (length line.bytes) (if line.clo
 past : (number used : ℕ) (line : Line) (ls : List Line) → 16777216 < used + line_size line → told_from number used (line ∷ ls) ≡ garbled number
 past number used line ls h = rw (test_past (length line.bytes) used (line_size line) h) refl
 
-fits : (number used : ℕ) (line : Line) (ls : List Line) → length line.bytes ≤ 255 → used + line_size line ≤ 16777216
+pub fits : (number used : ℕ) (line : Line) (ls : List Line) → length line.bytes ≤ 255 → used + line_size line ≤ 16777216
     → told_from number used (line ∷ ls) ≡ told_by number (meaning_of line.bytes) (told_from (number + 1) (used + line_size line) ls)
 fits number used line ls few h = rw (test_fits (length line.bytes) used (line_size line) few h) refl
 

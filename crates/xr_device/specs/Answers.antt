@@ -1,11 +1,12 @@
 -- What the answers of a device say.
-use Rattle.std.specs.Prelude.{◌≡◌, ◌<◌, ◌≤◌, ℕ, ◌+◌, ◌&&◌, Bool, true, [], ◌∷◌, Option, Some, None}
+use Rattle.std.specs.Prelude.{◌≡◌, ◌<◌, ◌≤◌, ℕ, ◌+◌, ◌&&◌, Bool, true, false, [], ◌∷◌, Option, Some, None}
 use Rattle.xr_io.specs.Outside.{Rose}
 use Rattle.xr_types.specs.declared.device.DeviceEvent.{DeviceEvent}
 use Rattle.xr_types.specs.Device.{checks}
 use Rattle.xr_model.specs.laws.DeviceLaws.{is_of_line}
 use Rattle.xr_model.specs.device_text.DeviceText.{DeviceStream, nothing_more, garbled_at}
 use Rattle.xr_device.specs.Prospect.{Prospect}
+use Rattle.xr_device.specs.WholeLines.{GaveWholeLines}
 use Rattle.xr_device.specs.declared.Next.{Next}
 use Rattle.xr_device.specs.declared.Next.TheVariants as next
 
@@ -77,10 +78,24 @@ Tells (Some before) after next.End = before ≡ nothing_more
 Tells (Some before) after (next.Garbled line) = before ≡ garbled line
 Tells (Some before) after next.Failed = Unit {0}
 
+-- ---- what it is read from
+
+-- It is read on from the same place of the same file, and is late only if it was.
+pub record ReadsOn (old new : Prospect) : Type 0 where
+  pub which : new.which ≡ old.which
+  pub begun : new.begun ≡ old.begun
+  pub text : new.text ≡ old.text
+  pub late : old.late ≡ false → new.late ≡ false
+
+-- its events are just those of the whole lines that were taken of its text, where that is told
+abbrev pub GaveItsLines : Prospect → Type 0
+GaveItsLines p = GaveWholeLines p.text p.taken p.given
+
 -- ---- an answer, all of it
 
 -- What an answer says of the device before and behind it. After any answer but an event nothing is to come, and the answer is
--- `End` from then on. A count of faults changes only where it couldn't be read on.
+-- `End` from then on. A count of faults changes only where it couldn't be read on, and then it has given the events of all whole lines
+-- that were taken.
 pub record NextOf (old : Prospect) (answer : Next) (new : Prospect) : Type 0 where
   pub remaining : Tells old.remaining new.remaining answer
   pub sound : OnEvent answer (λ e. IsTold e)
@@ -92,4 +107,5 @@ pub record NextOf (old : Prospect) (answer : Next) (new : Prospect) : Type 0 whe
   pub later : old.faults ≤ new.faults
   pub kept : UnlessFailed answer (new.faults ≡ old.faults)
   pub cause : OnFailed answer (Rose old.faults new.faults)
-  pub which : new.which ≡ old.which
+  pub reads : ReadsOn old new
+  pub lines : OnFailed answer (GaveItsLines new)

@@ -1,7 +1,6 @@
 // The bytes of a source that were read and not yet used.
-ghost use Rattle.std.specs.Prelude.{◌≡◌, ◌≤◌, ◌<◌, ◌+◌, ◌++◌, ℕ, List, [], length, drop, IfOk, OnOk, OnErr};
-ghost use Rattle.std.specs.Io.KnownBytes.{Keeps, Consumes, IsAtEnd};
-ghost use Rattle.xr_io.specs.Outside.{HasCause};
+ghost use Rattle.std.specs.Prelude.{◌≡◌, ◌≤◌, ◌<◌, ◌+◌, [], length, drop, IfOk};
+ghost use Rattle.xr_device.specs.inside.Steps.{HasReadInto};
 
 use std::marker::Model;
 use xr_io::Source;
@@ -63,14 +62,8 @@ impl Held {
     ) -> Result<usize, Failed>
         requires some { 0 < most }
         requires room { length self.old + most ≤ 4096 }
-        ensures bytes { IfOk result (λ n. (read : List ℕ) × (length read ≡ n) × (self.new ≡ self.old ++ read)
-            × Consumes (S.left source.old) (S.left source.new) read) }
+        ensures read { HasReadInto self.old self.new (S.state source.old) (S.state source.new) result }
         ensures most { IfOk result (λ n. n ≤ most) }
-        ensures end { IfOk result (λ n. n ≡ 0 → IsAtEnd (S.left source.new)) }
-        ensures kept { OnErr result ((self.new ≡ self.old) × Keeps (S.left source.old) (S.left source.new)) }
-        ensures which { S.which source.new ≡ S.which source.old }
-        ensures cause { HasCause (S.faults source.old) (S.faults source.new) result }
-        ensures count { OnOk result (S.faults source.new ≡ S.faults source.old) }
     {
         let (start, end) = (self.start, self.end);
         let held = end - start;

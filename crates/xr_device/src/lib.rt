@@ -39,7 +39,8 @@ pub trait Device {
     /// ever: `remaining` alone can't, since a text of which nothing is to come may still fail to be read to its end.
     /// `given` is how many events it has given, and `bound` how many are still to come at most: never more than
     /// 16,777,216, as the law `few` says. `faults` is how often a read has failed: it never falls, changes only where the
-    /// device answers `Failed`, and stops at the largest u64. `which` is the file that it is read from.
+    /// device answers `Failed`, and stops at the largest u64. `which` is the file that it is read from, `begun` the place in it
+    /// where `text` begins, and `taken` how many bytes of that were taken. `late` says that a read was late.
     ghost prospect: { Self → Prospect };
 
     /// The next event, or why there is none.

@@ -1,8 +1,10 @@
 // The device that reads a text.
-ghost use Rattle.std.specs.Prelude.{◌≡◌, ◌≤◌, false, [], option_map};
+ghost use Rattle.std.specs.Prelude.{◌≡◌, ◌≤◌, ◌+◌, false, [], option_map};
+ghost use Rattle.xr_types.specs.declared.limits.TheConstants.{MOST_DEVICE};
+ghost use Rattle.xr_io.specs.Outside.{left_of};
 ghost use Rattle.xr_model.specs.device_text.DeviceText.{told_in};
 ghost use Rattle.xr_device.specs.Answers.{NextOf, OnFailed};
-ghost use Rattle.xr_device.specs.Kinds.{of_text};
+ghost use Rattle.xr_device.specs.Kinds.{taken_by, of_text};
 ghost use Rattle.xr_device.specs.Texts.{KeepsTold, IsUndecided};
 
 use crate::text::{Step, Text};
@@ -16,55 +18,54 @@ use xr_io::Source;
 pub struct LineDevice<S: Source> {
     text: Text<S>,
     over: bool,
-    given: u64,
 }
 
 impl<S: Source> Model for LineDevice<S> {
-    ghost use Rattle.std.specs.Prelude.{◌≤◌};
+    ghost use Rattle.std.specs.Prelude.{◌≡◌, ◌≤◌, false};
     ghost use Rattle.xr_types.specs.declared.limits.TheConstants.{MOST_DEVICE};
     ghost use Rattle.xr_device.specs.Kinds.{TextReading};
-    ghost use Rattle.xr_device.specs.Texts.{told};
+    ghost use Rattle.xr_device.specs.Texts.{told, UsedLines};
 
     ghost Value = { TextReading };
 
     ghost view = { λ d. record {
       text = told d.text;
       over = d.over;
-      given = d.given;
+      given = d.text.given;
       held = d.text.held;
       used = d.text.used;
-      faults = d.text.faults;
-      which = d.text.which;
+      ended = d.text.ended;
+      source = d.text.source;
     } };
 
-    ghost invariant = { λ d. (d.given ≤ d.text.used) × (d.text.used ≤ MOST_DEVICE) };
+    ghost invariant = { λ d. (d.text.used ≤ MOST_DEVICE) × (d.over ≡ false → UsedLines d.text) };
 }
 
 impl<S: Source> LineDevice<S> {
     /// A device over a source, of which nothing was read yet.
     pub fn new(source: S) -> LineDevice<S>
-        ensures remaining { (of_text result).remaining ≡ option_map told_in (S.left source) }
+        ensures remaining { (of_text result).remaining ≡ option_map told_in (left_of (S.state source)) }
         ensures new { result ≡ record {
-          text = option_map told_in (S.left source);
+          text = option_map told_in (left_of (S.state source));
           over = false;
           given = 0;
           held = [];
           used = 0;
-          faults = S.faults source;
-          which = S.which source;
+          ended = false;
+          source = S.state source;
         } }
     {
         LineDevice {
             text: Text::new(source),
             over: false,
-            given: 0,
         }
     }
 
-    /// Gives the source back.
+    /// Gives the source back, of which no more than 16,777,217 bytes were taken.
     pub fn into_source(self) -> S
-        ensures faults { S.faults result ≡ self.faults }
-        ensures which { S.which result ≡ self.which }
+        ensures source { S.state result ≡ self.source }
+        ensures few { taken_by self ≤ MOST_DEVICE + 1 }
+        ensures within { taken_by self ≤ self.source.taken.count }
     {
         let LineDevice { text, .. } = self;
         text.into_source()
@@ -91,10 +92,7 @@ impl<S: Source> Device for LineDevice<S> {
         loop {
             match self.text.step() {
                 Step::GoesOn => {}
-                Step::Answer(Next::Event(event)) => {
-                    self.given += 1;
-                    return Next::Event(event);
-                }
+                Step::Answer(Next::Event(event)) => return Next::Event(event),
                 Step::Answer(last) => {
                     self.over = true;
                     return last;

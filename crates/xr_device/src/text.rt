@@ -1,10 +1,10 @@
 // A device text that is read line by line.
-ghost use Rattle.std.specs.Prelude.{◌≡◌, ◌≤◌, ◌<◌, false, [], option_map};
-ghost use Rattle.xr_io.specs.Outside.{Rose};
+ghost use Rattle.std.specs.Prelude.{◌≡◌, ◌≤◌, ◌<◌, ◌+◌, false, [], length, option_map};
+ghost use Rattle.xr_io.specs.Outside.{left_of, Rose};
 ghost use Rattle.xr_model.specs.device_text.DeviceText.{told_in};
 ghost use Rattle.xr_device.specs.Answers.{IsTold, OnEvent};
-ghost use Rattle.xr_device.specs.inside.Steps.{OnGoing, OnAnswer, OnStepFailed, Steps, UnlessStepFailed};
-ghost use Rattle.xr_device.specs.Texts.{told, KeepsTold, IsFrontLine, IsUndecided, steps_left};
+ghost use Rattle.xr_device.specs.inside.Steps.{OnGoing, OnAnswer, OnStepFailed, Steps, UnlessStepFailed, given_behind, StaysOnTime, StaysInLines, FailsBehindLines};
+ghost use Rattle.xr_device.specs.Texts.{told, KeepsTold, IsFrontLine, IsUndecided, UsedLines, SameText, steps_left};
 
 use crate::Next;
 use crate::held::{Held, ROOM};
@@ -22,13 +22,14 @@ pub(crate) enum Step {
 }
 
 /// A text: its source, the bytes that were read and not yet used, whether the source has ended, the number of the
-/// next line, and how many bytes were used.
+/// next line, how many events were given, and how many bytes were used.
 #[derive(Drop)]
 pub(crate) struct Text<S: Source> {
     source: S,
     held: Held,
     ended: bool,
     number: u64,
+    given: u64,
     used: usize,
 }
 
@@ -39,22 +40,20 @@ impl<S: Source> Model for Text<S> {
 
     ghost view = { λ t. record {
       number = t.number;
+      given = t.given;
       used = t.used;
       held = t.held;
       ended = t.ended;
-      left = S.left t.source;
-      faults = S.faults t.source;
-      which = S.which t.source;
+      source = S.state t.source;
     } };
 
     ghost invariant = { λ t. IsInLimits (record {
       number = t.number;
+      given = t.given;
       used = t.used;
       held = t.held;
       ended = t.ended;
-      left = S.left t.source;
-      faults = S.faults t.source;
-      which = S.which t.source;
+      source = S.state t.source;
     }) };
 }
 
@@ -63,28 +62,30 @@ impl<S: Source> Text<S> {
     pub(crate) fn new(source: S) -> Text<S>
         ensures new { result ≡ record {
           number = 1;
+          given = 0;
           used = 0;
           held = [];
           ended = false;
-          left = S.left source;
-          faults = S.faults source;
-          which = S.which source;
+          source = S.state source;
         } }
-        ensures told { told result ≡ option_map told_in (S.left source) }
+        ensures told { told result ≡ option_map told_in (left_of (S.state source)) }
+        ensures lines { UsedLines result }
     {
         Text {
             source,
             held: Held::new(),
             ended: false,
             number: 1,
+            given: 0,
             used: 0,
         }
     }
 
     /// Gives the source back.
     pub(crate) fn into_source(self) -> S
-        ensures faults { S.faults result ≡ self.faults }
-        ensures which { S.which result ≡ self.which }
+        ensures source { S.state result ≡ self.source }
+        ensures few { self.used + length self.held ≤ MOST_DEVICE + 1 }
+        ensures within { self.used + length self.held ≤ self.source.taken.count }
     {
         let Text { source, .. } = self;
         source
@@ -98,12 +99,16 @@ impl<S: Source> Text<S> {
         ensures used { self.old.used ≤ self.new.used }
         ensures limit { self.new.used ≤ MOST_DEVICE }
         ensures event { OnAnswer result (λ a. OnEvent a (λ _. self.old.used < self.new.used)) }
-        ensures later { self.old.faults ≤ self.new.faults }
-        ensures cause { OnStepFailed result (Rose self.old.faults self.new.faults) }
-        ensures kept { UnlessStepFailed result (self.new.faults ≡ self.old.faults) }
+        ensures given { self.new.given ≡ given_behind result self.old.given }
+        ensures later { self.old.source.faults ≤ self.new.source.faults }
+        ensures cause { OnStepFailed result (Rose self.old.source.faults self.new.source.faults) }
+        ensures kept { UnlessStepFailed result (self.new.source.faults ≡ self.old.source.faults) }
         ensures whole { OnStepFailed result (KeepsTold (told self.old) (told self.new)) }
         ensures undecided { OnStepFailed result (IsUndecided self.new.used self.new.held) }
-        ensures which { self.new.which ≡ self.old.which }
+        ensures same { SameText self.old self.new }
+        ensures on_time { StaysOnTime self.old self.new result }
+        ensures lines { StaysInLines self.old self.new result }
+        ensures fails { FailsBehindLines self.old self.new result }
     {
         match front_of(self.held.as_slice(), self.used, self.ended) {
             Front::Line { bytes, size } => self.use_line(bytes, size),
@@ -122,8 +127,11 @@ impl<S: Source> Text<S> {
         ensures used { self.old.used < self.new.used }
         ensures limit { self.new.used ≤ MOST_DEVICE }
         ensures unfailed { OnStepFailed result ⊥ }
-        ensures faults { self.new.faults ≡ self.old.faults }
-        ensures which { self.new.which ≡ self.old.which }
+        ensures given { self.new.given ≡ given_behind result self.old.given }
+        ensures same { SameText self.old self.new }
+        ensures source { self.new.source ≡ self.old.source }
+        ensures ended { self.new.ended ≡ self.old.ended }
+        ensures lines { StaysInLines self.old self.new result }
     {
         let said = said_by(&self.held.as_slice()[..bytes]);
         let number = self.number;
@@ -132,7 +140,10 @@ impl<S: Source> Text<S> {
         self.number = number + 1;
         match said {
             Said::Nothing => Step::GoesOn,
-            Said::Event(event) => Step::Answer(Next::Event(event)),
+            Said::Event(event) => {
+                self.given += 1;
+                Step::Answer(Next::Event(event))
+            }
             Said::Malformed => Step::Answer(Next::Garbled(number)),
         }
     }
@@ -144,13 +155,17 @@ impl<S: Source> Text<S> {
         ensures told { Steps (told self.old) (told self.new) result }
         ensures fewer { OnGoing result (steps_left self.new < steps_left self.old) }
         ensures used { self.new.used ≡ self.old.used }
+        ensures given { self.new.given ≡ self.old.given }
         ensures failed { OnAnswer result (λ a. a ≡ Next.Failed) }
-        ensures later { self.old.faults ≤ self.new.faults }
-        ensures cause { OnAnswer result (λ _. Rose self.old.faults self.new.faults) }
-        ensures kept { OnGoing result (self.new.faults ≡ self.old.faults) }
+        ensures later { self.old.source.faults ≤ self.new.source.faults }
+        ensures cause { OnAnswer result (λ _. Rose self.old.source.faults self.new.source.faults) }
+        ensures kept { OnGoing result (self.new.source.faults ≡ self.old.source.faults) }
         ensures whole { OnAnswer result (λ _. KeepsTold (told self.old) (told self.new)) }
         ensures undecided { OnAnswer result (λ _. IsUndecided self.new.used self.new.held) }
-        ensures which { self.new.which ≡ self.old.which }
+        ensures same { SameText self.old self.new }
+        ensures on_time { StaysOnTime self.old self.new result }
+        ensures lines { StaysInLines self.old self.new result }
+        ensures fails { FailsBehindLines self.old self.new result }
     {
         let held = self.held.as_slice().len();
         let most = (ROOM - held).min(MOST_DEVICE + 1 - self.used - held);

@@ -2,23 +2,34 @@
 use Rattle.std.specs.Prelude.{ℕ, ◌-◌, ◌==◌, ◌||◌, ◌&&◌, nat_lt, min, List, [], ◌∷◌, ◌++◌, length, take, drop, Bool, Option, Some, None, is_none, if◌then◌else◌}
 use Rattle.std.specs.List.{list_any}
 use Rattle.std.specs.Str.{bytes_eq}
+use Rattle.xr_io.specs.declared.Taken.{Taken}
 use Rattle.xr_io.specs.declared.Which.{Which}
 use Rattle.xr_io.specs.declared.Which.TheVariants.{Scenario, Device}
-use Rattle.xr_io.specs.Outside.{next_count, raised_if}
+use Rattle.xr_io.specs.Outside.{SourceState, is_end, next_count, raised_if, taken_with}
 use Rattle.xr_io.specs.Requests.{BothRequests}
 
 -- whether the call of this number is one of the list
 abbrev pub is_listed : List ℕ → ℕ → Bool
 is_listed calls next = list_any (λ call. call == next) calls
 
--- a source in memory: the bytes that are left, the numbers of the reads that fail, how many reads
+-- a source in memory: its bytes, what was taken of them, whether it is over, the numbers of the reads that fail, how many reads
 -- there were, how many of them failed, and which of the two files it is
 pub record Reading : Type 0 where
-  pub left : List ℕ
+  pub bytes : List ℕ
+  pub taken : Taken
+  pub is_over : Bool
   pub failing : List ℕ
   pub calls : ℕ
   pub faults : ℕ
   pub opened_as : Which
+
+-- what is seen of it
+abbrev pub seen_of : Reading → SourceState
+seen_of source = record { bytes = Some source.bytes; taken = source.taken; is_over = source.is_over; faults = source.faults; which = source.opened_as }
+
+-- the bytes that are left
+abbrev pub left_in : Reading → List ℕ
+left_in source = drop source.taken.count source.bytes
 
 -- whether the next read fails
 abbrev pub fails_to_read : Reading → Bool
@@ -26,17 +37,23 @@ fails_to_read source = is_listed source.failing source.calls
 
 -- how many bytes the next read gives into a buffer of this size
 abbrev pub given_count : Reading → ℕ → ℕ
-given_count source size = if fails_to_read source then 0 else min size (length source.left)
+given_count source size = if fails_to_read source then 0 else min size (length (left_in source))
 
 -- the buffer after the next read into it
 abbrev pub buffer_after_read : Reading → List ℕ → List ℕ
 buffer_after_read source buf =
-    take (given_count source (length buf)) source.left ++ drop (given_count source (length buf)) buf
+    take (given_count source (length buf)) (left_in source) ++ drop (given_count source (length buf)) buf
+
+-- whether the next read fails, or meets the end
+abbrev pub is_last_read : Reading → ℕ → Bool
+is_last_read source size = fails_to_read source || is_end (given_count source size) size
 
 -- the source after the next read, into a buffer of this size
 abbrev pub after_read : Reading → ℕ → Reading
 after_read source size = record {
-  left = drop (given_count source size) source.left;
+  bytes = source.bytes;
+  taken = taken_with source.taken (given_count source size) source.is_over;
+  is_over = source.is_over || is_last_read source size;
   failing = source.failing;
   calls = next_count source.calls;
   faults = raised_if (fails_to_read source) source.faults;

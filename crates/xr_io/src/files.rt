@@ -1,16 +1,15 @@
 // Files and standard output behind the traits. These few lines are trusted to pass on what the
 // system does: they tell no bytes, and count each error. A count stops at the largest u64. A call that was
 // interrupted is made again, some times.
-ghost use Rattle.std.specs.Prelude.{◌≡◌, ◌≤◌, ◌<◌, true, false, length, None, IfOk, OnOk, is_err};
+ghost use Rattle.std.specs.Prelude.{◌≡◌, ◌≤◌, false, length, None, IfOk, is_err};
 ghost use Rattle.std.specs.Io.{ReadsAtMost, WritesAtMost};
-ghost use Rattle.std.specs.Io.KnownBytes.{ReadConsumes};
 ghost use Rattle.xr_io.specs.declared.Which.{Which};
-ghost use Rattle.xr_io.specs.Outside.{HasCause, Opened, Closed, Wrote, raised_if};
-ghost use Rattle.xr_io.specs.Requests.{name_of, is_open_of, open_faults_of, read_faults_of, files_of, no_requests, after_opening, after_closing};
-ghost use Rattle.xr_io.specs.Files.{no_bytes, is_write_fault};
+ghost use Rattle.xr_io.specs.Outside.{none_taken, just_opened, WasRead, Opened, Closed, Wrote, raised_if};
+ghost use Rattle.xr_io.specs.Requests.{name_of, is_open_of, open_faults_of, read_faults_of, taken_of, files_of, no_requests, after_opening, after_closing};
+ghost use Rattle.xr_io.specs.Files.{no_bytes, seen_of, is_write_fault};
 
 use crate::requests::Requests;
-use crate::{MOST_NAME, Opener, Sink, Source, Which};
+use crate::{MOST_NAME, Opener, Sink, Source, Taken, Which, is_end};
 use std::fs;
 use std::io::{ErrorKind, Print, Read};
 use std::marker::Model;
@@ -25,6 +24,8 @@ const MOST_TRIES: u32 = 100;
 pub struct FileSource<F> {
     file: F,
     opened_as: Which,
+    taken: Taken,
+    is_over: bool,
     faults: u64,
 }
 
@@ -33,7 +34,12 @@ impl<F> Model for FileSource<F> {
 
     ghost Value = { OpenFile };
 
-    ghost view = { λ source. record { opened_as = source.opened_as; faults = source.faults } };
+    ghost view = { λ source. record {
+      opened_as = source.opened_as;
+      taken = source.taken;
+      is_over = source.is_over;
+      faults = source.faults;
+    } };
 }
 
 impl<F> FileSource<F> {
@@ -60,25 +66,23 @@ fn read_again<F: Read>(file: &mut F, buf: &mut [u8]) -> Result<usize, Failed>
 }
 
 impl<F: Read> Source for FileSource<F> {
-    ghost left = { λ source. no_bytes };
+    ghost state = { seen_of };
 
-    ghost which = { λ source. source.opened_as };
-
-    ghost faults = { λ source. source.faults };
-
-    /// `Failed` comes where the system's read fails, or was interrupted a hundred times in a row, and there alone the count
-    /// rises.
+    /// `Failed` comes where the system's read fails, or was interrupted a hundred times in a row, or gives more bytes than are
+    /// counted, and there alone the count of faults rises.
     fn read(&mut self, buf: &mut [u8]) -> Result<usize, Failed>
-        ensures bound { ReadsAtMost result buf.new }
-        ensures bytes { ReadConsumes no_bytes no_bytes result buf.new }
-        ensures which { self.new.opened_as ≡ self.old.opened_as }
-        ensures cause { HasCause self.old.faults self.new.faults result }
-        ensures kept { OnOk result (self.new.faults ≡ self.old.faults) }
+        ensures read { WasRead buf.new (seen_of self.old) (seen_of self.new) result }
         ensures rises { self.new.faults ≡ raised_if (is_err result) self.old.faults }
     {
+        self.taken.late |= self.is_over;
         if let Ok(count) = read_again(&mut self.file, buf) {
-            return Ok(count);
+            if let Some(all) = self.taken.count.checked_add(count as u64) {
+                self.taken.count = all;
+                self.is_over |= is_end(count, buf.len());
+                return Ok(count);
+            }
         }
+        self.is_over = true;
         self.faults = self.faults.saturating_add(1);
         Err(Failed)
     }
@@ -105,6 +109,7 @@ impl<'r, R: Files> FileOpener<'r, R> {
         ensures new { result ≡ no_requests }
         ensures asked { (w : Which) → name_of result w ≡ None }
         ensures closed { (w : Which) → is_open_of result w ≡ false }
+        ensures taken { (w : Which) → taken_of result w ≡ none_taken }
     {
         FileOpener {
             files,
@@ -117,6 +122,13 @@ impl<'r, R: Files> FileOpener<'r, R> {
         ensures { result ≡ open_faults_of self.now which }
     {
         self.requests.open_faults(which)
+    }
+
+    /// What was taken of this one's closed source.
+    pub fn taken(&self, which: Which) -> Taken
+        ensures { result ≡ taken_of self.now which }
+    {
+        self.requests.taken(which)
     }
 
     /// How many closed sources of this one had a fault.
@@ -139,8 +151,7 @@ impl<'r, R: Files> Opener for FileOpener<'r, R> {
         ensures opened { Opened which name.now (files_of (λ name. no_bytes) self.old) (files_of (λ name. no_bytes) self.new) result }
 
         // Neither the opener nor the source tells bytes.
-        ensures left { IfOk result (λ source. no_bytes ≡ no_bytes) }
-        ensures source { IfOk result (λ source. (source.opened_as ≡ which) × (source.faults ≡ 0)) }
+        ensures source { IfOk result (λ source. seen_of source ≡ just_opened no_bytes which) }
 
         // All of that at once, exactly.
         ensures new { self.new ≡ after_opening self.old which name.now (is_err result) }
@@ -153,17 +164,23 @@ impl<'r, R: Files> Opener for FileOpener<'r, R> {
         Ok(FileSource {
             file,
             opened_as: which,
+            taken: Taken {
+                count: 0,
+                late: false,
+            },
+            is_over: false,
             faults: 0,
         })
     }
 
     fn close(&mut self, source: FileSource<R::File>)
-        ensures closed { Closed source.opened_as source.faults (files_of (λ name. no_bytes) self.old) (files_of (λ name. no_bytes) self.new) }
+        ensures closed { Closed (seen_of source) (files_of (λ name. no_bytes) self.old) (files_of (λ name. no_bytes) self.new) }
 
         // All of that at once, exactly.
-        ensures new { self.new ≡ after_closing self.old source.opened_as source.faults }
+        ensures new { self.new ≡ after_closing self.old source.opened_as source.faults source.taken }
     {
-        self.requests.close(source.opened_as, source.faults);
+        self.requests
+            .close(source.opened_as, source.faults, source.taken);
     }
 }
 

@@ -4,11 +4,8 @@
 //! and real files with standard output. Nothing here knows what the bytes mean.
 #![tactic(auto)]
 
-ghost use Rattle.std.specs.Prelude.{◌≡◌, ◌<◌, ◌≤◌, ℕ, List, length, Option, None, IfOk, OnOk};
-ghost use Rattle.std.specs.Io.{ReadsAtMost};
-ghost use Rattle.std.specs.Io.KnownBytes.{ReadConsumes};
-ghost use Rattle.xr_io.specs.declared.Which.{Which};
-ghost use Rattle.xr_io.specs.Outside.{HasCause, Files, Opened, Closed, Output, Wrote};
+ghost use Rattle.std.specs.Prelude.{◌≡◌, ◌≤◌, length, None, IfOk};
+ghost use Rattle.xr_io.specs.Outside.{SourceState, just_opened, is_end, WasRead, Files, Opened, Closed, Output, Wrote};
 
 mod files;
 mod memory;
@@ -30,26 +27,33 @@ pub enum Which {
     Device,
 }
 
+/// What was taken of a file.
+#[derive(Clone, Copy)]
+pub struct Taken {
+    /// How many bytes.
+    pub count: u64,
+    /// Whether a read was late: the file was over, since one before it had met the end or had failed.
+    pub late: bool,
+}
+
 /// An opened file, of which the next bytes are read.
 pub trait Source {
-    /// The bytes that are left, where it tells them.
-    ghost left: { Self → Option (List ℕ) };
-
-    /// Which file it was opened as.
-    ghost which: { Self → Which };
-
-    /// How often a read has failed. It never falls, and stops at the largest u64.
-    ghost faults: { Self → ℕ };
+    /// What is seen of it: its bytes, where it tells them, what was taken of it, whether it is over, and which file it was
+    /// opened as. `faults` is how often a read has failed: it never falls, and stops at the largest u64.
+    ghost state: { Self → SourceState };
 
     /// Puts the next bytes at the front of a buffer and says how many. 0 into a buffer that has
-    /// room is the end. `Failed` comes only where `faults` rose, and takes no byte that is told; nothing else changes the
+    /// room is the end. `Failed` comes only where `faults` rose, and takes no byte; nothing else changes the
     /// count.
     fn read(&mut self, buf: &mut [u8]) -> Result<usize, Failed>
-        ensures bound { ReadsAtMost result buf.new }
-        ensures bytes { ReadConsumes (left self.old) (left self.new) result buf.new }
-        ensures which { which self.new ≡ which self.old }
-        ensures cause { HasCause (faults self.old) (faults self.new) result }
-        ensures kept { OnOk result (faults self.new ≡ faults self.old) };
+        ensures { WasRead buf.new (state self.old) (state self.new) result };
+}
+
+/// Whether so many bytes, given into a buffer of this size, tell the end.
+fn is_end(count: usize, size: usize) -> bool
+    ensures { result ≡ is_end count size }
+{
+    count == 0 && size > 0
 }
 
 /// A place to write to.
@@ -69,8 +73,8 @@ pub trait Opener {
     /// What it opens.
     type S: Source;
 
-    /// What is seen of it: names asked for, open sources, bytes under names, and counts of faults, which never fall and stop
-    /// at the largest u64.
+    /// What is seen of it: names asked for, open sources, bytes under names, what was taken of closed sources, and counts of
+    /// faults, which never fall and stop at the largest u64.
     ghost files: { Self → Files };
 
     /// Opens the file of a name as one of the two, which was not asked for before. The name counts
@@ -81,12 +85,10 @@ pub trait Opener {
         ensures opened { Opened which name.now (files self.old) (files self.new) result }
 
         // The source is the file of this name, of which nothing was read.
-        ensures left { IfOk result (λ source. Self.S.left source ≡ (files self.old).bytes name.now) }
-        ensures source { IfOk result (λ source.
-            (Self.S.which source ≡ which) × (Self.S.faults source ≡ 0)) };
+        ensures source { IfOk result (λ source. Self.S.state source ≡ just_opened ((files self.old).bytes name.now) which) };
 
     /// Closes a source; the other file stays as it is. `read_faults` of the source's own file rises exactly where the source has a
-    /// fault.
+    /// fault, and `taken` of it is what was taken of the source.
     fn close(&mut self, source: Self::S)
-        ensures { Closed (Self.S.which source) (Self.S.faults source) (files self.old) (files self.new) };
+        ensures { Closed (Self.S.state source) (files self.old) (files self.new) };
 }

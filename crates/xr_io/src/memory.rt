@@ -1,16 +1,14 @@
 // Files and output in memory, whose calls fail where a list says so. Nothing here touches the
 // outside. Calls are numbered from 0, and a count stops at the largest u64.
-ghost use Rattle.std.specs.Prelude.{◌≡◌, ◌≤◌, ◌<◌, ◌↔◌, [], true, false, length, Some, None, IsTrue, IsErr, IfOk, OnOk, option_map};
-ghost use Rattle.std.specs.Io.{ReadsAtMost};
-ghost use Rattle.std.specs.Io.KnownBytes.{ReadConsumes};
+ghost use Rattle.std.specs.Prelude.{◌≡◌, ◌≤◌, ◌↔◌, [], false, length, Some, None, IsTrue, IsErr, IfOk, option_map};
 ghost use Rattle.xr_io.specs.declared.Which.{Which};
-ghost use Rattle.xr_io.specs.Outside.{HasCause, Opened, Closed, Wrote};
-ghost use Rattle.xr_io.specs.Requests.{name_of, is_open_of, open_faults_of, read_faults_of, files_of, no_requests, after_opening, after_closing};
-ghost use Rattle.xr_io.specs.Memory.{is_listed, given_count, fails_to_read, buffer_after_read, after_read, taken_count, fails_to_write, after_write, bytes_under, failing_of, fails_to_open, with_requests};
+ghost use Rattle.xr_io.specs.Outside.{none_taken, just_opened, WasRead, Opened, Closed, Wrote};
+ghost use Rattle.xr_io.specs.Requests.{name_of, is_open_of, open_faults_of, read_faults_of, taken_of, files_of, no_requests, after_opening, after_closing};
+ghost use Rattle.xr_io.specs.Memory.{seen_of, is_listed, given_count, fails_to_read, buffer_after_read, after_read, taken_count, fails_to_write, after_write, bytes_under, failing_of, fails_to_open, with_requests};
 ghost use Rattle.xr_io.specs.Held.{held_files, failing_calls};
 
 use crate::requests::Requests;
-use crate::{MOST_NAME, Opener, Sink, Source, Which};
+use crate::{MOST_NAME, Opener, Sink, Source, Taken, Which, is_end};
 use std::alloc::{AllocError, Global};
 use std::marker::Model;
 use xr_types::Failed;
@@ -25,7 +23,10 @@ fn is_listed(calls: &[u64], next: u64) -> bool
 /// The bytes of one opened file. The reads of a list fail.
 #[derive(Drop)]
 pub struct MemorySource<'a> {
-    left: &'a [u8],
+    bytes: &'a [u8],
+    taken: usize,
+    late: bool,
+    is_over: bool,
     failing: &'a [u64],
     calls: u64,
     faults: u64,
@@ -33,24 +34,31 @@ pub struct MemorySource<'a> {
 }
 
 impl<'a> Model for MemorySource<'a> {
+    ghost use Rattle.std.specs.Prelude.{◌≤◌, length};
     ghost use Rattle.xr_io.specs.Memory.{Reading};
 
     ghost Value = { Reading };
 
     ghost view = { λ source. record {
-      left = source.left.now;
+      bytes = source.bytes.now;
+      taken = record { count = source.taken; late = source.late };
+      is_over = source.is_over;
       failing = source.failing.now;
       calls = source.calls;
       faults = source.faults;
       opened_as = source.opened_as;
     } };
+
+    ghost invariant = { λ source. source.taken ≤ length source.bytes.now };
 }
 
 impl<'a> MemorySource<'a> {
     /// A file of these bytes, of which nothing was read. The reads of these numbers are to fail.
     pub fn new(opened_as: Which, bytes: &'a [u8], failing: &'a [u64]) -> MemorySource<'a>
         ensures { result ≡ record {
-          left = bytes.now;
+          bytes = bytes.now;
+          taken = none_taken;
+          is_over = false;
           failing = failing.now;
           calls = 0;
           faults = 0;
@@ -58,11 +66,24 @@ impl<'a> MemorySource<'a> {
         } }
     {
         MemorySource {
-            left: bytes,
+            bytes,
+            taken: 0,
+            late: false,
+            is_over: false,
             failing,
             calls: 0,
             faults: 0,
             opened_as,
+        }
+    }
+
+    /// What was taken of its bytes.
+    pub fn taken(&self) -> Taken
+        ensures { result ≡ self.now.taken }
+    {
+        Taken {
+            count: self.taken as u64,
+            late: self.late,
         }
     }
 
@@ -75,19 +96,11 @@ impl<'a> MemorySource<'a> {
 }
 
 impl<'a> Source for MemorySource<'a> {
-    ghost left = { λ source. Some source.left };
-
-    ghost which = { λ source. source.opened_as };
-
-    ghost faults = { λ source. source.faults };
+    ghost state = { seen_of };
 
     /// `Failed` comes exactly at the reads of the list, and there alone the count rises.
     fn read(&mut self, buf: &mut [u8]) -> Result<usize, Failed>
-        ensures bound { ReadsAtMost result buf.new }
-        ensures bytes { ReadConsumes (Some self.old.left) (Some self.new.left) result buf.new }
-        ensures which { self.new.opened_as ≡ self.old.opened_as }
-        ensures cause { HasCause self.old.faults self.new.faults result }
-        ensures kept { OnOk result (self.new.faults ≡ self.old.faults) }
+        ensures read { WasRead buf.new (seen_of self.old) (seen_of self.new) result }
 
         // All of that, exactly.
         ensures fails { IsErr result ↔ IsTrue (fails_to_read self.old) }
@@ -97,14 +110,17 @@ impl<'a> Source for MemorySource<'a> {
     {
         let fails = is_listed(self.failing, self.calls);
         self.calls = self.calls.saturating_add(1);
+        self.late |= self.is_over;
         if fails {
+            self.is_over = true;
             self.faults = self.faults.saturating_add(1);
             return Err(Failed);
         }
-        let count = buf.len().min(self.left.len());
-        let (piece, left) = self.left.split_at(count);
-        buf[..count].copy_from_slice(piece);
-        self.left = left;
+        let left = &self.bytes[self.taken..];
+        let count = buf.len().min(left.len());
+        buf[..count].copy_from_slice(&left[..count]);
+        self.taken += count;
+        self.is_over |= is_end(count, buf.len());
         Ok(count)
     }
 }
@@ -287,6 +303,7 @@ impl<'a> MemoryOpener<'a> {
         } }
         ensures asked { (w : Which) → name_of result.requests w ≡ None }
         ensures closed { (w : Which) → is_open_of result.requests w ≡ false }
+        ensures taken { (w : Which) → taken_of result.requests w ≡ none_taken }
     {
         MemoryOpener {
             files,
@@ -301,6 +318,13 @@ impl<'a> MemoryOpener<'a> {
         ensures { result ≡ open_faults_of self.now.requests which }
     {
         self.requests.open_faults(which)
+    }
+
+    /// What was taken of this one's closed source.
+    pub fn taken(&self, which: Which) -> Taken
+        ensures { result ≡ taken_of self.now.requests which }
+    {
+        self.requests.taken(which)
     }
 
     /// How many closed sources of this one had a fault.
@@ -322,9 +346,8 @@ impl<'a> Opener for MemoryOpener<'a> {
         requires first { name_of self.old.requests which ≡ None }
         requires short { length name.now ≤ MOST_NAME }
         ensures opened { Opened which name.now (files_of (bytes_under self.old.files) self.old.requests) (files_of (bytes_under self.new.files) self.new.requests) result }
-        ensures left { IfOk result (λ source.
-            Some source.left ≡ bytes_under self.old.files name.now) }
-        ensures source { IfOk result (λ source. (source.opened_as ≡ which) × (source.faults ≡ 0)) }
+        ensures source { IfOk result (λ source.
+            seen_of source ≡ just_opened (bytes_under self.old.files name.now) which) }
 
         // All of that, exactly.
         ensures fails { IsErr result ↔ IsTrue (fails_to_open self.old which name.now) }
@@ -350,12 +373,13 @@ impl<'a> Opener for MemoryOpener<'a> {
     }
 
     fn close(&mut self, source: MemorySource<'a>)
-        ensures closed { Closed source.entry.opened_as source.entry.faults (files_of (bytes_under self.old.files) self.old.requests) (files_of (bytes_under self.new.files) self.new.requests) }
+        ensures closed { Closed (seen_of source.entry) (files_of (bytes_under self.old.files) self.old.requests) (files_of (bytes_under self.new.files) self.new.requests) }
 
         // All of that at once, exactly.
         ensures new { self.new ≡ with_requests self.old
-            (after_closing self.old.requests source.entry.opened_as source.entry.faults) }
+            (after_closing self.old.requests source.entry.opened_as source.entry.faults source.entry.taken) }
     {
-        self.requests.close(source.opened_as, source.faults);
+        let taken = source.taken();
+        self.requests.close(source.opened_as, source.faults, taken);
     }
 }

@@ -1,9 +1,9 @@
 // What an opener was asked for, and how often that failed. It touches nothing outside.
 ghost use Rattle.std.specs.Prelude.{◌≡◌, ◌≤◌, length};
 ghost use Rattle.xr_io.specs.declared.Which.{Which};
-ghost use Rattle.xr_io.specs.Requests.{open_faults_of, read_faults_of, no_requests, after_opening, after_closing};
+ghost use Rattle.xr_io.specs.Requests.{open_faults_of, read_faults_of, taken_of, no_requests, after_opening, after_closing};
 
-use crate::{MOST_NAME, Which};
+use crate::{MOST_NAME, Taken, Which};
 use arrayvec::ArrayVec;
 use std::marker::Model;
 
@@ -14,6 +14,7 @@ struct Kept {
     is_open: bool,
     open_faults: u64,
     read_faults: u64,
+    taken: Taken,
 }
 
 impl Model for Kept {
@@ -27,6 +28,7 @@ impl Model for Kept {
       is_open = kept.is_open;
       open_faults = kept.open_faults;
       read_faults = kept.read_faults;
+      taken = kept.taken;
     } };
 }
 
@@ -41,6 +43,10 @@ impl Kept {
             is_open: false,
             open_faults: 0,
             read_faults: 0,
+            taken: Taken {
+                count: 0,
+                late: false,
+            },
         }
     }
 
@@ -56,11 +62,12 @@ impl Kept {
         }
     }
 
-    fn close(&mut self, faults: u64)
-        ensures request { self.new ≡ closed_request self.old faults }
+    fn close(&mut self, faults: u64, taken: Taken)
+        ensures request { self.new ≡ closed_request self.old faults taken }
         ensures later { self.old.read_faults ≤ self.new.read_faults }
     {
         self.is_open = false;
+        self.taken = taken;
         if faults > 0 {
             self.read_faults = self.read_faults.saturating_add(1);
         }
@@ -129,14 +136,14 @@ impl Requests {
         }
     }
 
-    /// Counts a closed source that had a fault.
-    pub(crate) fn close(&mut self, which: Which, faults: u64)
-        ensures requests { self.new ≡ after_closing self.old which faults }
+    /// Keeps what was taken of a source that is closed, and counts it where it had a fault.
+    pub(crate) fn close(&mut self, which: Which, faults: u64, taken: Taken)
+        ensures requests { self.new ≡ after_closing self.old which faults taken }
         ensures later { (w : Which) → read_faults_of self.old w ≤ read_faults_of self.new w }
     {
         match which {
-            Which::Scenario => self.scenario.close(faults),
-            Which::Device => self.device.close(faults),
+            Which::Scenario => self.scenario.close(faults, taken),
+            Which::Device => self.device.close(faults, taken),
         }
     }
 
@@ -147,6 +154,16 @@ impl Requests {
         match which {
             Which::Scenario => self.scenario.open_faults(),
             Which::Device => self.device.open_faults(),
+        }
+    }
+
+    /// What was taken of this one's closed source.
+    pub(crate) fn taken(&self, which: Which) -> Taken
+        ensures { result ≡ taken_of self.now which }
+    {
+        match which {
+            Which::Scenario => self.scenario.taken,
+            Which::Device => self.device.taken,
         }
     }
 

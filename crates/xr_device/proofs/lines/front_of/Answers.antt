@@ -1,4 +1,4 @@
-use Rattle.std.proofs.Common.{◌≡◌, ◌≤◌, ◌<◌, ◌+◌, true, length, take, inl, inr, sym, ap, ◌∙◌, arith}
+use Rattle.std.proofs.Common.{◌≡◌, ◌≤◌, ◌<◌, ◌+◌, true, length, take, inl, inr, refl, true≢false, sym, ap, ◌∙◌, arith}
 use Rattle.std.proofs.lemmas.Bool.Decides.{nat_tests}
 use Rattle.std.proofs.lemmas.List.{length-take, take_all}
 use Rattle.xr_device.specs.FirstByte.{is_free_of, IsFirstAt}
@@ -29,6 +29,7 @@ returns-in-Some c =
       within = omega arith;
       short = omega arith;
       limit = fits;
+      closed = λ more. record { first = at; few = few; sized = refl };
       told = λ number rest end. line_at number c.args.used held rest i at few fits;
     }
 
@@ -57,5 +58,6 @@ returns c =
       within = omega arith;
       short = omega arith;
       limit = fits;
+      closed = λ more. absurd (true≢false (sym c.if-not-ended.false ∙ more));
       told = λ number rest end. line_open number c.args.used held rest free some few fits (end c.if-not-ended.false);
     })

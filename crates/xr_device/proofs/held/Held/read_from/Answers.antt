@@ -1,17 +1,28 @@
-use Rattle.std.proofs.Common.{◌≤◌, ◌+◌, ◌-◌, length, take, sym, arith}
-use Rattle.xr_device.proofs.HeldBytes.{read_behind}
+use Rattle.std.proofs.Common.{rules, ◌≤◌, ◌+◌, ◌-◌, ◌∙◌, length, take, sym, arith}
+use Rattle.xr_device.proofs.HeldBytes.{read_behind, with_room}
 use Rattle.xr_device.proofs.held.Held.read_from.Goals as goal
 
-pub returns-clause-bytes : goal.returns-clause-bytes
-returns-clause-bytes g c =
+pub returns-clause-read : goal.returns-clause-read
+returns-clause-read g c =
     let at = c.self.inside in
     let n = c.in-Ok.count in
     let buf = c.read.new.buf in
     let within : at.end ≤ length at.bytes = omega arith in
-    let bound = c.in-Ok.ensures.bound in (
-      take n buf,
-      sym bound.1,
-      read_behind at.bytes c.copy_within.new.self buf c.args.self.now at.start at.end (at.end - at.start + c.args.most - (at.end - at.start)) n c.self.invariant.0 within c.self.view_is
-          c.copy_within.ensures.after c.copy_within.ensures.len bound.0,
-      c.in-Ok.ensures.bytes.0,
-    )
+    let bound = c.in-Ok.ensures.bound in
+    record {
+      bytes = (
+        take n buf,
+        sym bound.1,
+        read_behind at.bytes c.copy_within.new.self buf c.args.self.now at.start at.end (at.end - at.start + c.args.most - (at.end - at.start)) n c.self.invariant.0 within c.self.view_is
+            c.copy_within.ensures.after c.copy_within.ensures.len bound.0,
+        c.in-Ok.ensures.bytes.0,
+      );
+      end = search (rules, arith);
+      kept = search rules;
+      all = c.in-Ok.ensures.all;
+      taken = c.in-Ok.ensures.taken;
+      over = c.in-Ok.ensures.over ∙ with_room _ n (length buf) (search (rules, arith));
+      cause = c.in-Ok.ensures.cause;
+      count = c.in-Ok.ensures.kept;
+      which = c.in-Ok.ensures.which;
+    }

@@ -1,6 +1,6 @@
 use Rattle.std.proofs.Common.{◌≡◌, ◌≤◌, false}
 use Rattle.xr_types.specs.declared.limits.TheConstants.{MOST_DEVICE}
-use Rattle.xr_device.specs.Texts.{told, KeepsTold, steps_left}
+use Rattle.xr_device.specs.Texts.{told, late_in, KeepsTold, SameText, UsedLines, steps_left}
 use Rattle.xr_device.proofs.line_device.LineDeviceDevice.next.Given as goal
 
 abbrev pub invariant-loop-event : goal.invariant-loop-event
@@ -9,11 +9,12 @@ invariant-loop-event g l =
     let text = l.self-inside.text in record {
       told : KeepsTold (told begun) (told text);
       used : begun.used ≤ text.used;
-      faults : text.faults ≡ begun.faults;
-      which : text.which ≡ begun.which;
+      faults : text.source.faults ≡ begun.source.faults;
+      same : SameText begun text;
       over : l.self-inside.over ≡ false;
-      given : l.self-inside.given ≡ l.initial.self-inside.given;
-      few : l.self-inside.given ≤ text.used;
+      given : text.given ≡ begun.given;
+      on_time : late_in begun.source begun.ended ≡ false → late_in text.source text.ended ≡ false;
+      lines : UsedLines text;
       limit : text.used ≤ MOST_DEVICE;
     }
 
