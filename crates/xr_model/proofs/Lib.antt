@@ -95,3 +95,4 @@ pub mod PassedOver
 pub mod Cuts
 pub mod ReportsTell
 pub mod ValuesTell
+pub mod FramesTell

@@ -28,16 +28,16 @@ use Rattle.xr_model.proofs.Cuts.{Free, cut, same_first, same_others, decimal_fre
 -- ---- words
 
 -- words, with a space behind each
-abbrev follow : List (List ℕ) → List ℕ
+abbrev pub follow : List (List ℕ) → List ℕ
 follow [] = []
 follow (w ∷ ws) = w ++ 32 ∷ follow ws
 
-abbrev AllFree : List (List ℕ) → Type 0
+abbrev pub AllFree : List (List ℕ) → Type 0
 AllFree [] = Unit {0}
 AllFree (w ∷ ws) = Free 32 w × AllFree ws
 
 -- as many words, each the same
-abbrev SameWords : List (List ℕ) → List (List ℕ) → Type 0
+abbrev pub SameWords : List (List ℕ) → List (List ℕ) → Type 0
 SameWords [] [] = Unit {0}
 SameWords [] (v ∷ vs) = ⊥
 SameWords (w ∷ ws) [] = ⊥
@@ -47,7 +47,7 @@ some_byte : (w rest : List ℕ) → [] ≡ w ++ 32 ∷ rest → ⊥
 some_byte [] rest e = cc
 some_byte (b ∷ bs) rest e = cc
 
-words_tell : (ws vs : List (List ℕ)) → AllFree ws → AllFree vs → follow ws ≡ follow vs → SameWords ws vs
+pub words_tell : (ws vs : List (List ℕ)) → AllFree ws → AllFree vs → follow ws ≡ follow vs → SameWords ws vs
 words_tell [] [] first second e = tt
 words_tell [] (v ∷ vs) first second e = absurd (some_byte v (follow vs) e)
 words_tell (w ∷ ws) [] first second e = absurd (some_byte w (follow ws) (sym e))
@@ -61,10 +61,10 @@ values_tell : (us vs : List ℕ) (ws xs : List (List ℕ)) → AllFree ws → Al
 values_tell us vs ws xs first second one other e =
     words_tell ws xs first second (same_others 32 32 (follow ws) (follow xs) (sym one ∙ ap (λ l. l ++ 32 ∷ []) e ∙ other))
 
-number_word : (n : ℕ) → Free 32 (decimal n)
+pub number_word : (n : ℕ) → Free 32 (decimal n)
 number_word n = decimal_free 32 n refl
 
-signed_word : (z : ℤ) → Free 32 (signed_decimal z)
+pub signed_word : (z : ℤ) → Free 32 (signed_decimal z)
 signed_word z = signed_free 32 z refl refl
 
 flag_word : (b : Bool) → Free 32 (flag b)
@@ -75,7 +75,7 @@ state_word : (s : SessionState) → Free 32 (state_name s)
 state_word state.Idle = refl
 state_word _ = refl
 
-same_signed : (y z : ℤ) → FitsSigned w64 y → FitsSigned w64 z → signed_decimal y ≡ signed_decimal z → y ≡ z
+pub same_signed : (y z : ℤ) → FitsSigned w64 y → FitsSigned w64 z → signed_decimal y ≡ signed_decimal z → y ≡ z
 same_signed y z first second e = signed_decimal_injective y z first.sfits second.sfits e
 
 same_flag : (a b : Bool) → flag a ≡ flag b → a ≡ b

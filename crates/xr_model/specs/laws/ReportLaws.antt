@@ -1,10 +1,14 @@
 -- What a report tells: the calls of each script with their codes, values and places can be read off its bytes.
-use Rattle.std.specs.Prelude.{◌≡◌, ◌<◌, ◌^◌, ◌==◌, nat_le, Bool, true, false, not, ℕ, List, [], ◌∷◌, FitsSigned}
+use Rattle.std.specs.Prelude.{◌≡◌, ◌<◌, ◌^◌, ◌==◌, nat_le, Bool, true, false, not, ℕ, List, [], ◌∷◌, length, Some, FitsSigned}
 use Rattle.std.specs.Int.{w64}
 use Rattle.std.specs.List.{list_all}
 use Rattle.xr_types.specs.declared.calls.Gives.{Gives}
 use Rattle.xr_types.specs.declared.calls.Gives.TheVariants as gives
 use Rattle.xr_types.specs.declared.code.Code.TheVariants.{Success}
+use Rattle.xr_types.specs.declared.calls.Reply.{Reply}
+use Rattle.xr_types.specs.declared.frames.ShownLayer.{ShownLayer}
+use Rattle.xr_types.specs.declared.frames.ShownLayer.TheVariants as layer
+use Rattle.xr_types.specs.Frames.{ShownFrame}
 use Rattle.xr_types.specs.declared.limits.TheConstants.{MOST_HANDLE_MARK}
 use Rattle.xr_types.specs.declared.made.Lists.{Lists}
 use Rattle.xr_types.specs.declared.made.Made.{Made}
@@ -13,6 +17,7 @@ use Rattle.xr_types.specs.declared.names.CallName.TheVariants as call
 use Rattle.xr_types.specs.declared.session.Event.TheVariants as event
 use Rattle.xr_types.specs.declared.spaces.Location.TheVariants as location
 use Rattle.xr_model.specs.report.Report.{report_of}
+use Rattle.xr_model.specs.report.ReportLines.{frame_line}
 use Rattle.xr_model.specs.report.ReportValues.{values_of}
 use Rattle.xr_model.specs.scenario.InRange.{Each}
 
@@ -123,3 +128,23 @@ abbrev pub ValuesTellWhatWasGiven : Type 0
 ValuesTellWhatWasGiven =
     (m n : Made) → m.reply.code ≡ Success → n.reply.code ≡ Success → m.name ≡ n.name → IsPrinted m.name m.mark m.reply.gives
     → IsPrinted n.name n.mark n.reply.gives → values_of m ≡ values_of n → without_handles m.reply.gives ≡ without_handles n.reply.gives
+
+-- ---- what the line of a frame tells
+
+-- a layer whose stamps have 64 bits
+abbrev pub IsLayerPrintable : ShownLayer → Type 0
+IsLayerPrintable (layer.Projection left right) = (left < 2 ^ 64) × (right < 2 ^ 64)
+IsLayerPrintable (layer.Quad stamp) = stamp < 2 ^ 64
+
+-- a frame whose numbers have 64 bits
+pub record IsFramePrintable (f : ShownFrame) : Type 0 where
+  pub number : f.number < 2 ^ 64
+  pub time : FitsSigned w64 f.time
+  pub count : length f.layers < 2 ^ 64
+  pub layers : Each IsLayerPrintable f.layers
+
+-- The line of a frame with its place tells the whole frame, and the place of the reply that gave it.
+abbrev pub FrameLinesTellTheFrame : Type 0
+FrameLinesTellTheFrame =
+    (f g : ShownFrame) (r q : Reply) → IsFramePrintable f → IsFramePrintable g → r.place < 2 ^ 64 → q.place < 2 ^ 64
+    → frame_line true f (Some r) ≡ frame_line true g (Some q) → (f ≡ g) × (r.place ≡ q.place)
