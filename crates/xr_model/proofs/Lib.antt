@@ -92,3 +92,7 @@ pub mod FirstWrong
 pub mod RowKeys
 pub mod Rounds
 pub mod PassedOver
+pub mod Cuts
+pub mod ReportsTell
+pub mod ValuesTell
+pub mod FramesTell

@@ -25,3 +25,4 @@ pub mod WordLaws
 pub mod NameLaws
 pub mod ReadingLaws
 pub mod RobinLaws
+pub mod ReportLaws

@@ -26,6 +26,7 @@ ghost use Rattle.xr_model.specs.laws.WordLaws.{WordsGiveBack, WordsAreRead, Publ
 ghost use Rattle.xr_model.specs.laws.NameLaws.{NamesAreDistinct, OpsAreFound, WordsAreFound};
 ghost use Rattle.xr_model.specs.laws.ReadingLaws.{FirstWrongPlaceIsTold, OpsAreWhatTheyAreCalled, KeysAreTheRows};
 ghost use Rattle.xr_model.specs.laws.RobinLaws.{TurnsGoRound, NobodyHasTwoTurns, NobodyReadyIsPassedOver, RunsEndWhereNobodyIsReady, ImagesAreGivenBackFirst};
+ghost use Rattle.xr_model.specs.laws.ReportLaws.{ReportsTellTheCalls, ValuesTellWhatWasGiven, FrameLinesTellTheFrame};
 
 mod cells;
 mod machine;
@@ -641,4 +642,22 @@ pub fn runs_end_where_nobody_is_ready()
 #[tactic(auto, using(crate::proofs::PassedOver::images_are_given_back_first))]
 pub fn images_are_given_back_first()
     ensures { ImagesAreGivenBackFirst }
+{}
+
+/// A report with places tells each script's calls, their codes, values and places.
+#[tactic(auto, using(crate::proofs::ReportsTell::reports_tell_the_calls))]
+pub fn reports_tell_the_calls()
+    ensures { ReportsTellTheCalls }
+{}
+
+/// The printed values of a call that succeeded tell what it gave, but for handles.
+#[tactic(auto, using(crate::proofs::ValuesTell::values_tell_what_was_given))]
+pub fn values_tell_what_was_given()
+    ensures { ValuesTellWhatWasGiven }
+{}
+
+/// The line of a frame with its place tells the whole frame, and the place of the reply that gave it.
+#[tactic(auto, using(crate::proofs::FramesTell::frame_lines_tell_the_frame))]
+pub fn frame_lines_tell_the_frame()
+    ensures { FrameLinesTellTheFrame }
 {}
