@@ -18,7 +18,7 @@ use Rattle.xr_types.specs.declared.session.Event.TheVariants as event
 use Rattle.xr_types.specs.declared.session.SessionState.{SessionState}
 use Rattle.xr_types.specs.declared.session.SessionState.TheVariants as state
 use Rattle.xr_types.specs.declared.spaces.Location.TheVariants as location
-use Rattle.xr_types.specs.Code.{name_of}
+use Rattle.xr_types.specs.Code.{name_of_code}
 use Rattle.xr_types.specs.Op.{name_of_call}
 use Rattle.xr_types.specs.Printed.{state_name}
 use Rattle.xr_model.specs.scenario.InRange.{Each}
@@ -149,11 +149,11 @@ name_free : (c : CallName) → Free 32 (name_of_call c)
 name_free call.CreateInstance = refl
 name_free _ = refl
 
-code_free : (c : Code) → Free 32 (name_of c)
+code_free : (c : Code) → Free 32 (name_of_code c)
 code_free code.Success = refl
 code_free _ = refl
 
-code_plain : (c : Code) → Free 64 (name_of c)
+code_plain : (c : Code) → Free 64 (name_of_code c)
 code_plain code.Success = refl
 code_plain _ = refl
 
@@ -167,12 +167,12 @@ spread op name c values place rest = simp append_assoc refl
 -- a line's parts, and what comes behind
 abbrev line_then : Made → List ℕ → List ℕ
 line_then m rest =
-    decimal m.op ++ 32 ∷ (name_of_call m.name ++ 32 ∷ (((name_of m.reply.code ++ values_of m) ++ 32 ∷ []) ++ 64 ∷ (decimal m.reply.place ++ 10 ∷ rest)))
+    decimal m.op ++ 32 ∷ (name_of_call m.name ++ 32 ∷ (((name_of_code m.reply.code ++ values_of m) ++ 32 ∷ []) ++ 64 ∷ (decimal m.reply.place ++ 10 ∷ rest)))
 
 line_is : (m : Made) (ms : List Made) (rest : List ℕ) → lines_of true (m ∷ ms) ++ rest ≡ line_then m (lines_of true ms ++ rest)
 line_is m ms rest =
     append_assoc (call_line true m) (lines_of true ms) rest
-    ∙ spread (decimal m.op) (name_of_call m.name) (name_of m.reply.code) (values_of m) (decimal m.reply.place) (lines_of true ms ++ rest)
+    ∙ spread (decimal m.op) (name_of_call m.name) (name_of_code m.reply.code) (values_of m) (decimal m.reply.place) (lines_of true ms ++ rest)
 
 line_begins : (m : Made) (ms : List Made) (rest : List ℕ) → begins_digit (lines_of true (m ∷ ms) ++ rest) ≡ true
 line_begins m ms rest = ap begins_digit (line_is m ms rest) ∙ number_begins m.op _
@@ -187,26 +187,26 @@ space_first [] first = refl
 space_first (b ∷ bs) first = ap (λ x. x ∷ (bs ++ 32 ∷ [])) (same_key b 32 first)
 
 -- a code and its values
-code_and_values : (c d : Code) (us vs : List ℕ) → IsPlain us → IsPlain vs → (name_of c ++ us) ++ 32 ∷ [] ≡ (name_of d ++ vs) ++ 32 ∷ [] → (c ≡ d) × (us ≡ vs)
+code_and_values : (c d : Code) (us vs : List ℕ) → IsPlain us → IsPlain vs → (name_of_code c ++ us) ++ 32 ∷ [] ≡ (name_of_code d ++ vs) ++ 32 ∷ [] → (c ≡ d) × (us ≡ vs)
 code_and_values c d us vs first second e =
-    let one = append_assoc (name_of c) us (32 ∷ []) ∙ ap (λ l. name_of c ++ l) (space_first us first.1) in
-    let other = append_assoc (name_of d) vs (32 ∷ []) ∙ ap (λ l. name_of d ++ l) (space_first vs second.1) in
-    let parts = cut 32 (name_of c) (name_of d) (behind_space us) (behind_space vs) (code_free c) (code_free d) (sym one ∙ e ∙ other) in (
+    let one = append_assoc (name_of_code c) us (32 ∷ []) ∙ ap (λ l. name_of_code c ++ l) (space_first us first.1) in
+    let other = append_assoc (name_of_code d) vs (32 ∷ []) ∙ ap (λ l. name_of_code d ++ l) (space_first vs second.1) in
+    let parts = cut 32 (name_of_code c) (name_of_code d) (behind_space us) (behind_space vs) (code_free c) (code_free d) (sym one ∙ e ∙ other) in (
       names_are_distinct.codes c d parts.0,
       append_cancel_right us vs (32 ∷ []) (space_first us first.1 ∙ ap (λ l. 32 ∷ l) parts.1 ∙ sym (space_first vs second.1)),
     )
 
-part_plain : (m : Made) → has_no_at m.text ≡ true → Free 64 ((name_of m.reply.code ++ values_of m) ++ 32 ∷ [])
+part_plain : (m : Made) → has_no_at m.text ≡ true → Free 64 ((name_of_code m.reply.code ++ values_of m) ++ 32 ∷ [])
 part_plain m none =
-    free_both 64 (name_of m.reply.code ++ values_of m) (32 ∷ [])
-    (free_both 64 (name_of m.reply.code) (values_of m) (code_plain m.reply.code) (values_plain m none).0) refl
+    free_both 64 (name_of_code m.reply.code ++ values_of m) (32 ∷ [])
+    (free_both 64 (name_of_code m.reply.code) (values_of m) (code_plain m.reply.code) (values_plain m none).0) refl
 
 -- one line
 line_tells : (m n : Made) (us vs : List ℕ) → IsPrintable m → IsPrintable n → line_then m us ≡ line_then n vs → AnsweredAlike m n × (us ≡ vs)
 line_tells m n us vs first second e =
     let op = cut 32 (decimal m.op) (decimal n.op) _ _ (decimal_free 32 m.op refl) (decimal_free 32 n.op refl) e in
     let name = cut 32 (name_of_call m.name) (name_of_call n.name) _ _ (name_free m.name) (name_free n.name) op.1 in
-    let part = cut 64 ((name_of m.reply.code ++ values_of m) ++ 32 ∷ []) ((name_of n.reply.code ++ values_of n) ++ 32 ∷ []) _ _
+    let part = cut 64 ((name_of_code m.reply.code ++ values_of m) ++ 32 ∷ []) ((name_of_code n.reply.code ++ values_of n) ++ 32 ∷ []) _ _
     (part_plain m first.text) (part_plain n second.text) name.1 in
     let place = cut 10 (decimal m.reply.place) (decimal n.reply.place) us vs (decimal_free 10 m.reply.place refl) (decimal_free 10 n.reply.place refl) part.1 in
     let both = code_and_values m.reply.code n.reply.code (values_of m) (values_of n) (values_plain m first.text) (values_plain n second.text) part.0 in (
