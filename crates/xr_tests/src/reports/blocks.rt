@@ -11,7 +11,7 @@ const LEAVE: Row = (CallName::Leave, 0, Code::Success, Gives::Nothing, b"");
 const SYSTEM: Row = (CallName::GetSystem, 0, Code::Success, Gives::Number(1), b"");
 
 /// A frame with these layers.
-fn shown(number: u64, time: i64, layers: &[ShownLayer]) -> Shown {
+pub(crate) fn shown(number: u64, time: i64, layers: &[ShownLayer]) -> Shown {
     let mut frame = Shown {
         number,
         time,
