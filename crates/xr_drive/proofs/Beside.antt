@@ -20,7 +20,7 @@ use Rattle.xr_device.specs.WholeLines.{told_whole, GaveWholeLines}
 use Rattle.xr_scenario.specs.declared.fault.ScenarioFault.{ScenarioFault}
 use Rattle.xr_scenario.specs.declared.fault.ScenarioFault.TheVariants as scenario_fault
 use Rattle.xr_serial.specs.Ran.{FailsBehind, Ran}
-use Rattle.xr_drive.specs.Run.{KnownDevice, FailsAtLines, Run}
+use Rattle.xr_drive.specs.Run.{KnownDevice, FailsAtLines}
 use Rattle.xr_types.specs.declared.status.Status.{Status}
 use Rattle.xr_drive.specs.Top.{IsWithin, may_be_unopened, TakesWithin}
 use Rattle.xr_drive.specs.declared.input.Stop.{Stop}
@@ -63,9 +63,11 @@ means_text text bytes taken start now (Err scenario_fault.NoMemory) none remaini
 means_text text bytes taken start now (Ok lists) none remaining same took m = record {
   scenario = m.scenario;
   reads = m.reads;
-  count = m.count;
-  ran = subst (λ (t : Option DeviceStream). Ran m.scenario t m.count lists) remaining m.ran;
-  fails = λ h. by bytes remaining same (m.failed h);
+  runs = record {
+    count = m.count;
+    ran = subst (λ (t : Option DeviceStream). Ran m.scenario t m.count lists) remaining m.ran;
+    fails = λ h. by bytes remaining same (m.failed h);
+  };
 }
   where
     by : (all : Option (List ℕ)) → start.remaining ≡ option_map told_in all → now.text ≡ all → FailsBehind start now lists.events → IfSome all (λ b. FailsAtLines (take taken b) m.count lists.events)
@@ -79,9 +81,11 @@ means_alone text taken start now (Err scenario_fault.NoMemory) remaining m = tt
 means_alone text taken start now (Ok lists) remaining m = record {
   scenario = m.scenario;
   reads = m.reads;
-  count = m.count;
-  ran = subst (λ (t : Option DeviceStream). Ran m.scenario t m.count lists) remaining m.ran;
-  fails = λ h. tt;
+  runs = record {
+    count = m.count;
+    ran = subst (λ (t : Option DeviceStream). Ran m.scenario t m.count lists) remaining m.ran;
+    fails = λ h. tt;
+  };
 }
 
 -- ---- the source of a device

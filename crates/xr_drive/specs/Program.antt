@@ -6,7 +6,6 @@ use Rattle.xr_types.specs.declared.status.Status.{Status}
 use Rattle.xr_types.specs.declared.status.Status.TheVariants.{Done, WriteFault}
 use Rattle.xr_model.specs.report.RunEnding.{exit_of}
 use Rattle.xr_drive.specs.Lines.{line_of}
-use Rattle.xr_drive.specs.Top.{Outside, IsAnswer}
 
 -- all of a text was written, and nothing failed
 abbrev pub WritesAll : Output → Output → List ℕ → Type 0
@@ -31,9 +30,9 @@ abbrev pub said_of : Status → List ℕ
 said_of Done = []
 said_of status = line_of status ++ 10 ∷ []
 
--- Some status is the answer, and a program ends with its number and says its line.
-pub record EndsWith (words : List (List ℕ)) (old new : Outside) (old_errors new_errors : Output) (number : ℕ) : Type 0 where
+-- Some status is answered, and a program ends with its number and says its line.
+pub record EndsWith (Answers : Status → Type 0) (old new : Output) (number : ℕ) : Type 0 where
   pub status : Status
-  pub answer : IsAnswer words old new status
+  pub answer : Answers status
   pub exits : number ≡ exit_of status
-  pub says : Says old_errors new_errors (said_of status)
+  pub says : Says old new (said_of status)

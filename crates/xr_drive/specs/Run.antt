@@ -1,11 +1,10 @@
 -- A run of a scenario text beside a device: the one history that its report is of.
-use Rattle.std.specs.Prelude.{◌≡◌, true, List, [], ◌∷◌, ◌++◌, length, take, ℕ, Option, IfSome, Ok}
+use Rattle.std.specs.Prelude.{◌≡◌, true, List, [], ◌∷◌, ◌++◌, length, take, ℕ, Option, IfSome}
 use Rattle.std.specs.List.{list_any}
 use Rattle.xr_types.specs.declared.device.DeviceEvent.{DeviceEvent}
 use Rattle.xr_types.specs.declared.device.DeviceEvent.TheVariants.{Fault}
 use Rattle.xr_types.specs.declared.made.Lists.{Lists}
 use Rattle.xr_types.specs.declared.scenario.Scenario.{Scenario}
-use Rattle.xr_model.specs.scenario.Scenario.{scenario_of}
 use Rattle.xr_model.specs.device_text.DeviceText.{DeviceStream, ends}
 use Rattle.xr_model.specs.report.RunEnding.{is_fault}
 use Rattle.xr_device.specs.WholeLines.{told_whole}
@@ -25,11 +24,9 @@ pub record FailsAtLines (taken : List ℕ) (count : ℕ) (events : List DeviceEv
   pub events_are : events ≡ (told_whole taken).events ++ Fault ∷ []
   pub number : count ≡ length (told_whole taken).events
 
--- A run of a text beside a device, of which this is known and which gave so many events: the text is a scenario, and the
--- lists are those of its history. Where the device couldn't be read on, its events are those of the lines that were taken.
-pub record Run (text : List ℕ) (device : KnownDevice) (lists : Lists) : Type 0 where
-  pub scenario : Scenario
-  pub reads : scenario_of text ≡ Ok scenario
+-- A run of a scenario beside a device, of which this is known and which gave so many events: the lists are those of its history.
+-- Where the device couldn't be read on, its events are those of the lines that were taken.
+pub record RunOf (scenario : Scenario) (device : KnownDevice) (lists : Lists) : Type 0 where
   pub count : ℕ
   pub ran : Ran scenario device.told count lists
   pub fails : list_any is_fault lists.events ≡ true → IfSome device.text (λ bytes. FailsAtLines (take device.taken bytes) count lists.events)

@@ -1,5 +1,5 @@
 -- What a top call means, and why each of its answers comes.
-use Rattle.std.specs.Prelude.{◌≡◌, ◌≤◌, ◌⊎◌, ℕ, ◌+◌, Bool, true, false, List, take, Option, Some, None, option_map, option_and_then, is_some, Err, IfSome, ⊤}
+use Rattle.std.specs.Prelude.{◌≡◌, ◌≤◌, ◌⊎◌, ℕ, ◌+◌, Bool, true, false, List, take, Option, Some, None, option_map, option_and_then, is_some, Ok, Err, IfSome, ⊤}
 use Rattle.std.specs.Io.KnownBytes.{Keeps, Appends}
 use Rattle.xr_io.specs.Outside.{Rose, Files, Output}
 use Rattle.xr_io.specs.declared.Taken.{Taken}
@@ -9,12 +9,15 @@ use Rattle.xr_types.specs.declared.limits.TheConstants.{MOST_SCENARIO, MOST_DEVI
 use Rattle.xr_types.specs.declared.made.Lists.{Lists}
 use Rattle.xr_types.specs.declared.status.Status.{Status}
 use Rattle.xr_types.specs.declared.status.Status.TheVariants.{Done, Usage, OpenFault, ReadFault, ScenarioRefused, DeviceFailed, DeviceGarbled, Stuck, WriteFault, NoMemory}
-use Rattle.xr_model.specs.command_line.Words.{RunOptions, options_of}
+use Rattle.xr_model.specs.command_line.Words.{RunOptions, WordsForm, run, load}
 use Rattle.xr_model.specs.scenario.Scenario.{scenario_of}
 use Rattle.xr_model.specs.device_text.DeviceText.{DeviceStream, nothing_more, told_in}
 use Rattle.xr_model.specs.report.RunEnding.{ending_of}
+use Rattle.xr_model.specs.scenario.LoadScenario.{load_scenario, load_device}
 use Rattle.xr_model.specs.report.Report.{report_of}
-use Rattle.xr_drive.specs.Run.{KnownDevice, Run}
+use Rattle.xr_model.specs.report.Summary.{summary_of}
+use Rattle.xr_types.specs.declared.scenario.Scenario.{Scenario}
+use Rattle.xr_drive.specs.Run.{KnownDevice}
 
 -- ---- what is outside
 
@@ -36,9 +39,13 @@ Writes old new bytes = Appends old.output.bytes new.output.bytes bytes
 
 -- ---- what was run
 
+-- The words ask for a run of files, and this is so of its options.
+abbrev pub OfRun : Option WordsForm → (RunOptions → Type 0) → Type 0
+OfRun form P = (options : RunOptions) × (form ≡ Some (run options)) × P options
+
 -- The words have a form, and this is so of it.
-abbrev pub OfForm : List (List ℕ) → (RunOptions → Type 0) → Type 0
-OfForm words P = (form : RunOptions) × (options_of words ≡ Some form) × P form
+abbrev pub OfForm : Option WordsForm → (WordsForm → Type 0) → Type 0
+OfForm form P = (f : WordsForm) × (form ≡ Some f) × P f
 
 -- what the device is known to give: nothing where there is none, else what its file's text tells, where that is told
 abbrev pub told_under : (List ℕ → Option (List ℕ)) → Option (List ℕ) → Option DeviceStream
@@ -49,31 +56,53 @@ told_under bytes (Some name) = option_map told_in (bytes name)
 abbrev pub known_under : Files → Files → Option (List ℕ) → KnownDevice
 known_under old new device = record { told = told_under old.bytes device; text = option_and_then old.bytes device; taken = (new.taken which.Device).count }
 
--- Some text was run, and it is all that stands under the scenario's file, where that is told.
-abbrev pub RunsText : Option (List ℕ) → KnownDevice → Lists → Type 0
-RunsText all device lists = (text : List ℕ) × IfSome all (λ bytes. bytes ≡ text) × Run text device lists
+-- the device of a load tells its events, and has no text
+abbrev pub made_device : KnownDevice
+made_device = record { told = Some load_device; text = None; taken = 0 }
 
--- The form's files were run, and this is so of what the run has made.
-abbrev pub Reports : Files → Files → RunOptions → (Lists → Type 0) → Type 0
-Reports old new form P = (lists : Lists) × RunsText (old.bytes form.file) (known_under old new form.device) lists × P lists
+-- How lists come of a scenario beside a device of which this is known: by the round robin, say.
+abbrev pub HowRun : Type 1
+HowRun = Scenario → KnownDevice → Lists → Type 0
 
--- The run ended so, and its whole report was written.
-abbrev pub EndsSo : List (List ℕ) → Outside → Outside → Status → Type 0
-EndsSo words old new status =
-    OfForm words (λ form. Reports old.files new.files form (λ lists. (ending_of lists ≡ status) × Writes old new (report_of lists form.places)))
+-- The scenario of a text was run so, and the text is all that stands under the scenario's file, where that is told.
+pub record RunsText (How : HowRun) (all : Option (List ℕ)) (device : KnownDevice) (lists : Lists) : Type 0 where
+  pub text : List ℕ
+  pub is_all : IfSome all (λ bytes. bytes ≡ text)
+  pub scenario : Scenario
+  pub reads : scenario_of text ≡ Ok scenario
+  pub runs : How scenario device lists
 
--- What each status says of the words, of the bytes under each name, and of what the output had and has.
-abbrev pub Means : List (List ℕ) → Outside → Outside → Status → Type 0
-Means words old new Done = EndsSo words old new Done
-Means words old new Usage = (options_of words ≡ None) × WritesNothing old new
-Means words old new OpenFault = OfForm words (λ form. WritesNothing old new)
-Means words old new ReadFault = OfForm words (λ form. WritesNothing old new)
-Means words old new (ScenarioRefused why) = OfForm words (λ form. IfSome (old.files.bytes form.file) (λ text. scenario_of text ≡ Err why) × WritesNothing old new)
-Means words old new DeviceFailed = EndsSo words old new DeviceFailed
-Means words old new (DeviceGarbled line) = EndsSo words old new (DeviceGarbled line)
-Means words old new Stuck = EndsSo words old new Stuck
-Means words old new WriteFault = OfForm words (λ form. Reports old.files new.files form (λ lists. (n : ℕ) × Writes old new (take n (report_of lists form.places))))
-Means words old new NoMemory = WritesNothing old new
+-- What a form asks for was run so, and these are the lists: the scenario of a file beside the device of another, or that of a load.
+abbrev pub Made : HowRun → Files → Files → WordsForm → Lists → Type 0
+Made How old new (run options) lists = RunsText How (old.bytes options.file) (known_under old new options.device) lists
+Made How old new (load frames) lists = How (load_scenario frames) made_device lists
+
+-- what is written of the lists: the report, or the summary of a load
+abbrev pub text_of : WordsForm → Lists → List ℕ
+text_of (run options) lists = report_of lists options.places
+text_of (load frames) lists = summary_of frames lists
+
+-- What the form asks for was run, the run ended so, and its whole text was written.
+abbrev pub EndsSo : HowRun → Outside → Outside → Status → WordsForm → Type 0
+EndsSo How old new status form = (lists : Lists) × Made How old.files new.files form lists × (ending_of lists ≡ status) × Writes old new (text_of form lists)
+
+-- What was run, and a front of its text was written.
+abbrev pub WritesFrontOf : HowRun → Outside → Outside → WordsForm → Type 0
+WritesFrontOf How old new form = (lists : Lists) × Made How old.files new.files form lists × (n : ℕ) × Writes old new (take n (text_of form lists))
+
+-- What each status says of the form of the words, of the bytes under each name, and of what the output had and has. A load opens no
+-- file, and its device has a good end.
+abbrev pub Means : HowRun → Option WordsForm → Outside → Outside → Status → Type 0
+Means How form old new Done = OfForm form (EndsSo How old new Done)
+Means How form old new Usage = (form ≡ None) × WritesNothing old new
+Means How form old new OpenFault = OfRun form (λ options. WritesNothing old new)
+Means How form old new ReadFault = OfRun form (λ options. WritesNothing old new)
+Means How form old new (ScenarioRefused why) = OfRun form (λ options. IfSome (old.files.bytes options.file) (λ text. scenario_of text ≡ Err why) × WritesNothing old new)
+Means How form old new DeviceFailed = OfRun form (λ options. EndsSo How old new DeviceFailed (run options))
+Means How form old new (DeviceGarbled line) = OfRun form (λ options. EndsSo How old new (DeviceGarbled line) (run options))
+Means How form old new Stuck = OfForm form (EndsSo How old new Stuck)
+Means How form old new WriteFault = OfForm form (WritesFrontOf How old new)
+Means How form old new NoMemory = WritesNothing old new
 
 -- ---- causes
 
@@ -140,15 +169,22 @@ SameBytes old new = (name : List ℕ) → new.bytes name ≡ old.bytes name
 
 -- ---- what was asked for
 
--- The scenario's file that was asked for is that of the words. Where memory was short it may not have
--- been asked for yet.
-abbrev pub IsAskedFor : Option RunOptions → Option (List ℕ) → Status → Type 0
-IsAskedFor form asked NoMemory = (asked ≡ option_map (λ f. f.file) form) ⊎ (asked ≡ None)
-IsAskedFor form asked _ = asked ≡ option_map (λ f. f.file) form
+-- the file of the scenario, and that of the device, where the words name one
+abbrev pub file_of : Option WordsForm → Option (List ℕ)
+file_of (Some (run options)) = Some options.file
+file_of (Some (load frames)) = None
+file_of None = None
 
--- the device's file, where the words name one
-abbrev pub device_of : Option RunOptions → Option (List ℕ)
-device_of form = option_and_then (λ f. f.device) form
+abbrev pub device_of : Option WordsForm → Option (List ℕ)
+device_of (Some (run options)) = options.device
+device_of (Some (load frames)) = None
+device_of None = None
+
+-- The scenario's file that was asked for is this one, if there is one. Where memory was short it may not have
+-- been asked for yet.
+abbrev pub IsAskedFor : Option (List ℕ) → Option (List ℕ) → Status → Type 0
+IsAskedFor file asked NoMemory = (asked ≡ file) ⊎ (asked ≡ None)
+IsAskedFor file asked _ = asked ≡ file
 
 -- The device's file that was asked for is this one, if there is one. Where a file couldn't be opened or memory was short it
 -- may not have been asked for yet.
@@ -157,21 +193,21 @@ IsDeviceAskedFor device asked OpenFault = (asked ≡ device) ⊎ (asked ≡ None
 IsDeviceAskedFor device asked NoMemory = (asked ≡ device) ⊎ (asked ≡ None)
 IsDeviceAskedFor device asked _ = asked ≡ device
 
--- the device was not asked for, and its counts are as they were
-pub record KeepsDevice (old new : Files) : Type 0 where
-  pub unasked : new.asked which.Device ≡ old.asked which.Device
-  pub opens : new.open_faults which.Device ≡ old.open_faults which.Device
-  pub reads : new.read_faults which.Device ≡ old.read_faults which.Device
-  pub taken : new.taken which.Device ≡ old.taken which.Device
+-- one of the two was not asked for, and its counts and what was taken of it are as they were
+pub record KeepsFile (w : Which) (old new : Files) : Type 0 where
+  pub unasked : new.asked w ≡ old.asked w
+  pub opens : new.open_faults w ≡ old.open_faults w
+  pub reads : new.read_faults w ≡ old.read_faults w
+  pub taken : new.taken w ≡ old.taken w
 
--- this is so where there is no device
-abbrev pub UnlessDevice : Option (List ℕ) → Type 0 → Type 0
-UnlessDevice None P = P
-UnlessDevice (Some name) P = ⊤
+-- this is so where no file is named
+abbrev pub UnlessNamed : Option (List ℕ) → Type 0 → Type 0
+UnlessNamed None P = P
+UnlessNamed (Some name) P = ⊤
 
--- this is so where there is a device
-abbrev pub IfDevice : Option (List ℕ) → Type 0 → Type 0
-IfDevice device P = is_some device ≡ true → P
+-- this is so where one is
+abbrev pub IfNamed : Option (List ℕ) → Type 0 → Type 0
+IfNamed name P = is_some name ≡ true → P
 
 -- ---- what was taken
 
@@ -195,15 +231,16 @@ TakesWithin most old new status = IsWithin most new ⊎ ((may_be_unopened status
 -- What a status says, all of it: what it means, why it comes, and that no other count changed; that just the files of the words were
 -- asked for, in their turn; that each was read no further than one byte past its limit, and never late; and that no source is left
 -- open, and no file's bytes changed.
-pub record IsAnswer (words : List (List ℕ)) (old new : Outside) (status : Status) : Type 0 where
-  pub means : Means words old new status
+pub record IsAnswer (How : HowRun) (form : Option WordsForm) (old new : Outside) (status : Status) : Type 0 where
+  pub means : Means How form old new status
   pub causes : HasItsCause old new status
   pub counts : OnlyItsFault old new status
-  pub asked : IsAskedFor (options_of words) (new.files.asked which.Scenario) status
-  pub device : IsDeviceAskedFor (device_of (options_of words)) (new.files.asked which.Device) status
-  pub alone : UnlessDevice (device_of (options_of words)) (KeepsDevice old.files new.files)
+  pub asked : IsAskedFor (file_of form) (new.files.asked which.Scenario) status
+  pub device : IsDeviceAskedFor (device_of form) (new.files.asked which.Device) status
+  pub alone : UnlessNamed (file_of form) (KeepsFile which.Scenario old.files new.files)
+  pub device_alone : UnlessNamed (device_of form) (KeepsFile which.Device old.files new.files)
   pub turn : OpensInTurn old.files new.files status
-  pub taken : TakesWithin (MOST_SCENARIO + 1) (old.files.taken which.Scenario) (new.files.taken which.Scenario) status
-  pub device_taken : IfDevice (device_of (options_of words)) (TakesWithin (MOST_DEVICE + 1) (old.files.taken which.Device) (new.files.taken which.Device) status)
+  pub taken : IfNamed (file_of form) (TakesWithin (MOST_SCENARIO + 1) (old.files.taken which.Scenario) (new.files.taken which.Scenario) status)
+  pub device_taken : IfNamed (device_of form) (TakesWithin (MOST_DEVICE + 1) (old.files.taken which.Device) (new.files.taken which.Device) status)
   pub closed : NoneLeftOpen old.files new.files
   pub same : SameBytes old.files new.files

@@ -13,7 +13,7 @@ mod program;
 mod serial;
 
 pub use explanation::explain;
-pub use laws::good_input_is_run;
+pub use laws::{good_input_is_run, loads_are_run};
 pub use output::write_all;
 pub use program::{end_with, print, run_program};
 pub use serial::run_serial;

@@ -4,7 +4,9 @@ ghost use Rattle.std.specs.Process.{exit_status};
 ghost use Rattle.xr_io.specs.Outside.{AreUnasked};
 ghost use Rattle.xr_model.specs.report.RunEnding.{exit_of};
 ghost use Rattle.xr_drive.specs.Program.{EndsWith, Says, said_of, Prints};
-ghost use Rattle.xr_drive.specs.Top.{outside};
+ghost use Rattle.xr_model.specs.command_line.Words.{form_of};
+ghost use Rattle.xr_drive.specs.Run.{RunOf};
+ghost use Rattle.xr_drive.specs.Top.{outside, IsAnswer};
 
 use crate::explanation::explain;
 use crate::output::write_all;
@@ -46,7 +48,7 @@ pub fn run_program<O: Opener, K: Sink, E: Sink>(
     errors: &mut E,
 ) -> ExitCode
     requires fresh { AreUnasked (O.files opener.old) }
-    ensures { EndsWith (map string_bytes words.now) (outside (O.files opener.old) (K.output sink.old)) (outside (O.files opener.new) (K.output sink.new)) (E.output errors.old) (E.output errors.new) (exit_status result) }
+    ensures { EndsWith (IsAnswer RunOf (form_of (map string_bytes words.now)) (outside (O.files opener.old) (K.output sink.old)) (outside (O.files opener.new) (K.output sink.new))) (E.output errors.old) (E.output errors.new) (exit_status result) }
 {
     let status = run_serial(alloc, words, opener, sink);
     end_with(errors, status)

@@ -1,26 +1,29 @@
 // The top call of one thread.
 ghost use Rattle.std.specs.Prelude.{◌≡◌, ◌≤◌, ◌+◌, true, false, map, take, IfOk, IfErr, IfSome, Some, None, length, string_bytes, option_map};
 ghost use Rattle.std.specs.List.{list_any};
-ghost use Rattle.xr_types.specs.declared.limits.TheConstants.{MOST_SCENARIO, MOST_DEVICE};
+ghost use Rattle.xr_types.specs.declared.limits.TheConstants.{MOST_SCENARIO, MOST_DEVICE, MOST_FILE_NAME, MOST_LOAD};
 ghost use Rattle.xr_io.specs.Outside.{Rose, AreUnasked};
 ghost use Rattle.xr_io.specs.declared.Which.{Which};
 ghost use Rattle.xr_device.specs.Answers.{ReadsOn};
 ghost use Rattle.xr_model.specs.report.RunEnding.{is_fault};
-ghost use Rattle.xr_model.specs.command_line.Words.{options_of};
-ghost use Rattle.xr_drive.specs.Top.{outside, Means, HasItsCause, OnlyItsFault, OpensInTurn, IsAskedFor, IsDeviceAskedFor, device_of, KeepsDevice, UnlessDevice, IfDevice, IsWithin, TakesWithin, NoneLeftOpen, SameBytes, IsAnswer, known_under};
+ghost use Rattle.xr_model.specs.command_line.Words.{form_of};
+ghost use Rattle.xr_model.specs.scenario.LoadScenario.{load_device};
+ghost use Rattle.xr_command.specs.Reads.{shown_form, FitsLimits};
+ghost use Rattle.xr_drive.specs.Run.{RunOf};
+ghost use Rattle.xr_drive.specs.Top.{outside, text_of, file_of, device_of, IsAskedFor, IsDeviceAskedFor, KeepsFile, UnlessNamed, IfNamed, IsWithin, TakesWithin, NoneLeftOpen, SameBytes, IsAnswer, known_under};
 ghost use Rattle.xr_drive.specs.inside.Input.{RoseIfStopped, KeptUnlessFailed};
-ghost use Rattle.xr_drive.specs.inside.Parts.{IsJustOpened, MeansBeside, MeansText, known_text, MeansRun, HasRunCause, KeepsCounts, KeptIfRefused, OpenedInTurn, status_in, MeansWritten, RoseIfUnwritten, KeptUnlessUnwritten};
+ghost use Rattle.xr_drive.specs.inside.Parts.{IsJustOpened, MeansBeside, MeansText, known_text, MeansRun, RunLoad, MeansForm, HasRunCause, KeepsCounts, KeptIfRefused, OpenedInTurn, status_in, MeansWritten, RoseIfUnwritten, KeptUnlessUnwritten};
 
 use crate::faults::{RunFault, Unwritten};
 use crate::input::{Stop, read_all};
 use crate::output::write_all;
 use std::alloc::Global;
-use xr_command::{WordsFault, options_of};
+use xr_command::{WordsFault, WordsForm, form_of};
 use xr_device::{Device, LineDevice, ListDevice};
 use xr_io::{Opener, Sink, Source, Which};
-use xr_report::{ending_of, report};
-use xr_scenario::{ScenarioFault, read};
-use xr_types::{Lists, Status};
+use xr_report::{ending_of, report, summary};
+use xr_scenario::{ScenarioFault, generate, read};
+use xr_types::{DeviceEvent, Lists, NoMemory, Status, Wish};
 
 /// The bytes of the scenario's opened file, or why there are none. The source is closed.
 fn read_text<O: Opener>(alloc: Global, opener: &mut O, source: O::S) -> Result<Vec<u8>, Stop>
@@ -73,7 +76,7 @@ fn run_alone<O: Opener>(alloc: Global, opener: &mut O, source: O::S) -> Result<L
     ensures counts { KeepsCounts (O.files opener.old) (O.files opener.new) result }
     ensures asked { (which : Which) → (O.files opener.new).asked which ≡ (O.files opener.old).asked which }
     ensures turn { OpenedInTurn (O.files opener.old) (O.files opener.new) result }
-    ensures device { KeepsDevice (O.files opener.old) (O.files opener.new) }
+    ensures device { KeepsFile Which.Device (O.files opener.old) (O.files opener.new) }
     ensures within { IsWithin (MOST_SCENARIO + 1) ((O.files opener.new).taken Which.Scenario) }
     ensures closed { (O.files opener.new).is_open Which.Scenario ≡ false }
     ensures stays { (O.files opener.new).is_open Which.Device ≡ (O.files opener.old).is_open Which.Device }
@@ -126,7 +129,7 @@ fn run_beside<O: Opener>(
 ) -> Result<Lists, RunFault>
     requires opened { IsJustOpened Which.Scenario (O.S.state source) }
     requires fresh { (O.files opener.old).asked Which.Device ≡ None }
-    requires short { length name.now ≤ 4095 }
+    requires short { length name.now ≤ MOST_FILE_NAME }
     ensures means { MeansRun (O.S.state source).bytes (known_under (O.files opener.old) (O.files opener.new) (Some name.now)) result }
     ensures cause { HasRunCause (O.files opener.old) (O.files opener.new) result }
     ensures counts { KeepsCounts (O.files opener.old) (O.files opener.new) result }
@@ -165,17 +168,17 @@ fn run_files<O: Opener>(
     device: Option<&str>,
 ) -> Result<Lists, RunFault>
     requires fresh { AreUnasked (O.files opener.old) }
-    requires short { length file.now ≤ 4095 }
-    requires short_device { IfSome device (λ name. length name.now ≤ 4095) }
+    requires short { length file.now ≤ MOST_FILE_NAME }
+    requires short_device { IfSome device (λ name. length name.now ≤ MOST_FILE_NAME) }
     ensures means { MeansRun ((O.files opener.old).bytes file.now) (known_under (O.files opener.old) (O.files opener.new) (option_map (λ name. name.now) device.entry)) result }
     ensures cause { HasRunCause (O.files opener.old) (O.files opener.new) result }
     ensures counts { KeepsCounts (O.files opener.old) (O.files opener.new) result }
     ensures asked { (O.files opener.new).asked Which.Scenario ≡ Some file.now }
     ensures turn { OpenedInTurn (O.files opener.old) (O.files opener.new) result }
     ensures device { IsDeviceAskedFor (option_map (λ name. name.now) device.entry) ((O.files opener.new).asked Which.Device) (status_in result) }
-    ensures alone { UnlessDevice (option_map (λ name. name.now) device.entry) (KeepsDevice (O.files opener.old) (O.files opener.new)) }
+    ensures alone { UnlessNamed (option_map (λ name. name.now) device.entry) (KeepsFile Which.Device (O.files opener.old) (O.files opener.new)) }
     ensures taken { TakesWithin (MOST_SCENARIO + 1) ((O.files opener.old).taken Which.Scenario) ((O.files opener.new).taken Which.Scenario) (status_in result) }
-    ensures device_taken { IfDevice (option_map (λ name. name.now) device.entry) (TakesWithin (MOST_DEVICE + 1) ((O.files opener.old).taken Which.Device) ((O.files opener.new).taken Which.Device) (status_in result)) }
+    ensures device_taken { IfNamed (option_map (λ name. name.now) device.entry) (TakesWithin (MOST_DEVICE + 1) ((O.files opener.old).taken Which.Device) ((O.files opener.new).taken Which.Device) (status_in result)) }
     ensures closed { NoneLeftOpen (O.files opener.old) (O.files opener.new) }
     ensures same { SameBytes (O.files opener.old) (O.files opener.new) }
 {
@@ -188,56 +191,108 @@ fn run_files<O: Opener>(
     }
 }
 
-/// Writes the report of what a run has made, with the places of replies or without.
-fn write_report<K: Sink>(
+/// The events of a load's device.
+fn load_events(alloc: Global) -> Result<Vec<DeviceEvent>, NoMemory>
+    ensures { IfOk result (λ events. events.items ≡ load_device.events) }
+{
+    let Ok(mut events) = Vec::with_capacity(alloc, 2) else {
+        return Err(NoMemory);
+    };
+    for event in [DeviceEvent::Wish(Wish::Focused), DeviceEvent::Mark(1)] {
+        let Ok(()) = events.push(event) else {
+            return Err(NoMemory);
+        };
+    }
+    Ok(events)
+}
+
+/// Runs a load of so many frames beside its device.
+fn run_load(alloc: Global, frames: u32) -> Result<Lists, NoMemory>
+    requires { frames ≤ MOST_LOAD }
+    ensures { IfOk result (λ lists. RunLoad frames lists) }
+{
+    let scenario = generate(alloc, frames)?;
+    let mut device = ListDevice::new(load_events(alloc)?);
+    let lists = xr_serial::run(alloc, &scenario, &mut device)?;
+    Ok(lists)
+}
+
+/// Runs what a form asks for.
+fn run_form<O: Opener>(
+    alloc: Global,
+    opener: &mut O,
+    form: &WordsForm<'_>,
+) -> Result<Lists, RunFault>
+    requires fresh { AreUnasked (O.files opener.old) }
+    requires fits { FitsLimits form.now }
+    ensures means { MeansForm (O.files opener.old) (O.files opener.new) (shown_form form.now) result }
+    ensures cause { HasRunCause (O.files opener.old) (O.files opener.new) result }
+    ensures counts { KeepsCounts (O.files opener.old) (O.files opener.new) result }
+    ensures asked { IsAskedFor (file_of (Some (shown_form form.now))) ((O.files opener.new).asked Which.Scenario) (status_in result) }
+    ensures device { IsDeviceAskedFor (device_of (Some (shown_form form.now))) ((O.files opener.new).asked Which.Device) (status_in result) }
+    ensures alone { UnlessNamed (file_of (Some (shown_form form.now))) (KeepsFile Which.Scenario (O.files opener.old) (O.files opener.new)) }
+    ensures device_alone { UnlessNamed (device_of (Some (shown_form form.now))) (KeepsFile Which.Device (O.files opener.old) (O.files opener.new)) }
+    ensures turn { OpenedInTurn (O.files opener.old) (O.files opener.new) result }
+    ensures taken { IfNamed (file_of (Some (shown_form form.now))) (TakesWithin (MOST_SCENARIO + 1) ((O.files opener.old).taken Which.Scenario) ((O.files opener.new).taken Which.Scenario) (status_in result)) }
+    ensures device_taken { IfNamed (device_of (Some (shown_form form.now))) (TakesWithin (MOST_DEVICE + 1) ((O.files opener.old).taken Which.Device) ((O.files opener.new).taken Which.Device) (status_in result)) }
+    ensures closed { NoneLeftOpen (O.files opener.old) (O.files opener.new) }
+    ensures same { SameBytes (O.files opener.old) (O.files opener.new) }
+{
+    match form {
+        WordsForm::Run(options) => run_files(alloc, opener, options.file, options.device),
+        WordsForm::Load(frames) => match run_load(alloc, *frames) {
+            Ok(lists) => Ok(lists),
+            Err(_) => Err(RunFault::NoMemory),
+        },
+    }
+}
+
+/// What is written of what a form's run has made: the report, with the places of replies or without, or the summary.
+fn text_of(alloc: Global, form: &WordsForm<'_>, lists: &Lists) -> Result<Vec<u8>, NoMemory>
+    ensures { IfOk result (λ text. text.items ≡ text_of (shown_form form.now) lists.now) }
+{
+    match form {
+        WordsForm::Run(options) => report(alloc, lists, options.places),
+        WordsForm::Load(frames) => summary(alloc, *frames, lists),
+    }
+}
+
+/// Writes that.
+fn write_text<K: Sink>(
     alloc: Global,
     sink: &mut K,
+    form: &WordsForm<'_>,
     lists: &Lists,
-    places: bool,
 ) -> Result<(), Unwritten>
-    ensures means { MeansWritten lists.now places (K.output sink.old) (K.output sink.new) result }
+    ensures means { MeansWritten (text_of (shown_form form.now) lists.now) (K.output sink.old) (K.output sink.new) result }
     ensures cause { RoseIfUnwritten (K.output sink.old) (K.output sink.new) result }
     ensures kept { KeptUnlessUnwritten (K.output sink.old) (K.output sink.new) result }
 {
-    let Ok(report) = report(alloc, lists, places) else {
+    let Ok(text) = text_of(alloc, form, lists) else {
         return Err(Unwritten::NoMemory);
     };
-    match write_all(sink, report.as_slice()) {
+    match write_all(sink, text.as_slice()) {
         Ok(()) => Ok(()),
         Err(_) => Err(Unwritten::Failed),
     }
 }
 
-/// Runs the words, and says how that ended.
+/// Runs what a form asks for and writes what it made, and says how that ended.
 fn answer<O: Opener, K: Sink>(
     alloc: Global,
-    words: &[String],
+    form: &WordsForm<'_>,
     opener: &mut O,
     sink: &mut K,
 ) -> Status
     requires fresh { AreUnasked (O.files opener.old) }
-    ensures means { Means (map string_bytes words.now) (outside (O.files opener.old) (K.output sink.old)) (outside (O.files opener.new) (K.output sink.new)) result }
-    ensures causes { HasItsCause (outside (O.files opener.old) (K.output sink.old)) (outside (O.files opener.new) (K.output sink.new)) result }
-    ensures counts { OnlyItsFault (outside (O.files opener.old) (K.output sink.old)) (outside (O.files opener.new) (K.output sink.new)) result }
-    ensures asked { IsAskedFor (options_of (map string_bytes words.now)) ((O.files opener.new).asked Which.Scenario) result }
-    ensures device { IsDeviceAskedFor (device_of (options_of (map string_bytes words.now))) ((O.files opener.new).asked Which.Device) result }
-    ensures alone { UnlessDevice (device_of (options_of (map string_bytes words.now))) (KeepsDevice (O.files opener.old) (O.files opener.new)) }
-    ensures turn { OpensInTurn (O.files opener.old) (O.files opener.new) result }
-    ensures taken { TakesWithin (MOST_SCENARIO + 1) ((O.files opener.old).taken Which.Scenario) ((O.files opener.new).taken Which.Scenario) result }
-    ensures device_taken { IfDevice (device_of (options_of (map string_bytes words.now))) (TakesWithin (MOST_DEVICE + 1) ((O.files opener.old).taken Which.Device) ((O.files opener.new).taken Which.Device) result) }
-    ensures closed { NoneLeftOpen (O.files opener.old) (O.files opener.new) }
-    ensures same { SameBytes (O.files opener.old) (O.files opener.new) }
+    requires fits { FitsLimits form.now }
+    ensures { IsAnswer RunOf (Some (shown_form form.now)) (outside (O.files opener.old) (K.output sink.old)) (outside (O.files opener.new) (K.output sink.new)) result }
 {
-    let form = match options_of(alloc, words) {
-        Ok(form) => form,
-        Err(WordsFault::Usage) => return Status::Usage,
-        Err(WordsFault::NoMemory) => return Status::NoMemory,
-    };
-    let lists = match run_files(alloc, opener, form.file, form.device) {
+    let lists = match run_form(alloc, opener, form) {
         Ok(lists) => lists,
         Err(fault) => return fault.status(),
     };
-    match write_report(alloc, sink, &lists, form.places) {
+    match write_text(alloc, sink, form, &lists) {
         Ok(()) => ending_of(&lists),
         Err(Unwritten::Failed) => Status::WriteFault,
         Err(Unwritten::NoMemory) => Status::NoMemory,
@@ -245,18 +300,19 @@ fn answer<O: Opener, K: Sink>(
 }
 
 /// Runs the words `serial FILE`, with `--device FILE` and `--places` where these are wanted: opens the scenario's file
-/// and the device's, reads the scenario, runs it on one thread beside the device, and writes its report. Every source
-/// that was opened is closed, whatever happens. No more than 1,048,577 bytes of the scenario and 16,777,217 of the device
-/// are taken, and no read comes behind the end of a file or a read that failed.
+/// and the device's, reads the scenario, runs it on one thread beside the device, and writes its report. Or runs the words
+/// `load N`: makes a scenario of N frames, 1 to 200,000, runs it beside a device of its own, and writes its summary; no file is
+/// opened. Every source that was opened is closed, whatever happens. No more than 1,048,577 bytes of the scenario and
+/// 16,777,217 of the device are taken, and no read comes behind the end of a file or a read that failed.
 ///
-/// Under `Done`, `DeviceFailed`, `DeviceGarbled` and `Stuck` the whole report is written, and nothing else: it is that
+/// Under `Done`, `DeviceFailed`, `DeviceGarbled` and `Stuck` the whole text is written, and nothing else: it is that
 /// of a legal history of the written machine, the round robin's of this scenario and of this device's events.
-/// `DeviceFailed` comes where the device couldn't be read on, behind the events of all whole lines that were read, else `DeviceGarbled` with the first malformed line of its
-/// text, else `Stuck` where somebody waits for ever. `Usage` comes exactly where the words have no form; `OpenFault`,
-/// `ReadFault`, `DeviceFailed` and `WriteFault` only where that object's count of faults rose; `ScenarioRefused` exactly
-/// where the text is no scenario, with the reason: `TooLong`, `Json`, or `BadShape` with the first wrong place. `NoMemory`
-/// is free.
-/// Under the others nothing is written, but under `WriteFault` a first part of the report.
+/// `DeviceFailed` comes where the device couldn't be read on, behind the events of all whole lines that were read, else
+/// `DeviceGarbled` with the first malformed line of its text, else `Stuck` where somebody waits for ever. `Usage` comes
+/// exactly where the words have no form; `OpenFault`, `ReadFault`, `DeviceFailed` and `WriteFault` only where that object's
+/// count of faults rose; `ScenarioRefused` exactly where the text is no scenario, with the reason: `TooLong`, `Json`, or
+/// `BadShape` with the first wrong place. `NoMemory` is free. Under the others nothing is written, but under `WriteFault` a
+/// first part of the text.
 pub fn run_serial<O: Opener, K: Sink>(
     alloc: Global,
     words: &[String],
@@ -264,7 +320,11 @@ pub fn run_serial<O: Opener, K: Sink>(
     sink: &mut K,
 ) -> Status
     requires fresh { AreUnasked (O.files opener.old) }
-    ensures { IsAnswer (map string_bytes words.now) (outside (O.files opener.old) (K.output sink.old)) (outside (O.files opener.new) (K.output sink.new)) result }
+    ensures { IsAnswer RunOf (form_of (map string_bytes words.now)) (outside (O.files opener.old) (K.output sink.old)) (outside (O.files opener.new) (K.output sink.new)) result }
 {
-    answer(alloc, words, opener, sink)
+    match form_of(alloc, words) {
+        Ok(form) => answer(alloc, &form, opener, sink),
+        Err(WordsFault::Usage) => Status::Usage,
+        Err(WordsFault::NoMemory) => Status::NoMemory,
+    }
 }

@@ -9,12 +9,12 @@ ghost use Rattle.xr_io.specs.Requests.{name_of, is_open_of, open_faults_of, read
 ghost use Rattle.xr_io.specs.Files.{no_bytes, seen_of, is_write_fault};
 
 use crate::requests::Requests;
-use crate::{MOST_NAME, Opener, Sink, Source, Taken, Which, is_end};
+use crate::{Opener, Sink, Source, Taken, Which, is_end};
 use std::fs;
 use std::io::{ErrorKind, Print, Read};
 use std::marker::Model;
 use std::rt::Files;
-use xr_types::Failed;
+use xr_types::{Failed, MOST_FILE_NAME};
 
 /// How often a call is made at most, where a signal interrupts it each time.
 const MOST_TRIES: u32 = 100;
@@ -147,7 +147,7 @@ impl<'r, R: Files> Opener for FileOpener<'r, R> {
     /// `Failed` comes where the system opens no file of this name, and there alone the count rises.
     fn open_file(&mut self, which: Which, name: &str) -> Result<FileSource<R::File>, Failed>
         requires first { name_of self.old which ≡ None }
-        requires short { length name.now ≤ MOST_NAME }
+        requires short { length name.now ≤ MOST_FILE_NAME }
         ensures opened { Opened which name.now (files_of (λ name. no_bytes) self.old) (files_of (λ name. no_bytes) self.new) result }
 
         // Neither the opener nor the source tells bytes.

@@ -13,10 +13,7 @@ mod requests;
 
 pub use files::{FileOpener, FileSource, StdSink};
 pub use memory::{Failing, MemoryFile, MemoryOpener, MemorySink, MemorySource};
-use xr_types::Failed;
-
-/// The most bytes that a file's name may have, as the system takes no longer ones.
-pub const MOST_NAME: usize = 4095;
+use xr_types::{Failed, MOST_FILE_NAME};
 
 /// The two files that a run reads.
 #[derive(Clone, Copy, Debug, PartialEq, Eq)]
@@ -81,7 +78,7 @@ pub trait Opener {
     /// as asked for also where the call failed. `Failed` comes only where `open_faults` rose, and else that count stays.
     fn open_file(&mut self, which: Which, name: &str) -> Result<Self::S, Failed>
         requires first { (files self.old).asked which ≡ None }
-        requires short { length name.now ≤ MOST_NAME }
+        requires short { length name.now ≤ MOST_FILE_NAME }
         ensures opened { Opened which name.now (files self.old) (files self.new) result }
 
         // The source is the file of this name, of which nothing was read.

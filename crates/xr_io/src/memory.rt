@@ -8,10 +8,10 @@ ghost use Rattle.xr_io.specs.Memory.{seen_of, is_listed, given_count, fails_to_r
 ghost use Rattle.xr_io.specs.Held.{held_files, failing_calls};
 
 use crate::requests::Requests;
-use crate::{MOST_NAME, Opener, Sink, Source, Taken, Which, is_end};
+use crate::{Opener, Sink, Source, Taken, Which, is_end};
 use std::alloc::{AllocError, Global};
 use std::marker::Model;
-use xr_types::Failed;
+use xr_types::{Failed, MOST_FILE_NAME};
 
 /// Whether the call of this number is in the list.
 fn is_listed(calls: &[u64], next: u64) -> bool
@@ -344,7 +344,7 @@ impl<'a> Opener for MemoryOpener<'a> {
     /// there alone the count rises.
     fn open_file(&mut self, which: Which, name: &str) -> Result<MemorySource<'a>, Failed>
         requires first { name_of self.old.requests which ≡ None }
-        requires short { length name.now ≤ MOST_NAME }
+        requires short { length name.now ≤ MOST_FILE_NAME }
         ensures opened { Opened which name.now (files_of (bytes_under self.old.files) self.old.requests) (files_of (bytes_under self.new.files) self.new.requests) result }
         ensures source { IfOk result (λ source.
             seen_of source ≡ just_opened (bytes_under self.old.files name.now) which) }

@@ -3,14 +3,15 @@ ghost use Rattle.std.specs.Prelude.{◌≡◌, ◌≤◌, length};
 ghost use Rattle.xr_io.specs.declared.Which.{Which};
 ghost use Rattle.xr_io.specs.Requests.{open_faults_of, read_faults_of, taken_of, no_requests, after_opening, after_closing};
 
-use crate::{MOST_NAME, Taken, Which};
+use crate::{Taken, Which};
 use arrayvec::ArrayVec;
 use std::marker::Model;
+use xr_types::MOST_FILE_NAME;
 
 /// What was asked for as one of the two.
 #[derive(Drop)]
 struct Kept {
-    name: Option<ArrayVec<u8, MOST_NAME>>,
+    name: Option<ArrayVec<u8, MOST_FILE_NAME>>,
     is_open: bool,
     open_faults: u64,
     read_faults: u64,
@@ -50,7 +51,7 @@ impl Kept {
         }
     }
 
-    fn open(&mut self, name: ArrayVec<u8, MOST_NAME>, failed: bool)
+    fn open(&mut self, name: ArrayVec<u8, MOST_FILE_NAME>, failed: bool)
         ensures request { self.new ≡ opened_request self.old name.items failed }
         ensures later { self.old.open_faults ≤ self.new.open_faults }
     {
@@ -87,11 +88,11 @@ impl Kept {
 }
 
 /// A copy of a name.
-fn copied(name: &str) -> ArrayVec<u8, MOST_NAME>
-    requires { length name.now ≤ MOST_NAME }
+fn copied(name: &str) -> ArrayVec<u8, MOST_FILE_NAME>
+    requires { length name.now ≤ MOST_FILE_NAME }
     ensures { result.items ≡ name.now }
 {
-    let Ok(copy) = ArrayVec::<u8, MOST_NAME>::try_from(name.as_bytes()) else {
+    let Ok(copy) = ArrayVec::<u8, MOST_FILE_NAME>::try_from(name.as_bytes()) else {
         unreachable!();
     };
     copy
@@ -125,7 +126,7 @@ impl Requests {
 
     /// Keeps the name that is asked for, and counts where opening it failed.
     pub(crate) fn open(&mut self, which: Which, name: &str, failed: bool)
-        requires { length name.now ≤ MOST_NAME }
+        requires { length name.now ≤ MOST_FILE_NAME }
         ensures requests { self.new ≡ after_opening self.old which name.now failed }
         ensures later { open_faults_of self.old which ≤ open_faults_of self.new which }
     {

@@ -14,11 +14,12 @@ use Rattle.xr_model.specs.device_text.DeviceText.{nothing_more, told_in}
 use Rattle.xr_device.specs.Prospect.{Prospect}
 use Rattle.xr_serial.specs.Ran.{FailsBehind, Ran}
 use Rattle.xr_model.specs.report.RunEnding.{is_fault}
-use Rattle.xr_model.specs.report.Report.{report_of}
+use Rattle.xr_model.specs.command_line.Words.{WordsForm, run, load}
+use Rattle.xr_model.specs.scenario.LoadScenario.{load_scenario}
 use Rattle.xr_scenario.specs.declared.fault.ScenarioFault.{ScenarioFault}
 use Rattle.xr_scenario.specs.declared.fault.ScenarioFault.TheVariants as scenario_fault
-use Rattle.xr_drive.specs.Run.{KnownDevice, Run}
-use Rattle.xr_drive.specs.Top.{RunsText, SameCounts, IsOpenedInTurn}
+use Rattle.xr_drive.specs.Run.{KnownDevice, RunOf}
+use Rattle.xr_drive.specs.Top.{RunsText, known_under, made_device, SameCounts, IsOpenedInTurn}
 use Rattle.xr_drive.specs.declared.input.Stop.{Stop}
 use Rattle.xr_drive.specs.declared.input.Stop.TheVariants as stop
 use Rattle.xr_drive.specs.declared.faults.RunFault.{RunFault}
@@ -52,9 +53,15 @@ MeansBeside text start now (Ok lists) = RunBeside text start now lists
 MeansBeside text start now (Err (scenario_fault.Refused why)) = scenario_of text ≡ Err why
 MeansBeside text start now (Err scenario_fault.NoMemory) = ⊤
 
--- the lists are those of a run of the text beside a device of which this is known, or the text is refused
+-- a run of a text beside a device of which this is known
+pub record RunText (text : List ℕ) (device : KnownDevice) (lists : Lists) : Type 0 where
+  pub scenario : Scenario
+  pub reads : scenario_of text ≡ Ok scenario
+  pub runs : RunOf scenario device lists
+
+-- the lists are those of such a run, or the text is refused
 abbrev pub MeansText : List ℕ → KnownDevice → Result Lists ScenarioFault → Type 0
-MeansText text device (Ok lists) = Run text device lists
+MeansText text device (Ok lists) = RunText text device lists
 MeansText text device (Err (scenario_fault.Refused why)) = scenario_of text ≡ Err why
 MeansText text device (Err scenario_fault.NoMemory) = ⊤
 
@@ -78,9 +85,21 @@ fault_of_scenario scenario_fault.NoMemory = NoMemory
 
 -- the same of a file of which these bytes are all, where they are told
 abbrev pub MeansRun : Option (List ℕ) → KnownDevice → Result Lists RunFault → Type 0
-MeansRun all device (Ok lists) = RunsText all device lists
+MeansRun all device (Ok lists) = RunsText RunOf all device lists
 MeansRun all device (Err (Refused why)) = IfSome all (λ text. scenario_of text ≡ Err why)
 MeansRun all device (Err _) = ⊤
+
+-- a load beside its device: it didn't fail
+pub record RunLoad (frames : ℕ) (lists : Lists) : Type 0 where
+  pub runs : RunOf (load_scenario frames) made_device lists
+  pub faultless : list_any is_fault lists.events ≡ false
+
+-- the same of what a form asks for, by the files before and after; a load is always run, but where memory is short
+abbrev pub MeansForm : Files → Files → WordsForm → Result Lists RunFault → Type 0
+MeansForm old new (run options) result = MeansRun (old.bytes options.file) (known_under old new options.device) result
+MeansForm old new (load frames) (Ok lists) = RunLoad frames lists
+MeansForm old new (load frames) (Err NoMemory) = ⊤
+MeansForm old new (load frames) (Err _) = ⊥
 
 -- why the files were not run, or how the device failed, by the opener's counts of faults before and after
 abbrev pub HasRunCause : Files → Files → Result Lists RunFault → Type 0
@@ -119,13 +138,13 @@ abbrev pub status_in : Result Lists RunFault → Status
 status_in (Ok lists) = status.Done
 status_in (Err fault) = status_of_fault fault
 
--- ---- the report
+-- ---- the text that is written
 
--- what was written of the report of these lists
-abbrev pub MeansWritten : {T : Type 0} → Lists → Bool → Output → Output → Result T Unwritten → Type 0
-MeansWritten lists places old new (Ok written) = Appends old.bytes new.bytes (report_of lists places)
-MeansWritten lists places old new (Err unwritten.Failed) = (n : ℕ) × Appends old.bytes new.bytes (take n (report_of lists places))
-MeansWritten lists places old new (Err unwritten.NoMemory) = Keeps old.bytes new.bytes
+-- what was written of a text
+abbrev pub MeansWritten : {T : Type 0} → List ℕ → Output → Output → Result T Unwritten → Type 0
+MeansWritten text old new (Ok written) = Appends old.bytes new.bytes text
+MeansWritten text old new (Err unwritten.Failed) = (n : ℕ) × Appends old.bytes new.bytes (take n text)
+MeansWritten text old new (Err unwritten.NoMemory) = Keeps old.bytes new.bytes
 
 -- the count of write faults is as it was, but where a write failed
 abbrev pub KeptUnlessUnwritten : {T : Type 0} → Output → Output → Result T Unwritten → Type 0
