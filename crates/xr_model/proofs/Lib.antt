@@ -96,3 +96,4 @@ pub mod Cuts
 pub mod ReportsTell
 pub mod ValuesTell
 pub mod FramesTell
+pub mod EventsTell

@@ -26,7 +26,7 @@ ghost use Rattle.xr_model.specs.laws.WordLaws.{WordsGiveBack, WordsAreRead, Publ
 ghost use Rattle.xr_model.specs.laws.NameLaws.{NamesAreDistinct, OpsAreFound, WordsAreFound};
 ghost use Rattle.xr_model.specs.laws.ReadingLaws.{FirstWrongPlaceIsTold, OpsAreWhatTheyAreCalled, KeysAreTheRows};
 ghost use Rattle.xr_model.specs.laws.RobinLaws.{TurnsGoRound, NobodyHasTwoTurns, NobodyReadyIsPassedOver, RunsEndWhereNobodyIsReady, ImagesAreGivenBackFirst};
-ghost use Rattle.xr_model.specs.laws.ReportLaws.{ReportsTellTheCalls, ValuesTellWhatWasGiven, FrameLinesTellTheFrame};
+ghost use Rattle.xr_model.specs.laws.ReportLaws.{ReportsTellTheCalls, ValuesTellWhatWasGiven, FrameLinesTellTheFrame, EventLinesTellTheEvent};
 
 mod cells;
 mod machine;
@@ -660,4 +660,10 @@ pub fn values_tell_what_was_given()
 #[tactic(auto, using(crate::proofs::FramesTell::frame_lines_tell_the_frame))]
 pub fn frame_lines_tell_the_frame()
     ensures { FrameLinesTellTheFrame }
+{}
+
+/// The line of an event with its place tells where it stands among the events, the whole event, and the place of its call.
+#[tactic(auto, using(crate::proofs::EventsTell::event_lines_tell_the_event))]
+pub fn event_lines_tell_the_event()
+    ensures { EventLinesTellTheEvent }
 {}

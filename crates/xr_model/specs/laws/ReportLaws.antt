@@ -6,6 +6,9 @@ use Rattle.xr_types.specs.declared.calls.Gives.{Gives}
 use Rattle.xr_types.specs.declared.calls.Gives.TheVariants as gives
 use Rattle.xr_types.specs.declared.code.Code.TheVariants.{Success}
 use Rattle.xr_types.specs.declared.calls.Reply.{Reply}
+use Rattle.xr_types.specs.declared.device.DeviceEvent.{DeviceEvent}
+use Rattle.xr_types.specs.Device.{checks}
+use Rattle.xr_model.specs.laws.DeviceLaws.{is_of_line}
 use Rattle.xr_types.specs.declared.frames.ShownLayer.{ShownLayer}
 use Rattle.xr_types.specs.declared.frames.ShownLayer.TheVariants as layer
 use Rattle.xr_types.specs.Frames.{ShownFrame}
@@ -17,7 +20,7 @@ use Rattle.xr_types.specs.declared.names.CallName.TheVariants as call
 use Rattle.xr_types.specs.declared.session.Event.TheVariants as event
 use Rattle.xr_types.specs.declared.spaces.Location.TheVariants as location
 use Rattle.xr_model.specs.report.Report.{report_of}
-use Rattle.xr_model.specs.report.ReportLines.{frame_line}
+use Rattle.xr_model.specs.report.ReportLines.{frame_line, event_line}
 use Rattle.xr_model.specs.report.ReportValues.{values_of}
 use Rattle.xr_model.specs.scenario.InRange.{Each}
 
@@ -148,3 +151,16 @@ abbrev pub FrameLinesTellTheFrame : Type 0
 FrameLinesTellTheFrame =
     (f g : ShownFrame) (r q : Reply) → IsFramePrintable f → IsFramePrintable g → r.place < 2 ^ 64 → q.place < 2 ^ 64
     → frame_line true f (Some r) ≡ frame_line true g (Some q) → (f ≡ g) × (r.place ≡ q.place)
+
+-- ---- what the line of an event tells
+
+-- an event that a line of a device's text tells, with its numbers in range
+pub record IsTold (e : DeviceEvent) : Type 0 where
+  pub line : is_of_line e ≡ true
+  pub good : checks e ≡ true
+
+-- The line of such an event with its place tells where it stands among the events, the whole event, and the place of its call.
+abbrev pub EventLinesTellTheEvent : Type 0
+EventLinesTellTheEvent =
+    (j k : ℕ) (e f : DeviceEvent) (m n : Made) → j < 2 ^ 64 → k < 2 ^ 64 → IsTold e → IsTold f → m.reply.place < 2 ^ 64 → n.reply.place < 2 ^ 64
+    → event_line true j e m ≡ event_line true k f n → (j ≡ k) × (e ≡ f) × (m.reply.place ≡ n.reply.place)
