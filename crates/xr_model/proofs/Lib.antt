@@ -86,3 +86,6 @@ pub mod MovedGetters
 pub mod WordsBack
 pub mod FittingColumns
 pub mod FittingPublications
+pub mod GrowingHistories
+pub mod OthersEntries
+pub mod FewCalls

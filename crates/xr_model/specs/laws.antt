@@ -22,3 +22,6 @@ pub mod ImageLaws
 pub mod SyncLaws
 pub mod PublicationLaws
 pub mod WordLaws
+pub mod Moments
+pub mod MomentLaws
+pub mod FewCalls
