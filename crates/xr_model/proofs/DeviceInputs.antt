@@ -14,13 +14,13 @@ use Rattle.xr_types.specs.Printed.{user_path, all_users}
 use Rattle.xr_types.specs.Words.{behind}
 use Rattle.xr_types.proofs.RowSorts.{each_under, under_each}
 use Rattle.xr_model.specs.device_text.DeviceText.{words_of, below_0, integer_of, input_at, input_among, event_of, event_by}
-use Rattle.xr_model.specs.device_text.DeviceLines.{event_line}
+use Rattle.xr_model.specs.device_text.DeviceLines.{device_line}
 use Rattle.xr_model.proofs.DeviceLines.{NoSpace, reads, integer_reads, number_reads, words_then, words_alone, no_space_by}
 use Rattle.xr_model.proofs.Rows.{both_of, same_key, itself}
 
 -- ---- profiles
 
-pub profile_back : (who : User) (connected : Option Profile) → event_of (event_line (event.Profile who connected)) ≡ Some (event.Profile who connected)
+pub profile_back : (who : User) (connected : Option Profile) → event_of (device_line (event.Profile who connected)) ≡ Some (event.Profile who connected)
 profile_back user.Left None = refl
 profile_back user.Left (Some profile.Simple) = refl
 profile_back user.Left (Some profile.Touch) = refl
@@ -132,7 +132,7 @@ negative_reads : (n : ℕ) → suc n < 2 ^ 64 → integer_of (45 ∷ decimal (su
 negative_reads n small = rw (number_reads (suc n) small) (below_suc n)
 
 -- an input's line
-pub input_back : (who : User) (row : ℕ) (value : ℤ) → checks (event.Input who row value) ≡ true → event_by (words_of (event_line (event.Input who row value))) ≡ Some (event.Input who row value)
+pub input_back : (who : User) (row : ℕ) (value : ℤ) → checks (event.Input who row value) ≡ true → event_by (words_of (device_line (event.Input who row value))) ≡ Some (event.Input who row value)
 input_back who row value good = by value (both_of (nat_le 1 row && nat_le row 40) (in_range value (negsuc 32767) (pos 32768)) good).1
   where
     rows : (nat_le 1 row ≡ true) × (nat_le row 40 ≡ true)
@@ -144,7 +144,7 @@ input_back who row value good = by value (both_of (nat_le 1 row && nat_le row 40
     plain : NoSpace (source_word who row)
     plain = no_space_source who row (row_good row rows.0 rows.1).1
 
-    by : (v : ℤ) → in_range v (negsuc 32767) (pos 32768) ≡ true → event_by (words_of (event_line (event.Input who row v))) ≡ Some (event.Input who row v)
+    by : (v : ℤ) → in_range v (negsuc 32767) (pos 32768) ≡ true → event_by (words_of (device_line (event.Input who row v))) ≡ Some (event.Input who row v)
     by (pos n) range =
         let small : n < 2 ^ 64 = grind (arith, nat_tests, range) in
         rw (input_words who row (decimal n) plain (reads n small).1, source_reads who row named, integer_reads n small) refl

@@ -11,7 +11,7 @@ use Rattle.xr_types.specs.Device.{checks, is_time, is_mark, in_range}
 use Rattle.xr_types.specs.Printed.{origin_name, all_origins}
 use Rattle.xr_types.specs.Words.{named}
 use Rattle.xr_model.specs.device_text.DeviceText.{words_of, is_digit, digits_behind, number_of, below_0, integer_of, most_pose, event_by, if_checked}
-use Rattle.xr_model.specs.device_text.DeviceLines.{event_line}
+use Rattle.xr_model.specs.device_text.DeviceLines.{device_line}
 use Rattle.xr_model.proofs.Rows.{both_of, not_true, same_key}
 
 -- ---- numbers
@@ -152,7 +152,7 @@ pose_words name time pose none small few =
 
 -- a pose of an origin that has a word of its own
 pub pose_back : (o : Origin) (time pose : ℕ) → list_all (λ b. not (b == 32)) (origin_name o) ≡ true → named origin_name all_origins (origin_name o) ≡ Some o
-    → nat_le pose most_pose ≡ true → is_time (pos time) ≡ true → event_by (words_of (event_line (event.Pose o (pos time) pose))) ≡ Some (event.Pose o (pos time) pose)
+    → nat_le pose most_pose ≡ true → is_time (pos time) ≡ true → event_by (words_of (device_line (event.Pose o (pos time) pose))) ≡ Some (event.Pose o (pos time) pose)
 pose_back o time pose none own line good =
     let small = small_time time good in
     let few = small_pose pose line in

@@ -19,7 +19,7 @@ use Rattle.xr_types.specs.declared.spaces.Origin.TheVariants as origin
 use Rattle.xr_types.specs.InputNames.{input_name}
 use Rattle.xr_types.specs.Printed.{wish_name, user_path, origin_name}
 use Rattle.xr_types.proofs.RowSorts.{each_under, under_each}
-use Rattle.xr_model.specs.device_text.DeviceLines.{connected, event_line}
+use Rattle.xr_model.specs.device_text.DeviceLines.{connected, device_line}
 use Rattle.xr_model.specs.device_text.DeviceText.{event_of}
 use Rattle.xr_model.specs.report.ReportLines.{event_text}
 use Rattle.xr_model.specs.laws.DeviceLaws.{is_of_line}
@@ -70,7 +70,7 @@ input_plain row = by (nat_le row 40) refl
     by true few = under_each is_plain 41 row rows_plain (grind (arith, nat_tests, few))
     by false few = let some : nat_le 1 row ≡ true = grind (arith, nat_tests, few) in rw (some, few) refl
 
-line_plain : (e : DeviceEvent) → Free 64 (event_line e)
+line_plain : (e : DeviceEvent) → Free 64 (device_line e)
 line_plain (event.Clock time) = signed_plain time
 line_plain (event.Grid base period) = search (free_both, signed_plain) depth 12
 line_plain (event.Wish w) = wish_plain w
@@ -88,7 +88,7 @@ line_plain (event.Garbled line) = refl
 
 -- ---- a line
 
-text_is : (number : ℕ) (e : DeviceEvent) → is_of_line e ≡ true → event_text number e ≡ (decimal number ++ codes " ") ++ event_line e
+text_is : (number : ℕ) (e : DeviceEvent) → is_of_line e ≡ true → event_text number e ≡ (decimal number ++ codes " ") ++ device_line e
 text_is number event.Fault line = absurd (true≢false (sym line))
 text_is number (event.Garbled at) line = absurd (true≢false (sym line))
 text_is number _ line = refl
@@ -96,7 +96,7 @@ text_is number _ line = refl
 spread : (number line place : List ℕ) → ((number ++ codes " ") ++ line) ++ (codes " @" ++ place) ≡ number ++ 32 ∷ ((line ++ 32 ∷ []) ++ 64 ∷ place)
 spread number line place = simp append_assoc refl
 
-same_event : (e f : DeviceEvent) → IsTold e → IsTold f → event_line e ≡ event_line f → e ≡ f
+same_event : (e f : DeviceEvent) → IsTold e → IsTold f → device_line e ≡ device_line f → e ≡ f
 same_event e f first second same = one (sym (lines_read_back e first.line first.good) ∙ ap event_of same ∙ lines_read_back f second.line second.good)
   where
     one : Some e ≡ Some f → e ≡ f
@@ -105,12 +105,12 @@ same_event e f first second same = one (sym (lines_read_back e first.line first.
 pub event_lines_tell_the_event : EventLinesTellTheEvent
 event_lines_tell_the_event j k e f m n j_small k_small first second m_small n_small is =
     let body = append_cancel_right (event_text j e ++ (codes " @" ++ decimal m.reply.place)) (event_text k f ++ (codes " @" ++ decimal n.reply.place)) (codes "\n") is in
-    let one = ap (λ t. t ++ (codes " @" ++ decimal m.reply.place)) (text_is j e first.line) ∙ spread (decimal j) (event_line e) (decimal m.reply.place) in
-    let other = ap (λ t. t ++ (codes " @" ++ decimal n.reply.place)) (text_is k f second.line) ∙ spread (decimal k) (event_line f) (decimal n.reply.place) in
+    let one = ap (λ t. t ++ (codes " @" ++ decimal m.reply.place)) (text_is j e first.line) ∙ spread (decimal j) (device_line e) (decimal m.reply.place) in
+    let other = ap (λ t. t ++ (codes " @" ++ decimal n.reply.place)) (text_is k f second.line) ∙ spread (decimal k) (device_line f) (decimal n.reply.place) in
     let number = cut 32 (decimal j) (decimal k) _ _ (decimal_free 32 j refl) (decimal_free 32 k refl) (sym one ∙ body ∙ other) in
-    let line = cut 64 (event_line e ++ 32 ∷ []) (event_line f ++ 32 ∷ []) (decimal m.reply.place) (decimal n.reply.place)
-    (free_both 64 (event_line e) (32 ∷ []) (line_plain e) refl) (free_both 64 (event_line f) (32 ∷ []) (line_plain f) refl) number.1 in (
+    let line = cut 64 (device_line e ++ 32 ∷ []) (device_line f ++ 32 ∷ []) (decimal m.reply.place) (decimal n.reply.place)
+    (free_both 64 (device_line e) (32 ∷ []) (line_plain e) refl) (free_both 64 (device_line f) (32 ∷ []) (line_plain f) refl) number.1 in (
       decimal_injective j k j_small k_small number.0,
-      same_event e f first second (append_cancel_right (event_line e) (event_line f) (32 ∷ []) line.0),
+      same_event e f first second (append_cancel_right (device_line e) (device_line f) (32 ∷ []) line.0),
       decimal_injective m.reply.place n.reply.place m_small n_small line.1,
     )

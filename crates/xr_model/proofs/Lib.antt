@@ -97,3 +97,6 @@ pub mod ReportsTell
 pub mod ValuesTell
 pub mod FramesTell
 pub mod EventsTell
+pub mod GrowingHistories
+pub mod OthersEntries
+pub mod FewCalls

@@ -26,3 +26,6 @@ pub mod NameLaws
 pub mod ReadingLaws
 pub mod RobinLaws
 pub mod ReportLaws
+pub mod Moments
+pub mod MomentLaws
+pub mod FewCalls

@@ -22,6 +22,8 @@ ghost use Rattle.xr_model.specs.laws.SpaceLaws.{SampleTimesFall, PoseIsTheNewest
 ghost use Rattle.xr_model.specs.laws.StateLaws.{NoRowFits};
 ghost use Rattle.xr_model.specs.laws.PublicationLaws.{GettersChangeNothing, GettersAreReady, GettersRead, PublishedIsCurrent, GettersMove};
 ghost use Rattle.xr_model.specs.laws.SyncLaws.{BooleansAreDownOnce, FloatsAreLargest, VectorsAreLongest, PosesAreTheFirst, NothingIsInactive, ChangedIsActive, FirstColumnIsOfAll, UndeclaredIsInactive, PicksAreInRange};
+ghost use Rattle.xr_model.specs.laws.MomentLaws.{LegalGrows, CallsGrow, NoneLiesBetween, NumbersAreApart, EntriesAreByActors, ActorsStay, ClocksStay, HeldImagesStay};
+ghost use Rattle.xr_model.specs.laws.FewCalls.{FewMore, LockedAreFew};
 ghost use Rattle.xr_model.specs.laws.WordLaws.{WordsGiveBack, WordsAreRead, PublicationsFit};
 ghost use Rattle.xr_model.specs.laws.NameLaws.{NamesAreDistinct, OpsAreFound, WordsAreFound};
 ghost use Rattle.xr_model.specs.laws.ReadingLaws.{FirstWrongPlaceIsTold, OpsAreWhatTheyAreCalled, KeysAreTheRows};
@@ -666,4 +668,64 @@ pub fn frame_lines_tell_the_frame()
 #[tactic(auto, using(crate::proofs::EventsTell::event_lines_tell_the_event))]
 pub fn event_lines_tell_the_event()
     ensures { EventLinesTellTheEvent }
+{}
+
+/// A legal history with one more entry that may come is legal.
+#[tactic(auto, using(crate::proofs::GrowingHistories::legal_grows))]
+pub fn legal_grows()
+    ensures { LegalGrows }
+{}
+
+/// One more entry is one more call of its own actor, and none of another's.
+#[tactic(auto, using(crate::proofs::GrowingHistories::calls_grow))]
+pub fn calls_grow()
+    ensures { CallsGrow }
+{}
+
+/// Where a history has no more calls of an actor than its front has, no entry between is that actor's.
+#[tactic(auto, using(crate::proofs::GrowingHistories::none_lies_between))]
+pub fn none_lies_between()
+    ensures { NoneLiesBetween }
+{}
+
+/// No two numbers name one actor.
+#[tactic(auto, using(crate::proofs::GrowingHistories::numbers_are_apart))]
+pub fn numbers_are_apart()
+    ensures { NumbersAreApart }
+{}
+
+/// Each entry of a legal history is by an actor that there is, so no other number has calls.
+#[tactic(auto, using(crate::proofs::GrowingHistories::entries_are_by_actors))]
+pub fn entries_are_by_actors()
+    ensures { EntriesAreByActors }
+{}
+
+/// Who is there stays there, until it leaves itself.
+#[tactic(auto, using(crate::proofs::OthersEntries::actors_stay))]
+pub fn actors_stay()
+    ensures { ActorsStay }
+{}
+
+/// The clock at which the next wait of an actor begins stays over the entries of others.
+#[tactic(auto, using(crate::proofs::OthersEntries::clocks_stay))]
+pub fn clocks_stay()
+    ensures { ClocksStay }
+{}
+
+/// The compositor's two calls alone change which images are held.
+#[tactic(auto, using(crate::proofs::OthersEntries::held_images_stay))]
+pub fn held_images_stay()
+    ensures { HeldImagesStay }
+{}
+
+/// Where a number may add a call that it may ask for, its calls are few afterwards.
+#[tactic(auto, using(crate::proofs::FewCalls::few_more))]
+pub fn few_more()
+    ensures { FewMore }
+{}
+
+/// Where the calls of each number are few, fewer than 2^44 calls of a legal history are counted.
+#[tactic(auto, using(crate::proofs::FewCalls::locked_are_few))]
+pub fn locked_are_few()
+    ensures { LockedAreFew }
 {}

@@ -1,6 +1,6 @@
 // The lines of a device text.
 ghost use Rattle.std.specs.Prelude.{◌≡◌, ◌++◌, OnOk};
-ghost use Rattle.xr_model.specs.device_text.DeviceLines.{connected, event_line};
+ghost use Rattle.xr_model.specs.device_text.DeviceLines.{connected, device_line};
 
 use crate::push::{push_number, push_signed, push_text};
 use std::alloc::AllocError;
@@ -16,7 +16,7 @@ fn connected(profile: Option<Profile>) -> &'static str
 }
 
 fn push_grid(out: &mut Vec<u8>, base: i64, period: i64) -> Result<(), AllocError>
-    ensures { OnOk result (out.new.items ≡ out.old.items ++ event_line (DeviceEvent.Grid base period)) }
+    ensures { OnOk result (out.new.items ≡ out.old.items ++ device_line (DeviceEvent.Grid base period)) }
 {
     push_text(out, "grid ")?;
     push_signed(out, base)?;
@@ -25,7 +25,7 @@ fn push_grid(out: &mut Vec<u8>, base: i64, period: i64) -> Result<(), AllocError
 }
 
 fn push_profile(out: &mut Vec<u8>, user: User, profile: Option<Profile>) -> Result<(), AllocError>
-    ensures { OnOk result (out.new.items ≡ out.old.items ++ event_line (DeviceEvent.Profile user profile)) }
+    ensures { OnOk result (out.new.items ≡ out.old.items ++ device_line (DeviceEvent.Profile user profile)) }
 {
     push_text(out, "profile ")?;
     push_text(out, user.word())?;
@@ -34,7 +34,7 @@ fn push_profile(out: &mut Vec<u8>, user: User, profile: Option<Profile>) -> Resu
 }
 
 fn push_input(out: &mut Vec<u8>, user: User, row: u8, value: i32) -> Result<(), AllocError>
-    ensures { OnOk result (out.new.items ≡ out.old.items ++ event_line (DeviceEvent.Input user row value)) }
+    ensures { OnOk result (out.new.items ≡ out.old.items ++ device_line (DeviceEvent.Input user row value)) }
 {
     push_text(out, "input ")?;
     push_text(out, user.word())?;
@@ -45,7 +45,7 @@ fn push_input(out: &mut Vec<u8>, user: User, row: u8, value: i32) -> Result<(), 
 }
 
 fn push_pose(out: &mut Vec<u8>, origin: Origin, time: i64, pose: u64) -> Result<(), AllocError>
-    ensures { OnOk result (out.new.items ≡ out.old.items ++ event_line (DeviceEvent.Pose origin time pose)) }
+    ensures { OnOk result (out.new.items ≡ out.old.items ++ device_line (DeviceEvent.Pose origin time pose)) }
 {
     push_text(out, "pose ")?;
     push_text(out, origin.word())?;
@@ -57,7 +57,7 @@ fn push_pose(out: &mut Vec<u8>, origin: Origin, time: i64, pose: u64) -> Result<
 
 /// The line that gives an event. Nothing for the two ways in which a device ends early.
 pub(crate) fn push_device_line(out: &mut Vec<u8>, event: DeviceEvent) -> Result<(), AllocError>
-    ensures { OnOk result (out.new.items ≡ out.old.items ++ event_line event) }
+    ensures { OnOk result (out.new.items ≡ out.old.items ++ device_line event) }
 {
     match event {
         DeviceEvent::Clock(time) => {

@@ -55,7 +55,7 @@ ended_line places (Some reply) = codes "ended" ++ place_behind places reply ++ c
 abbrev pub event_text : ℕ → DeviceEvent → List ℕ
 event_text number event.Fault = codes "fault"
 event_text number (event.Garbled line) = codes "garbled " ++ decimal line
-event_text number event = decimal number ++ codes " " ++ device.event_line event
+event_text number event = decimal number ++ codes " " ++ device.device_line event
 
 abbrev pub event_line : Bool → ℕ → DeviceEvent → Made → List ℕ
 event_line places number event m = event_text number event ++ place_behind places m.reply ++ codes "\n"
