@@ -5,3 +5,4 @@ pub mod Clean
 pub mod Runs
 pub mod Counts
 pub mod Beside
+pub mod Loads
