@@ -114,7 +114,7 @@ fn push_all_waiting(out: &mut Vec<u8>, next: &[Waiting]) -> Result<(), AllocErro
     Ok(())
 }
 
-fn push_status(out: &mut Vec<u8>, lists: &Lists) -> Result<(), AllocError>
+pub(crate) fn push_status(out: &mut Vec<u8>, lists: &Lists) -> Result<(), AllocError>
     ensures { OnOk result (out.new.items ≡ out.old.items ++ status_line lists.now) }
 {
     push_text(out, "status ")?;
