@@ -4,3 +4,6 @@ pub mod OpReading
 pub mod Few
 pub mod InRange
 pub mod ScriptForm
+pub mod LoadCounts
+pub mod LoadFrames
+pub mod LoadForm

@@ -1,3 +1,4 @@
 pub mod Size
 pub mod Few
+pub mod LoadLaws
 pub mod inside

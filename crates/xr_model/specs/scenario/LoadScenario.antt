@@ -35,17 +35,16 @@ the_space = Of 5
 abbrev pub the_chain : Use
 the_chain = Of 6
 
--- once the device wants sessions to be focused, a session is begun that has a space and a chain of 64 times 64 pixels
+-- once the device wants sessions to be focused, an instance and its session are created
+abbrev pub instance_ops : List Op
+instance_ops = op.Await 1 ∷ op.CreateInstance 1 0 ∷ op.GetSystem the_instance Head ∷ op.CreateSession the_instance the_system ∷ []
+
+-- the session has a space and a chain of 64 times 64 pixels, and is begun
+abbrev pub session_ops : List Op
+session_ops = op.CreateReferenceSpace the_session Local 1 ∷ op.CreateSwapchain the_session 1 64 64 false ∷ op.BeginSession the_session Stereo ∷ []
+
 abbrev pub opening_ops : List Op
-opening_ops =
-    op.Await 1
-    ∷ op.CreateInstance 1 0
-    ∷ op.GetSystem the_instance Head
-    ∷ op.CreateSession the_instance the_system
-    ∷ op.CreateReferenceSpace the_session Local 1
-    ∷ op.CreateSwapchain the_session 1 64 64 false
-    ∷ op.BeginSession the_session Stereo
-    ∷ []
+opening_ops = instance_ops ++ session_ops
 
 -- ---- a frame
 
