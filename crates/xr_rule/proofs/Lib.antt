@@ -1,0 +1,11 @@
+pub mod Sums
+pub mod Prefixes
+pub mod Histories
+pub mod Knowing
+pub mod Counts
+pub mod Turning
+pub mod Steps
+pub mod Serving
+pub mod Moves
+pub mod Starts
+pub mod Calls

@@ -1,0 +1,173 @@
+-- Seats that are cut in two, kept and joined, and the table at its start and its end.
+use Rattle.std.proofs.Common.{◌≡◌, ℕ, zero, suc, ◌+◌, ◌<◌, ◌≤◌, ◌≢◌, false, List, [], ◌∷◌, ◌++◌, map, length, get_or, set, sym, refl, ap, ◌∙◌, subst, ⊎_elim, arith, Option, Some, None, IfSome}
+use mathlib.Core.Logic.{dite}
+use mathlib.Core.Option.{Option as Home, some, some-injective, some-ne-none}
+use mathlib.Core.List.{map-append}
+use native.Mathlib.Decide.{ℕ_discrete}
+use lib.ListN.{get_elem?}
+use lib.Seq.{map-set}
+use Rattle.atomic_table.specs.Table.{opening, Splits, Joins, Seen, Final}
+use Rattle.atomic_table.proofs.Lists.{at_set, at_snoc, at_map, at_longer, set_again, set_else}
+use Rattle.xr_model.specs.machine.Request.{Entry}
+use Rattle.xr_model.specs.laws.Moments.{Moment, opening_moment, moment_after}
+use Rattle.xr_rule.specs.View.{Own, Know, Turn, View, Idle, Waiting, Holding, view, know, know_of, turn_of, out, has_ticket, is_holder, newcomer, spent_know, spent_view, staying_view, cut_view, keepsake, joined_view}
+use Rattle.xr_rule.specs.Rule.{OneHistory, Tickets, HoldsIf, SlotStands, MayNote, Fits, FollowsRule, HasAll}
+use Rattle.xr_rule.proofs.Sums.{at_one, at_unmap, total-append}
+use Rattle.xr_rule.proofs.Knowing.{history_splits, history_joins, history_keeps, history_opens, others_spent, saw_all, history_ends}
+use Rattle.xr_rule.proofs.Steps.{knows, turns}
+
+module _ {S : Type 0} (stands : S → Moment → Type 0) where
+  -- tickets and the slot where a seat with no ticket comes
+  turns_come : (a b d z : ℕ) (us : List Turn) → Tickets a b d z us → Tickets a b d z (us ++ Idle ∷ [])
+  turns_come a b d z us t = record {
+    ticket_is = t.ticket_is;
+    serving_is = t.serving_is;
+    all_out = omega (arith, total-append out us (Idle ∷ []), t.all_out);
+    below = λ n l. omega (arith, total-append (has_ticket n) us (Idle ∷ []), t.below n l);
+    above = λ n l. omega (arith, total-append (has_ticket n) us (Idle ∷ []), t.above n l);
+    once = λ n. omega (arith, total-append (has_ticket n) us (Idle ∷ []), t.once n);
+  }
+
+  slot_come : (key : ℕ) (log : List Entry) (served : ℕ) (hs : List (Home (Option S))) (us : List Turn) → SlotStands stands key log served hs us → SlotStands stands key log served hs (us ++ Idle ∷ [])
+  slot_come key log served hs us h = record {
+    held = λ j u e. ⊎_elim (λ (q : get_elem? us j ≡ some u). h.held j u q) (λ (q : Idle ≡ u). subst (HoldsIf log served) q tt) (at_snoc us Idle u j e);
+    free = λ none_holds. h.free (λ j u e. none_holds j u (at_longer us (Idle ∷ []) j u e));
+  }
+
+  pub splits : (key id a : ℕ) (o p : Own) (os : List Own) (z : List Entry) (u : Turn) → Splits (FollowsRule stands key) id (view (know a (o ∷ p ∷ os) z) u) (staying_view (view (know a (o ∷ p ∷ os) z) u)) (cut_view (view (know a (o ∷ p ∷ os) z) u))
+  splits key id a o p os z u s r at =
+      let k : Know = know a (o ∷ p ∷ os) z in
+      let v : View = view k u in
+      let l : View = view (know a (o ∷ os) z) u in
+      let n : View = view (know a (p ∷ []) z) Idle in
+      let vs : List View = set s.views id l ++ n ∷ [] in
+      let there : get_elem? (turns s) id ≡ some u = at_map turn_of s.views id v at in
+      let known : get_elem? (knows s) id ≡ some k = at_map know_of s.views id v at in
+      let fit = r.fits id v at in
+      let kn : map know_of vs ≡ set (knows s) id l.know ++ n.know ∷ [] = map-append know_of (set s.views id l) (n ∷ []) ∙ ap (λ x. x ++ n.know ∷ []) (map-set know_of s.views id l) in
+      let tn : map turn_of vs ≡ turns s ++ Idle ∷ [] = map-append turn_of (set s.views id l) (n ∷ []) ∙ ap (λ x. x ++ Idle ∷ []) (map-set turn_of s.views id l ∙ set_again (turns s) id u there) in
+      record {
+        log = r.log;
+        drawn = r.drawn;
+        served = r.served;
+        wide = r.wide;
+        few = r.few;
+        history = subst (OneHistory key r.log) (sym kn) (history_splits key r.log (knows s) id a o p os z r.history known);
+        tickets = subst (Tickets (get_or s.words 0 0) (get_or s.words 1 0) r.drawn r.served) (sym tn) (turns_come (get_or s.words 0 0) (get_or s.words 1 0) r.drawn r.served (turns s) r.tickets);
+        slot = subst (SlotStands stands key r.log r.served s.homes) (sym tn) (slot_come key r.log r.served s.homes (turns s) r.slot);
+        fits = λ j x e. ⊎_elim
+            (λ (h : get_elem? (set s.views id l) j ≡ some x). ⊎_elim (λ (q : (j ≡ id) × (l ≡ x)). subst Fits q.1 (cut u fit)) (λ (q : (j ≢ id) × (get_elem? s.views j ≡ some x)). r.fits j x q.1) (at_set s.views id j l x h))
+            (λ (q : n ≡ x). subst Fits q record { numbered = omega arith; notes_own = tt }) (at_snoc (set s.views id l) n x j e);
+      }
+    where
+      recast : (look : List Entry) (e : Option Entry) → IfSome e (λ y. MayNote (know a (o ∷ p ∷ os) z) look y) → IfSome e (λ y. MayNote (know a (o ∷ os) z) look y)
+      recast look None may = tt
+      recast look (Some e) may = record { by_own = may.by_own; caller = may.caller; numbers = may.numbers; comes = may.comes; few = may.few }
+
+      cut : (u : Turn) → Fits (view (know a (o ∷ p ∷ os) z) u) → Fits (view (know a (o ∷ os) z) u)
+      cut Idle f = record { numbered = omega arith; notes_own = tt }
+      cut (Waiting t) f = record { numbered = omega arith; notes_own = tt }
+      cut (Holding h) f = record { numbered = omega arith; notes_own = recast h.look h.noted f.notes_own }
+
+  pub keeps_seen : (key id : ℕ) (v : View) → Splits (FollowsRule stands key) id v v (keepsake v)
+  keeps_seen key id v s r at =
+      let n : View = keepsake v in
+      let same : set s.views id v ≡ s.views = set_again s.views id v at in
+      let vs : List View = s.views ++ n ∷ [] in
+      let kn : map know_of vs ≡ knows s ++ n.know ∷ [] = map-append know_of s.views (n ∷ []) in
+      let tn : map turn_of vs ≡ turns s ++ Idle ∷ [] = map-append turn_of s.views (n ∷ []) in
+      subst (λ (l : List View). FollowsRule stands key record { words = s.words; homes = s.homes; views = l ++ n ∷ [] }) (sym same) record {
+        log = r.log;
+        drawn = r.drawn;
+        served = r.served;
+        wide = r.wide;
+        few = r.few;
+        history = subst (OneHistory key r.log) (sym kn) (history_keeps key r.log (knows s) id v.know r.history (at_map know_of s.views id v at));
+        tickets = subst (Tickets (get_or s.words 0 0) (get_or s.words 1 0) r.drawn r.served) (sym tn) (turns_come (get_or s.words 0 0) (get_or s.words 1 0) r.drawn r.served (turns s) r.tickets);
+        slot = subst (SlotStands stands key r.log r.served s.homes) (sym tn) (slot_come key r.log r.served s.homes (turns s) r.slot);
+        fits = λ j x e. ⊎_elim (λ (h : get_elem? s.views j ≡ some x). r.fits j x h) (λ (q : n ≡ x). subst Fits q record { numbered = omega arith; notes_own = tt }) (at_snoc s.views n x j e);
+      }
+
+  pub joins : (key id other : ℕ) (v w : View) → v.turn ≡ Idle → w.turn ≡ Idle → 0 < length w.know.own → Joins (FollowsRule stands key) id v other w (joined_view v w) spent_view
+  joins key id other v w rest idle some_own s r at apart them =
+      let b : View = joined_view v w in
+      let vs : List View = set s.views id b in
+      let us : List View = set vs other spent_view in
+      let there : get_elem? s.views other ≡ some w = sym (set_else s.views id other b apart) ∙ them in
+      let kn : map know_of us ≡ set (set (knows s) id b.know) other (spent_know) = map-set know_of vs other spent_view ∙ ap (λ x. set x other (spent_know)) (map-set know_of s.views id b) in
+      let t₁ : map turn_of vs ≡ turns s = map-set turn_of s.views id b ∙ set_again (turns s) id v.turn (at_map turn_of s.views id v at) in
+      let t₂ : get_elem? (turns s) other ≡ some Idle = at_map turn_of s.views other w there ∙ ap some idle in
+      let tn : map turn_of us ≡ turns s = map-set turn_of vs other spent_view ∙ (ap (λ x. set x other Idle) t₁ ∙ set_again (turns s) other Idle t₂) in
+      record {
+        log = r.log;
+        drawn = r.drawn;
+        served = r.served;
+        wide = r.wide;
+        few = r.few;
+        history = subst (OneHistory key r.log) (sym kn) (history_joins key r.log (knows s) id other v.know w.know r.history (at_map know_of s.views id v at) apart (at_map know_of s.views other w there) some_own);
+        tickets = subst (Tickets (get_or s.words 0 0) (get_or s.words 1 0) r.drawn r.served) (sym tn) r.tickets;
+        slot = subst (SlotStands stands key r.log r.served s.homes) (sym tn) r.slot;
+        fits = λ j x e. ⊎_elim
+            (λ (q : (j ≡ other) × (spent_view ≡ x)). subst Fits q.1 record { numbered = omega arith; notes_own = tt })
+            (λ (q : (j ≢ other) × (get_elem? vs j ≡ some x)). ⊎_elim (λ (y : (j ≡ id) × (b ≡ x)). subst Fits y.1 (resting b rest)) (λ (y : (j ≢ id) × (get_elem? s.views j ≡ some x)). r.fits j x y.1) (at_set s.views id j b x q.1))
+            (at_set vs other j spent_view x e);
+      }
+    where
+      resting : (v : View) → v.turn ≡ Idle → Fits v
+      resting v e = subst (λ (u : Turn). Fits (view v.know u)) (sym e) record { numbered = omega arith; notes_own = tt }
+
+  pub opens : (key : ℕ) (x : S) → key ≤ 8 → stands x (opening_moment key) → FollowsRule stands key (opening (0 ∷ 0 ∷ []) (Some x ∷ []) (newcomer key))
+  opens key x few ok = record {
+    log = [];
+    drawn = 0;
+    served = 0;
+    wide = refl;
+    few = few;
+    history = history_opens key;
+    tickets = record { ticket_is = omega arith; serving_is = omega arith; all_out = omega arith; below = λ n l. refl; above = λ n l. refl; once = λ n. omega arith };
+    slot = record { held = λ j u e. only_idle j u e; free = λ _. (x, refl, ok) };
+    fits = λ j v e. only_new j v e;
+  }
+    where
+      only_idle : (j : ℕ) (u : Turn) → get_elem? (Idle ∷ []) j ≡ some u → HoldsIf [] 0 u
+      only_idle zero u e = subst (HoldsIf [] 0) (some-injective Idle u e) tt
+      only_idle (suc j) u e = absurd (some-ne-none u (sym e))
+
+      only_new : (j : ℕ) (v : View) → get_elem? (newcomer key ∷ []) j ≡ some v → Fits v
+      only_new zero v e = subst Fits (some-injective (newcomer key) v e) record { numbered = omega arith; notes_own = tt }
+      only_new (suc j) v e = absurd (some-ne-none v (sym e))
+
+  no_turn : (u : Turn) (n : ℕ) → out u ≤ n → n ≡ 0 → is_holder u ≡ false
+  no_turn Idle n h z = refl
+  no_turn (Waiting t) n h z = refl
+  no_turn (Holding x) n h z = absurd (omega arith)
+
+  -- where a seat has all numbers and no ticket, the value at home stands for the status after all that it saw
+  pub ends : (key id : ℕ) (v : View) (ws : List ℕ) (xs : List (Option S)) → v.turn ≡ Idle → length v.know.own ≡ key + 2 → Final (Seen (FollowsRule stands key) id v) ws xs
+      → HasAll key v.know × ((m : S) × (get_elem? xs 0 ≡ some (Some m)) × stands m (moment_after (opening_moment key) v.know.seen))
+  ends key id v ws xs idle all f =
+      let s = f.0 in
+      let r = f.1.0 in
+      let at = f.1.1 in
+      let known : get_elem? (knows s) id ≡ some v.know = at_map know_of s.views id v at in
+      let there : get_elem? (turns s) id ≡ some v.turn = at_map turn_of s.views id v at in
+      let home = r.slot.free (λ j u e. dite (ℕ_discrete j id)
+      (λ z. ap is_holder (sym (at_one (turns s) id v.turn u there (subst (λ (i : ℕ). get_elem? (turns s) i ≡ some u) z e)) ∙ idle))
+      (λ nz. let x = at_unmap turn_of s.views j u e in let w : View = x.0 in
+      let gone = others_spent key r.log (knows s) id j v.know w.know r.history known all nz (at_map know_of s.views j w x.1) in
+      subst (λ y. is_holder y ≡ false) x.2 (no_turn w.turn (length w.know.own) (r.fits j w x.1).numbered (ap length gone)))) in (
+        history_ends key r.log (knows s) id v.know r.history known all,
+        (home.0, f.4 0 (Some home.0) home.1, subst (λ l. stands home.0 (moment_after (opening_moment key) l)) (sym (saw_all key r.log (knows s) id v.know r.history known all)) home.2),
+      )
+
+  -- the same for a seat as it is after its keepsake was cut off
+  pub ends_at : (key id i : ℕ) (v w : View) (ws : List ℕ) (xs : List (Option S)) → i ≡ id → w ≡ v → v.turn ≡ Idle → length v.know.own ≡ key + 2 → Final (Seen (FollowsRule stands key) i w) ws xs
+      → HasAll key v.know × ((m : S) × (get_elem? xs 0 ≡ some (Some m)) × stands m (moment_after (opening_moment key) v.know.seen))
+  ends_at key id i v w ws xs same is idle all f = ends key id v ws xs idle all (subst (λ (z : ℕ × View). Final (Seen (FollowsRule stands key) z.0 z.1) ws xs) (λ j. (same j, is j)) f)
+
+  -- the value that was taken out of the closed table
+  pub taken_is : (xs : List (Option S)) (x : S) (found : Option S) → get_elem? xs 0 ≡ some (Some x) → get_elem? xs 0 ≡ some found → Some x ≡ found
+  taken_is xs x found p q = some-injective (Some x) found (sym p ∙ q)
+
+  pub same_value : (x y : S) (found : Option S) → Some x ≡ found → found ≡ Some y → x ≡ y
+  same_value x y found p q = cc

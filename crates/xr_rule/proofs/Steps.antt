@@ -1,0 +1,213 @@
+-- Draws, looks and notes keep the rule, and tell what they tell.
+use Rattle.std.proofs.Common.{◌≡◌, ℕ, ◌+◌, ◌%◌, ◌^◌, ◌<◌, ◌≤◌, ◌≢◌, false, List, [], ◌∷◌, map, length, get_or, set, sym, refl, ap, ◌∙◌, subst, ⊎_elim, arith, Option, Some, length-set, get_or-set_same, get_or-set_other, true≢false}
+use mathlib.Core.Logic.{dite}
+use mathlib.Core.Option.{Option as Home, some, none}
+use native.Mathlib.Decide.{ℕ_discrete}
+use lib.ListN.{get_elem?}
+use lib.Seq.{set-get_or, map-set}
+use Rattle.atomic_table.specs.Table.{State, Me, step, keeps, takes, Allows}
+use Rattle.atomic_table.proofs.Lists.{at_set, at_map, set_again, set_here, set_else}
+use Rattle.xr_model.specs.machine.Request.{Entry}
+use Rattle.xr_model.specs.laws.Moments.{Moment, opening_moment, moment_after, IsLegalAt, calls_by}
+use Rattle.xr_rule.specs.Sums.{total}
+use Rattle.xr_rule.specs.View.{Own, Know, Hold, Turn, View, Idle, Waiting, Holding, view, hold_from, know_of, turn_of, number_in, calls_in, parts, out, has_ticket, is_holder}
+use Rattle.xr_rule.specs.Rule.{Knows, OneHistory, Tickets, HoldsIf, SlotStands, MayNote, Fits, FollowsRule}
+use Rattle.xr_rule.specs.Plays.{Sees, Draws, Looks, Notes}
+use Rattle.xr_rule.proofs.Sums.{at_in, at_one, totals_le, total-map}
+use Rattle.xr_rule.proofs.Histories.{none-between}
+use Rattle.xr_rule.proofs.Counts.{locked_fit}
+use Rattle.xr_rule.proofs.Turning.{yes_ticket, turns_keep, turns_draw, is_served, one_ticket}
+
+abbrev pub knows : {S : Type 0} → State (Option S) View → List Know
+knows s = map know_of s.views
+
+abbrev pub turns : {S : Type 0} → State (Option S) View → List Turn
+turns s = map turn_of s.views
+
+-- ---- what a seat is told
+
+own_calls : (key : ℕ) (log : List Entry) (os : List Own) → ((i : ℕ) (o : Own) → get_elem? os i ≡ some o → calls_by o.number (opening_moment key) log ≡ o.calls) → 0 < length os → calls_by (number_in os) (opening_moment key) log ≡ calls_in os
+own_calls key log [] h l = absurd (omega arith)
+own_calls key log (o ∷ os) h l = h 0 o refl
+
+pub apps_of : (key : ℕ) (log : List Entry) (k : Know) → Knows key log k → 0 < length k.own → k.apps ≡ key
+apps_of key log k known some_own = ⊎_elim (λ (z : k.own ≡ []). absurd (omega (arith, ap length z))) (λ (z : k.apps ≡ key). z) known.apps_are
+
+pub sees : (key : ℕ) (log : List Entry) (ks : List Know) (id : ℕ) (k : Know) → key ≤ 8 → OneHistory key log ks → get_elem? ks id ≡ some k → 0 < length k.own → Sees k log
+sees key log ks id k few t at some_own =
+    let known = t.each id k at in
+    let apps : k.apps ≡ key = apps_of key log k known some_own in
+    let n : ℕ = number_in k.own in
+    let now : calls_by n (opening_moment k.apps) log ≡ calls_in k.own = ap (λ a. calls_by n (opening_moment a) log) apps ∙ own_calls key log k.own known.own_all some_own in
+    let then_ : calls_by n (opening_moment k.apps) k.seen ≡ calls_in k.own = ap (λ a. calls_by n (opening_moment a) k.seen) apps ∙ own_calls key k.seen k.own known.own_seen some_own in
+    record {
+      more = known.begins.0;
+      is = known.begins.1;
+      none_own = none-between n (opening_moment k.apps) k.seen log known.begins (then_ ∙ sym now);
+      legal = subst (λ a. IsLegalAt (opening_moment a) log) (sym apps) t.legal;
+      own = now;
+      own_seen = then_;
+      few = locked_fit key log ks few t;
+    }
+
+-- ---- holders
+
+holders_alone : (log : List Entry) (served : ℕ) (u : Turn) → HoldsIf log served u → ¬ (has_ticket served u ≡ 1) → is_holder u ≡ false
+holders_alone log served Idle k not = refl
+holders_alone log served (Waiting t) k not = refl
+holders_alone log served (Holding h) k not = absurd (not (yes_ticket h.ticket served k.is_served))
+
+pub holds_aside : (log : List Entry) (served : ℕ) (u : Turn) → is_holder u ≡ false → HoldsIf log served u
+holds_aside log served Idle h = tt
+holds_aside log served (Waiting t) h = tt
+holds_aside log served (Holding x) h = absurd (true≢false h)
+
+module _ {S : Type 0} (stands : S → Moment → Type 0) where
+  -- The rule after a step of the seat id is put together from its parts, each of which speaks of one part of the views.
+  pub whole : (key : ℕ) (s : State (Option S) View) (ws : List ℕ) (hs : List (Home (Option S))) (id : ℕ) (w : View) (log : List Entry) (drawn served : ℕ)
+      → ((j : ℕ) (v : View) → get_elem? s.views j ≡ some v → Fits v) → length ws ≡ 2 → key ≤ 8
+      → OneHistory key log (set (knows s) id w.know) → Tickets (get_or ws 0 0) (get_or ws 1 0) drawn served (set (turns s) id w.turn) → SlotStands stands key log served hs (set (turns s) id w.turn) → Fits w
+      → FollowsRule stands key record { words = ws; homes = hs; views = set s.views id w }
+  whole key s ws hs id w log drawn served fit wide few told turned slot own = record {
+    log = log;
+    drawn = drawn;
+    served = served;
+    wide = wide;
+    few = few;
+    history = subst (OneHistory key log) (sym (map-set know_of s.views id w)) told;
+    tickets = subst (Tickets (get_or ws 0 0) (get_or ws 1 0) drawn served) (sym (map-set turn_of s.views id w)) turned;
+    slot = subst (SlotStands stands key log served hs) (sym (map-set turn_of s.views id w)) slot;
+    fits = λ j v at. ⊎_elim (λ (q : (j ≡ id) × (w ≡ v)). subst Fits q.1 own) (λ (q : (j ≢ id) × (get_elem? s.views j ≡ some v)). fit j v q.1) (at_set s.views id j w v at);
+  }
+
+  -- a step that leaves what its seat knows leaves the history
+  pub same_history : (key : ℕ) (s : State (Option S) View) (log : List Entry) (id : ℕ) (v : View) → get_elem? s.views id ≡ some v → OneHistory key log (knows s) → OneHistory key log (set (knows s) id v.know)
+  same_history key s log id v at t = subst (OneHistory key log) (sym (set_again (knows s) id v.know (at_map know_of s.views id v at))) t
+
+  few_out : (key : ℕ) (s : State (Option S) View) → FollowsRule stands key s → total out (turns s) ≤ 10
+  few_out key s r = let all = r.history.all_parts in let le = totals_le (λ (v : View). out v.turn) (λ (v : View). parts v.know) s.views (λ j v at. (r.fits j v at).numbered) in
+      let few = r.few in omega (arith, total-map turn_of out s.views, total-map know_of parts s.views)
+
+  -- the slot after a step of a seat that neither had nor gets it
+  slot_aside : (key : ℕ) (log : List Entry) (served : ℕ) (hs : List (Home (Option S))) (us : List Turn) (id : ℕ) (u w : Turn) → SlotStands stands key log served hs us → get_elem? us id ≡ some u → is_holder u ≡ false → is_holder w ≡ false
+      → HoldsIf log served w → SlotStands stands key log served hs (set us id w)
+  slot_aside key log served hs us id u w h at was now kept = record {
+    held = λ j x e. ⊎_elim (λ (q : (j ≡ id) × (w ≡ x)). subst (HoldsIf log served) q.1 kept) (λ (q : (j ≢ id) × (get_elem? us j ≡ some x)). h.held j x q.1) (at_set us id j w x e);
+    free = λ none_holds. h.free (λ j x e. dite (ℕ_discrete j id)
+        (λ z. ap is_holder (sym (at_one us id u x at (subst (λ (i : ℕ). get_elem? us i ≡ some x) z e))) ∙ was)
+        (λ nz. none_holds j x (set_else us id j w nz ∙ e)));
+  }
+
+  -- the words after a step that changes none
+  unchanged : (key : ℕ) (s : State (Option S) View) (i : ℕ) (hs : List (Home (Option S))) (vs : List View) → FollowsRule stands key record { words = s.words; homes = hs; views = vs } → FollowsRule stands key record { words = set s.words i (get_or s.words i 0); homes = hs; views = vs }
+  unchanged key s i hs vs r = subst (λ (ws : List ℕ). FollowsRule stands key record { words = ws; homes = hs; views = vs }) (sym (set-get_or s.words i 0)) r
+
+  -- nobody but the seat that is served may hold the slot
+  pub nobody_else : (key : ℕ) (s : State (Option S) View) (r : FollowsRule stands key s) (id : ℕ) (v : Turn) → get_elem? (turns s) id ≡ some v → has_ticket r.served v ≡ 1 → (j : ℕ) (u : Turn) → j ≢ id → get_elem? (turns s) j ≡ some u → is_holder u ≡ false
+  nobody_else key s r id v at mine j u apart e = holders_alone r.log r.served u (r.slot.held j u e) (one_ticket (get_or s.words 0 0) (get_or s.words 1 0) r.drawn r.served (turns s) id j v u r.served r.tickets apart at e mine)
+
+  -- ---- draws
+
+  pub draws : (key id : ℕ) (k : Know) (c : List (ℕ × Option S)) → 0 < length k.own
+      → Allows (FollowsRule stands key) 1 id (view k Idle, c) 0 (λ n. (n + 1) % 2 ^ 64) (Draws (step 1 0 1 0 none) (view k Idle, c))
+  draws key id k c some_own s r slots at small =
+      let d : ℕ = r.drawn in
+      let w : View = view k (Waiting d) in
+      let n : ℕ = (get_or s.words 0 0 + 1) % 2 ^ 64 in
+      let wide = r.wide in
+      let there : get_elem? (turns s) id ≡ some Idle = at_map turn_of s.views id (view k Idle) at in
+      let zero_is : get_or (set s.words 0 n) 0 0 ≡ n = get_or-set_same s.words 0 n 0 (omega arith) in
+      let one_is : get_or (set s.words 0 n) 1 0 ≡ get_or s.words 1 0 = get_or-set_other s.words 0 1 n 0 (λ e. omega arith) in (
+        w,
+        keeps,
+        tt,
+        whole key s (set s.words 0 n) s.homes id w r.log (d + 1) r.served r.fits (length-set s.words 0 n ∙ wide) r.few
+            (same_history key s r.log id (view k Idle) at r.history)
+            (subst (λ (x : ℕ × ℕ). Tickets x.0 x.1 (d + 1) r.served (set (turns s) id (Waiting d))) (λ i. (sym zero_is i, sym one_is i)) (turns_draw (get_or s.words 0 0) (get_or s.words 1 0) d r.served (turns s) id r.tickets there))
+            (slot_aside key r.log r.served s.homes (turns s) id Idle (Waiting d) r.slot there refl refl tt)
+            record { numbered = some_own; notes_own = tt },
+        (d, refl, r.tickets.ticket_is),
+      )
+
+  -- ---- looks
+
+  pub looks : (key id t : ℕ) (k : Know) → Allows (FollowsRule stands key) 1 id (view k (Waiting t), []) 1 (λ n. n) (Looks stands (step 1 1 0 0 none) (view k (Waiting t), []))
+  looks key id t k s r slots at small =
+      let v : View = view k (Waiting t) in
+      let there : get_elem? (turns s) id ≡ some (Waiting t) = at_map turn_of s.views id v at in
+      let known : get_elem? (knows s) id ≡ some k = at_map know_of s.views id v at in
+      let found : ℕ = get_or s.words 1 0 in
+      let fit = r.fits id v at in
+      dite (ℕ_discrete found (t % 2 ^ 64))
+      (λ hit.
+      let now : t ≡ r.served = is_served (get_or s.words 0 0) found r.drawn r.served (turns s) id t r.tickets there (few_out key s r) hit in
+      let mine : has_ticket r.served (Waiting t) ≡ 1 = yes_ticket t r.served now in
+      let nobody : (j : ℕ) (u : Turn) → get_elem? (turns s) j ≡ some u → is_holder u ≡ false = λ j u e. dite (ℕ_discrete j id)
+      (λ z. ap is_holder (sym (at_one (turns s) id (Waiting t) u there (subst (λ (i : ℕ). get_elem? (turns s) i ≡ some u) z e))))
+      (λ nz. nobody_else key s r id (Waiting t) there mine j u nz e) in
+      let home = r.slot.free nobody in
+      let g = sees key r.log (knows s) id k r.few r.history known fit.numbered in
+      let apps = apps_of key r.log k (r.history.each id k known) fit.numbered in
+      let u : Turn = Holding (hold_from t r.log) in
+      let w : View = view k u in (
+        w,
+        takes 0 (Some home.0),
+        home.1,
+        unchanged key s 1 (set s.homes 0 none) (set s.views id w) (whole key s s.words (set s.homes 0 none) id w r.log r.drawn r.served r.fits r.wide r.few
+            (same_history key s r.log id v at r.history)
+            (turns_keep (get_or s.words 0 0) found r.drawn r.served (turns s) id (Waiting t) u r.tickets there refl (λ n. refl))
+            record {
+              held = λ j x e. ⊎_elim (λ (q : (j ≡ id) × (u ≡ x)). subst (HoldsIf r.log r.served) q.1 (record { is_served = now; is_now = refl })) (λ (q : (j ≢ id) × (get_elem? (turns s) j ≡ some x)). r.slot.held j x q.1) (at_set (turns s) id j u x e);
+              free = λ none_holds. absurd (true≢false (none_holds id u (set_here (turns s) id u (at_in (turns s) id (Waiting t) there))));
+            }
+            record { numbered = fit.numbered; notes_own = tt }),
+        λ t' is. let same : t ≡ t' = cc in (
+          (λ _. record {
+            look = r.log;
+            value = home.0;
+            is = ap (λ (n : ℕ). (view k (Holding (hold_from n r.log)), (0, Some home.0) ∷ [])) same;
+            sees = g;
+            stands_now = subst (λ a. stands home.0 (moment_after (opening_moment a) r.log)) (sym apps) home.2;
+          }),
+          λ miss. absurd (miss (hit ∙ ap (λ n. n % 2 ^ 64) same)),
+        ),
+      ))
+      (λ miss. (
+        v,
+        keeps,
+        tt,
+        unchanged key s 1 s.homes (set s.views id v) (subst (λ (vs : List View). FollowsRule stands key record { words = s.words; homes = s.homes; views = vs }) (sym (set_again s.views id v at)) r),
+        λ t' is. let same : t ≡ t' = cc in ((λ hit. absurd (miss (hit ∙ ap (λ n. n % 2 ^ 64) (sym same)))), λ _. refl),
+      ))
+
+  -- ---- second looks
+
+  pub notes : (key id : ℕ) (h : Hold) (k : Know) (e : Entry) (c : List (ℕ × Option S)) → MayNote k h.look e
+      → Allows (FollowsRule stands key) 1 id (view k (Holding h), c) 1 (λ n. n) (Notes e (step 1 1 0 0 none) (view k (Holding h), c))
+  notes key id h k e c may s r slots at small =
+      let u : Turn = Holding h in
+      let v : View = view k u in
+      let there : get_elem? (turns s) id ≡ some u = at_map turn_of s.views id v at in
+      let fit = r.fits id v at in
+      let held = r.slot.held id u there in
+      let n : Turn = Holding (record h { noted = Some e }) in
+      let w : View = view k n in (
+        w,
+        keeps,
+        tt,
+        unchanged key s 1 s.homes (set s.views id w) (whole key s s.words s.homes id w r.log r.drawn r.served r.fits r.wide r.few
+            (same_history key s r.log id v at r.history)
+            (turns_keep (get_or s.words 0 0) (get_or s.words 1 0) r.drawn r.served (turns s) id u n r.tickets there refl (λ _. refl))
+            record {
+              held = λ j x q. ⊎_elim (λ (q : (j ≡ id) × (n ≡ x)). subst (HoldsIf r.log r.served) q.1 (record { is_served = held.is_served; is_now = held.is_now })) (λ (q : (j ≢ id) × (get_elem? (turns s) j ≡ some x)). r.slot.held j x q.1) (at_set (turns s) id j n x q);
+              free = λ none_holds. absurd (true≢false (none_holds id n (set_here (turns s) id n (at_in (turns s) id u there))));
+            }
+            record { numbered = fit.numbered; notes_own = may }),
+        λ h' is. noted_as h h' is,
+      )
+    where
+      noted_view : Hold → Me (Option S) View
+      noted_view x = (view k (Holding (record x { noted = Some e })), c)
+
+      noted_as : (h h' : Hold) → Holding h ≡ Holding h' → noted_view h ≡ noted_view h'
+      noted_as h h' is = let same : h ≡ h' = cc in ap noted_view same

@@ -1,0 +1,54 @@
+-- What each step tells its caller.
+use Rattle.std.specs.Prelude.{◌≡◌, ◌≢◌, ℕ, ◌%◌, ◌^◌, ◌<◌, true, false, List, [], ◌∷◌, ◌++◌, Option, Some, MatchOption}
+use Rattle.atomic_table.specs.Table.{Me, Step}
+use Rattle.xr_model.specs.machine.Request.{Entry, leave}
+use Rattle.xr_model.specs.laws.Laws.{count_locked}
+use Rattle.xr_model.specs.laws.Moments.{Moment, opening_moment, moment_after, IsLegalAt, actor_at, calls_by}
+use Rattle.xr_model.specs.laws.PublicationLaws.{none_is_by}
+use Rattle.xr_rule.specs.View.{Know, Hold, View, Idle, Waiting, Holding, view, hold_from, number_in, calls_in, know_after}
+
+-- What a look tells a seat of the history: it begins with what the seat has seen, what has come since is by others, it is legal, it
+-- has just those calls of the seat's actor that the seat keeps, and fewer than 2^44 of its calls are counted.
+pub record Sees (k : Know) (look : List Entry) : Type 0 where
+  pub more : List Entry
+  pub is : k.seen ++ more ≡ look
+  pub none_own : none_is_by (actor_at (number_in k.own)) more ≡ true
+  pub legal : IsLegalAt (opening_moment k.apps) look
+  pub own : calls_by (number_in k.own) (opening_moment k.apps) look ≡ calls_in k.own
+  pub own_seen : calls_by (number_in k.own) (opening_moment k.apps) k.seen ≡ calls_in k.own
+  pub few : count_locked look < 2 ^ 44
+
+-- no entry of any history, for a note that isn't told which
+abbrev pub no_entry : Entry
+no_entry = record { actor = actor_at 0; request = leave; given = 0; short = false }
+
+-- The seat has decided the entry: what it knows has the entry last.
+pub record Decides (k : Know) (look : List Entry) (e : Entry) (n : View) : Type 0 where
+  pub is : n ≡ view (know_after k look e) Idle
+  pub saw : Sees k look
+  pub sees : Sees (know_after k look e) (look ++ e ∷ [])
+
+module _ {S : Type 0} where
+  -- a ticket is drawn: the seat waits with the one that was next
+  abbrev pub Draws : Step (Option S) → Me (Option S) View → ℕ → Me (Option S) View → Type 0
+  Draws st m r n = (t : ℕ) × (n ≡ (view m.0.know (Waiting t), m.1)) × (r ≡ t % 2 ^ 64)
+
+  -- the seat has the slot, with a value that stands for the state after the history
+  pub record Takes (stands : S → Moment → Type 0) (k : Know) (t : ℕ) (n : Me (Option S) View) : Type 0 where
+    pub look : List Entry
+    pub value : S
+    pub is : n ≡ (view k (Holding (hold_from t look)), (0, Some value) ∷ [])
+    pub sees : Sees k look
+    pub stands_now : stands value (moment_after (opening_moment k.apps) look)
+
+  -- a look takes the slot exactly where the seat's ticket is served
+  abbrev pub Looks : (S → Moment → Type 0) → Step (Option S) → Me (Option S) View → ℕ → Me (Option S) View → Type 0
+  Looks stands st m r n = (t : ℕ) → m.0.turn ≡ Waiting t → (r ≡ t % 2 ^ 64 → Takes stands m.0.know t n) × (r ≢ t % 2 ^ 64 → n ≡ m)
+
+  -- a holder's second look notes an entry
+  abbrev pub Notes : Entry → Step (Option S) → Me (Option S) View → ℕ → Me (Option S) View → Type 0
+  Notes e st m r n = (h : Hold) → m.0.turn ≡ Holding h → n ≡ (view m.0.know (Holding (record h { noted = Some e })), m.1)
+
+  -- a holder gives the slot back and serves the next ticket, which decides its entry if it noted one
+  abbrev pub Serves : Step (Option S) → Me (Option S) View → ℕ → Me (Option S) View → Type 0
+  Serves st m r n = (h : Hold) → m.0.turn ≡ Holding h → (n.1 ≡ []) × MatchOption h.noted (n.0 ≡ view m.0.know Idle) (λ e. Decides m.0.know h.look e n.0)
