@@ -1,7 +1,6 @@
 -- What a run beside a device comes to, by the device's text and by its source.
-use Rattle.std.proofs.Common.{◌≡◌, ◌≤◌, ◌+◌, ◌-◌, ◌⊎◌, ◌||◌, ◌&&◌, inl, inr, ℕ, Bool, true, false, true≢false, List, [], ◌∷◌, ◌++◌, length, take, drop, Option, Some, None, option_map, IfSome, Result, Ok, Err, refl, sym, ap, subst, ◌∙◌, arith}
+use Rattle.std.proofs.Common.{◌≡◌, ◌≤◌, ◌+◌, ◌-◌, ◌||◌, ◌&&◌, inl, inr, ℕ, Bool, false, true≢false, List, [], ◌∷◌, ◌++◌, length, take, drop, Option, Some, None, option_map, IfSome, Result, Ok, Err, refl, sym, ap, subst, ◌∙◌, arith}
 use Rattle.std.specs.Prelude.{not}
-use Rattle.std.specs.List.{list_any}
 use Rattle.std.proofs.lemmas.Bool.{or_parts}
 use Rattle.std.proofs.lemmas.List.{take_at}
 use Rattle.xr_io.specs.declared.Taken.{Taken}
@@ -12,7 +11,6 @@ use Rattle.xr_types.specs.declared.device.DeviceEvent.{DeviceEvent}
 use Rattle.xr_types.specs.declared.device.DeviceEvent.TheVariants.{Fault}
 use Rattle.xr_types.specs.declared.made.Lists.{Lists}
 use Rattle.xr_model.specs.device_text.DeviceText.{DeviceStream, ends, nothing_more, told_in}
-use Rattle.xr_model.specs.report.RunEnding.{is_fault}
 use Rattle.xr_device.specs.Prospect.{Prospect}
 use Rattle.xr_device.specs.Kinds.{TextReading, taken_by, begun_at, is_late, of_text}
 use Rattle.xr_device.specs.Answers.{ReadsOn}
@@ -20,7 +18,7 @@ use Rattle.xr_device.specs.WholeLines.{told_whole, GaveWholeLines}
 use Rattle.xr_scenario.specs.declared.fault.ScenarioFault.{ScenarioFault}
 use Rattle.xr_scenario.specs.declared.fault.ScenarioFault.TheVariants as scenario_fault
 use Rattle.xr_serial.specs.Ran.{FailsBehind, Ran}
-use Rattle.xr_drive.specs.Run.{KnownDevice, FailsAtLines}
+use Rattle.xr_drive.specs.Run.{FailsAtLines}
 use Rattle.xr_types.specs.declared.status.Status.{Status}
 use Rattle.xr_drive.specs.Top.{IsWithin, may_be_unopened, TakesWithin}
 use Rattle.xr_drive.specs.declared.input.Stop.{Stop}

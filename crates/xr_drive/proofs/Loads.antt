@@ -1,5 +1,5 @@
 -- A load beside the device of its events.
-use Rattle.std.proofs.Common.{◌≡◌, ◌+◌, ℕ, Bool, true, false, Option, Some, List, refl, sym, ap, subst, ◌∙◌, arith}
+use Rattle.std.proofs.Common.{◌≡◌, ℕ, Bool, true, false, Some, List, refl, subst, arith}
 use Rattle.std.specs.List.{list_any}
 use Rattle.xr_io.specs.Outside.{Rose}
 use Rattle.xr_types.specs.declared.device.DeviceEvent.{DeviceEvent}

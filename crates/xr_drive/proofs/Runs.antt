@@ -17,11 +17,9 @@ use Rattle.xr_model.specs.scenario.Scenario.{scenario_of}
 use Rattle.xr_model.specs.device_text.DeviceText.{DeviceStream, ends}
 use Rattle.xr_serial.specs.Ran.{Ran}
 use Rattle.xr_drive.specs.Run.{KnownDevice, RunOf}
-use Rattle.xr_drive.specs.Top.{Outside, WritesNothing, Writes, told_under, known_under, RunsText, text_of, EndsSo, Means, HasItsCause}
+use Rattle.xr_drive.specs.Top.{Outside, Writes, told_under, known_under, RunsText, text_of, EndsSo, Means, HasItsCause}
 use Rattle.xr_drive.specs.TopLaws.{NoneRose, IsRun, IsComplete, GoodInputIsRun, LoadsAreRun}
-use Rattle.xr_drive.specs.inside.Parts.{RunText, RunLoad, MeansText, fault_of_scenario, MeansRun, MeansForm, HasRunCause, status_of_fault}
-use Rattle.xr_drive.specs.declared.faults.RunFault.{RunFault}
-use Rattle.xr_drive.specs.declared.faults.RunFault.TheVariants as run_fault
+use Rattle.xr_drive.specs.inside.Parts.{RunText, RunLoad, MeansText, fault_of_scenario, MeansRun, MeansForm, HasRunCause}
 use Rattle.xr_scenario.specs.declared.fault.ScenarioFault.{ScenarioFault}
 use Rattle.xr_scenario.specs.declared.fault.ScenarioFault.TheVariants as scenario_fault
 use Rattle.xr_drive.proofs.Clean.{told_clean, run_clean}
@@ -101,48 +99,32 @@ load_clean frames lists of = run_clean (load_scenario frames) load_device of.run
 
 -- behind a whole text
 pub means_ending : (form : WordsForm) (old new : Outside) (lists : Lists) → MeansForm old.files new.files form (Ok lists) → Writes old new (text_of form lists) → Means RunOf (Some form) old new (ending_of lists)
-means_ending (run options) old new lists of written = by (ending_of lists) (is_ending lists.events lists.next) (lists, (of, (refl, written)))
+means_ending (run options) old new lists of written = by (ending_of lists) (is_ending lists.events lists.next) (lists, of, refl, written)
   where
     by : (status : Status) → IsEnding status → EndsSo RunOf old new status (run options) → Means RunOf (Some (run options)) old new status
-    by Done ok so = (run options, (refl, so))
-    by DeviceFailed ok so = (options, (refl, so))
-    by (DeviceGarbled line) ok so = (options, (refl, so))
-    by Stuck ok so = (run options, (refl, so))
+    by Done ok so = (run options, refl, so)
+    by DeviceFailed ok so = (options, refl, so)
+    by (DeviceGarbled line) ok so = (options, refl, so)
+    by Stuck ok so = (run options, refl, so)
     by Usage ok so = absurd ok
     by OpenFault ok so = absurd ok
     by ReadFault ok so = absurd ok
     by (ScenarioRefused why) ok so = absurd ok
     by WriteFault ok so = absurd ok
     by NoMemory ok so = absurd ok
-means_ending (load frames) old new lists of written = by (ending_of lists) refl (is_ending lists.events lists.next) (lists, (of.runs, (refl, written)))
+means_ending (load frames) old new lists of written = by (ending_of lists) refl (is_ending lists.events lists.next) (lists, of.runs, refl, written)
   where
     by : (status : Status) → ending_of lists ≡ status → IsEnding status → EndsSo RunOf old new status (load frames) → Means RunOf (Some (load frames)) old new status
-    by Done is ok so = (load frames, (refl, so))
+    by Done is ok so = (load frames, refl, so)
     by DeviceFailed is ok so = absurd (true≢false (sym (fault_of_failed lists.events lists.next is) ∙ of.faultless))
     by (DeviceGarbled line) is ok so = absurd (never_garbled lists.events lists.next line (load_clean frames lists of) is)
-    by Stuck is ok so = (load frames, (refl, so))
+    by Stuck is ok so = (load frames, refl, so)
     by Usage is ok so = absurd ok
     by OpenFault is ok so = absurd ok
     by ReadFault is ok so = absurd ok
     by (ScenarioRefused why) is ok so = absurd ok
     by WriteFault is ok so = absurd ok
     by NoMemory is ok so = absurd ok
-
--- behind a front of it
-pub means_front : (form : WordsForm) (old new : Outside) (lists : Lists) → MeansForm old.files new.files form (Ok lists) → (n : ℕ) × Writes old new (take n (text_of form lists)) → Means RunOf (Some form) old new WriteFault
-means_front (run options) old new lists of written = (run options, (refl, (lists, (of, written))))
-means_front (load frames) old new lists of written = (load frames, (refl, (lists, (of.runs, written))))
-
--- behind a fault that left nothing to write
-pub means_fault : (form : WordsForm) (old new : Outside) (fault : RunFault) → MeansForm old.files new.files form (Err fault) → WritesNothing old new → Means RunOf (Some form) old new (status_of_fault fault)
-means_fault (run options) old new run_fault.OpenFault of nothing = (options, (refl, nothing))
-means_fault (run options) old new run_fault.ReadFault of nothing = (options, (refl, nothing))
-means_fault (run options) old new (run_fault.Refused why) of nothing = (options, (refl, (of, nothing)))
-means_fault (run options) old new run_fault.NoMemory of nothing = nothing
-means_fault (load frames) old new run_fault.OpenFault of nothing = absurd of
-means_fault (load frames) old new run_fault.ReadFault of nothing = absurd of
-means_fault (load frames) old new (run_fault.Refused why) of nothing = absurd of
-means_fault (load frames) old new run_fault.NoMemory of nothing = nothing
 
 pub cause_ending : (old new : Outside) (lists : Lists) → HasRunCause old.files new.files (Ok lists) → HasItsCause old new (ending_of lists)
 cause_ending old new lists cause = by (ending_of lists) refl (is_ending lists.events lists.next)
@@ -177,7 +159,7 @@ no_garbled old new device all told lists line is end of status =
     never_garbled lists.events lists.next line (run_clean of.scenario told count lists (told_clean old.bytes device told is) end ran) status
 
 -- the options of a run
-options_or : RunOptions → WordsForm → RunOptions
+abbrev options_or : RunOptions → WordsForm → RunOptions
 options_or other (run options) = options
 options_or other (load frames) = other
 
@@ -199,7 +181,7 @@ complete form old new (DeviceGarbled line) means cause = λ options text scenari
     let same : means.0 ≡ options = same_options form means.0 options means.1 is in
     let known : told_under old.files.bytes means.0.device ≡ Some told = ap (λ (o : RunOptions). told_under old.files.bytes o.device) same ∙ tells in
     let so : EndsSo RunOf old new (DeviceGarbled line) (run means.0) = means.2 in
-    absurd (no_garbled old.files new.files means.0.device (old.files.bytes means.0.file) told so.0 line known end so.1 so.2.0)
+    absurd (no_garbled old.files new.files means.0.device (old.files.bytes means.0.file) told so.0 line known end so.1 so.2)
 complete form old new Stuck means cause = λ options text scenario told is there good tells end none. inr (inl refl)
 complete form old new WriteFault means cause = λ options text scenario told is there good tells end none. absurd (none.writes cause)
 complete form old new NoMemory means cause = λ options text scenario told is there good tells end none. inr (inr refl)

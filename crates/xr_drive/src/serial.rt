@@ -198,11 +198,12 @@ fn load_events(alloc: Global) -> Result<Vec<DeviceEvent>, NoMemory>
     let Ok(mut events) = Vec::with_capacity(alloc, 2) else {
         return Err(NoMemory);
     };
-    for event in [DeviceEvent::Wish(Wish::Focused), DeviceEvent::Mark(1)] {
-        let Ok(()) = events.push(event) else {
-            return Err(NoMemory);
-        };
-    }
+    let Ok(()) = events.push(DeviceEvent::Wish(Wish::Focused)) else {
+        return Err(NoMemory);
+    };
+    let Ok(()) = events.push(DeviceEvent::Mark(1)) else {
+        return Err(NoMemory);
+    };
     Ok(events)
 }
 

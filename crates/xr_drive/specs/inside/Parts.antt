@@ -1,5 +1,5 @@
 -- What the parts of a top call say.
-use Rattle.std.specs.Prelude.{◌≡◌, ◌⊎◌, ℕ, ◌+◌, Bool, true, false, List, take, Option, Some, None, option_map, Result, Ok, Err, IfSome, ⊤}
+use Rattle.std.specs.Prelude.{◌≡◌, ◌⊎◌, ℕ, ◌+◌, true, false, List, take, Option, Some, None, option_map, Result, Ok, Err, IfSome, ⊤}
 use Rattle.std.specs.List.{list_any}
 use Rattle.std.specs.Io.KnownBytes.{Keeps, Appends}
 use Rattle.xr_io.specs.Outside.{Rose, SourceState, none_taken, Files, Output}

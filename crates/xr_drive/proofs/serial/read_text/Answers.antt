@@ -9,8 +9,8 @@ returns-in-Ok-clause-bytes g c =
 
 pub returns-in-Ok-clause-within : goal.returns-in-Ok-clause-within
 returns-in-Ok-clause-within g c =
-    closed_read (g.O.S.Source.state c.args.source) (g.O.S.Source.state c.read_all.new.source) which.Scenario (Ok c.in-Ok.text) (g.O.Opener.files c.args.opener.now) (g.O.Opener.files c.close-in-Ok.new.self) c.requires.fresh c.in-Ok.ensures.which c.in-Ok.ensures.taken c.close-in-Ok.ensures
+    closed_read (g.O.S.Source.state c.args.source) (g.O.S.Source.state c.read_all.new.source) which.Scenario (Ok c.in-Ok.text) (g.O.Opener.files c.args.opener.now) (g.O.Opener.files c.close.new.self) c.requires.fresh c.in-Ok.ensures.which c.in-Ok.ensures.taken c.close.ensures
 
-pub returns-clause-within : goal.returns-clause-within
-returns-clause-within g c =
-    closed_read (g.O.S.Source.state c.args.source) (g.O.S.Source.state c.read_all.new.source) which.Scenario (Err c.in-Err.stop) (g.O.Opener.files c.args.opener.now) (g.O.Opener.files c.close.new.self) c.requires.fresh c.in-Err.ensures.which c.in-Err.ensures.taken c.close.ensures
+pub returns-in-Err-clause-within : goal.returns-in-Err-clause-within
+returns-in-Err-clause-within g c =
+    closed_read (g.O.S.Source.state c.args.source) (g.O.S.Source.state c.read_all.new.source) which.Scenario (Err c.in-Err.stop) (g.O.Opener.files c.args.opener.now) (g.O.Opener.files c.close-in-Err.new.self) c.requires.fresh c.in-Err.ensures.which c.in-Err.ensures.taken c.close-in-Err.ensures

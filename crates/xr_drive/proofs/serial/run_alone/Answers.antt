@@ -1,8 +1,8 @@
-use Rattle.std.proofs.Common.{◌≡◌, ◌∙◌, ap, Option, List, [], take, Some, Ok, Err, IfSome}
+use Rattle.std.proofs.Common.{◌≡◌, ◌∙◌, ap, List, [], take, Some, Ok, Err, IfSome}
 use Rattle.xr_types.specs.declared.device.DeviceEvent.{DeviceEvent}
 use Rattle.xr_model.specs.device_text.DeviceText.{DeviceStream, ends, nothing_more}
 use Rattle.xr_device.specs.Kinds.{Stored, of_list}
-use Rattle.xr_io.specs.declared.Which.TheVariants as which
+use Rattle.xr_drive.specs.inside.Parts.{no_device}
 use Rattle.xr_drive.proofs.Runs.{means_ran, means_unrun}
 use Rattle.xr_drive.proofs.Beside.{means_alone}
 use Rattle.xr_drive.proofs.serial.run_alone.Goals as goal
@@ -21,5 +21,5 @@ returns-clause-means g c =
     let none : c.new-device.result.events ≡ [] = ap (λ (s : Stored). s.events) c.new-device.ensures ∙ c.new.ensures.items in
     let known : (of_list c.new-device.result).remaining ≡ Some nothing_more = ap (λ (es : List DeviceEvent). let told : DeviceStream = record { events = es; ending = ends } in Some told) none in
     rw c.of_scenario.ensures
-    (means_unrun _ c.as_slice.result.now _ c.in-Err-run_text.fault read
+    (means_unrun _ c.as_slice.result.now (record no_device { taken = 0 }) c.in-Err-run_text.fault read
     (means_alone c.as_slice.result.now 0 (of_list c.new-device.result) (of_list c.run_text.new.device) (Err c.in-Err-run_text.fault) known c.in-Err-run_text.ensures.means))

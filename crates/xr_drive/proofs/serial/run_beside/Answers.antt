@@ -1,4 +1,4 @@
-use Rattle.std.proofs.Common.{◌≡◌, ap, subst, List, ℕ, take, Option, Ok, Err, IfSome}
+use Rattle.std.proofs.Common.{◌≡◌, ap, subst, List, ℕ, take, Option, Ok, IfSome}
 use Rattle.xr_io.specs.Outside.{SourceState}
 use Rattle.xr_io.specs.declared.Which.TheVariants as which
 use Rattle.xr_drive.specs.inside.Parts.{MeansText, known_text}
@@ -16,4 +16,5 @@ returns-in-Ok-run_device-clause-means g c =
 pub returns-clause-means : goal.returns-clause-means
 returns-clause-means g c =
     let read : IfSome (g.O.S.Source.state c.args.source).bytes (λ bytes. c.as_slice.result.now ≡ take 1048577 bytes) = rw c.as_slice.ensures.value c.in-Ok-read_text.ensures.bytes in
-    rw c.of_scenario.ensures (means_unrun _ c.as_slice.result.now _ c.in-Err-run_device.fault read c.in-Err-run_device.ensures.means)
+    let taken : ℕ = ((g.O.Opener.files c.run_device.new.opener).taken which.Device).count in
+    rw c.of_scenario.ensures (means_unrun _ c.as_slice.result.now (known_text (g.O.S.Source.state c.in-Ok.events).bytes taken) c.in-Err-run_device.fault read c.in-Err-run_device.ensures.means)

@@ -6,13 +6,13 @@ returns-clause-means g c =
     let files = g.O.Opener.files in
     let source = g.O.S.Source.state in
     let start = starts c.new-device.result (source c.args.events) c.new-device.ensures.new c.requires.fresh in
-    ends_so c.new-device.result c.run_text.new.device (source c.args.events).bytes start c.run_text.ensures.reads c.into_source.ensures.few c.into_source.ensures.within (source c.into_source.result) c.into_source.ensures.source
-    (files c.args.opener.now) (files c.close.new.self) c.close.ensures c.args.text.now c.run_text.result c.run_text.ensures.means
+    ends_so c.new-device.result c.run_text-lists.new.device (source c.args.events).bytes start c.run_text-lists.ensures.reads c.into_source.ensures.few c.into_source.ensures.within (source c.into_source.result) c.into_source.ensures.source
+    (files c.args.opener.now) (files c.close.new.self) c.close.ensures c.args.text.now c.run_text-lists.result c.run_text-lists.ensures.means
 
 pub returns-clause-within : goal.returns-clause-within
 returns-clause-within g c =
     let files = g.O.Opener.files in
     let source = g.O.S.Source.state in
     let start = starts c.new-device.result (source c.args.events) c.new-device.ensures.new c.requires.fresh in
-    ends_within c.new-device.result c.run_text.new.device (source c.args.events).bytes start c.run_text.ensures.reads c.into_source.ensures.few c.into_source.ensures.within (source c.into_source.result) c.into_source.ensures.source
+    ends_within c.new-device.result c.run_text-lists.new.device (source c.args.events).bytes start c.run_text-lists.ensures.reads c.into_source.ensures.few c.into_source.ensures.within (source c.into_source.result) c.into_source.ensures.source
     (files c.args.opener.now) (files c.close.new.self) c.close.ensures
