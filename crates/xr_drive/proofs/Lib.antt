@@ -4,3 +4,4 @@ pub mod Status
 pub mod Clean
 pub mod Runs
 pub mod Counts
+pub mod Beside

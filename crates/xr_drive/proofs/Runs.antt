@@ -3,6 +3,7 @@ use Rattle.std.proofs.Common.{◌≡◌, ◌<◌, ◌≤◌, ◌+◌, inl, inr, 
 use Rattle.std.proofs.lemmas.Grind.{common_steps}
 use Rattle.std.proofs.lemmas.Bool.{ltb-true, ltb-false, lt-ltb}
 use Rattle.std.proofs.lemmas.Option.{none-some, same_Some}
+use Rattle.xr_io.specs.Outside.{Files}
 use Rattle.xr_io.specs.declared.Which.TheVariants as which
 use Rattle.xr_types.specs.declared.made.Lists.{Lists}
 use Rattle.xr_types.specs.declared.scenario.Scenario.{Scenario}
@@ -13,8 +14,9 @@ use Rattle.xr_types.specs.declared.status.Refusal.TheVariants.{TooLong}
 use Rattle.xr_model.specs.command_line.Words.{RunOptions, options_of}
 use Rattle.xr_model.specs.scenario.Scenario.{scenario_of}
 use Rattle.xr_model.specs.device_text.DeviceText.{DeviceStream, ends}
-use Rattle.xr_drive.specs.Run.{Run}
-use Rattle.xr_drive.specs.Top.{Outside, Writes, told_under, RunsText, EndsSo, Means, HasItsCause}
+use Rattle.xr_serial.specs.Ran.{Ran}
+use Rattle.xr_drive.specs.Run.{KnownDevice, Run}
+use Rattle.xr_drive.specs.Top.{Outside, Writes, told_under, known_under, RunsText, EndsSo, Means, HasItsCause, OpensInTurn}
 use Rattle.xr_drive.specs.TopLaws.{NoneRose, IsComplete, GoodInputIsRun}
 use Rattle.xr_drive.specs.inside.Parts.{MeansText, fault_of_scenario, MeansRun, HasRunCause}
 use Rattle.xr_scenario.specs.declared.fault.ScenarioFault.{ScenarioFault}
@@ -64,27 +66,27 @@ whole_of_read bytes text s e reads =
     let short : length (take 1048577 bytes) ≤ 1048576 = subst (λ (t : List ℕ). length t ≤ 1048576) e (scenario_short text s reads) in
     short_take 1048576 bytes short ∙ sym e
 
-runs_text : (all : Option (List ℕ)) (text : List ℕ) (told : Option DeviceStream) (lists : Lists) → IfSome all (λ bytes. text ≡ take 1048577 bytes) → Run text told lists → RunsText all told lists
-runs_text None text told lists read run = (text, tt, run)
-runs_text (Some bytes) text told lists read run = (text, whole_of_read bytes text run.scenario read run.reads, run)
+runs_text : (all : Option (List ℕ)) (text : List ℕ) (device : KnownDevice) (lists : Lists) → IfSome all (λ bytes. text ≡ take 1048577 bytes) → Run text device lists → RunsText all device lists
+runs_text None text device lists read run = (text, tt, run)
+runs_text (Some bytes) text device lists read run = (text, whole_of_read bytes text run.scenario read run.reads, run)
 
 refused_if_told : (told : Option (List ℕ)) (text : List ℕ) (why : Refusal) → IfSome told (λ bytes. text ≡ take 1048577 bytes) → scenario_of text ≡ Err why → IfSome told (λ bytes. scenario_of bytes ≡ Err why)
 refused_if_told None text why read e = tt
 refused_if_told (Some bytes) text why read e = sym (scenario_of-take bytes) ∙ rw (← read) e
 
 -- what holds of the bytes that were read holds of all that there were
-pub means_ran : (all : Option (List ℕ)) (text : List ℕ) (told : Option DeviceStream) (lists : Lists) → IfSome all (λ bytes. text ≡ take 1048577 bytes) → MeansText text told (Ok lists) → MeansRun all told (Ok lists)
-means_ran all text told lists read run = runs_text all text told lists read run
+pub means_ran : (all : Option (List ℕ)) (text : List ℕ) (device : KnownDevice) (lists : Lists) → IfSome all (λ bytes. text ≡ take 1048577 bytes) → MeansText text device (Ok lists) → MeansRun all device (Ok lists)
+means_ran all text device lists read run = runs_text all text device lists read run
 
-pub means_unrun : (all : Option (List ℕ)) (text : List ℕ) (told : Option DeviceStream) (fault : ScenarioFault) → IfSome all (λ bytes. text ≡ take 1048577 bytes) → MeansText text told (Err fault) → MeansRun all told (Err (fault_of_scenario fault))
-means_unrun all text told (scenario_fault.Refused why) read e = refused_if_told all text why read e
-means_unrun all text told scenario_fault.NoMemory read e = tt
+pub means_unrun : (all : Option (List ℕ)) (text : List ℕ) (device : KnownDevice) (fault : ScenarioFault) → IfSome all (λ bytes. text ≡ take 1048577 bytes) → MeansText text device (Err fault) → MeansRun all device (Err (fault_of_scenario fault))
+means_unrun all text device (scenario_fault.Refused why) read e = refused_if_told all text why read e
+means_unrun all text device scenario_fault.NoMemory read e = tt
 
 -- ---- what a status means
 
 -- behind a whole report
 pub means_ending : (words : List (List ℕ)) (old new : Outside) (form : RunOptions) (lists : Lists) → options_of words ≡ Some form
-    → RunsText (old.files.bytes form.file) (told_under old.files.bytes form.device) lists → Writes old new (report_of lists form.places) → Means words old new (ending_of lists)
+    → RunsText (old.files.bytes form.file) (known_under old.files new.files form.device) lists → Writes old new (report_of lists form.places) → Means words old new (ending_of lists)
 means_ending words old new form lists is run written = by (ending_of lists) (is_ending lists.events lists.next) (form, is, (lists, run, (refl, written)))
   where
     by : (status : Status) → IsEnding status → EndsSo words old new status → Means words old new status
@@ -114,6 +116,22 @@ cause_ending old new lists cause = by (ending_of lists) refl (is_ending lists.ev
     by WriteFault is ok = absurd ok
     by NoMemory is ok = absurd ok
 
+-- a run that was made opened all its files
+pub turn_ending : (old new : Files) (lists : Lists) → OpensInTurn old new (ending_of lists)
+turn_ending old new lists = by (ending_of lists) (is_ending lists.events lists.next)
+  where
+    by : (status : Status) → IsEnding status → OpensInTurn old new status
+    by Done ok = tt
+    by DeviceFailed ok = tt
+    by (DeviceGarbled line) ok = tt
+    by Stuck ok = tt
+    by Usage ok = absurd ok
+    by OpenFault ok = absurd ok
+    by ReadFault ok = absurd ok
+    by (ScenarioRefused why) ok = absurd ok
+    by WriteFault ok = absurd ok
+    by NoMemory ok = absurd ok
+
 -- ---- completeness
 
 abbrev IsRefusedIfTold : Refusal → Option (List ℕ) → Type 0
@@ -124,11 +142,12 @@ no_opening old new none (inl rose) = none.opens which.Scenario rose
 no_opening old new none (inr rose) = none.opens which.Device rose
 
 -- a device that is known to end at the end of its text has no line that is none
-no_garbled : (bytes : List ℕ → Option (List ℕ)) (device : Option (List ℕ)) (all : Option (List ℕ)) (told : DeviceStream) (lists : Lists) (line : ℕ) → told_under bytes device ≡ Some told → told.ending ≡ ends
-    → RunsText all (told_under bytes device) lists → ending_of lists ≡ DeviceGarbled line → ⊥
-no_garbled bytes device all told lists line is end runs status =
-    let run : Run runs.0 (Some told) lists = subst (λ (t : Option DeviceStream). Run runs.0 t lists) is runs.2 in
-    never_garbled lists.events lists.next line (run_clean run.scenario told run.count lists (told_clean bytes device told is) end run.ran) status
+no_garbled : (old new : Files) (device : Option (List ℕ)) (all : Option (List ℕ)) (told : DeviceStream) (lists : Lists) (line : ℕ) → told_under old.bytes device ≡ Some told → told.ending ≡ ends
+    → RunsText all (known_under old new device) lists → ending_of lists ≡ DeviceGarbled line → ⊥
+no_garbled old new device all told lists line is end runs status =
+    let run : Run runs.0 (known_under old new device) lists = runs.2 in
+    let ran : Ran run.scenario (Some told) run.count lists = subst (λ (t : Option DeviceStream). Ran run.scenario t run.count lists) is run.ran in
+    never_garbled lists.events lists.next line (run_clean run.scenario told run.count lists (told_clean old.bytes device told is) end ran) status
 
 -- good words, a good text, a good device and no fault leave a run that is done or stuck, or want of memory
 complete : (words : List (List ℕ)) (old new : Outside) (status : Status) → Means words old new status → HasItsCause old new status → IsComplete words old new status
@@ -144,7 +163,7 @@ complete words old new DeviceFailed means cause = λ form text scenario told is 
 complete words old new (DeviceGarbled line) means cause = λ form text scenario told is there good tells end none.
     let same : means.0 ≡ form = same_Some means.0 form (sym means.1 ∙ is) in
     let known : told_under old.files.bytes means.0.device ≡ Some told = ap (λ (f : RunOptions). told_under old.files.bytes f.device) same ∙ tells in
-    absurd (no_garbled old.files.bytes means.0.device (old.files.bytes means.0.file) told means.2.0 line known end means.2.1 means.2.2.0)
+    absurd (no_garbled old.files new.files means.0.device (old.files.bytes means.0.file) told means.2.0 line known end means.2.1 means.2.2.0)
 complete words old new Stuck means cause = λ form text scenario told is there good tells end none. inr (inl refl)
 complete words old new WriteFault means cause = λ form text scenario told is there good tells end none. absurd (none.writes cause)
 complete words old new NoMemory means cause = λ form text scenario told is there good tells end none. inr (inr refl)

@@ -1,9 +1,11 @@
 -- What a top call means, and why each of its answers comes.
-use Rattle.std.specs.Prelude.{◌≡◌, ◌⊎◌, ℕ, Bool, true, false, List, take, Option, Some, None, option_map, option_and_then, Err, IfSome, ⊤}
+use Rattle.std.specs.Prelude.{◌≡◌, ◌≤◌, ◌⊎◌, ℕ, ◌+◌, Bool, true, false, List, take, Option, Some, None, option_map, option_and_then, is_some, Err, IfSome, ⊤}
 use Rattle.std.specs.Io.KnownBytes.{Keeps, Appends}
 use Rattle.xr_io.specs.Outside.{Rose, Files, Output}
+use Rattle.xr_io.specs.declared.Taken.{Taken}
 use Rattle.xr_io.specs.declared.Which.{Which}
 use Rattle.xr_io.specs.declared.Which.TheVariants as which
+use Rattle.xr_types.specs.declared.limits.TheConstants.{MOST_SCENARIO, MOST_DEVICE}
 use Rattle.xr_types.specs.declared.made.Lists.{Lists}
 use Rattle.xr_types.specs.declared.status.Status.{Status}
 use Rattle.xr_types.specs.declared.status.Status.TheVariants.{Done, Usage, OpenFault, ReadFault, ScenarioRefused, DeviceFailed, DeviceGarbled, Stuck, WriteFault, NoMemory}
@@ -12,7 +14,7 @@ use Rattle.xr_model.specs.scenario.Scenario.{scenario_of}
 use Rattle.xr_model.specs.device_text.DeviceText.{DeviceStream, nothing_more, told_in}
 use Rattle.xr_model.specs.report.RunEnding.{ending_of}
 use Rattle.xr_model.specs.report.Report.{report_of}
-use Rattle.xr_drive.specs.Run.{Run}
+use Rattle.xr_drive.specs.Run.{KnownDevice, Run}
 
 -- ---- what is outside
 
@@ -43,18 +45,22 @@ abbrev pub told_under : (List ℕ → Option (List ℕ)) → Option (List ℕ) �
 told_under bytes None = Some nothing_more
 told_under bytes (Some name) = option_map told_in (bytes name)
 
+-- what is known of it behind the run: its text too, and how many bytes of that were taken
+abbrev pub known_under : Files → Files → Option (List ℕ) → KnownDevice
+known_under old new device = record { told = told_under old.bytes device; text = option_and_then old.bytes device; taken = (new.taken which.Device).count }
+
 -- Some text was run, and it is all that stands under the scenario's file, where that is told.
-abbrev pub RunsText : Option (List ℕ) → Option DeviceStream → Lists → Type 0
-RunsText all told lists = (text : List ℕ) × IfSome all (λ bytes. bytes ≡ text) × Run text told lists
+abbrev pub RunsText : Option (List ℕ) → KnownDevice → Lists → Type 0
+RunsText all device lists = (text : List ℕ) × IfSome all (λ bytes. bytes ≡ text) × Run text device lists
 
 -- The form's files were run, and this is so of what the run has made.
-abbrev pub Reports : (List ℕ → Option (List ℕ)) → RunOptions → (Lists → Type 0) → Type 0
-Reports bytes form P = (lists : Lists) × RunsText (bytes form.file) (told_under bytes form.device) lists × P lists
+abbrev pub Reports : Files → Files → RunOptions → (Lists → Type 0) → Type 0
+Reports old new form P = (lists : Lists) × RunsText (old.bytes form.file) (known_under old new form.device) lists × P lists
 
 -- The run ended so, and its whole report was written.
 abbrev pub EndsSo : List (List ℕ) → Outside → Outside → Status → Type 0
 EndsSo words old new status =
-    OfForm words (λ form. Reports old.files.bytes form (λ lists. (ending_of lists ≡ status) × Writes old new (report_of lists form.places)))
+    OfForm words (λ form. Reports old.files new.files form (λ lists. (ending_of lists ≡ status) × Writes old new (report_of lists form.places)))
 
 -- What each status says of the words, of the bytes under each name, and of what the output had and has.
 abbrev pub Means : List (List ℕ) → Outside → Outside → Status → Type 0
@@ -66,7 +72,7 @@ Means words old new (ScenarioRefused why) = OfForm words (λ form. IfSome (old.f
 Means words old new DeviceFailed = EndsSo words old new DeviceFailed
 Means words old new (DeviceGarbled line) = EndsSo words old new (DeviceGarbled line)
 Means words old new Stuck = EndsSo words old new Stuck
-Means words old new WriteFault = OfForm words (λ form. Reports old.files.bytes form (λ lists. (n : ℕ) × Writes old new (take n (report_of lists form.places))))
+Means words old new WriteFault = OfForm words (λ form. Reports old.files new.files form (λ lists. (n : ℕ) × Writes old new (take n (report_of lists form.places))))
 Means words old new NoMemory = WritesNothing old new
 
 -- ---- causes
@@ -156,16 +162,39 @@ pub record KeepsDevice (old new : Files) : Type 0 where
   pub unasked : new.asked which.Device ≡ old.asked which.Device
   pub opens : new.open_faults which.Device ≡ old.open_faults which.Device
   pub reads : new.read_faults which.Device ≡ old.read_faults which.Device
+  pub taken : new.taken which.Device ≡ old.taken which.Device
 
 -- this is so where there is no device
 abbrev pub UnlessDevice : Option (List ℕ) → Type 0 → Type 0
 UnlessDevice None P = P
 UnlessDevice (Some name) P = ⊤
 
+-- this is so where there is a device
+abbrev pub IfDevice : Option (List ℕ) → Type 0 → Type 0
+IfDevice device P = is_some device ≡ true → P
+
+-- ---- what was taken
+
+-- no more than so many bytes were taken, and no read was late: none came behind the end or a read that failed
+abbrev pub IsWithin : ℕ → Taken → Type 0
+IsWithin most taken = (taken.count ≤ most) × (taken.late ≡ false)
+
+-- a file may not have been opened: the words have no form, it or another couldn't be opened, or memory was short
+abbrev pub may_be_unopened : Status → Bool
+may_be_unopened Usage = true
+may_be_unopened OpenFault = true
+may_be_unopened NoMemory = true
+may_be_unopened _ = false
+
+-- What was taken of a file is within its limit, or the file was not opened, and it is as it was.
+abbrev pub TakesWithin : ℕ → Taken → Taken → Status → Type 0
+TakesWithin most old new status = IsWithin most new ⊎ ((may_be_unopened status ≡ true) × (new ≡ old))
+
 -- ---- all of it
 
 -- What a status says, all of it: what it means, why it comes, and that no other count changed; that just the files of the words were
--- asked for, in their turn; and that no source is left open, and no file's bytes changed.
+-- asked for, in their turn; that each was read no further than one byte past its limit, and never late; and that no source is left
+-- open, and no file's bytes changed.
 pub record IsAnswer (words : List (List ℕ)) (old new : Outside) (status : Status) : Type 0 where
   pub means : Means words old new status
   pub causes : HasItsCause old new status
@@ -174,5 +203,7 @@ pub record IsAnswer (words : List (List ℕ)) (old new : Outside) (status : Stat
   pub device : IsDeviceAskedFor (device_of (options_of words)) (new.files.asked which.Device) status
   pub alone : UnlessDevice (device_of (options_of words)) (KeepsDevice old.files new.files)
   pub turn : OpensInTurn old.files new.files status
+  pub taken : TakesWithin (MOST_SCENARIO + 1) (old.files.taken which.Scenario) (new.files.taken which.Scenario) status
+  pub device_taken : IfDevice (device_of (options_of words)) (TakesWithin (MOST_DEVICE + 1) (old.files.taken which.Device) (new.files.taken which.Device) status)
   pub closed : NoneLeftOpen old.files new.files
   pub same : SameBytes old.files new.files

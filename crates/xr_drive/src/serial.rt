@@ -1,15 +1,15 @@
 // The top call of one thread.
 ghost use Rattle.std.specs.Prelude.{◌≡◌, ◌≤◌, ◌+◌, true, false, map, take, IfOk, IfErr, IfSome, Some, None, length, string_bytes, option_map};
 ghost use Rattle.std.specs.List.{list_any};
-ghost use Rattle.xr_types.specs.declared.limits.TheConstants.{MOST_SCENARIO};
+ghost use Rattle.xr_types.specs.declared.limits.TheConstants.{MOST_SCENARIO, MOST_DEVICE};
 ghost use Rattle.xr_io.specs.Outside.{Rose, AreUnasked};
 ghost use Rattle.xr_io.specs.declared.Which.{Which};
-ghost use Rattle.xr_model.specs.device_text.DeviceText.{nothing_more};
+ghost use Rattle.xr_device.specs.Answers.{ReadsOn};
 ghost use Rattle.xr_model.specs.report.RunEnding.{is_fault};
 ghost use Rattle.xr_model.specs.command_line.Words.{options_of};
-ghost use Rattle.xr_drive.specs.Top.{outside, Means, HasItsCause, OnlyItsFault, OpensInTurn, IsAskedFor, IsDeviceAskedFor, device_of, KeepsDevice, UnlessDevice, NoneLeftOpen, SameBytes, IsAnswer, told_under};
+ghost use Rattle.xr_drive.specs.Top.{outside, Means, HasItsCause, OnlyItsFault, OpensInTurn, IsAskedFor, IsDeviceAskedFor, device_of, KeepsDevice, UnlessDevice, IfDevice, IsWithin, TakesWithin, NoneLeftOpen, SameBytes, IsAnswer, known_under};
 ghost use Rattle.xr_drive.specs.inside.Input.{RoseIfStopped, KeptUnlessFailed};
-ghost use Rattle.xr_drive.specs.inside.Parts.{MeansText, MeansRun, HasRunCause, KeepsCounts, KeptIfRefused, OpenedInTurn, status_in, MeansWritten, RoseIfUnwritten, KeptUnlessUnwritten};
+ghost use Rattle.xr_drive.specs.inside.Parts.{IsJustOpened, MeansBeside, MeansText, known_text, MeansRun, HasRunCause, KeepsCounts, KeptIfRefused, OpenedInTurn, status_in, MeansWritten, RoseIfUnwritten, KeptUnlessUnwritten};
 
 use crate::faults::{RunFault, Unwritten};
 use crate::input::{Stop, read_all};
@@ -24,14 +24,15 @@ use xr_types::{Lists, Status};
 
 /// The bytes of the scenario's opened file, or why there are none. The source is closed.
 fn read_text<O: Opener>(alloc: Global, opener: &mut O, source: O::S) -> Result<Vec<u8>, Stop>
-    requires which { O.S.which source ≡ Which.Scenario }
-    requires sound { O.S.faults source ≡ 0 }
-    ensures bytes { IfOk result (λ text. IfSome (O.S.left source) (λ bytes. text.items ≡ take (MOST_SCENARIO + 1) bytes)) }
+    requires fresh { IsJustOpened Which.Scenario (O.S.state source) }
+    ensures bytes { IfOk result (λ text. IfSome (O.S.state source).bytes (λ bytes. text.items ≡ take (MOST_SCENARIO + 1) bytes)) }
     ensures cause { IfErr result (RoseIfStopped ((O.files opener.old).read_faults Which.Scenario) ((O.files opener.new).read_faults Which.Scenario)) }
     ensures asked { (which : Which) → (O.files opener.new).asked which ≡ (O.files opener.old).asked which }
     ensures opens { (which : Which) → (O.files opener.new).open_faults which ≡ (O.files opener.old).open_faults which }
     ensures reads { (O.files opener.new).read_faults Which.Device ≡ (O.files opener.old).read_faults Which.Device }
     ensures kept { KeptUnlessFailed ((O.files opener.old).read_faults Which.Scenario) ((O.files opener.new).read_faults Which.Scenario) result }
+    ensures within { IsWithin (MOST_SCENARIO + 1) ((O.files opener.new).taken Which.Scenario) }
+    ensures untaken { (O.files opener.new).taken Which.Device ≡ (O.files opener.old).taken Which.Device }
     ensures closed { (O.files opener.new).is_open Which.Scenario ≡ false }
     ensures stays { (O.files opener.new).is_open Which.Device ≡ (O.files opener.old).is_open Which.Device }
     ensures same { SameBytes (O.files opener.old) (O.files opener.new) }
@@ -51,11 +52,11 @@ fn read_text<O: Opener>(alloc: Global, opener: &mut O, source: O::S) -> Result<V
 
 /// Runs a text beside a device, or says why it isn't run.
 fn run_text<D: Device>(alloc: Global, text: &[u8], device: &mut D) -> Result<Lists, ScenarioFault>
-    ensures means { MeansText text.now (D.prospect device.old).remaining result }
+    ensures means { MeansBeside text.now (D.prospect device.old) (D.prospect device.new) result }
     ensures fault { IfOk result (λ lists. list_any is_fault lists.events ≡ true → Rose (D.prospect device.old).faults (D.prospect device.new).faults) }
     ensures unfailed { IfOk result (λ lists. list_any is_fault lists.events ≡ false → (D.prospect device.new).faults ≡ (D.prospect device.old).faults) }
     ensures refused { IfErr result (KeptIfRefused (D.prospect device.old).faults (D.prospect device.new).faults) }
-    ensures which { (D.prospect device.new).which ≡ (D.prospect device.old).which }
+    ensures reads { ReadsOn (D.prospect device.old) (D.prospect device.new) }
 {
     let scenario = read(alloc, text)?;
     match xr_serial::run(alloc, &scenario, device) {
@@ -66,14 +67,14 @@ fn run_text<D: Device>(alloc: Global, text: &[u8], device: &mut D) -> Result<Lis
 
 /// Runs the opened scenario beside a device of no events. The source is closed.
 fn run_alone<O: Opener>(alloc: Global, opener: &mut O, source: O::S) -> Result<Lists, RunFault>
-    requires which { O.S.which source ≡ Which.Scenario }
-    requires sound { O.S.faults source ≡ 0 }
-    ensures means { MeansRun (O.S.left source) (Some nothing_more) result }
+    requires fresh { IsJustOpened Which.Scenario (O.S.state source) }
+    ensures means { MeansRun (O.S.state source).bytes (known_under (O.files opener.old) (O.files opener.new) None) result }
     ensures cause { HasRunCause (O.files opener.old) (O.files opener.new) result }
     ensures counts { KeepsCounts (O.files opener.old) (O.files opener.new) result }
     ensures asked { (which : Which) → (O.files opener.new).asked which ≡ (O.files opener.old).asked which }
     ensures turn { OpenedInTurn (O.files opener.old) (O.files opener.new) result }
     ensures device { KeepsDevice (O.files opener.old) (O.files opener.new) }
+    ensures within { IsWithin (MOST_SCENARIO + 1) ((O.files opener.new).taken Which.Scenario) }
     ensures closed { (O.files opener.new).is_open Which.Scenario ≡ false }
     ensures stays { (O.files opener.new).is_open Which.Device ≡ (O.files opener.old).is_open Which.Device }
     ensures same { SameBytes (O.files opener.old) (O.files opener.new) }
@@ -89,6 +90,33 @@ fn run_alone<O: Opener>(alloc: Global, opener: &mut O, source: O::S) -> Result<L
     }
 }
 
+/// Runs a text beside the device of this opened file. The source is closed.
+fn run_device<O: Opener>(
+    alloc: Global,
+    opener: &mut O,
+    text: &[u8],
+    events: O::S,
+) -> Result<Lists, ScenarioFault>
+    requires fresh { IsJustOpened Which.Device (O.S.state events) }
+    ensures means { MeansText text.now (known_text (O.S.state events).bytes ((O.files opener.new).taken Which.Device).count) result }
+    ensures fault { IfOk result (λ lists. list_any is_fault lists.events ≡ true → Rose ((O.files opener.old).read_faults Which.Device) ((O.files opener.new).read_faults Which.Device)) }
+    ensures unfailed { IfOk result (λ lists. list_any is_fault lists.events ≡ false → (O.files opener.new).read_faults Which.Device ≡ (O.files opener.old).read_faults Which.Device) }
+    ensures refused { IfErr result (KeptIfRefused ((O.files opener.old).read_faults Which.Device) ((O.files opener.new).read_faults Which.Device)) }
+    ensures within { IsWithin (MOST_DEVICE + 1) ((O.files opener.new).taken Which.Device) }
+    ensures untaken { (O.files opener.new).taken Which.Scenario ≡ (O.files opener.old).taken Which.Scenario }
+    ensures reads { (O.files opener.new).read_faults Which.Scenario ≡ (O.files opener.old).read_faults Which.Scenario }
+    ensures asked { (which : Which) → (O.files opener.new).asked which ≡ (O.files opener.old).asked which }
+    ensures opens { (which : Which) → (O.files opener.new).open_faults which ≡ (O.files opener.old).open_faults which }
+    ensures closed { (O.files opener.new).is_open Which.Device ≡ false }
+    ensures stays { (O.files opener.new).is_open Which.Scenario ≡ (O.files opener.old).is_open Which.Scenario }
+    ensures same { SameBytes (O.files opener.old) (O.files opener.new) }
+{
+    let mut device = LineDevice::new(events);
+    let lists = run_text(alloc, text, &mut device);
+    opener.close(device.into_source());
+    lists
+}
+
 /// Runs the opened scenario beside the device of this file. Both sources are closed.
 fn run_beside<O: Opener>(
     alloc: Global,
@@ -96,16 +124,17 @@ fn run_beside<O: Opener>(
     source: O::S,
     name: &str,
 ) -> Result<Lists, RunFault>
-    requires which { O.S.which source ≡ Which.Scenario }
-    requires sound { O.S.faults source ≡ 0 }
+    requires opened { IsJustOpened Which.Scenario (O.S.state source) }
     requires fresh { (O.files opener.old).asked Which.Device ≡ None }
     requires short { length name.now ≤ 4095 }
-    ensures means { MeansRun (O.S.left source) (told_under (O.files opener.old).bytes (Some name.now)) result }
+    ensures means { MeansRun (O.S.state source).bytes (known_under (O.files opener.old) (O.files opener.new) (Some name.now)) result }
     ensures cause { HasRunCause (O.files opener.old) (O.files opener.new) result }
     ensures counts { KeepsCounts (O.files opener.old) (O.files opener.new) result }
     ensures asked { (O.files opener.new).asked Which.Scenario ≡ (O.files opener.old).asked Which.Scenario }
     ensures turn { OpenedInTurn (O.files opener.old) (O.files opener.new) result }
     ensures device { (O.files opener.new).asked Which.Device ≡ Some name.now }
+    ensures within { IsWithin (MOST_SCENARIO + 1) ((O.files opener.new).taken Which.Scenario) }
+    ensures taken { TakesWithin (MOST_DEVICE + 1) ((O.files opener.old).taken Which.Device) ((O.files opener.new).taken Which.Device) (status_in result) }
     ensures closed { (O.files opener.new).is_open Which.Scenario ≡ false }
     ensures device_closed { (O.files opener.new).is_open Which.Device ≡ true → (O.files opener.old).is_open Which.Device ≡ true }
     ensures same { SameBytes (O.files opener.old) (O.files opener.new) }
@@ -121,10 +150,7 @@ fn run_beside<O: Opener>(
             return Err(RunFault::of_stop(stop));
         }
     };
-    let mut device = LineDevice::new(events);
-    let lists = run_text(alloc, text.as_slice(), &mut device);
-    opener.close(device.into_source());
-    match lists {
+    match run_device(alloc, opener, text.as_slice(), events) {
         Ok(lists) => Ok(lists),
         Err(fault) => Err(RunFault::of_scenario(fault)),
     }
@@ -141,13 +167,15 @@ fn run_files<O: Opener>(
     requires fresh { AreUnasked (O.files opener.old) }
     requires short { length file.now ≤ 4095 }
     requires short_device { IfSome device (λ name. length name.now ≤ 4095) }
-    ensures means { MeansRun ((O.files opener.old).bytes file.now) (told_under (O.files opener.old).bytes (option_map (λ name. name.now) device.entry)) result }
+    ensures means { MeansRun ((O.files opener.old).bytes file.now) (known_under (O.files opener.old) (O.files opener.new) (option_map (λ name. name.now) device.entry)) result }
     ensures cause { HasRunCause (O.files opener.old) (O.files opener.new) result }
     ensures counts { KeepsCounts (O.files opener.old) (O.files opener.new) result }
     ensures asked { (O.files opener.new).asked Which.Scenario ≡ Some file.now }
     ensures turn { OpenedInTurn (O.files opener.old) (O.files opener.new) result }
     ensures device { IsDeviceAskedFor (option_map (λ name. name.now) device.entry) ((O.files opener.new).asked Which.Device) (status_in result) }
     ensures alone { UnlessDevice (option_map (λ name. name.now) device.entry) (KeepsDevice (O.files opener.old) (O.files opener.new)) }
+    ensures taken { TakesWithin (MOST_SCENARIO + 1) ((O.files opener.old).taken Which.Scenario) ((O.files opener.new).taken Which.Scenario) (status_in result) }
+    ensures device_taken { IfDevice (option_map (λ name. name.now) device.entry) (TakesWithin (MOST_DEVICE + 1) ((O.files opener.old).taken Which.Device) ((O.files opener.new).taken Which.Device) (status_in result)) }
     ensures closed { NoneLeftOpen (O.files opener.old) (O.files opener.new) }
     ensures same { SameBytes (O.files opener.old) (O.files opener.new) }
 {
@@ -195,6 +223,8 @@ fn answer<O: Opener, K: Sink>(
     ensures device { IsDeviceAskedFor (device_of (options_of (map string_bytes words.now))) ((O.files opener.new).asked Which.Device) result }
     ensures alone { UnlessDevice (device_of (options_of (map string_bytes words.now))) (KeepsDevice (O.files opener.old) (O.files opener.new)) }
     ensures turn { OpensInTurn (O.files opener.old) (O.files opener.new) result }
+    ensures taken { TakesWithin (MOST_SCENARIO + 1) ((O.files opener.old).taken Which.Scenario) ((O.files opener.new).taken Which.Scenario) result }
+    ensures device_taken { IfDevice (device_of (options_of (map string_bytes words.now))) (TakesWithin (MOST_DEVICE + 1) ((O.files opener.old).taken Which.Device) ((O.files opener.new).taken Which.Device) result) }
     ensures closed { NoneLeftOpen (O.files opener.old) (O.files opener.new) }
     ensures same { SameBytes (O.files opener.old) (O.files opener.new) }
 {
@@ -216,11 +246,12 @@ fn answer<O: Opener, K: Sink>(
 
 /// Runs the words `serial FILE`, with `--device FILE` and `--places` where these are wanted: opens the scenario's file
 /// and the device's, reads the scenario, runs it on one thread beside the device, and writes its report. Every source
-/// that was opened is closed, whatever happens.
+/// that was opened is closed, whatever happens. No more than 1,048,577 bytes of the scenario and 16,777,217 of the device
+/// are taken, and no read comes behind the end of a file or a read that failed.
 ///
 /// Under `Done`, `DeviceFailed`, `DeviceGarbled` and `Stuck` the whole report is written, and nothing else: it is that
 /// of a legal history of the written machine, the round robin's of this scenario and of this device's events.
-/// `DeviceFailed` comes where the device couldn't be read on, else `DeviceGarbled` with the first malformed line of its
+/// `DeviceFailed` comes where the device couldn't be read on, behind the events of all whole lines that were read, else `DeviceGarbled` with the first malformed line of its
 /// text, else `Stuck` where somebody waits for ever. `Usage` comes exactly where the words have no form; `OpenFault`,
 /// `ReadFault`, `DeviceFailed` and `WriteFault` only where that object's count of faults rose; `ScenarioRefused` exactly
 /// where the text is no scenario, with the reason: `TooLong`, `Json`, or `BadShape` with the first wrong place. `NoMemory`

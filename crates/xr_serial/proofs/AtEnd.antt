@@ -26,7 +26,7 @@ use Rattle.xr_model.specs.machine.Machine.{step}
 use Rattle.xr_serial.specs.inside.Made.{exchange_of}
 use Rattle.xr_model.specs.report.RunEnding.{is_fault}
 use Rattle.xr_model.specs.runs.Lists.{end_of, done_from, frames_in, events_in, lists_to, lists_of, made_from, waiting_of}
-use Rattle.xr_serial.specs.Ran.{settings_of, OfEachScript, GoesOn, a_frame, an_image, IsEnd, IsWhole, Ran}
+use Rattle.xr_serial.specs.Ran.{settings_of, OfEachScript, GoesOn, a_frame, an_image, IsEnd, IsWhole, FailsBehind, Ran}
 use Rattle.xr_serial.specs.inside.RunState.{AppState, RunState}
 use Rattle.xr_device.specs.Prospect.{Prospect}
 use Rattle.xr_serial.specs.inside.Turns.{script_part, script_parts, device_part, compositor_part, pending_list, parts_of, actors_of, from_turn, joined, AreHeldBack}
@@ -38,6 +38,7 @@ use Rattle.xr_serial.proofs.Parts.{AreAll, parts_count}
 use Rattle.xr_serial.proofs.Lending.{IsHidden, shows_none}
 use Rattle.xr_serial.proofs.Ops.{name_is, op_hidden}
 use Rattle.xr_serial.proofs.AppTurns.{all_of}
+use Rattle.xr_serial.proofs.Failing.{fails_behind}
 use Rattle.xr_serial.proofs.Ending.{Gives, gives, events_sound, in_round_is, device_held}
 
 filled : (w : Waiting) (ws : List Waiting) → w ∷ ws ≡ [] → ⊥
@@ -307,6 +308,9 @@ module _ (scenario : Scenario) (turn : ℕ) (s : State) (run : RunState) (start 
 
   pub fault : list_any is_fault run.side.events ≡ true → Rose start.faults now.faults
   fault h = device.fault (subst (λ (l : List DeviceEvent). list_any is_fault l ≡ true) inv.kept.device.events_are h)
+
+  pub failed : list_any is_fault run.side.events ≡ true → FailsBehind start now run.side.events
+  failed h = fails_behind run.side (inv.calls Device) start now inv.kept.device h
 
   -- a fault is never left, since its call can always be made
   no_fault_left : run.side.pending ≡ Some event.Fault → ⊥

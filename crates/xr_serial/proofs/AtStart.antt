@@ -115,6 +115,7 @@ starts scenario start few =
           events_are = refl;
           later = omega arith;
           unfailed = λ e. refl;
+          lines = λ e. absurd (true≢false (sym e));
         };
         compositor = record { frames_are = refl; replies_are = refl; end = tt };
         counted = omega arith;

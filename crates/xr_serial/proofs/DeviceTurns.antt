@@ -147,7 +147,7 @@ module _ (scenario : Scenario) (turn idle : ℕ) (s : State) (run : RunState) (s
   looked : (pending : Option DeviceEvent) (over : Bool) → Fetched now now2 pending over → RunInvariant scenario turn idle s before start now → RunInvariant scenario turn idle s (with_side run (side_asked side pending over)) start now2
   looked (Some e) false f kept = let fewer = f.2 in tells_one e false (omega (arith, fewer)) kept (tells_event side (kept.calls Device) start now now2 grew kept.kept.device e f.0 f.1 f.3 f.4)
   looked None true f kept = tells_no_more (omega arith) kept (tells_end side (kept.calls Device) start now now2 grew kept.kept.device f.0 f.2 f.3)
-  looked (Some event.Fault) true f kept = tells_one event.Fault true (omega arith) kept (tells_fault side (kept.calls Device) start now now2 grew kept.kept.device f.0 f.2)
+  looked (Some event.Fault) true f kept = tells_one event.Fault true (omega arith) kept (tells_fault side (kept.calls Device) start now now2 grew kept.kept.device f.0 f.2 f.3)
   looked (Some (event.Garbled line)) true f kept = tells_one (event.Garbled line) true (omega arith) kept (tells_garbled side (kept.calls Device) start now now2 grew kept.kept.device line f.0 f.2 f.3)
   looked _ _ f kept = absurd f
 

@@ -47,7 +47,7 @@ back_true : (a b : Bool) → a ≡ false → a || b ≡ true → b ≡ true
 back_true a b none h = subst (λ (x : Bool). x || b ≡ true) none h
 
 -- a fault among the calls made is the device's last
-fault_last : (given closing made more : List DeviceEvent) → given ++ closing ≡ made ++ more → list_any is_fault given ≡ false → list_any is_fault made ≡ true → list_any is_fault closing ≡ true
+pub fault_last : (given closing made more : List DeviceEvent) → given ++ closing ≡ made ++ more → list_any is_fault given ≡ false → list_any is_fault made ≡ true → list_any is_fault closing ≡ true
 fault_last given closing made more same none h =
     back_true (list_any is_fault given) (list_any is_fault closing) none
     (sym (list_any-append is_fault given closing) ∙ ap (list_any is_fault) same ∙ list_any-append is_fault made more ∙ or_left (list_any is_fault made) (list_any is_fault more) h)

@@ -15,3 +15,4 @@ pub mod CompositorTurns
 pub mod AtStart
 pub mod Ending
 pub mod AtEnd
+pub mod Failing

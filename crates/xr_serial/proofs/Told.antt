@@ -13,7 +13,7 @@ use Rattle.xr_model.specs.device_text.DeviceText.{DeviceStream, Ending, ends, ga
 use Rattle.xr_model.specs.report.RunEnding.{is_fault, is_garbled}
 use Rattle.xr_model.specs.runs.Robin.{last_event}
 use Rattle.xr_model.specs.runs.Lists.{made_from, events_in}
-use Rattle.xr_device.specs.Answers.{Tells, IsTold}
+use Rattle.xr_device.specs.Answers.{Tells, IsTold, GaveItsLines}
 use Rattle.xr_device.specs.declared.Next.TheVariants as next
 use Rattle.xr_serial.specs.Ran.{Gave, IsLineEvent, AreLineEvents}
 use Rattle.xr_serial.specs.inside.Made.{exchange_of}
@@ -115,6 +115,7 @@ module _ (side : SideState) (calls : List request.Exchange) (start now now2 : Pr
     events_are = d.events_are;
     later = later;
     unfailed = λ e. same_faults same;
+    lines = λ e. absurd (true≢false (sym e));
   }
 
   pub tells_end : Tells now.remaining now2.remaining next.End → now2.faults ≡ now.faults → now2.given ≡ now.given → DeviceKept (side_asked side None true) calls start now2
@@ -131,11 +132,13 @@ module _ (side : SideState) (calls : List request.Exchange) (start now now2 : Pr
     events_are = d.events_are;
     later = later;
     unfailed = λ e. same_faults same;
+    lines = λ e. absurd (true≢false (sym e));
   }
 
   -- it has ended early, which is its last call
-  closes : (e : DeviceEvent) (ending : Option Ending) → IsDone e → now2.given ≡ now.given → Gave start.remaining (length d.given) d.given ending → e ∷ [] ≡ last_event ending → (is_fault e || false ≡ true → Rose start.faults now2.faults) → (is_fault e || false ≡ false → now2.faults ≡ start.faults) → DeviceKept (side_asked side (Some e) true) calls start now2
-  closes e ending done count gave last fault unfailed = record {
+  closes : (e : DeviceEvent) (ending : Option Ending) → IsDone e → now2.given ≡ now.given → Gave start.remaining (length d.given) d.given ending → e ∷ [] ≡ last_event ending → (is_fault e || false ≡ true → Rose start.faults now2.faults) → (is_fault e || false ≡ false → now2.faults ≡ start.faults)
+      → (is_fault e || false ≡ true → GaveItsLines now2) → DeviceKept (side_asked side (Some e) true) calls start now2
+  closes e ending done count gave last fault unfailed lines = record {
     given = d.given;
     closing = e ∷ [];
     begun = given_more d.given calls e open_begun;
@@ -148,15 +151,16 @@ module _ (side : SideState) (calls : List request.Exchange) (start now now2 : Pr
     events_are = d.events_are;
     later = later;
     unfailed = unfailed;
+    lines = lines;
   }
 
   pub tells_garbled : (line : ℕ) → Tells now.remaining now2.remaining (next.Garbled line) → now2.faults ≡ now.faults → now2.given ≡ now.given → DeviceKept (side_asked side (Some (event.Garbled line)) true) calls start now2
   tells_garbled line tells same count =
-      closes (event.Garbled line) (Some (garbled_at line)) (record { checked = refl }) count (gives_garbled start.remaining now.remaining now2.remaining d.given line d.came.0 tells) refl (λ e. absurd (true≢false (sym e))) (λ e. same_faults same)
+      closes (event.Garbled line) (Some (garbled_at line)) (record { checked = refl }) count (gives_garbled start.remaining now.remaining now2.remaining d.given line d.came.0 tells) refl (λ e. absurd (true≢false (sym e))) (λ e. same_faults same) (λ e. absurd (true≢false (sym e)))
 
-  pub tells_fault : Rose now.faults now2.faults → now2.given ≡ now.given → DeviceKept (side_asked side (Some event.Fault) true) calls start now2
-  tells_fault rose count =
-      closes event.Fault None (record { checked = refl }) count (gives_front start.remaining now.remaining d.given d.came.0) refl (λ e. rose_later start.faults now.faults now2.faults d.later rose) (λ e. absurd (true≢false e))
+  pub tells_fault : Rose now.faults now2.faults → now2.given ≡ now.given → GaveItsLines now2 → DeviceKept (side_asked side (Some event.Fault) true) calls start now2
+  tells_fault rose count lines =
+      closes event.Fault None (record { checked = refl }) count (gives_front start.remaining now.remaining d.given d.came.0) refl (λ e. rose_later start.faults now.faults now2.faults d.later rose) (λ e. absurd (true≢false e)) (λ e. lines)
 
 -- the call of its next event was made
 pub event_kept : (side : SideState) (calls : List request.Exchange) (start now : Prospect) (e : DeviceEvent) (outcome : Outcome) → side.pending ≡ Some e → DeviceKept side calls start now
@@ -178,4 +182,5 @@ event_kept side calls start now e outcome this d =
       events_are = rw (events_snoc calls e outcome, d.events_are) refl;
       later = d.later;
       unfailed = d.unfailed;
+      lines = d.lines;
     }

@@ -1,9 +1,10 @@
 -- A run of a scenario beside a device: the one history that its lists are of.
-use Rattle.std.specs.Prelude.{◌≡◌, ◌<◌, ◌≤◌, ◌+◌, ℕ, true, false, List, [], ◌∷◌, ◌++◌, length, slice_index_or, Option, Some, None}
+use Rattle.std.specs.Prelude.{◌≡◌, ◌<◌, ◌≤◌, ◌+◌, ℕ, true, false, List, [], ◌∷◌, ◌++◌, length, slice_index_or, Option, Some, None, IfSome}
 use Rattle.xr_types.specs.declared.calls.Actor.TheVariants.{App, Compositor, Device}
 use Rattle.xr_types.specs.declared.calls.Gives.TheVariants.{Ended, Nothing, Shown}
 use Rattle.xr_types.specs.declared.code.Code.TheVariants.{Success}
 use Rattle.xr_types.specs.declared.device.DeviceEvent.{DeviceEvent}
+use Rattle.xr_types.specs.declared.device.DeviceEvent.TheVariants.{Fault}
 use Rattle.xr_types.specs.declared.made.Lists.{Lists}
 use Rattle.xr_types.specs.declared.scenario.Op.{Op}
 use Rattle.xr_types.specs.declared.scenario.Scenario.{Scenario}
@@ -18,6 +19,8 @@ use Rattle.xr_model.specs.runs.Robin.{device_calls, last_event, first_agendas, I
 use Rattle.xr_model.specs.runs.Lists.{lists_of, events_in}
 use Rattle.xr_model.specs.laws.FrameLaws.{shown_from}
 use Rattle.xr_model.specs.report.RunEnding.{is_fault, is_garbled}
+use Rattle.xr_device.specs.Prospect.{Prospect}
+use Rattle.xr_device.specs.Answers.{GaveItsLines}
 
 -- a machine of as many applications as the scenario has scripts
 abbrev pub settings_of : Scenario → Settings
@@ -30,6 +33,15 @@ abbrev pub Gave : Option DeviceStream → ℕ → List DeviceEvent → Option En
 Gave None count events ending = length events ≡ count
 Gave (Some t) count events None = (rest : List DeviceEvent) × (t.events ≡ events ++ rest) × (length events ≡ count)
 Gave (Some t) count events (Some ending) = (t.events ≡ events) × (t.ending ≡ ending) × (count ≤ length events)
+
+-- A device that couldn't be read on: what it did are these events, as many as it has given, and then its fault. They are the first of
+-- what it had told, if it told any, and just those of the whole lines that were taken of its text, where that is told.
+pub record FailsBehind (start now : Prospect) (events : List DeviceEvent) : Type 0 where
+  pub given : List DeviceEvent
+  pub events_are : events ≡ given ++ Fault ∷ []
+  pub count : now.given ≡ start.given + length given
+  pub told : IfSome start.remaining (λ t. (rest : List DeviceEvent) × (t.events ≡ given ++ rest))
+  pub lines : GaveItsLines now
 
 -- an event that a line of the device's text tells: its numbers are in range, and it is neither a fault nor a malformed line
 pub record IsLineEvent (e : DeviceEvent) : Type 0 where

@@ -9,7 +9,8 @@ ghost use Rattle.std.specs.List.{list_any, sum_by};
 ghost use Rattle.xr_io.specs.Outside.{Rose};
 ghost use Rattle.xr_model.specs.scenario.ScriptForm.{AllInForm};
 ghost use Rattle.xr_model.specs.report.RunEnding.{is_fault};
-ghost use Rattle.xr_serial.specs.Ran.{Ran};
+ghost use Rattle.xr_device.specs.Answers.{ReadsOn};
+ghost use Rattle.xr_serial.specs.Ran.{Ran, FailsBehind};
 
 mod application;
 mod calls;
@@ -44,8 +45,9 @@ pub fn run<D: Device>(alloc: Global, scenario: &Scenario, device: &mut D) -> Res
     ensures ran { IfOk result (λ lists. (count : ℕ) × ((D.prospect device.new).given ≡ (D.prospect device.old).given + count) × Ran scenario.now (D.prospect device.old).remaining count lists) }
     ensures fault { IfOk result (λ lists. list_any is_fault lists.events ≡ true → Rose (D.prospect device.old).faults (D.prospect device.new).faults) }
     ensures unfailed { IfOk result (λ lists. list_any is_fault lists.events ≡ false → (D.prospect device.new).faults ≡ (D.prospect device.old).faults) }
+    ensures failed { IfOk result (λ lists. list_any is_fault lists.events ≡ true → FailsBehind (D.prospect device.old) (D.prospect device.new) lists.events) }
     ensures later { (D.prospect device.old).faults ≤ (D.prospect device.new).faults }
-    ensures which { (D.prospect device.new).which ≡ (D.prospect device.old).which }
+    ensures reads { ReadsOn (D.prospect device.old) (D.prospect device.new) }
 {
     let mut machine = Machine::start(alloc, scenario.scripts.as_slice().len() as u8)?;
     let mut run = start(alloc, scenario)?;

@@ -6,6 +6,7 @@ ghost use Rattle.xr_model.specs.scenario.ScriptForm.{AllInForm};
 ghost use Rattle.xr_model.specs.machine.State.{opening};
 ghost use Rattle.xr_serial.specs.Ran.{settings_of};
 ghost use Rattle.xr_device.specs.Prospect.{Prospect};
+ghost use Rattle.xr_device.specs.Answers.{ReadsOn};
 ghost use Rattle.xr_serial.specs.inside.Sides.{new_app};
 ghost use Rattle.xr_serial.specs.inside.Turns.{actors_of, turn_behind};
 ghost use Rattle.xr_serial.specs.inside.RunInvariant.{calls_made, RunInvariant};
@@ -118,7 +119,7 @@ fn device_turn<D: Device>(
         → RunInvariant scenario.now (turn_behind (length scenario.now.scripts) (actors_of scenario.now)) (if went then 0 else idle + 1) machine.new run.new start (D.prospect device.new)) }
     ensures counts { IfOk result (λ went. calls_made machine.new run.new ≡ calls_made machine.old run.old + (if went then 1 else 0)) }
     ensures later { (D.prospect device.old).faults ≤ (D.prospect device.new).faults }
-    ensures which { (D.prospect device.new).which ≡ (D.prospect device.old).which }
+    ensures reads { ReadsOn (D.prospect device.old) (D.prospect device.new) }
 {
     run.side.look(device);
     let Some(event) = run.side.pending else {
@@ -174,7 +175,7 @@ fn one_turn<D: Device>(
         → RunInvariant scenario.now (turn_behind turn (actors_of scenario.now)) (if went then 0 else idle + 1) machine.new run.new start (D.prospect device.new)) }
     ensures counts { IfOk result (λ went. calls_made machine.new run.new ≡ calls_made machine.old run.old + (if went then 1 else 0)) }
     ensures later { (D.prospect device.old).faults ≤ (D.prospect device.new).faults }
-    ensures which { (D.prospect device.new).which ≡ (D.prospect device.old).which }
+    ensures reads { ReadsOn (D.prospect device.old) (D.prospect device.new) }
 {
     let apps = scenario.scripts.as_slice().len();
     if turn < apps {
@@ -203,7 +204,7 @@ pub(crate) fn go_on<D: Device>(
         → RunInvariant scenario.now 0 0 machine.old run.old start (D.prospect device.old)
         → (turn : ℕ) × (turn < actors_of scenario.now) × RunInvariant scenario.now turn (actors_of scenario.now) machine.new run.new start (D.prospect device.new)) }
     ensures later { (D.prospect device.old).faults ≤ (D.prospect device.new).faults }
-    ensures which { (D.prospect device.new).which ≡ (D.prospect device.old).which }
+    ensures reads { ReadsOn (D.prospect device.old) (D.prospect device.new) }
 {
     let actors = scenario.scripts.as_slice().len() + 2;
     let mut turn = 0;

@@ -4,6 +4,7 @@ ghost use Rattle.xr_types.specs.declared.scenario.Scenario.{Scenario};
 ghost use Rattle.xr_model.specs.machine.State.{State};
 ghost use Rattle.xr_serial.specs.inside.RunState.{RunState};
 ghost use Rattle.xr_device.specs.Prospect.{Prospect};
+ghost use Rattle.xr_device.specs.Answers.{ReadsOn};
 ghost use Rattle.xr_serial.specs.inside.Sides.{IsDone, Fetched, EventTurn, side_asked};
 ghost use Rattle.xr_serial.specs.inside.RunInvariant.{RunInvariant};
 
@@ -53,7 +54,7 @@ impl DeviceSide {
         ensures same { self.new ≡ side_asked self.old self.new.pending self.new.over }
         ensures done { IfSome self.new.pending IsDone }
         ensures later { (D.prospect device.old).faults ≤ (D.prospect device.new).faults }
-        ensures which { (D.prospect device.new).which ≡ (D.prospect device.old).which }
+        ensures reads { ReadsOn (D.prospect device.old) (D.prospect device.new) }
     {
         match device.next() {
             Next::Event(event) => self.pending = Some(event),
@@ -79,7 +80,7 @@ impl DeviceSide {
         ensures done { IfSome self.new.pending IsDone }
         ensures calls { self.new.calls ≡ self.old.calls }
         ensures later { (D.prospect device.old).faults ≤ (D.prospect device.new).faults }
-        ensures which { (D.prospect device.new).which ≡ (D.prospect device.old).which }
+        ensures reads { ReadsOn (D.prospect device.old) (D.prospect device.new) }
     {
         if self.pending.is_none() && !self.over {
             self.fetch(device);

@@ -1,6 +1,6 @@
 -- Why a reading stops.
-use Rattle.std.specs.Prelude.{◌≡◌, ◌≤◌, ℕ, Result, Ok, Err}
-use Rattle.xr_io.specs.Outside.{Rose}
+use Rattle.std.specs.Prelude.{◌≡◌, ◌≤◌, ℕ, ◌+◌, false, Result, Ok, Err}
+use Rattle.xr_io.specs.Outside.{Rose, SourceState}
 use Rattle.xr_drive.specs.declared.input.Stop.{Stop}
 use Rattle.xr_drive.specs.declared.input.Stop.TheVariants.{Failed, NoMemory}
 
@@ -17,6 +17,11 @@ abbrev pub KeptUnlessFailed : {T : Type 0} → ℕ → ℕ → Result T Stop →
 KeptUnlessFailed before now (Ok x) = now ≡ before
 KeptUnlessFailed before now (Err Failed) = Unit {0}
 KeptUnlessFailed before now (Err NoMemory) = now ≡ before
+
+-- the next bytes of a source were taken, at most so many, or none
+pub record TakesMore {T : Type 0} (most : ℕ) (old new : SourceState) (result : Result T Stop) : Type 0 where
+  pub few : new.taken.count ≤ old.taken.count + most
+  pub late : old.is_over ≡ false → new.taken.late ≡ old.taken.late
 
 -- a failed read comes only where the count rose
 pub record HasReadCause {T : Type 0} (before now : ℕ) (result : Result T Stop) : Type 0 where

@@ -1,19 +1,23 @@
 -- What the parts of a top call say.
-use Rattle.std.specs.Prelude.{◌≡◌, ◌⊎◌, ℕ, Bool, true, false, List, take, Option, Result, Ok, Err, IfSome, ⊤}
+use Rattle.std.specs.Prelude.{◌≡◌, ◌⊎◌, ℕ, ◌+◌, Bool, true, false, List, take, Option, Some, None, option_map, Result, Ok, Err, IfSome, ⊤}
 use Rattle.std.specs.List.{list_any}
 use Rattle.std.specs.Io.KnownBytes.{Keeps, Appends}
-use Rattle.xr_io.specs.Outside.{Rose, Files, Output}
+use Rattle.xr_io.specs.Outside.{Rose, SourceState, none_taken, Files, Output}
+use Rattle.xr_io.specs.declared.Which.{Which}
 use Rattle.xr_io.specs.declared.Which.TheVariants as which
 use Rattle.xr_types.specs.declared.made.Lists.{Lists}
 use Rattle.xr_types.specs.declared.status.Status.{Status}
 use Rattle.xr_types.specs.declared.status.Status.TheVariants as status
 use Rattle.xr_model.specs.scenario.Scenario.{scenario_of}
-use Rattle.xr_model.specs.device_text.DeviceText.{DeviceStream}
+use Rattle.xr_types.specs.declared.scenario.Scenario.{Scenario}
+use Rattle.xr_model.specs.device_text.DeviceText.{nothing_more, told_in}
+use Rattle.xr_device.specs.Prospect.{Prospect}
+use Rattle.xr_serial.specs.Ran.{FailsBehind, Ran}
 use Rattle.xr_model.specs.report.RunEnding.{is_fault}
 use Rattle.xr_model.specs.report.Report.{report_of}
 use Rattle.xr_scenario.specs.declared.fault.ScenarioFault.{ScenarioFault}
 use Rattle.xr_scenario.specs.declared.fault.ScenarioFault.TheVariants as scenario_fault
-use Rattle.xr_drive.specs.Run.{Run}
+use Rattle.xr_drive.specs.Run.{KnownDevice, Run}
 use Rattle.xr_drive.specs.Top.{RunsText, SameCounts, IsOpenedInTurn}
 use Rattle.xr_drive.specs.declared.input.Stop.{Stop}
 use Rattle.xr_drive.specs.declared.input.Stop.TheVariants as stop
@@ -22,13 +26,45 @@ use Rattle.xr_drive.specs.declared.faults.RunFault.TheVariants.{OpenFault, ReadF
 use Rattle.xr_drive.specs.declared.faults.Unwritten.{Unwritten}
 use Rattle.xr_drive.specs.declared.faults.Unwritten.TheVariants as unwritten
 
+-- ---- a source
+
+-- it was opened as this file, nothing was taken of it, and no read of it failed
+pub record IsJustOpened (w : Which) (source : SourceState) : Type 0 where
+  pub which : source.which ≡ w
+  pub taken : source.taken ≡ none_taken
+  pub going : source.is_over ≡ false
+  pub sound : source.faults ≡ 0
+
 -- ---- a text
 
--- the lists are those of a run of the text beside a device that is known to give this, or the text is refused
-abbrev pub MeansText : List ℕ → Option DeviceStream → Result Lists ScenarioFault → Type 0
-MeansText text told (Ok lists) = Run text told lists
-MeansText text told (Err (scenario_fault.Refused why)) = scenario_of text ≡ Err why
-MeansText text told (Err scenario_fault.NoMemory) = ⊤
+-- a run of a text beside a device, by what is known of the device before and behind
+pub record RunBeside (text : List ℕ) (start now : Prospect) (lists : Lists) : Type 0 where
+  pub scenario : Scenario
+  pub reads : scenario_of text ≡ Ok scenario
+  pub count : ℕ
+  pub counted : now.given ≡ start.given + count
+  pub ran : Ran scenario start.remaining count lists
+  pub failed : list_any is_fault lists.events ≡ true → FailsBehind start now lists.events
+
+-- the lists are those of such a run, or the text is refused
+abbrev pub MeansBeside : List ℕ → Prospect → Prospect → Result Lists ScenarioFault → Type 0
+MeansBeside text start now (Ok lists) = RunBeside text start now lists
+MeansBeside text start now (Err (scenario_fault.Refused why)) = scenario_of text ≡ Err why
+MeansBeside text start now (Err scenario_fault.NoMemory) = ⊤
+
+-- the lists are those of a run of the text beside a device of which this is known, or the text is refused
+abbrev pub MeansText : List ℕ → KnownDevice → Result Lists ScenarioFault → Type 0
+MeansText text device (Ok lists) = Run text device lists
+MeansText text device (Err (scenario_fault.Refused why)) = scenario_of text ≡ Err why
+MeansText text device (Err scenario_fault.NoMemory) = ⊤
+
+-- no device is known to give nothing
+abbrev pub no_device : KnownDevice
+no_device = record { told = Some nothing_more; text = None; taken = 0 }
+
+-- a device by its text, of which so many bytes were taken
+abbrev pub known_text : Option (List ℕ) → ℕ → KnownDevice
+known_text bytes taken = record { told = option_map told_in bytes; text = bytes; taken = taken }
 
 -- ---- files
 
@@ -41,10 +77,10 @@ fault_of_scenario (scenario_fault.Refused why) = Refused why
 fault_of_scenario scenario_fault.NoMemory = NoMemory
 
 -- the same of a file of which these bytes are all, where they are told
-abbrev pub MeansRun : Option (List ℕ) → Option DeviceStream → Result Lists RunFault → Type 0
-MeansRun all told (Ok lists) = RunsText all told lists
-MeansRun all told (Err (Refused why)) = IfSome all (λ text. scenario_of text ≡ Err why)
-MeansRun all told (Err _) = ⊤
+abbrev pub MeansRun : Option (List ℕ) → KnownDevice → Result Lists RunFault → Type 0
+MeansRun all device (Ok lists) = RunsText all device lists
+MeansRun all device (Err (Refused why)) = IfSome all (λ text. scenario_of text ≡ Err why)
+MeansRun all device (Err _) = ⊤
 
 -- why the files were not run, or how the device failed, by the opener's counts of faults before and after
 abbrev pub HasRunCause : Files → Files → Result Lists RunFault → Type 0

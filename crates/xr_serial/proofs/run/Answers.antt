@@ -1,5 +1,5 @@
 use Rattle.xr_serial.proofs.AtStart.{starts}
-use Rattle.xr_serial.proofs.AtEnd.{ran, fault, unfailed}
+use Rattle.xr_serial.proofs.AtEnd.{ran, fault, failed, unfailed}
 use Rattle.xr_serial.proofs.run.Goals as goal
 
 pub go_on-requires-clause-kept : goal.go_on-requires-clause-kept
@@ -30,3 +30,9 @@ returns-clause-unfailed g c =
     let start = g.D.Device.prospect c.args.device.now in
     let rests = c.in_ok-go_on.ensures.kept start (rw (c.in_ok-machine.ensures, c.in_ok-run.ensures, c.as_slice.ensures) (starts c.args.scenario.now start (g.met.D.Device.few c.args.device.now))) in
     rw c.in_ok-all.ensures (unfailed c.args.scenario.now rests.0 c.go_on.new.machine c.go_on.new.run start _ rests.2 rests.1)
+
+pub returns-clause-failed : goal.returns-clause-failed
+returns-clause-failed g c =
+    let start = g.D.Device.prospect c.args.device.now in
+    let rests = c.in_ok-go_on.ensures.kept start (rw (c.in_ok-machine.ensures, c.in_ok-run.ensures, c.as_slice.ensures) (starts c.args.scenario.now start (g.met.D.Device.few c.args.device.now))) in
+    rw c.in_ok-all.ensures (failed c.args.scenario.now rests.0 c.go_on.new.machine c.go_on.new.run start _ rests.2 rests.1)

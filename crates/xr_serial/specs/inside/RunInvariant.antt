@@ -24,6 +24,7 @@ use Rattle.xr_model.specs.runs.Lists.{made_from, frames_in, replies_in, events_i
 use Rattle.xr_serial.specs.inside.Made.{exchange_of}
 use Rattle.xr_serial.specs.inside.RunState.{AppState, SideState, CompositorState, RunState}
 use Rattle.xr_device.specs.Prospect.{Prospect}
+use Rattle.xr_device.specs.Answers.{GaveItsLines}
 use Rattle.xr_serial.specs.inside.Sides.{IsDone}
 use Rattle.xr_serial.specs.inside.Turns.{parts_of, pending_list}
 use Rattle.xr_serial.specs.inside.Past.{Trace, Standing}
@@ -82,6 +83,7 @@ pub record DeviceKept (side : SideState) (calls : List request.Exchange) (start 
   pub events_are : side.events ≡ events_in calls
   pub later : start.faults ≤ now.faults
   pub unfailed : list_any is_fault closing ≡ false → now.faults ≡ start.faults
+  pub lines : list_any is_fault closing ≡ true → GaveItsLines now
 
 -- ---- the compositor
 

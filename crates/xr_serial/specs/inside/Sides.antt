@@ -6,7 +6,7 @@ use Rattle.xr_types.specs.declared.device.DeviceEvent.TheVariants as event
 use Rattle.xr_types.specs.Device.{checks}
 use Rattle.xr_io.specs.Outside.{Rose}
 use Rattle.xr_device.specs.Prospect.{Prospect}
-use Rattle.xr_device.specs.Answers.{Tells, IsTold}
+use Rattle.xr_device.specs.Answers.{Tells, IsTold, GaveItsLines}
 use Rattle.xr_device.specs.declared.Next.TheVariants as next
 use Rattle.xr_types.specs.declared.calls.Reply.{Reply}
 use Rattle.xr_types.specs.Frames.{ShownFrame}
@@ -94,7 +94,7 @@ pub record IsDone (e : DeviceEvent) : Type 0 where
 abbrev pub Fetched : Prospect → Prospect → Option DeviceEvent → Bool → Type 0
 Fetched old new (Some e) false = Tells old.remaining new.remaining (next.Event e) × IsTold e × (new.bound < old.bound) × (new.faults ≡ old.faults) × (new.given ≡ old.given + 1)
 Fetched old new None true = Tells old.remaining new.remaining next.End × (new.bound ≤ old.bound) × (new.faults ≡ old.faults) × (new.given ≡ old.given)
-Fetched old new (Some event.Fault) true = Rose old.faults new.faults × (new.bound ≤ old.bound) × (new.given ≡ old.given)
+Fetched old new (Some event.Fault) true = Rose old.faults new.faults × (new.bound ≤ old.bound) × (new.given ≡ old.given) × GaveItsLines new
 Fetched old new (Some (event.Garbled line)) true = Tells old.remaining new.remaining (next.Garbled line) × (new.bound ≤ old.bound) × (new.faults ≡ old.faults) × (new.given ≡ old.given)
 Fetched old new _ _ = ⊥
 

@@ -11,6 +11,8 @@ returns g c =
       device = a.device;
       alone = a.alone;
       turn = a.turn;
+      taken = a.taken;
+      device_taken = a.device_taken;
       closed = a.closed;
       same = a.same;
     }

@@ -8,4 +8,4 @@ run-requires-clause-few g c =
 
 pub returns-in-Ok-clause-means : goal.returns-in-Ok-clause-means
 returns-in-Ok-clause-means g c =
-    record { scenario = c.in_ok-scenario.scenario; reads = c.in_ok-scenario.ensures.reads; count = c.in-Ok.ensures.ran.0; ran = c.in-Ok.ensures.ran.2 }
+    record { scenario = c.in_ok-scenario.scenario; reads = c.in_ok-scenario.ensures.reads; count = c.in-Ok.ensures.ran.0; counted = c.in-Ok.ensures.ran.1; ran = c.in-Ok.ensures.ran.2; failed = c.in-Ok.ensures.failed }

@@ -4,6 +4,7 @@ use Rattle.xr_serial.specs.inside.Turns.{actors_of}
 use Rattle.xr_serial.specs.inside.RunInvariant.{most_calls, calls_made}
 use Rattle.xr_serial.proofs.TurnOrder.{behind_within}
 use Rattle.xr_serial.proofs.Work.{made_less, passed_less}
+use Rattle.xr_serial.proofs.Failing.{reads_on}
 use Rattle.xr_serial.proofs.rounds.go_on.Goals.{then-went, else-went}
 use Rattle.xr_serial.proofs.rounds.go_on.Goals as goal
 
@@ -45,5 +46,5 @@ loop-idle-preserved g c =
       turn = rw c.behind-turn.ensures (behind_within c.loop-idle.turn (length c.as_slice.result.now + 2) c.loop-idle.invariant.turn);
       kept = λ start kept. rw (c.behind-turn.ensures, idle_is, c.as_slice.ensures) (c.in_ok-went.ensures.kept c.loop-idle.idle start few (c.loop-idle.invariant.kept start kept));
       later = omega (arith, later, later2);
-      which = c.in_ok-went.ensures.which ∙ c.loop-idle.invariant.which;
+      reads = reads_on _ _ _ c.loop-idle.invariant.reads c.in_ok-went.ensures.reads;
     }
