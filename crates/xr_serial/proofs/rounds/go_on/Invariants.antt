@@ -1,4 +1,4 @@
-use Rattle.std.proofs.Common.{◌-◌, ◌≡◌, ◌≤◌, ◌<◌, ◌+◌, ◌*◌}
+use Rattle.std.proofs.Common.{◌-◌, ◌≤◌, ◌<◌, ◌+◌, ◌*◌}
 use Rattle.xr_device.specs.Prospect.{Prospect}
 use Rattle.xr_device.specs.Answers.{ReadsOn}
 use Rattle.xr_serial.specs.inside.RunInvariant.{most_calls, calls_made, RunInvariant}
