@@ -23,7 +23,7 @@ use Rattle.xr_types.specs.declared.status.Status.{Status}
 use Rattle.xr_drive.specs.Top.{IsWithin, may_be_unopened, TakesWithin}
 use Rattle.xr_drive.specs.declared.input.Stop.{Stop}
 use Rattle.xr_drive.specs.inside.Input.{TakesMore}
-use Rattle.xr_drive.specs.inside.Parts.{IsJustOpened, MeansBeside, MeansText, no_device, known_text}
+use Rattle.xr_drive.specs.inside.CallParts.{IsJustOpened, MeansBeside, MeansText, no_device, known_text}
 
 -- all bytes are left of a file that was just opened
 pub all_left : (bytes : Option (List ℕ)) → option_map (drop 0) bytes ≡ bytes

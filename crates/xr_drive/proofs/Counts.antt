@@ -5,7 +5,7 @@ use Rattle.xr_io.specs.declared.Which.{Which}
 use Rattle.xr_io.specs.declared.Which.TheVariants as which
 use Rattle.xr_types.specs.declared.made.Lists.{Lists}
 use Rattle.xr_drive.specs.Top.{SameCounts}
-use Rattle.xr_drive.specs.inside.Parts.{KeepsCounts}
+use Rattle.xr_drive.specs.inside.CallParts.{KeepsCounts}
 use Rattle.xr_drive.specs.declared.faults.RunFault.{RunFault}
 use Rattle.xr_drive.specs.declared.faults.RunFault.TheVariants as fault
 

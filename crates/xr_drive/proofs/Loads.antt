@@ -9,7 +9,7 @@ use Rattle.xr_model.specs.device_text.DeviceText.{DeviceStream, ends}
 use Rattle.xr_model.specs.report.RunEnding.{is_fault}
 use Rattle.xr_model.specs.scenario.LoadScenario.{load_scenario, load_device}
 use Rattle.xr_serial.specs.Ran.{Ran}
-use Rattle.xr_drive.specs.inside.Parts.{RunLoad}
+use Rattle.xr_drive.specs.inside.CallParts.{RunLoad}
 
 -- a device that holds its events never fails
 never_rose : Rose 0 0 → ⊥

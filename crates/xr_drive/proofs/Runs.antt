@@ -19,7 +19,7 @@ use Rattle.xr_serial.specs.Ran.{Ran}
 use Rattle.xr_drive.specs.Run.{KnownDevice, RunOf}
 use Rattle.xr_drive.specs.Top.{Outside, Writes, told_under, known_under, RunsText, text_of, EndsSo, Means, HasItsCause}
 use Rattle.xr_drive.specs.TopLaws.{NoneRose, IsRun, IsComplete, GoodInputIsRun, LoadsAreRun}
-use Rattle.xr_drive.specs.inside.Parts.{RunText, RunLoad, MeansText, fault_of_scenario, MeansRun, MeansForm, HasRunCause}
+use Rattle.xr_drive.specs.inside.CallParts.{RunText, RunLoad, MeansText, fault_of_scenario, MeansRun, MeansForm, HasRunCause}
 use Rattle.xr_scenario.specs.declared.fault.ScenarioFault.{ScenarioFault}
 use Rattle.xr_scenario.specs.declared.fault.ScenarioFault.TheVariants as scenario_fault
 use Rattle.xr_drive.proofs.Clean.{told_clean, run_clean}

@@ -24,14 +24,14 @@ reason_of Json = codes "json"
 reason_of (BadShape script op what) = codes "script " ++ decimal script ++ codes " op " ++ decimal op ++ codes " " ++ name_of_part what
 
 -- without its line feed; a run that is done has none
-abbrev pub line_of : Status → List ℕ
-line_of Done = []
-line_of Usage = codes "xrsim: usage: xrsim serial FILE, xrsim threads FILE, with --device FILE and --places; xrsim load N"
-line_of OpenFault = codes "xrsim: cannot open"
-line_of ReadFault = codes "xrsim: cannot read the scenario"
-line_of (ScenarioRefused why) = codes "xrsim: scenario refused: " ++ reason_of why
-line_of DeviceFailed = codes "xrsim: device failed"
-line_of (DeviceGarbled line) = codes "xrsim: device line " ++ decimal line ++ codes " garbled"
-line_of Stuck = codes "xrsim: stuck"
-line_of WriteFault = codes "xrsim: cannot write"
-line_of NoMemory = codes "xrsim: no memory"
+abbrev pub status_line : Status → List ℕ
+status_line Done = []
+status_line Usage = codes "xrsim: usage: xrsim serial FILE, xrsim threads FILE, with --device FILE and --places; xrsim load N"
+status_line OpenFault = codes "xrsim: cannot open"
+status_line ReadFault = codes "xrsim: cannot read the scenario"
+status_line (ScenarioRefused why) = codes "xrsim: scenario refused: " ++ reason_of why
+status_line DeviceFailed = codes "xrsim: device failed"
+status_line (DeviceGarbled line) = codes "xrsim: device line " ++ decimal line ++ codes " garbled"
+status_line Stuck = codes "xrsim: stuck"
+status_line WriteFault = codes "xrsim: cannot write"
+status_line NoMemory = codes "xrsim: no memory"

@@ -5,7 +5,7 @@ use Rattle.xr_io.specs.Outside.{Rose, Output}
 use Rattle.xr_types.specs.declared.status.Status.{Status}
 use Rattle.xr_types.specs.declared.status.Status.TheVariants.{Done, WriteFault}
 use Rattle.xr_model.specs.report.RunEnding.{exit_of}
-use Rattle.xr_drive.specs.Lines.{line_of}
+use Rattle.xr_drive.specs.Lines.{status_line}
 
 -- all of a text was written, and nothing failed
 abbrev pub WritesAll : Output → Output → List ℕ → Type 0
@@ -28,7 +28,7 @@ Prints old new text _ = ⊥
 -- the line of a status with its line feed; a run that is done has none
 abbrev pub said_of : Status → List ℕ
 said_of Done = []
-said_of status = line_of status ++ 10 ∷ []
+said_of status = status_line status ++ 10 ∷ []
 
 -- Some status is answered, and a program ends with its number and says its line.
 pub record EndsWith (Answers : Status → Type 0) (old new : Output) (number : ℕ) : Type 0 where

@@ -1,3 +1,3 @@
 -- What only proofs and private functions need.
 pub mod Input
-pub mod Parts
+pub mod CallParts

@@ -75,7 +75,7 @@ fn put_reason(line: &mut Line, why: Refusal)
 }
 
 /// The line that tells this status, with its line feed. `Done` alone has none.
-fn line_of(status: Status) -> Line
+fn status_line(status: Status) -> Line
     ensures { result.items ≡ said_of status }
 {
     let mut line = ArrayVec::new();
@@ -107,6 +107,6 @@ fn line_of(status: Status) -> Line
 pub fn explain<K: Sink>(sink: &mut K, status: Status)
     ensures { Says (K.output sink.old) (K.output sink.new) (said_of status) }
 {
-    let line = line_of(status);
+    let line = status_line(status);
     let _ = write_all(sink, line.as_slice());
 }

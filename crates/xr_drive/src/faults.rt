@@ -1,6 +1,6 @@
 // Why a part of a top call has no result, and the status that this is.
 ghost use Rattle.std.specs.Prelude.{◌≡◌};
-ghost use Rattle.xr_drive.specs.inside.Parts.{fault_of_stop, fault_of_scenario, status_of_fault};
+ghost use Rattle.xr_drive.specs.inside.CallParts.{fault_of_stop, fault_of_scenario, status_of_fault};
 
 use crate::input::Stop;
 use xr_scenario::ScenarioFault;

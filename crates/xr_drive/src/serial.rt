@@ -12,7 +12,7 @@ ghost use Rattle.xr_command.specs.Reads.{shown_form, FitsLimits};
 ghost use Rattle.xr_drive.specs.Run.{RunOf};
 ghost use Rattle.xr_drive.specs.Top.{outside, text_of, file_of, device_of, IsAskedFor, IsDeviceAskedFor, KeepsFile, UnlessNamed, IfNamed, IsWithin, TakesWithin, NoneLeftOpen, SameBytes, IsAnswer, known_under};
 ghost use Rattle.xr_drive.specs.inside.Input.{RoseIfStopped, KeptUnlessFailed};
-ghost use Rattle.xr_drive.specs.inside.Parts.{IsJustOpened, MeansBeside, MeansText, known_text, MeansRun, RunLoad, MeansForm, HasRunCause, KeepsCounts, KeptIfRefused, OpenedInTurn, status_in, MeansWritten, RoseIfUnwritten, KeptUnlessUnwritten};
+ghost use Rattle.xr_drive.specs.inside.CallParts.{IsJustOpened, MeansBeside, MeansText, known_text, MeansRun, RunLoad, MeansForm, HasRunCause, KeepsCounts, KeptIfRefused, OpenedInTurn, status_in, MeansWritten, RoseIfUnwritten, KeptUnlessUnwritten};
 
 use crate::faults::{RunFault, Unwritten};
 use crate::input::{Stop, read_all};

@@ -33,8 +33,8 @@ request_of both Scenario = both.scenario
 request_of both Device = both.device
 
 -- the name that was asked for as one of the two
-abbrev pub name_of : BothRequests → Which → Option (List ℕ)
-name_of both which = (request_of both which).name
+abbrev pub asked_as : BothRequests → Which → Option (List ℕ)
+asked_as both which = (request_of both which).name
 
 -- whether the source of one of the two is open
 abbrev pub is_open_of : BothRequests → Which → Bool
@@ -89,4 +89,4 @@ after_closing both which faults taken =
 
 -- what is seen of an opener that was asked for this, and has these bytes under names
 abbrev pub files_of : (List ℕ → Option (List ℕ)) → BothRequests → Files
-files_of bytes both = record { asked = name_of both; is_open = is_open_of both; bytes = bytes; open_faults = open_faults_of both; read_faults = read_faults_of both; taken = taken_of both }
+files_of bytes both = record { asked = asked_as both; is_open = is_open_of both; bytes = bytes; open_faults = open_faults_of both; read_faults = read_faults_of both; taken = taken_of both }

@@ -5,7 +5,7 @@ ghost use Rattle.std.specs.Prelude.{◌≡◌, ◌≤◌, false, length, None, I
 ghost use Rattle.std.specs.Io.{ReadsAtMost, WritesAtMost};
 ghost use Rattle.xr_io.specs.declared.Which.{Which};
 ghost use Rattle.xr_io.specs.Outside.{none_taken, just_opened, WasRead, Opened, Closed, Wrote, raised_if};
-ghost use Rattle.xr_io.specs.Requests.{name_of, is_open_of, open_faults_of, read_faults_of, taken_of, files_of, no_requests, after_opening, after_closing};
+ghost use Rattle.xr_io.specs.Requests.{asked_as, is_open_of, open_faults_of, read_faults_of, taken_of, files_of, no_requests, after_opening, after_closing};
 ghost use Rattle.xr_io.specs.Files.{no_bytes, seen_of, is_write_fault};
 
 use crate::requests::Requests;
@@ -107,7 +107,7 @@ impl<'r, R: Files> FileOpener<'r, R> {
     /// An opener that was asked for nothing.
     pub fn new(files: &'r R) -> FileOpener<'r, R>
         ensures new { result ≡ no_requests }
-        ensures asked { (w : Which) → name_of result w ≡ None }
+        ensures asked { (w : Which) → asked_as result w ≡ None }
         ensures closed { (w : Which) → is_open_of result w ≡ false }
         ensures taken { (w : Which) → taken_of result w ≡ none_taken }
     {
@@ -146,7 +146,7 @@ impl<'r, R: Files> Opener for FileOpener<'r, R> {
 
     /// `Failed` comes where the system opens no file of this name, and there alone the count rises.
     fn open_file(&mut self, which: Which, name: &str) -> Result<FileSource<R::File>, Failed>
-        requires first { name_of self.old which ≡ None }
+        requires first { asked_as self.old which ≡ None }
         requires short { length name.now ≤ MOST_FILE_NAME }
         ensures opened { Opened which name.now (files_of (λ name. no_bytes) self.old) (files_of (λ name. no_bytes) self.new) result }
 

@@ -3,7 +3,7 @@
 ghost use Rattle.std.specs.Prelude.{◌≡◌, ◌≤◌, ◌↔◌, [], false, length, Some, None, IsTrue, IsErr, IfOk, option_map};
 ghost use Rattle.xr_io.specs.declared.Which.{Which};
 ghost use Rattle.xr_io.specs.Outside.{none_taken, just_opened, WasRead, Opened, Closed, Wrote};
-ghost use Rattle.xr_io.specs.Requests.{name_of, is_open_of, open_faults_of, read_faults_of, taken_of, files_of, no_requests, after_opening, after_closing};
+ghost use Rattle.xr_io.specs.Requests.{asked_as, is_open_of, open_faults_of, read_faults_of, taken_of, files_of, no_requests, after_opening, after_closing};
 ghost use Rattle.xr_io.specs.Memory.{seen_of, is_listed, given_count, fails_to_read, buffer_after_read, after_read, taken_count, fails_to_write, after_write, bytes_under, failing_of, fails_to_open, with_requests};
 ghost use Rattle.xr_io.specs.Held.{held_files, failing_calls};
 
@@ -301,7 +301,7 @@ impl<'a> MemoryOpener<'a> {
           device_fails = failing_calls device_fails.entry;
           requests = no_requests;
         } }
-        ensures asked { (w : Which) → name_of result.requests w ≡ None }
+        ensures asked { (w : Which) → asked_as result.requests w ≡ None }
         ensures closed { (w : Which) → is_open_of result.requests w ≡ false }
         ensures taken { (w : Which) → taken_of result.requests w ≡ none_taken }
     {
@@ -343,7 +343,7 @@ impl<'a> Opener for MemoryOpener<'a> {
     /// `Failed` comes exactly where this one's opening is to fail or no file has the name, and
     /// there alone the count rises.
     fn open_file(&mut self, which: Which, name: &str) -> Result<MemorySource<'a>, Failed>
-        requires first { name_of self.old.requests which ≡ None }
+        requires first { asked_as self.old.requests which ≡ None }
         requires short { length name.now ≤ MOST_FILE_NAME }
         ensures opened { Opened which name.now (files_of (bytes_under self.old.files) self.old.requests) (files_of (bytes_under self.new.files) self.new.requests) result }
         ensures source { IfOk result (λ source.

@@ -24,16 +24,16 @@ use Rattle.xr_serial.specs.inside.RunState.{AppState, RunState}
 use Rattle.xr_device.specs.Prospect.{Prospect}
 use Rattle.xr_serial.specs.inside.Sides.{app_with, app_left, op_request, OpMade, OpWaits, OpTurn, Leaves}
 use Rattle.xr_serial.specs.inside.Turns.{script_part, parts_of, actors_of, turn_behind, AreHeldBack}
-use Rattle.xr_serial.specs.inside.Past.{Trace, IsRest, Standing}
+use Rattle.xr_serial.specs.inside.PastOfRun.{Trace, IsRest, Standing}
 use Rattle.xr_serial.specs.inside.RunInvariant.{AppKept, app_work, apps_work, getters_in, getters_of, calls_made, frames_work, events_told, trace_of, RunKept, RunInvariant}
 use Rattle.xr_serial.proofs.Ops.{starts, getter_name, as_locked, op_returns}
 use Rattle.xr_serial.proofs.Holding.{call_holds, op_holds}
 use Rattle.xr_serial.proofs.OnlyLeaveLeaves.{call_keeps, op_stays}
-use Rattle.xr_serial.proofs.Parts.{AreAll, parts_count, app_at, app_set}
+use Rattle.xr_serial.proofs.ActorParts.{AreAll, parts_count, app_at, app_set}
 use Rattle.xr_serial.proofs.Steps.{IsAgendaOf, Goes, AreSo, trace_behind, made_turn, passed_turn, same_parts}
 use Rattle.xr_serial.proofs.Pending.{brings, op_brings}
 use Rattle.xr_serial.proofs.Work.{work_set, getters_set, getters_more, one_of_both, not_fewer}
-use Rattle.xr_serial.proofs.Apps.{op_more, leave_more, one_more}
+use Rattle.xr_serial.proofs.KeptApplications.{op_more, leave_more, one_more}
 
 -- the lists of a run that is kept have the lengths of its scenario
 pub all_of : (scenario : Scenario) (s : State) (run : RunState) (calls : Actor → List request.Exchange) (start now : Prospect) → RunKept scenario s run calls start now → AreAll scenario run

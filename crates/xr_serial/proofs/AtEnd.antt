@@ -30,11 +30,11 @@ use Rattle.xr_serial.specs.Ran.{settings_of, OfEachScript, GoesOn, a_frame, an_i
 use Rattle.xr_serial.specs.inside.RunState.{AppState, RunState}
 use Rattle.xr_device.specs.Prospect.{Prospect}
 use Rattle.xr_serial.specs.inside.Turns.{script_part, script_parts, device_part, compositor_part, pending_list, parts_of, actors_of, from_turn, joined, AreHeldBack}
-use Rattle.xr_serial.specs.inside.Past.{IsRest}
+use Rattle.xr_serial.specs.inside.PastOfRun.{IsRest}
 use Rattle.xr_serial.specs.inside.RunInvariant.{AppKept, AllGoOn, EndKept, events_told, RunInvariant}
 use Rattle.xr_serial.specs.inside.AtEnd.{app_next, apps_next, next_name, next_calls, lists_at}
 use Rattle.xr_serial.proofs.TurnOrder.{none_turn, all_held}
-use Rattle.xr_serial.proofs.Parts.{AreAll, parts_count}
+use Rattle.xr_serial.proofs.ActorParts.{AreAll, parts_count}
 use Rattle.xr_serial.proofs.Lending.{IsHidden, shows_none}
 use Rattle.xr_serial.proofs.Ops.{name_is, op_hidden}
 use Rattle.xr_serial.proofs.AppTurns.{all_of}

@@ -28,11 +28,11 @@ use Rattle.xr_serial.specs.inside.Sides.{compositor_with, FrameMade, FrameWaits,
 use Rattle.xr_serial.specs.inside.Turns.{compositor_part, parts_of, actors_of, turn_behind, AreHeldBack}
 use Rattle.xr_serial.specs.inside.RunInvariant.{AllGoOn, EndKept, CompositorKept, end_work, frames_work, shown_work, events_told, trace_of, RunInvariant}
 use Rattle.xr_serial.specs.Ran.{GoesOn, a_frame, an_image}
-use Rattle.xr_serial.specs.inside.Past.{Standing}
+use Rattle.xr_serial.specs.inside.PastOfRun.{Standing}
 use Rattle.xr_serial.proofs.OnlyLeaveLeaves.{call_keeps}
-use Rattle.xr_serial.proofs.Parts.{AreAll, compositor_at, compositor_set}
+use Rattle.xr_serial.proofs.ActorParts.{AreAll, compositor_at, compositor_set}
 use Rattle.xr_serial.proofs.Steps.{Goes, trace_behind, made_turn, same_parts}
-use Rattle.xr_serial.proofs.Apps.{others_more}
+use Rattle.xr_serial.proofs.KeptApplications.{others_more}
 use Rattle.xr_serial.proofs.AppTurns.{all_of, are_so, passes}
 
 -- ---- what its calls come to

@@ -17,15 +17,15 @@ use Rattle.xr_serial.specs.inside.RunState.{SideState, RunState}
 use Rattle.xr_device.specs.Prospect.{Prospect}
 use Rattle.xr_serial.specs.inside.Sides.{Fetched, side_asked, side_with, EventMade, EventWaits, EventTurn}
 use Rattle.xr_serial.specs.inside.Turns.{pending_list, device_part, parts_of, actors_of, turn_behind, AreHeldBack}
-use Rattle.xr_serial.specs.inside.Past.{Trace, Standing}
+use Rattle.xr_serial.specs.inside.PastOfRun.{Trace, Standing}
 use Rattle.xr_serial.specs.inside.RunInvariant.{DeviceKept, side_work, frames_work, events_told, trace_of, RunInvariant}
 use Rattle.xr_serial.proofs.Pending.{brings}
 use Rattle.xr_serial.proofs.Holding.{call_holds}
 use Rattle.xr_serial.proofs.OnlyLeaveLeaves.{call_keeps}
-use Rattle.xr_serial.proofs.Parts.{AreAll, device_at, device_set}
+use Rattle.xr_serial.proofs.ActorParts.{AreAll, device_at, device_set}
 use Rattle.xr_serial.proofs.Steps.{Goes, trace_behind, made_turn, same_parts, device_tells, device_ends}
-use Rattle.xr_serial.proofs.Apps.{others_more}
-use Rattle.xr_serial.proofs.Told.{is_open, tells_event, tells_end, tells_garbled, tells_fault, events_snoc, event_kept}
+use Rattle.xr_serial.proofs.KeptApplications.{others_more}
+use Rattle.xr_serial.proofs.DeviceAnswers.{is_open, tells_event, tells_end, tells_garbled, tells_fault, events_snoc, event_kept}
 use Rattle.xr_serial.proofs.AppTurns.{all_of, are_so, passes}
 
 -- a run with this of its device

@@ -24,10 +24,10 @@ use Rattle.xr_serial.specs.Ran.{Gave, IsLineEvent, AreLineEvents, AreSound}
 use Rattle.xr_serial.specs.inside.RunState.{AppState, SideState, RunState}
 use Rattle.xr_device.specs.Prospect.{Prospect}
 use Rattle.xr_serial.specs.inside.Turns.{script_part, script_parts, compositor_part, device_part, pending_list, from_turn, joined, AreHeldBack}
-use Rattle.xr_serial.specs.inside.Past.{IsRest}
+use Rattle.xr_serial.specs.inside.PastOfRun.{IsRest}
 use Rattle.xr_serial.specs.inside.RunInvariant.{GivesMore, Came, DeviceKept, events_told}
 use Rattle.xr_serial.proofs.TurnOrder.{held_append, joined-append, joined-snoc}
-use Rattle.xr_serial.proofs.Parts.{AreAll, length-script_parts}
+use Rattle.xr_serial.proofs.ActorParts.{AreAll, length-script_parts}
 
 -- ---- what the device gave
 

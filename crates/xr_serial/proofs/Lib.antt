@@ -1,14 +1,14 @@
 pub mod Lending
 pub mod TurnOrder
-pub mod Parts
+pub mod ActorParts
 pub mod Ops
 pub mod Steps
 pub mod OnlyLeaveLeaves
 pub mod Pending
 pub mod Holding
 pub mod Work
-pub mod Apps
-pub mod Told
+pub mod KeptApplications
+pub mod DeviceAnswers
 pub mod AppTurns
 pub mod DeviceTurns
 pub mod CompositorTurns

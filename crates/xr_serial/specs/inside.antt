@@ -4,6 +4,6 @@ pub mod Made
 pub mod RunState
 pub mod Turns
 pub mod Sides
-pub mod Past
+pub mod PastOfRun
 pub mod RunInvariant
 pub mod AtEnd

@@ -27,7 +27,7 @@ use Rattle.xr_device.specs.Prospect.{Prospect}
 use Rattle.xr_device.specs.Answers.{GaveItsLines}
 use Rattle.xr_serial.specs.inside.Sides.{IsDone}
 use Rattle.xr_serial.specs.inside.Turns.{parts_of, pending_list}
-use Rattle.xr_serial.specs.inside.Past.{Trace, Standing}
+use Rattle.xr_serial.specs.inside.PastOfRun.{Trace, Standing}
 use Rattle.xr_serial.specs.Ran.{Gave, AreLineEvents, GoesOn}
 
 -- ---- an application

@@ -2,7 +2,7 @@ use Rattle.std.proofs.Common.{◌≡◌, ◌∙◌, ap, List, [], take, Some, Ok
 use Rattle.xr_types.specs.declared.device.DeviceEvent.{DeviceEvent}
 use Rattle.xr_model.specs.device_text.DeviceText.{DeviceStream, ends, nothing_more}
 use Rattle.xr_device.specs.Kinds.{Stored, of_list}
-use Rattle.xr_drive.specs.inside.Parts.{no_device}
+use Rattle.xr_drive.specs.inside.CallParts.{no_device}
 use Rattle.xr_drive.proofs.Runs.{means_ran, means_unrun}
 use Rattle.xr_drive.proofs.Beside.{means_alone}
 use Rattle.xr_drive.proofs.serial.run_alone.Goals as goal

@@ -1,7 +1,7 @@
 use Rattle.std.proofs.Common.{◌≡◌, ap, subst, List, ℕ, take, Option, Ok, IfSome}
 use Rattle.xr_io.specs.Outside.{SourceState}
 use Rattle.xr_io.specs.declared.Which.TheVariants as which
-use Rattle.xr_drive.specs.inside.Parts.{MeansText, known_text}
+use Rattle.xr_drive.specs.inside.CallParts.{MeansText, known_text}
 use Rattle.xr_drive.proofs.Runs.{means_ran, means_unrun}
 use Rattle.xr_drive.proofs.serial.run_beside.Goals as goal
 

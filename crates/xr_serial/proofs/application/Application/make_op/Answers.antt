@@ -11,7 +11,7 @@ use Rattle.xr_serial.specs.inside.Made.{AnsweredOrWaits, outcome_with, exchange_
 use Rattle.xr_serial.specs.inside.RunState.{AppState}
 use Rattle.xr_serial.specs.inside.Sides.{op_mark, op_start}
 use Rattle.xr_serial.specs.declared.calls.Answered.{Answered}
-use Rattle.xr_serial.proofs.Apps.{same_app}
+use Rattle.xr_serial.proofs.KeptApplications.{same_app}
 use Rattle.xr_serial.proofs.Ops.{here_at, name_is, mark_is, start_is}
 use Rattle.xr_serial.proofs.application.Application.make_op.Goals as goal
 

@@ -22,7 +22,7 @@ use Rattle.xr_device.specs.Prospect.{Prospect}
 use Rattle.xr_serial.specs.inside.Sides.{IsDone, side_asked, side_with}
 use Rattle.xr_serial.specs.inside.Turns.{pending_list}
 use Rattle.xr_serial.specs.inside.RunInvariant.{GivesMore, DeviceKept}
-use Rattle.xr_serial.proofs.Apps.{made_snoc}
+use Rattle.xr_serial.proofs.KeptApplications.{made_snoc}
 
 pub events_snoc : (calls : List request.Exchange) (e : DeviceEvent) (outcome : Outcome) → events_in (calls ++ exchange_of (device e) outcome ∷ []) ≡ events_in calls ++ e ∷ []
 events_snoc [] e outcome = refl
