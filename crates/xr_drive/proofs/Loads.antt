@@ -25,7 +25,7 @@ load_is_run frames scenario events count lists same told ran cause = record {
   runs = record {
     count = count;
     ran = subst (λ (es : List DeviceEvent). let stream : DeviceStream = record { events = es; ending = ends } in Ran (load_scenario frames) (Some stream) count lists) told
-    (subst (λ (s : Scenario). let stream : DeviceStream = record { events = events; ending = ends } in Ran s (Some stream) count lists) same ran);
+        (subst (λ (s : Scenario). let stream : DeviceStream = record { events = events; ending = ends } in Ran s (Some stream) count lists) same ran);
     fails = λ h. tt;
   };
   faultless = no_fault (list_any is_fault lists.events) (λ h. never_rose (cause h));
