@@ -26,7 +26,11 @@ pub struct Finished<M: Machine> {
 impl<M: Machine + Drop> XrTable<M> {
     /// Makes a table around a value that stands for the opening state, and the seats: those of the applications in their order,
     /// the compositor's and the device's.
-    pub fn start(alloc: Global, value: M, apps: u8) -> Result<(XrTable<M>, Vec<XrSeat<M>>), NoMemory>
+    pub fn start(
+        alloc: Global,
+        value: M,
+        apps: u8,
+    ) -> Result<(XrTable<M>, Vec<XrSeat<M>>), NoMemory>
         requires apps { (1 ≤ apps) × (apps ≤ 8) }
         requires value { M.stands value (opening (with_apps apps)) }
         ensures key { IfOk result (λ r. r.0.table.shared.key ≡ apps) }
