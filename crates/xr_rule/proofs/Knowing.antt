@@ -10,7 +10,7 @@ use Rattle.xr_model.specs.machine.Request.{Entry, Exchange}
 use Rattle.xr_model.specs.laws.FewCalls.{HasFew}
 use Rattle.xr_model.specs.laws.Moments.{opening_moment, exchange_at, moment_after, IsLegalAt, calls_by}
 use Rattle.xr_model.proofs.FewCalls.{few_more as few_grow}
-use Rattle.xr_model.proofs.GrowingHistories.{legal_grows}
+use Rattle.xr_model.proofs.GrowingHistories.{legal_grows, entries_are_by_actors}
 use Rattle.xr_rule.specs.Sums.{total}
 use Rattle.xr_rule.specs.View.{Own, Know, know, own_of, with_call, with_seen, is_of, owns, parts, numbers_from, all_numbers, spent_know, longer, know_after}
 use Rattle.xr_rule.specs.Rule.{Knows, OneHistory, MayNote, HasAll}
@@ -339,6 +339,7 @@ history_ends key log ks id k t at all =
       own_all = known.own_seen;
       saw = known.saw;
       owners = λ n l. alone (owns n) ks id k at (λ j u apart there. let z = others_spent key log ks id j k u t at all apart there in ap (λ (os : List Own). total (is_of n) os) z) ∙ t.owners n l;
+      by_actors = entries_are_by_actors key k.seen (subst (IsLegalAt (opening_moment key)) (sym is) t.legal);
     }
   where
     zero_sum : (g : Know → ℕ) (l : List Know) → ((j : ℕ) (u : Know) → get_elem? l j ≡ some u → g u ≡ 0) → total g l ≡ 0

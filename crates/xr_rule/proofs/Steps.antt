@@ -7,7 +7,9 @@ use lib.ListN.{get_elem?}
 use lib.Seq.{set-get_or, map-set}
 use Rattle.atomic_table.specs.Table.{State, Me, step, keeps, takes, Allows}
 use Rattle.atomic_table.proofs.Lists.{at_set, at_map, set_again, set_here, set_else}
+use Rattle.xr_model.specs.machine.History.{after}
 use Rattle.xr_model.specs.machine.Request.{Entry}
+use Rattle.xr_model.specs.machine.State.{with_apps, opening}
 use Rattle.xr_model.specs.laws.Moments.{Moment, opening_moment, moment_after, IsLegalAt, calls_by}
 use Rattle.xr_rule.specs.Sums.{total}
 use Rattle.xr_rule.specs.View.{Own, Know, Hold, Turn, View, Idle, Waiting, Holding, view, hold_from, know_of, turn_of, number_in, calls_in, parts, out, has_ticket, is_holder}
@@ -39,15 +41,15 @@ sees key log ks id k few t at some_own =
     let apps : k.apps ≡ key = apps_of key log k known some_own in
     let n : ℕ = number_in k.own in
     let now : calls_by n (opening_moment k.apps) log ≡ calls_in k.own = ap (λ a. calls_by n (opening_moment a) log) apps ∙ own_calls key log k.own known.own_all some_own in
-    let then_ : calls_by n (opening_moment k.apps) k.seen ≡ calls_in k.own = ap (λ a. calls_by n (opening_moment a) k.seen) apps ∙ own_calls key k.seen k.own known.own_seen some_own in
+    let earlier : calls_by n (opening_moment k.apps) k.seen ≡ calls_in k.own = ap (λ a. calls_by n (opening_moment a) k.seen) apps ∙ own_calls key k.seen k.own known.own_seen some_own in
     record {
       more = known.begins.0;
       is = known.begins.1;
-      none_own = none-between n (opening_moment k.apps) k.seen log known.begins (then_ ∙ sym now);
+      none_own = none-between n (opening_moment k.apps) k.seen log known.begins (earlier ∙ sym now);
       legal = subst (λ a. IsLegalAt (opening_moment a) log) (sym apps) t.legal;
       own = now;
-      own_seen = then_;
-      few = locked_fit key log ks few t;
+      own_seen = earlier;
+      few = subst (λ a. (after (opening (with_apps a)) log).core.locked < 2 ^ 44) (sym apps) (locked_fit key log ks few t);
     }
 
 -- ---- holders

@@ -1,14 +1,15 @@
 -- What each step tells its caller.
 use Rattle.std.specs.Prelude.{◌≡◌, ◌≢◌, ℕ, ◌%◌, ◌^◌, ◌<◌, true, false, List, [], ◌∷◌, ◌++◌, Option, Some, MatchOption}
 use Rattle.atomic_table.specs.Table.{Me, Step}
+use Rattle.xr_model.specs.machine.History.{after}
 use Rattle.xr_model.specs.machine.Request.{Entry, leave}
-use Rattle.xr_model.specs.laws.Laws.{count_locked}
+use Rattle.xr_model.specs.machine.State.{with_apps, opening}
 use Rattle.xr_model.specs.laws.Moments.{Moment, opening_moment, moment_after, IsLegalAt, actor_at, calls_by}
 use Rattle.xr_model.specs.laws.PublicationLaws.{none_is_by}
 use Rattle.xr_rule.specs.View.{Know, Hold, View, Idle, Waiting, Holding, view, hold_from, number_in, calls_in, know_after}
 
 -- What a look tells a seat of the history: it begins with what the seat has seen, what has come since is by others, it is legal, it
--- has just those calls of the seat's actor that the seat keeps, and fewer than 2^44 of its calls are counted.
+-- has just those calls of the seat's actor that the seat keeps, and fewer than 2^44 of its calls were counted.
 pub record Sees (k : Know) (look : List Entry) : Type 0 where
   pub more : List Entry
   pub is : k.seen ++ more ≡ look
@@ -16,7 +17,7 @@ pub record Sees (k : Know) (look : List Entry) : Type 0 where
   pub legal : IsLegalAt (opening_moment k.apps) look
   pub own : calls_by (number_in k.own) (opening_moment k.apps) look ≡ calls_in k.own
   pub own_seen : calls_by (number_in k.own) (opening_moment k.apps) k.seen ≡ calls_in k.own
-  pub few : count_locked look < 2 ^ 44
+  pub few : (after (opening (with_apps k.apps)) look).core.locked < 2 ^ 44
 
 -- no entry of any history, for a note that isn't told which
 abbrev pub no_entry : Entry

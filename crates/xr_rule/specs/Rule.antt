@@ -8,6 +8,7 @@ use Rattle.xr_model.specs.machine.CoreCalls.{asked}
 use Rattle.xr_model.specs.machine.Request.{Entry}
 use Rattle.xr_model.specs.machine.Rule.{is_by}
 use Rattle.xr_model.specs.laws.Moments.{Moment, opening_moment, moment_after, MayCome, IsLegalAt, actor_at, calls_by}
+use Rattle.xr_model.specs.laws.MomentLaws.{IsByActors}
 use Rattle.xr_model.specs.laws.FewCalls.{HasFew, MayAdd}
 use Rattle.xr_rule.specs.Sums.{total}
 use Rattle.xr_rule.specs.View.{Own, Know, Hold, Turn, View, Idle, Waiting, Holding, know_of, turn_of, number_in, calls_in, owns, parts, out, has_ticket, is_holder}
@@ -95,11 +96,12 @@ pub record FollowsRule {S : Type 0} (stands : S → Moment → Type 0) (apps : �
   pub slot : SlotStands stands apps log served s.homes (map turn_of s.views)
   pub fits : (j : ℕ) (v : View) → get_elem? s.views j ≡ some v → Fits v
 
--- A seat has all numbers: what it saw is the whole history, which is legal. Of each number it has the calls, and what its seat had
--- seen; there are no others.
+-- A seat has all numbers: what it saw is the whole history, which is legal and by actors that there are. Of each number it has the
+-- calls, and what its seat had seen.
 pub record HasAll (apps : ℕ) (k : Know) : Type 0 where
   pub apps_are : k.apps ≡ apps
   pub legal : IsLegalAt (opening_moment apps) k.seen
   pub own_all : (i : ℕ) (o : Own) → get_elem? k.own i ≡ some o → calls_by o.number (opening_moment apps) k.seen ≡ o.calls
   pub saw : (i : ℕ) (o : Own) → get_elem? k.own i ≡ some o → IsPrefix o.saw k.seen
   pub owners : (n : ℕ) → n < apps + 2 → owns n k ≡ 1
+  pub by_actors : IsByActors apps k.seen
