@@ -68,7 +68,7 @@ is_good row = (row == 0) || (is_own row (row_of (input_name row)) && list_all (�
 all_good : each_under is_good 41 ≡ true
 all_good = refl
 
-row_good : (row : ℕ) → nat_le 1 row ≡ true → nat_le row 40 ≡ true → (row_of (input_name row) ≡ Some row) × (list_all (λ b. not (b == 32)) (input_name row) ≡ true)
+pub row_good : (row : ℕ) → nat_le 1 row ≡ true → nat_le row 40 ≡ true → (row_of (input_name row) ≡ Some row) × (list_all (λ b. not (b == 32)) (input_name row) ≡ true)
 row_good row first last =
     let less : row < 41 = grind (arith, nat_tests) in
     let some : (row == 0) ≡ false = grind (arith, nat_tests) in

@@ -1,5 +1,5 @@
 -- Names tell apart what they name: each is found by its name among all of its kind.
-use Rattle.std.proofs.Common.{◌≡◌, ◌≤◌, ◌<◌, ◌==◌, ◌||◌, ℕ, Bool, true, false, List, [], ◌∷◌, ◌++◌, Option, Some, None, refl, sym, ap, ◌∙◌, arith, true≢false}
+use Rattle.std.proofs.Common.{◌≡◌, ◌≤◌, ℕ, Bool, true, false, List, [], ◌∷◌, ◌++◌, Option, Some, None, refl, sym, ap, ◌∙◌, arith}
 use Rattle.std.proofs.lemmas.Bool.Decides.{nat_tests}
 use Rattle.xr_types.specs.declared.code.Code.{Code}
 use Rattle.xr_types.specs.declared.code.Code.TheVariants as code
@@ -34,9 +34,8 @@ use Rattle.xr_types.specs.InputNames.{input_name, row_of}
 use Rattle.xr_types.specs.Op.{name_of_call, all_ops}
 use Rattle.xr_types.specs.Printed.{form_name, all_forms, view_name, all_views, kind_name, all_kinds, action_type_name, all_action_types, blend_name, all_blends, state_name, wish_name, all_wishes, user_path, all_users, profile_name, all_profiles, origin_name}
 use Rattle.xr_types.specs.Words.{named}
-use Rattle.xr_types.proofs.RowSorts.{each_under, under_each}
 use Rattle.xr_model.specs.laws.NameLaws.{InputsAreDistinct, NamesAreDistinct, OpsAreFound, WordsAreFound}
-use Rattle.xr_model.proofs.Rows.{same_key}
+use Rattle.xr_model.proofs.DeviceInputs.{row_good}
 
 -- where each is found by its name, two with one name are the same
 distinct : {T : Type 0} (name : T → List ℕ) (all : List T) → ((x : T) → named name all (name x) ≡ Some x) → (x y : T) → name x ≡ name y → x ≡ y
@@ -141,30 +140,8 @@ origin_found (origin.Aim _) = refl
 
 -- ---- inputs
 
-abbrev is_own : ℕ → Option ℕ → Bool
-is_own row None = false
-is_own row (Some found) = found == row
-
--- the name of a row's input is its own
-abbrev has_own_name : ℕ → Bool
-has_own_name row = (row == 0) || is_own row (row_of (input_name row))
-
-all_own : each_under has_own_name 41 ≡ true
-all_own = refl
-
 input_found : (row : ℕ) → 1 ≤ row → row ≤ 40 → row_of (input_name row) ≡ Some row
-input_found row first last =
-    let less : row < 41 = omega (arith, last) in
-    let some : (row == 0) ≡ false = grind (arith, nat_tests, first) in
-    by (row == 0) some (under_each has_own_name 41 row all_own less)
-  where
-    own : (found : Option ℕ) → is_own row found ≡ true → found ≡ Some row
-    own None is = absurd (true≢false (sym is))
-    own (Some found) is = ap Some (same_key found row is)
-
-    by : (b : Bool) → b ≡ false → (b || is_own row (row_of (input_name row))) ≡ true → row_of (input_name row) ≡ Some row
-    by true eb is = absurd (true≢false eb)
-    by false eb is = own (row_of (input_name row)) is
+input_found row first last = (row_good row (grind (arith, nat_tests, first)) (grind (arith, nat_tests, last))).0
 
 inputs_distinct : InputsAreDistinct
 inputs_distinct j k j_least j_most k_least k_most same = one (sym (input_found j j_least j_most) ∙ ap row_of same ∙ input_found k k_least k_most)

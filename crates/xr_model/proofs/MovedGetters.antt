@@ -3,67 +3,32 @@ use Rattle.std.proofs.Common.{◌≡◌, ◌≤◌, ◌-◌, ◌==◌, ◌++◌,
 use Rattle.std.specs.Prelude.{slice_get, if◌then◌else◌}
 use Rattle.xr_types.specs.declared.calls.Actor.{Actor}
 use Rattle.xr_types.specs.declared.calls.Actor.TheVariants.{App, Compositor, Device}
-use Rattle.xr_types.specs.declared.device.DeviceEvent.{DeviceEvent}
-use Rattle.xr_types.specs.declared.device.DeviceEvent.TheVariants as event
 use Rattle.xr_model.specs.machine.Publication.{Publication, publication_of}
 use Rattle.xr_model.specs.machine.Reads.{reads}
-use Rattle.xr_model.specs.machine.Refusals.{Refusal}
-use Rattle.xr_model.specs.machine.Request.{Request, Entry, Outcome, Exchange, is_actor, is_getter, is_locked, get_boolean, get_float, get_vector, get_pose_active, leave, device}
-use Rattle.xr_model.specs.machine.Rule.{Effect, refusal, unless_refused, told_on}
-use Rattle.xr_model.specs.machine.Rules.Device.{behind_event}
-use Rattle.xr_model.specs.machine.Rules.Own.{left_with}
-use Rattle.xr_model.specs.machine.State.{CoreState, CellReads, State, opening}
-use Rattle.xr_model.specs.machine.Machine.{IsAllowed, IsPresent, core_step, ready, reads_of, rule, step}
+use Rattle.xr_model.specs.machine.Request.{Request, Entry, Outcome, Exchange, is_actor, is_getter, is_locked, get_boolean, get_float, get_vector, get_pose_active}
+use Rattle.xr_model.specs.machine.State.{State, opening}
+use Rattle.xr_model.specs.machine.Machine.{IsAllowed, IsPresent, ready, step}
 use Rattle.xr_model.specs.machine.History.{after, calls_from, clock_of, with_clock, clocks_after, opening_clocks, StartsAt, IsLegalFrom}
+use Rattle.xr_model.specs.laws.MomentLaws.{is_leave}
 use Rattle.xr_model.specs.laws.PublicationLaws.{NonePublishes, none_is_by, GettersMove}
 use Rattle.xr_model.proofs.DestroyedForGood.{clocks_behind, legal_behind}
 use Rattle.xr_model.proofs.GetterSteps.{getters_change_nothing, getters_are_ready, getters_read}
 use Rattle.xr_model.proofs.Histories.{fronts_are_legal}
+use Rattle.xr_model.proofs.OthersEntries.{and_false, left_stays, stays}
 use Rattle.xr_model.proofs.PublishedLast.{IsSound, sound_step, sound_opening, sound_after, stays_published}
 use Rattle.xr_model.proofs.Rows.{same_key, itself, both_of, not_true, is_false}
 use Rattle.xr_model.proofs.Turns.{same_actor}
-use Rattle.xr_model.proofs.UserAtoms.{set_other}
 
 -- ---- who has left
 
-module _ (s : CoreState) (reads_ : CellReads) (k : ℕ) (some : 1 ≤ k) where
-  abbrev Stays : CoreState → Type 0
-  Stays t = slice_get t.left (k - 1) ≡ slice_get s.left (k - 1)
-
-  left_kept : (o : Option Refusal) (x : Effect) → Stays x.state → Stays (unless_refused s o x).state
-  left_kept None x done = done
-  left_kept (Some r) x done = refl
-
-  events_keep_left : (what : DeviceEvent) → Stays (behind_event s what)
-  events_keep_left (event.Clock time) = refl
-  events_keep_left _ = refl
-
-  another_leaves : (who : Actor) → IsPresent s who → is_actor (App k) who ≡ false → slice_get (left_with s.left who) (k - 1) ≡ slice_get s.left (k - 1)
-  another_leaves (App j) there other = set_other s.left (j - 1) (k - 1) true (is_false (j - 1 == k - 1) (λ same. apart (same_key (j - 1) (k - 1) same)))
-    where
-      apart : j - 1 ≡ k - 1 → ⊥
-      apart same = let one = there.0 in let equal : k ≡ j = omega (arith, same, one, some) in true≢false (sym (subst (λ (n : ℕ). (k == n) ≡ true) equal (itself k)) ∙ other)
-  another_leaves Compositor there other = refl
-  another_leaves Device there other = refl
-
-  left_stays : (f : Entry) → IsPresent s f.actor → is_actor (App k) f.actor ≡ false → Stays (core_step s reads_ f).0
-  left_stays f there other = by f.request
-    where
-      by : (r : Request) → Stays (core_step s reads_ (record f { request = r })).0
-      by leave = another_leaves f.actor there other
-      by (device what) = events_keep_left what
-      by r = let x = rule s reads_ (record f { request = r }) in left_kept (refusal f.short x) (told_on x.on x.effect) refl
-
 -- an actor is present before another's entry where it is behind it, and the other way round
 present_before : (s : State) (f : Entry) (who : Actor) → IsAllowed s f → is_actor who f.actor ≡ false → IsPresent (step s f).0.core who → IsPresent s.core who
-present_before s f (App k) allowed other there = (there.0, there.1, sym (left_stays s.core (reads_of s f.request) k there.0 f allowed.present other) ∙ there.2)
+present_before s f (App k) allowed other there = (there.0, there.1, sym (left_stays s f k there.0 allowed.present (and_false (is_actor (App k) f.actor) (is_leave f.request) other)) ∙ there.2)
 present_before s f Compositor allowed other there = there
 present_before s f Device allowed other there = there
 
 present_behind : (s : State) (f : Entry) (who : Actor) → IsAllowed s f → is_actor who f.actor ≡ false → IsPresent s.core who → IsPresent (step s f).0.core who
-present_behind s f (App k) allowed other there = (there.0, there.1, left_stays s.core (reads_of s f.request) k there.0 f allowed.present other ∙ there.2)
-present_behind s f Compositor allowed other there = there
-present_behind s f Device allowed other there = there
+present_behind s f who allowed other there = stays s f who allowed.present (and_false (is_actor who f.actor) (is_leave f.request) other) there
 
 -- ---- lists of exchanges
 

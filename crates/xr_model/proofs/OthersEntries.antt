@@ -44,11 +44,14 @@ module _ (s : CoreState) (k : ℕ) (some : 1 ≤ k) where
   another_leaves Compositor there other = refl
   another_leaves Device there other = refl
 
+pub and_false : (a b : Bool) → a ≡ false → a && b ≡ false
+and_false a b is = rw is refl
+
 first_half : (b : Bool) → b && true ≡ false → b ≡ false
 first_half true e = e
 first_half false e = refl
 
-left_stays : (s : State) (f : Entry) (k : ℕ) → 1 ≤ k → IsPresent s.core f.actor → is_actor (App k) f.actor && is_leave f.request ≡ false
+pub left_stays : (s : State) (f : Entry) (k : ℕ) → 1 ≤ k → IsPresent s.core f.actor → is_actor (App k) f.actor && is_leave f.request ≡ false
     → slice_get (step s f).0.core.left (k - 1) ≡ slice_get s.core.left (k - 1)
 left_stays s f k some there other = by f.request other
   where
@@ -57,7 +60,7 @@ left_stays s f k some there other = by f.request other
     by (device what) other = events_keep_left s.core k some what
     by r other = let x = rule s.core (reads_of s r) (record f { request = r }) in left_kept s.core k some (refusal f.short x) (told_on x.on x.effect) refl
 
-stays : (s : State) (f : Entry) (who : Actor) → IsPresent s.core f.actor → is_actor who f.actor && is_leave f.request ≡ false → IsPresent s.core who → IsPresent (step s f).0.core who
+pub stays : (s : State) (f : Entry) (who : Actor) → IsPresent s.core f.actor → is_actor who f.actor && is_leave f.request ≡ false → IsPresent s.core who → IsPresent (step s f).0.core who
 stays s f (App k) maker other there = (there.0, there.1, left_stays s f k there.0 maker other ∙ there.2)
 stays s f Compositor maker other there = tt
 stays s f Device maker other there = tt
@@ -98,9 +101,6 @@ clocks_stay_from s clocks (e ∷ es) who legal none here =
     let apart = not_true (is_actor who e.actor) two.0 in
     clocks_stay_from (step s e).0 (clocks_after clocks e (step s e).0) es who legal.3 two.1 (stays s e who legal.0.present (and_false (is_actor who e.actor) (is_leave e.request) apart) here)
     ∙ clock_stays s clocks e (step s e).0 who here legal.0.present apart
-  where
-    and_false : (a b : Bool) → a ≡ false → a && b ≡ false
-    and_false a b is = rw is refl
 
 pub clocks_stay : ClocksStay
 clocks_stay m es who legal none here = clocks_stay_from m.state m.clocks es who legal none here

@@ -13,6 +13,7 @@ use Rattle.xr_model.specs.machine.Request.{Entry, Outcome, is_actor}
 use Rattle.xr_model.specs.machine.State.{State}
 use Rattle.xr_model.specs.machine.Machine.{step}
 use Rattle.xr_model.specs.runs.Robin.{Agenda, script, events, compositor, actor_of, is_ended, agenda_after, is_next_ready, NextMove, next_move, IsCallOf, agendas_behind, IsRobinFrom, script_agendas, device_agendas, first_agendas, agendas_left}
+use Rattle.xr_model.specs.laws.RobinLaws.{is_in_order}
 use Rattle.xr_model.specs.laws.RunLaws.{count_of, comes_before, turns_in, turns_from, TurnsMakeReadyCalls, StuckWhereNobodyIsReady}
 use Rattle.xr_model.proofs.Rows.{both_of}
 use Rattle.xr_model.proofs.Turns.{same_actor, bit, leads, Turned, joined, passed_over}
@@ -136,11 +137,6 @@ all_turned s agendas (e ∷ es) calls =
 
 -- ---- the order at the start
 
--- each actor stands before all that come behind it
-abbrev pub ordered : List Actor → Bool
-ordered [] = true
-ordered (x ∷ xs) = list_all (comes_before x) xs && ordered xs
-
 lower : (m n : ℕ) → m < n → nat_lt m n ≡ true
 lower m n e = grind (arith, e)
 
@@ -185,20 +181,20 @@ none_behind x xs all = by (count_of x xs) (before_each x x xs all)
     by zero there = refl
     by (suc n) there = absurd (not_before_itself x (there (omega arith)))
 
-pub once_in_order : (a : Actor) (xs : List Actor) → ordered xs ≡ true → count_of a xs ≤ 1
+pub once_in_order : (a : Actor) (xs : List Actor) → is_in_order xs ≡ true → count_of a xs ≤ 1
 once_in_order a [] order = omega arith
 once_in_order a (x ∷ xs) order =
-    let both = both_of (list_all (comes_before x) xs) (ordered xs) order in
+    let both = both_of (list_all (comes_before x) xs) (is_in_order xs) order in
     by (is_actor a x) refl both.0 (once_in_order a xs both.1)
   where
     by : (b : Bool) → is_actor a x ≡ b → list_all (comes_before x) xs ≡ true → count_of a xs ≤ 1 → bit b + count_of a xs ≤ 1
     by true is all more = let none = subst (λ z. count_of z xs ≡ 0) (sym (same_actor a x is)) (none_behind x xs all) in omega (arith, none)
     by false is all more = omega arith
 
-pub leads_in_order : (a b : Actor) (xs : List Actor) → ordered xs ≡ true → comes_before a b ≡ true → 1 ≤ count_of a xs → leads a b xs ≡ 1
+pub leads_in_order : (a b : Actor) (xs : List Actor) → is_in_order xs ≡ true → comes_before a b ≡ true → 1 ≤ count_of a xs → leads a b xs ≡ 1
 leads_in_order a b [] order ahead some = absurd (omega arith)
 leads_in_order a b (x ∷ xs) order ahead some =
-    let both = both_of (list_all (comes_before x) xs) (ordered xs) order in
+    let both = both_of (list_all (comes_before x) xs) (is_in_order xs) order in
     by (is_actor a x) (is_actor b x) refl both.0 some (leads_in_order a b xs both.1 ahead)
   where
     by : (p q : Bool) → is_actor b x ≡ q → list_all (comes_before x) xs ≡ true → 1 ≤ bit p + count_of a xs → (1 ≤ count_of a xs → leads a b xs ≡ 1)
@@ -219,13 +215,13 @@ module _ (calls : List DeviceEvent) where
   scripts_later app n (ops ∷ scripts) later = rw (lower app n later) (scripts_later app (n + 1) scripts (omega arith))
 
   scripts_ordered : (app : ℕ) (scripts : List (List Op))
-      → ordered (map actor_of (script_agendas app scripts ++ device_agendas calls ++ compositor 0 ∷ [])) ≡ true
+      → is_in_order (map actor_of (script_agendas app scripts ++ device_agendas calls ++ compositor 0 ∷ [])) ≡ true
   scripts_ordered app [] = by calls
     where
-      by : (cs : List DeviceEvent) → ordered (map actor_of (device_agendas cs ++ compositor 0 ∷ [])) ≡ true
+      by : (cs : List DeviceEvent) → is_in_order (map actor_of (device_agendas cs ++ compositor 0 ∷ [])) ≡ true
       by [] = refl
       by (e ∷ es) = refl
   scripts_ordered app (ops ∷ scripts) = rw (scripts_later app (app + 1) scripts (omega arith)) (scripts_ordered (app + 1) scripts)
 
-  pub first_ordered : (scenario : Scenario) → ordered (map actor_of (first_agendas scenario calls)) ≡ true
+  pub first_ordered : (scenario : Scenario) → is_in_order (map actor_of (first_agendas scenario calls)) ≡ true
   first_ordered scenario = scripts_ordered 1 scenario.scripts

@@ -11,7 +11,7 @@ use Rattle.xr_model.specs.laws.RobinLaws.{is_in_order, StandInRound, TurnsGoRoun
 use Rattle.xr_model.proofs.Rows.{both_of}
 use Rattle.xr_model.proofs.Turns.{Turned, bit, count_more, falls, front, actor_itself}
 use Rattle.xr_model.proofs.RobinTurns.{front_calls, all_turned, once_in_order, first_ordered}
-use Rattle.xr_model.proofs.Unfinished.{unfinished_have_turns}
+use Rattle.xr_model.proofs.Unfinished.{counted, unfinished_have_turns}
 
 -- ---- the order of a round
 
@@ -112,16 +112,6 @@ ahead_are a (y ∷ queue) behind (m ∷ mid) later left (is, inl goes) none away
 ahead_are a (y ∷ queue) behind (m ∷ mid) later left (is, inr goes) none away =
     let more = ahead_are a queue behind mid later left goes (omega (arith, none)) (omega (arith, away)) in
     ap (λ x. x ∷ mid) is ∙ ap (λ l. y ∷ l) more
-
--- who has turns to come is there
-counted : (who : Actor) (agendas : List Agenda) → has_turns agendas who ≡ true → 1 ≤ count_of who (map actor_of agendas)
-counted who [] has = absurd (true≢false (sym has))
-counted who (x ∷ xs) has = by (is_actor who (actor_of x)) has (counted who xs)
-  where
-    by : (b : Bool) → b || has_turns xs who ≡ true → (has_turns xs who ≡ true → 1 ≤ count_of who (map actor_of xs))
-        → 1 ≤ bit b + count_of who (map actor_of xs)
-    by true has more = omega arith
-    by false has more = let some = more has in omega (arith, some)
 
 -- who isn't there has no turn
 no_turn : (a : Actor) (queue turns left : List Actor) → Turned queue turns left → count_of a queue ≡ 0 → count_of a turns ≡ 0

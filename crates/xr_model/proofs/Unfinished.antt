@@ -226,7 +226,8 @@ unfinished_have_turns settings scenario calls es fs robin =
 
 -- ---- each has its turn
 
-counted : (who : Actor) (agendas : List Agenda) → has_turns agendas who ≡ true → 1 ≤ count_of who (map actor_of agendas)
+-- who has turns to come is there
+pub counted : (who : Actor) (agendas : List Agenda) → has_turns agendas who ≡ true → 1 ≤ count_of who (map actor_of agendas)
 counted who [] has = absurd (true≢false (sym has))
 counted who (x ∷ xs) has = by (is_actor who (actor_of x)) has (counted who xs)
   where
