@@ -1,6 +1,6 @@
 -- A getter may stand at each place from a publication to the next.
-use Rattle.std.proofs.Common.{◌≡◌, ◌≤◌, ◌-◌, ◌==◌, ◌++◌, ℕ, ℤ, not, IsTrue, Bool, true, false, List, [], ◌∷◌, Option, Some, None, refl, sym, ap, subst, ◌∙◌, arith, true≢false}
-use Rattle.std.specs.Prelude.{slice_get, if◌then◌else◌}
+use Rattle.std.proofs.Common.{◌≡◌, ◌++◌, ℤ, not, IsTrue, Bool, true, false, List, [], ◌∷◌, Some, refl, sym, ap, subst, ◌∙◌, true≢false}
+use Rattle.std.specs.Prelude.{if◌then◌else◌}
 use Rattle.xr_types.specs.declared.calls.Actor.{Actor}
 use Rattle.xr_types.specs.declared.calls.Actor.TheVariants.{App, Compositor, Device}
 use Rattle.xr_model.specs.machine.Publication.{Publication, publication_of}
@@ -16,7 +16,7 @@ use Rattle.xr_model.proofs.GetterSteps.{getters_change_nothing, getters_are_read
 use Rattle.xr_model.proofs.Histories.{fronts_are_legal}
 use Rattle.xr_model.proofs.OthersEntries.{and_false, left_stays, stays}
 use Rattle.xr_model.proofs.PublishedLast.{IsSound, sound_step, sound_opening, sound_after, stays_published}
-use Rattle.xr_model.proofs.Rows.{same_key, itself, both_of, not_true, is_false}
+use Rattle.xr_model.proofs.Rows.{both_of, not_true}
 use Rattle.xr_model.proofs.Turns.{same_actor}
 
 -- ---- who has left

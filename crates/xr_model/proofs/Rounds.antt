@@ -1,12 +1,12 @@
 -- The turns to come go round, and between two turns of one actor no other has two.
-use Rattle.std.proofs.Common.{arith, ◌≡◌, ◌≤◌, ◌+◌, ◌||◌, ◌⊎◌, inl, inr, Bool, true, false, List, [], ◌∷◌, ◌++◌, map, refl, sym, ap, subst, ◌∙◌, true≢false}
+use Rattle.std.proofs.Common.{arith, ◌≡◌, ◌≤◌, ◌⊎◌, inl, inr, true, List, [], ◌∷◌, ◌++◌, map, refl, sym, ap, subst, ◌∙◌}
 use Rattle.std.specs.List.{list_all}
 use Rattle.std.proofs.lemmas.List.{append_assoc, append-nil}
 use Rattle.xr_types.specs.declared.calls.Actor.{Actor}
 use Rattle.xr_model.specs.machine.Request.{is_actor}
 use Rattle.xr_model.specs.machine.State.{opening}
-use Rattle.xr_model.specs.runs.Robin.{Agenda, actor_of, first_agendas, agendas_left}
-use Rattle.xr_model.specs.laws.RunLaws.{has_turns, count_of, comes_before}
+use Rattle.xr_model.specs.runs.Robin.{actor_of, first_agendas, agendas_left}
+use Rattle.xr_model.specs.laws.RunLaws.{count_of, comes_before}
 use Rattle.xr_model.specs.laws.RobinLaws.{is_in_order, StandInRound, TurnsGoRound, NobodyHasTwoTurns}
 use Rattle.xr_model.proofs.Rows.{both_of}
 use Rattle.xr_model.proofs.Turns.{Turned, bit, count_more, falls, front, actor_itself}
