@@ -1,6 +1,7 @@
 -- What reading the words came to.
-use Rattle.std.specs.Prelude.{◌≡◌, ◌≤◌, length, IfSome, Bool, true, false, List, Option, Some, None, option_map, Result, Ok, Err}
-use Rattle.clap.specs.Words.{Row, found_of, rows_of}
+use Rattle.std.specs.Prelude.{◌≡◌, ◌≤◌, ℕ, length, IfSome, true, false, List, Option, Some, None, option_map, Result, Ok, Err}
+use Rattle.clap.specs.Walk.{is_empty}
+use Rattle.clap.specs.Words.{App, fault_of, matches_of, found_of, rows_of}
 use Rattle.clap.specs.declared.parser.matches.ArgMatches.{ArgMatches}
 use Rattle.xr_types.specs.declared.limits.TheConstants.{MOST_FILE_NAME, MOST_LOAD}
 use Rattle.xr_model.specs.command_line.Words as words
@@ -25,10 +26,10 @@ ReadsAs shown_by (Err Usage) meant = meant ≡ None
 ReadsAs shown_by (Err NoMemory) meant = Unit {0}
 
 -- The answer is what a command makes of the words, it doesn't take them, or memory was short.
-abbrev pub ReadsRows : Result ArgMatches WordsFault → Bool → List Row → Type 0
-ReadsRows (Ok found) taken rows = (taken ≡ true) × (rows_of (found_of found) ≡ rows)
-ReadsRows (Err Usage) taken rows = taken ≡ false
-ReadsRows (Err NoMemory) taken rows = Unit {0}
+abbrev pub ReadsRows : Result ArgMatches WordsFault → App → List (List ℕ) → Type 0
+ReadsRows (Ok found) app words = (is_empty (fault_of app words) ≡ true) × (rows_of (found_of found) ≡ matches_of app words)
+ReadsRows (Err Usage) app words = is_empty (fault_of app words) ≡ false
+ReadsRows (Err NoMemory) app words = Unit {0}
 
 -- A file's name is no longer than the system takes, and a load has at most so many frames and one at least.
 abbrev pub FitsLimits : WordsForm → Type 0

@@ -1,9 +1,10 @@
 //! The words of the command line, read by `clap`. It knows words alone, and opens no file.
 #![tactic(auto)]
 
-ghost use Rattle.std.specs.Prelude.{◌≡◌, ◌≤◌, IfOk, IfSome, false, length, map, option_map, string_bytes};
-ghost use Rattle.clap.specs.Words.{app_of, rule_of, first_of, found_of, rows_of};
-ghost use Rattle.xr_model.specs.command_line.Words.{run_app, file_arg, device_arg, places_arg, load_app, frames_arg, is_taken, rows_in, is_load_taken, load_rows_in, is_file, is_file_or_none, begins_with, options_in, run_under, frames_of, frames_in, load_under, form_of};
+ghost use Rattle.std.specs.Prelude.{◌≡◌, ◌≤◌, IfOk, IfSome, true, false, length, map, option_map, string_bytes};
+ghost use Rattle.clap.specs.Words.{app_of, rule_of, first_of, found_of, rows_of, is_simple};
+ghost use Rattle.clap.specs.Faults.{is_simple_and_free};
+ghost use Rattle.xr_model.specs.command_line.Words.{run_app, file_arg, device_arg, places_arg, load_app, frames_arg, is_file, is_file_or_none, begins_with, options_in, run_under, frames_of, frames_in, load_under, form_of};
 ghost use Rattle.xr_command.specs.Reads.{shown, shown_form, ReadsAs, ReadsRows, FitsLimits};
 
 use clap::builder::ValueParser;
@@ -87,31 +88,12 @@ fn load_command<'a>(alloc: Global) -> Result<Command<'a>, AllocError>
     Ok(command)
 }
 
-/// What the command of a run makes of the words.
-#[tactic(auto, unfolding(xr_model::specs::command_line::Words::is_taken, xr_model::specs::command_line::Words::rows_in))]
-fn run_matches<'a>(alloc: Global, words: &'a [String]) -> Result<ArgMatches<'a>, WordsFault>
-    ensures { ReadsRows result (is_taken (map string_bytes words.entry.now)) (rows_in (map string_bytes words.entry.now)) }
+/// What a command makes of the words.
+fn read_by<'a>(command: Command<'a>, words: &'a [String]) -> Result<ArgMatches<'a>, WordsFault>
+    requires simple { is_simple (app_of command) ≡ true }
+    requires free { is_simple_and_free (app_of command) ≡ true }
+    ensures { ReadsRows result (app_of command.entry) (map string_bytes words.entry.now) }
 {
-    let Ok(command) = run_command(alloc) else {
-        return Err(WordsFault::NoMemory);
-    };
-    match command.try_get_matches_from(words) {
-        Ok(matches) => Ok(matches),
-        Err(e) => match e.kind() {
-            ErrorKind::OutOfMemory => Err(WordsFault::NoMemory),
-            _ => Err(WordsFault::Usage),
-        },
-    }
-}
-
-/// What the command of a load makes of the words.
-#[tactic(auto, unfolding(xr_model::specs::command_line::Words::is_load_taken, xr_model::specs::command_line::Words::load_rows_in))]
-fn load_matches<'a>(alloc: Global, words: &'a [String]) -> Result<ArgMatches<'a>, WordsFault>
-    ensures { ReadsRows result (is_load_taken (map string_bytes words.entry.now)) (load_rows_in (map string_bytes words.entry.now)) }
-{
-    let Ok(command) = load_command(alloc) else {
-        return Err(WordsFault::NoMemory);
-    };
     match command.try_get_matches_from(words) {
         Ok(matches) => Ok(matches),
         Err(e) => match e.kind() {
@@ -174,6 +156,7 @@ fn options_in<'a>(matches: &ArgMatches<'a>) -> Option<RunOptions<'a>>
 }
 
 /// The form of a run under its word. `Usage` comes exactly where the words don't have it, and `NoMemory` is free.
+#[tactic(auto, unfolding(xr_model::specs::command_line::Words::is_taken, xr_model::specs::command_line::Words::rows_in))]
 fn run_under<'a>(
     alloc: Global,
     word: &str,
@@ -186,10 +169,10 @@ fn run_under<'a>(
     if !begins_with(words, word) {
         return Err(WordsFault::Usage);
     }
-    let matches = match run_matches(alloc, words) {
-        Ok(matches) => matches,
-        Err(e) => return Err(e),
+    let Ok(command) = run_command(alloc) else {
+        return Err(WordsFault::NoMemory);
     };
+    let matches = read_by(command, words)?;
     match options_in(&matches) {
         Some(options) => Ok(options),
         None => Err(WordsFault::Usage),
@@ -217,6 +200,7 @@ fn frames_in<'a>(matches: &ArgMatches<'a>) -> Option<u32>
 }
 
 /// The number of frames of a load. `Usage` comes exactly where the words aren't of that form, and `NoMemory` is free.
+#[tactic(auto, unfolding(xr_model::specs::command_line::Words::is_load_taken, xr_model::specs::command_line::Words::load_rows_in))]
 fn load_under(alloc: Global, word: &str, words: &[String]) -> Result<u32, WordsFault>
     ensures form { ReadsAs (λ frames. frames) result (load_under word.now (map string_bytes words.now)) }
     ensures few { IfOk result (λ frames. (1 ≤ frames) × (frames ≤ MOST_LOAD)) }
@@ -224,10 +208,10 @@ fn load_under(alloc: Global, word: &str, words: &[String]) -> Result<u32, WordsF
     if !begins_with(words, word) {
         return Err(WordsFault::Usage);
     }
-    let matches = match load_matches(alloc, words) {
-        Ok(matches) => matches,
-        Err(e) => return Err(e),
+    let Ok(command) = load_command(alloc) else {
+        return Err(WordsFault::NoMemory);
     };
+    let matches = read_by(command, words)?;
     match frames_in(&matches) {
         Some(frames) => Ok(frames),
         None => Err(WordsFault::Usage),
