@@ -6,7 +6,7 @@ use mathlib.Core.List.{map-append}
 use native.Mathlib.Decide.{ℕ_discrete}
 use lib.ListN.{get_elem?}
 use lib.Seq.{map-set}
-use Rattle.atomic_table.specs.Table.{opening, Splits, Joins, Seen, Final}
+use Rattle.atomic_table.specs.Table.{State, opening, Splits, Joins, Seen, Final}
 use Rattle.atomic_table.proofs.Lists.{at_set, at_snoc, at_map, at_longer, set_again, set_else}
 use Rattle.xr_model.specs.machine.Request.{Entry}
 use Rattle.xr_model.specs.laws.Moments.{Moment, opening_moment, moment_after}
@@ -34,6 +34,12 @@ module _ {S : Type 0} (stands : S → Moment → Type 0) where
     free = λ none_holds. h.free (λ j u e. none_holds j u (at_longer us (Idle ∷ []) j u e));
   }
 
+  -- the rule over other views, where all that it says of views holds of them
+  over_views : (key : ℕ) (s : State (Option S) View) (r : FollowsRule stands key s) (vs : List View) → OneHistory key r.log (map know_of vs)
+      → Tickets (get_or s.words 0 0) (get_or s.words 1 0) r.drawn r.served (map turn_of vs) → SlotStands stands key r.log r.served s.homes (map turn_of vs)
+      → ((j : ℕ) (v : View) → get_elem? vs j ≡ some v → Fits v) → FollowsRule stands key record { words = s.words; homes = s.homes; views = vs }
+  over_views key s r vs history tickets slot fits = record { log = r.log; drawn = r.drawn; served = r.served; wide = r.wide; few = r.few; history = history; tickets = tickets; slot = slot; fits = fits }
+
   pub splits : (key id a : ℕ) (o p : Own) (os : List Own) (z : List Entry) (u : Turn) → Splits (FollowsRule stands key) id (view (know a (o ∷ p ∷ os) z) u) (staying_view (view (know a (o ∷ p ∷ os) z) u)) (cut_view (view (know a (o ∷ p ∷ os) z) u))
   splits key id a o p os z u s r at =
       let k : Know = know a (o ∷ p ∷ os) z in
@@ -46,19 +52,13 @@ module _ {S : Type 0} (stands : S → Moment → Type 0) where
       let fit = r.fits id v at in
       let kn : map know_of vs ≡ set (knows s) id l.know ++ n.know ∷ [] = map-append know_of (set s.views id l) (n ∷ []) ∙ ap (λ x. x ++ n.know ∷ []) (map-set know_of s.views id l) in
       let tn : map turn_of vs ≡ turns s ++ Idle ∷ [] = map-append turn_of (set s.views id l) (n ∷ []) ∙ ap (λ x. x ++ Idle ∷ []) (map-set turn_of s.views id l ∙ set_again (turns s) id u there) in
-      record {
-        log = r.log;
-        drawn = r.drawn;
-        served = r.served;
-        wide = r.wide;
-        few = r.few;
-        history = subst (OneHistory key r.log) (sym kn) (history_splits key r.log (knows s) id a o p os z r.history known);
-        tickets = subst (Tickets (get_or s.words 0 0) (get_or s.words 1 0) r.drawn r.served) (sym tn) (turns_come (get_or s.words 0 0) (get_or s.words 1 0) r.drawn r.served (turns s) r.tickets);
-        slot = subst (SlotStands stands key r.log r.served s.homes) (sym tn) (slot_come key r.log r.served s.homes (turns s) r.slot);
-        fits = λ j x e. ⊎_elim
-            (λ (h : get_elem? (set s.views id l) j ≡ some x). ⊎_elim (λ (q : (j ≡ id) × (l ≡ x)). subst Fits q.1 (cut u fit)) (λ (q : (j ≢ id) × (get_elem? s.views j ≡ some x)). r.fits j x q.1) (at_set s.views id j l x h))
-            (λ (q : n ≡ x). subst Fits q record { numbered = omega arith; notes_own = tt }) (at_snoc (set s.views id l) n x j e);
-      }
+      over_views key s r vs
+      (subst (OneHistory key r.log) (sym kn) (history_splits key r.log (knows s) id a o p os z r.history known))
+      (subst (Tickets (get_or s.words 0 0) (get_or s.words 1 0) r.drawn r.served) (sym tn) (turns_come (get_or s.words 0 0) (get_or s.words 1 0) r.drawn r.served (turns s) r.tickets))
+      (subst (SlotStands stands key r.log r.served s.homes) (sym tn) (slot_come key r.log r.served s.homes (turns s) r.slot))
+      (λ j x e. ⊎_elim
+      (λ (h : get_elem? (set s.views id l) j ≡ some x). ⊎_elim (λ (q : (j ≡ id) × (l ≡ x)). subst Fits q.1 (cut u fit)) (λ (q : (j ≢ id) × (get_elem? s.views j ≡ some x)). r.fits j x q.1) (at_set s.views id j l x h))
+      (λ (q : n ≡ x). subst Fits q record { numbered = omega arith; notes_own = tt }) (at_snoc (set s.views id l) n x j e))
     where
       recast : (look : List Entry) (e : Option Entry) → IfSome e (λ y. MayNote (know a (o ∷ p ∷ os) z) look y) → IfSome e (λ y. MayNote (know a (o ∷ os) z) look y)
       recast look None may = tt
@@ -76,17 +76,11 @@ module _ {S : Type 0} (stands : S → Moment → Type 0) where
       let vs : List View = s.views ++ n ∷ [] in
       let kn : map know_of vs ≡ knows s ++ n.know ∷ [] = map-append know_of s.views (n ∷ []) in
       let tn : map turn_of vs ≡ turns s ++ Idle ∷ [] = map-append turn_of s.views (n ∷ []) in
-      subst (λ (l : List View). FollowsRule stands key record { words = s.words; homes = s.homes; views = l ++ n ∷ [] }) (sym same) record {
-        log = r.log;
-        drawn = r.drawn;
-        served = r.served;
-        wide = r.wide;
-        few = r.few;
-        history = subst (OneHistory key r.log) (sym kn) (history_keeps key r.log (knows s) id v.know r.history (at_map know_of s.views id v at));
-        tickets = subst (Tickets (get_or s.words 0 0) (get_or s.words 1 0) r.drawn r.served) (sym tn) (turns_come (get_or s.words 0 0) (get_or s.words 1 0) r.drawn r.served (turns s) r.tickets);
-        slot = subst (SlotStands stands key r.log r.served s.homes) (sym tn) (slot_come key r.log r.served s.homes (turns s) r.slot);
-        fits = λ j x e. ⊎_elim (λ (h : get_elem? s.views j ≡ some x). r.fits j x h) (λ (q : n ≡ x). subst Fits q record { numbered = omega arith; notes_own = tt }) (at_snoc s.views n x j e);
-      }
+      subst (λ (l : List View). FollowsRule stands key record { words = s.words; homes = s.homes; views = l ++ n ∷ [] }) (sym same) (over_views key s r vs
+      (subst (OneHistory key r.log) (sym kn) (history_keeps key r.log (knows s) id v.know r.history (at_map know_of s.views id v at)))
+      (subst (Tickets (get_or s.words 0 0) (get_or s.words 1 0) r.drawn r.served) (sym tn) (turns_come (get_or s.words 0 0) (get_or s.words 1 0) r.drawn r.served (turns s) r.tickets))
+      (subst (SlotStands stands key r.log r.served s.homes) (sym tn) (slot_come key r.log r.served s.homes (turns s) r.slot))
+      (λ j x e. ⊎_elim (λ (h : get_elem? s.views j ≡ some x). r.fits j x h) (λ (q : n ≡ x). subst Fits q record { numbered = omega arith; notes_own = tt }) (at_snoc s.views n x j e)))
 
   pub joins : (key id other : ℕ) (v w : View) → v.turn ≡ Idle → w.turn ≡ Idle → 0 < length w.know.own → Joins (FollowsRule stands key) id v other w (joined_view v w) spent_view
   joins key id other v w rest idle some_own s r at apart them =
@@ -98,20 +92,14 @@ module _ {S : Type 0} (stands : S → Moment → Type 0) where
       let t₁ : map turn_of vs ≡ turns s = map-set turn_of s.views id b ∙ set_again (turns s) id v.turn (at_map turn_of s.views id v at) in
       let t₂ : get_elem? (turns s) other ≡ some Idle = at_map turn_of s.views other w there ∙ ap some idle in
       let tn : map turn_of us ≡ turns s = map-set turn_of vs other spent_view ∙ (ap (λ x. set x other Idle) t₁ ∙ set_again (turns s) other Idle t₂) in
-      record {
-        log = r.log;
-        drawn = r.drawn;
-        served = r.served;
-        wide = r.wide;
-        few = r.few;
-        history = subst (OneHistory key r.log) (sym kn) (history_joins key r.log (knows s) id other v.know w.know r.history (at_map know_of s.views id v at) apart (at_map know_of s.views other w there) some_own);
-        tickets = subst (Tickets (get_or s.words 0 0) (get_or s.words 1 0) r.drawn r.served) (sym tn) r.tickets;
-        slot = subst (SlotStands stands key r.log r.served s.homes) (sym tn) r.slot;
-        fits = λ j x e. ⊎_elim
-            (λ (q : (j ≡ other) × (spent_view ≡ x)). subst Fits q.1 record { numbered = omega arith; notes_own = tt })
-            (λ (q : (j ≢ other) × (get_elem? vs j ≡ some x)). ⊎_elim (λ (y : (j ≡ id) × (b ≡ x)). subst Fits y.1 (resting b rest)) (λ (y : (j ≢ id) × (get_elem? s.views j ≡ some x)). r.fits j x y.1) (at_set s.views id j b x q.1))
-            (at_set vs other j spent_view x e);
-      }
+      over_views key s r us
+      (subst (OneHistory key r.log) (sym kn) (history_joins key r.log (knows s) id other v.know w.know r.history (at_map know_of s.views id v at) apart (at_map know_of s.views other w there) some_own))
+      (subst (Tickets (get_or s.words 0 0) (get_or s.words 1 0) r.drawn r.served) (sym tn) r.tickets)
+      (subst (SlotStands stands key r.log r.served s.homes) (sym tn) r.slot)
+      (λ j x e. ⊎_elim
+      (λ (q : (j ≡ other) × (spent_view ≡ x)). subst Fits q.1 record { numbered = omega arith; notes_own = tt })
+      (λ (q : (j ≢ other) × (get_elem? vs j ≡ some x)). ⊎_elim (λ (y : (j ≡ id) × (b ≡ x)). subst Fits y.1 (resting b rest)) (λ (y : (j ≢ id) × (get_elem? s.views j ≡ some x)). r.fits j x y.1) (at_set s.views id j b x q.1))
+      (at_set vs other j spent_view x e))
     where
       resting : (v : View) → v.turn ≡ Idle → Fits v
       resting v e = subst (λ (u : Turn). Fits (view v.know u)) (sym e) record { numbered = omega arith; notes_own = tt }
