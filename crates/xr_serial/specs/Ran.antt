@@ -1,13 +1,16 @@
 -- A run of a scenario beside a device: the one history that its lists are of.
-use Rattle.std.specs.Prelude.{◌≡◌, ◌<◌, ◌≤◌, ◌+◌, ℕ, true, false, List, [], ◌∷◌, ◌++◌, length, slice_index_or, Option, Some, None, IfSome}
+use Rattle.std.specs.Prelude.{◌≡◌, ◌<◌, ◌≤◌, ◌+◌, ◌^◌, ℕ, true, false, List, [], ◌∷◌, ◌++◌, length, slice_index_or, Option, Some, None, IfSome}
+use Rattle.std.specs.List.{sum_by}
 use Rattle.xr_types.specs.declared.calls.Actor.TheVariants.{App, Compositor, Device}
 use Rattle.xr_types.specs.declared.calls.Gives.TheVariants.{Ended, Nothing, Shown}
 use Rattle.xr_types.specs.declared.code.Code.TheVariants.{Success}
 use Rattle.xr_types.specs.declared.device.DeviceEvent.{DeviceEvent}
 use Rattle.xr_types.specs.declared.device.DeviceEvent.TheVariants.{Fault}
+use Rattle.xr_types.specs.declared.limits.TheConstants.{MOST_SCRIPTS}
 use Rattle.xr_types.specs.declared.made.Lists.{Lists}
 use Rattle.xr_types.specs.declared.scenario.Op.{Op}
 use Rattle.xr_types.specs.declared.scenario.Scenario.{Scenario}
+use Rattle.xr_model.specs.scenario.ScriptForm.{AllInForm}
 use Rattle.xr_model.specs.machine.Request as request
 use Rattle.xr_model.specs.machine.Request.{next_frame, image_done, Entry}
 use Rattle.xr_types.specs.Device.{checks}
@@ -21,6 +24,13 @@ use Rattle.xr_model.specs.laws.FrameLaws.{shown_from}
 use Rattle.xr_model.specs.report.RunEnding.{is_fault, is_garbled}
 use Rattle.xr_device.specs.Prospect.{Prospect}
 use Rattle.xr_device.specs.Answers.{GaveItsLines}
+
+-- A scenario that can be run: it has one to eight scripts, each in form, and fewer than 2^22 ops in all.
+pub record CanBeRun (scenario : Scenario) : Type 0 where
+  pub some : 1 ≤ length scenario.scripts
+  pub most : length scenario.scripts ≤ MOST_SCRIPTS
+  pub few : sum_by length scenario.scripts < 2 ^ 22
+  pub formed : AllInForm scenario.scripts
 
 -- a machine of as many applications as the scenario has scripts
 abbrev pub settings_of : Scenario → Settings

@@ -3,14 +3,12 @@
 //! bytes of scenarios, devices or reports.
 #![tactic(auto)]
 
-ghost use Rattle.std.specs.Prelude.{◌≡◌, ◌≤◌, ◌<◌, ◌^◌, ◌+◌, ℕ, true, false, IfOk, length};
-ghost use Rattle.xr_types.specs.declared.limits.TheConstants.{MOST_SCRIPTS};
-ghost use Rattle.std.specs.List.{list_any, sum_by};
+ghost use Rattle.std.specs.Prelude.{◌≡◌, ◌≤◌, ◌+◌, ℕ, true, false, IfOk};
+ghost use Rattle.std.specs.List.{list_any};
 ghost use Rattle.xr_io.specs.Outside.{Rose};
-ghost use Rattle.xr_model.specs.scenario.ScriptForm.{AllInForm};
 ghost use Rattle.xr_model.specs.report.RunEnding.{is_fault};
 ghost use Rattle.xr_device.specs.Answers.{ReadsOn};
-ghost use Rattle.xr_serial.specs.Ran.{Ran, FailsBehind};
+ghost use Rattle.xr_serial.specs.Ran.{CanBeRun, Ran, FailsBehind};
 
 mod application;
 mod calls;
@@ -38,10 +36,7 @@ use xr_types::{Lists, NoMemory, Scenario};
 /// range and with names that earlier ops of its script gave. Answers `NoMemory` where memory was short, and nothing else
 /// but the lists.
 pub fn run<D: Device>(alloc: Global, scenario: &Scenario, device: &mut D) -> Result<Lists, NoMemory>
-    requires some { 1 ≤ length scenario.now.scripts }
-    requires most { length scenario.now.scripts ≤ MOST_SCRIPTS }
-    requires few { sum_by length scenario.now.scripts < 2 ^ 22 }
-    requires formed { AllInForm scenario.now.scripts }
+    requires runs { CanBeRun scenario.now }
     ensures ran { IfOk result (λ lists. (count : ℕ) × ((D.prospect device.new).given ≡ (D.prospect device.old).given + count) × Ran scenario.now (D.prospect device.old).remaining count lists) }
     ensures fault { IfOk result (λ lists. list_any is_fault lists.events ≡ true → Rose (D.prospect device.old).faults (D.prospect device.new).faults) }
     ensures unfailed { IfOk result (λ lists. list_any is_fault lists.events ≡ false → (D.prospect device.new).faults ≡ (D.prospect device.old).faults) }

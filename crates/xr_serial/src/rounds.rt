@@ -1,10 +1,7 @@
 // A run on its way, turn by turn, until no unfinished actor can make its call.
-ghost use Rattle.std.specs.Prelude.{◌≡◌, ◌≤◌, ◌<◌, ◌^◌, ◌+◌, ℕ, [], true, false, None, IfOk, OnOk, length, map, if◌then◌else◌};
-ghost use Rattle.xr_types.specs.declared.limits.TheConstants.{MOST_SCRIPTS};
-ghost use Rattle.std.specs.List.{sum_by};
-ghost use Rattle.xr_model.specs.scenario.ScriptForm.{AllInForm};
+ghost use Rattle.std.specs.Prelude.{◌≡◌, ◌≤◌, ◌<◌, ◌+◌, ℕ, [], true, false, None, IfOk, OnOk, length, map, if◌then◌else◌};
 ghost use Rattle.xr_model.specs.machine.State.{opening};
-ghost use Rattle.xr_serial.specs.Ran.{settings_of};
+ghost use Rattle.xr_serial.specs.Ran.{CanBeRun, settings_of};
 ghost use Rattle.xr_device.specs.Prospect.{Prospect};
 ghost use Rattle.xr_device.specs.Answers.{ReadsOn};
 ghost use Rattle.xr_serial.specs.inside.Sides.{new_app};
@@ -78,9 +75,7 @@ fn app_turn(
     place: usize,
     run: &mut Run,
 ) -> Result<bool, NoMemory>
-    requires most { length scenario.now.scripts ≤ MOST_SCRIPTS }
-    requires few { sum_by length scenario.now.scripts < 2 ^ 22 }
-    requires formed { AllInForm scenario.now.scripts }
+    requires runs { CanBeRun scenario.now }
     requires within { place < length scenario.now.scripts }
     requires kept { (idle : ℕ) × (start : Prospect) × (now : Prospect) × (idle < actors_of scenario.now) × RunInvariant scenario.now place idle machine.old run.old start now }
     ensures kept { IfOk result (λ went. (idle : ℕ) (start now : Prospect) → idle < actors_of scenario.now
@@ -110,8 +105,7 @@ fn device_turn<D: Device>(
     device: &mut D,
     run: &mut Run,
 ) -> Result<bool, NoMemory>
-    requires most { length scenario.now.scripts ≤ MOST_SCRIPTS }
-    requires few { sum_by length scenario.now.scripts < 2 ^ 22 }
+    requires runs { CanBeRun scenario.now }
     requires kept { (idle : ℕ) × (start : Prospect) × (idle < actors_of scenario.now)
         × RunInvariant scenario.now (length scenario.now.scripts) idle machine.old run.old start (D.prospect device.old) }
     ensures kept { IfOk result (λ went. (idle : ℕ) (start : Prospect) → idle < actors_of scenario.now
@@ -136,8 +130,7 @@ fn compositor_turn(
     scenario: &Scenario,
     run: &mut Run,
 ) -> Result<bool, NoMemory>
-    requires most { length scenario.now.scripts ≤ MOST_SCRIPTS }
-    requires few { sum_by length scenario.now.scripts < 2 ^ 22 }
+    requires runs { CanBeRun scenario.now }
     requires kept { (idle : ℕ) × (start : Prospect) × (now : Prospect) × (idle < actors_of scenario.now) × RunInvariant scenario.now (length scenario.now.scripts + 1) idle machine.old run.old start now }
     ensures kept { IfOk result (λ went. (idle : ℕ) (start now : Prospect) → idle < actors_of scenario.now
         → RunInvariant scenario.now (length scenario.now.scripts + 1) idle machine.old run.old start now
@@ -164,9 +157,7 @@ fn one_turn<D: Device>(
     run: &mut Run,
     turn: usize,
 ) -> Result<bool, NoMemory>
-    requires most { length scenario.now.scripts ≤ MOST_SCRIPTS }
-    requires few { sum_by length scenario.now.scripts < 2 ^ 22 }
-    requires formed { AllInForm scenario.now.scripts }
+    requires runs { CanBeRun scenario.now }
     requires within { turn < actors_of scenario.now }
     requires kept { (idle : ℕ) × (start : Prospect) × (idle < actors_of scenario.now)
         × RunInvariant scenario.now turn idle machine.old run.old start (D.prospect device.old) }
@@ -196,9 +187,7 @@ pub(crate) fn go_on<D: Device>(
     device: &mut D,
     run: &mut Run,
 ) -> Result<(), NoMemory>
-    requires most { length scenario.now.scripts ≤ MOST_SCRIPTS }
-    requires few { sum_by length scenario.now.scripts < 2 ^ 22 }
-    requires formed { AllInForm scenario.now.scripts }
+    requires runs { CanBeRun scenario.now }
     requires kept { (start : Prospect) × RunInvariant scenario.now 0 0 machine.old run.old start (D.prospect device.old) }
     ensures kept { OnOk result ((start : Prospect)
         → RunInvariant scenario.now 0 0 machine.old run.old start (D.prospect device.old)

@@ -19,7 +19,7 @@ pub make_op-requires-clause-formed : goal.make_op-requires-clause-formed
 make_op-requires-clause-formed c =
     let ops = c.as_slice-ops.result.now in
     let are : ops ≡ get_or c.args.scenario.now.scripts c.args.place ops = rw (c.as_slice-ops.ensures, ← c.as_slice.ensures) c.index-as_slice-place.is in
-    subst IsInForm (sym (are ∙ get_or_default c.args.scenario.now.scripts c.args.place ops [] c.requires.within)) (in_form_at c.args.scenario.now.scripts c.args.place c.requires.formed c.requires.within)
+    subst IsInForm (sym (are ∙ get_or_default c.args.scenario.now.scripts c.args.place ops [] c.requires.within)) (in_form_at c.args.scenario.now.scripts c.args.place c.requires.runs.formed c.requires.within)
 
 pub returns-then-app-ops-clause-kept : goal.returns-then-app-ops-clause-kept
 returns-then-app-ops-clause-kept c =

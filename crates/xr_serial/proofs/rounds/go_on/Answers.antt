@@ -22,7 +22,7 @@ loop-idle-smaller g c =
     let all = most_calls c.args.scenario.now.scripts in
     let actors = length c.as_slice.result.now + 2 in
     let within : calls_made c.one_turn.new.machine c.one_turn.new.run ≤ all = omega (arith, work) in
-    let most : actors ≤ 10 = rw c.as_slice.ensures (let most = c.requires.most in omega (arith, most)) in
+    let most : actors ≤ 10 = rw c.as_slice.ensures (let most = c.requires.runs.most in omega (arith, most)) in
     elim c.if-went.branch [
       | then-went w ↦ made_less all (calls_made c.loop-idle.machine c.loop-idle.run) (calls_made c.one_turn.new.machine c.one_turn.new.run) actors c.loop-idle.idle c.if-went.idle (c.in_ok-went.ensures.counts ∙ rw w.if-went.true refl) within most c.loop-idle-test.true w.idle-is
       | else-went w ↦ passed_less all (calls_made c.loop-idle.machine c.loop-idle.run) (calls_made c.one_turn.new.machine c.one_turn.new.run) actors c.loop-idle.idle c.if-went.idle (c.in_ok-went.ensures.counts ∙ rw w.if-went.false refl) w.idle-is c.loop-idle-test.true
