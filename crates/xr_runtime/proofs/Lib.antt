@@ -1,0 +1,5 @@
+pub mod Going
+pub mod Making
+pub mod Passing
+pub mod Gathering
+pub mod Starting

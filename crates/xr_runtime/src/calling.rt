@@ -1,0 +1,110 @@
+// One private call under the lock, which every public call is made of.
+ghost use Rattle.std.specs.Prelude.{◌≡◌, ◌≤ℤ◌, pos, [], true, false, length, MatchOption};
+ghost use Rattle.xr_model.specs.laws.ImageLaws.{is_next_frame};
+ghost use Rattle.xr_model.specs.machine.Request.{request_of};
+ghost use Rattle.xr_runtime.specs.Calling.{MayMake, Called, Reads, Waited};
+
+use std::sync::Wait;
+use xr_core::PlainCore;
+use xr_lock::Lock;
+use xr_rule::{XrSeat, XrTable};
+use xr_types::{Actor, Call, Reply, Shown, Step};
+
+/// A runtime that threads share: a core under a lock.
+#[derive(Drop)]
+pub struct Runtime {
+    pub(crate) table: XrTable<PlainCore>,
+}
+
+// What the private call tells: the reply, the device's clock behind the call, and how many images are held then.
+#[derive(Drop)]
+pub(crate) struct Answered {
+    pub(crate) reply: Reply,
+    pub(crate) clock: i64,
+    pub(crate) images: usize,
+}
+
+// whether a call asks for a frame while images are held, which no pass does
+fn is_early(core: &PlainCore, call: &Call<'_>) -> bool
+    ensures { result ≡ false → is_next_frame (request_of call.now) ≡ true → core.now.cells.held ≡ [] }
+{
+    match call {
+        Call::NextFrame => core.held() > 0,
+        _ => false,
+    }
+}
+
+// the reply beside what a pass keeps of the core behind it
+fn tell(core: &PlainCore, reply: Reply) -> Answered
+    ensures reply { result.reply ≡ reply }
+    ensures clock { result.clock ≡ core.now.core.device.clock }
+    ensures begun { pos 0 ≤ℤ result.clock }
+    ensures images { result.images ≡ length core.now.cells.held }
+{
+    Answered {
+        reply,
+        clock: core.clock(),
+        images: core.held(),
+    }
+}
+
+impl Runtime {
+    // Takes the lock, makes the call where it is ready, notes it, and gives the value back.
+    pub(crate) fn make_once<R: Wait>(
+        &self,
+        rt: &R,
+        seat: &mut XrSeat<PlainCore>,
+        who: Actor,
+        call: &Call<'_>,
+        text: &mut [u8],
+        shown: &mut Shown,
+    ) -> Option<Answered>
+        requires own { seat.old.table_id ≡ self.now.table.table.shared.table_id }
+        requires may { MayMake seat.old.me who (request_of call.now) (length text.old) }
+        ensures own { seat.new.table_id ≡ seat.old.table_id }
+        ensures made { MatchOption result (Waited seat.old.me (record { text = text.old; frame = shown.old }) (record { text = text.new; frame = shown.new }) seat.new.me) (λ a. Called seat.old.me (request_of call.now) a.reply (record { text = text.old; frame = shown.old }) (record { text = text.new; frame = shown.new }) seat.new.me × Reads seat.new.me.0.know a.clock a.images) }
+    {
+        let lock = Lock { table: &self.table };
+        let mut held = lock.take(rt, seat);
+        if is_early(&held.value, call) {
+            lock.give(seat, held);
+            return None;
+        }
+        match held.value.apply(who, call, text, shown) {
+            Step::Done(reply) => {
+                let answered = tell(&held.value, reply);
+                lock.note(seat, &held, call, &reply);
+                lock.give(seat, held);
+                Some(answered)
+            }
+            Step::NotReady => {
+                lock.give(seat, held);
+                None
+            }
+        }
+    }
+
+    // Makes the call, once it is ready.
+    pub(crate) fn make<R: Wait>(
+        &self,
+        rt: &R,
+        seat: &mut XrSeat<PlainCore>,
+        who: Actor,
+        call: &Call<'_>,
+        text: &mut [u8],
+        shown: &mut Shown,
+    ) -> Answered
+        requires own { seat.old.table_id ≡ self.now.table.table.shared.table_id }
+        requires may { MayMake seat.old.me who (request_of call.now) (length text.old) }
+        ensures own { seat.new.table_id ≡ seat.old.table_id }
+        ensures called { Called seat.old.me (request_of call.now) result.reply (record { text = text.old; frame = shown.old }) (record { text = text.new; frame = shown.new }) seat.new.me }
+        ensures reads { Reads seat.new.me.0.know result.clock result.images }
+    {
+        for _ in rt.forever() {
+            if let Some(answered) = self.make_once(rt, seat, who, call, text, shown) {
+                return answered;
+            }
+        }
+        unreachable!()
+    }
+}

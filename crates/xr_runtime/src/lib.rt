@@ -1,0 +1,18 @@
+//! The calls of the threads of a run, each by its pass: every call is one entry of one legal history.
+#![tactic(auto)]
+
+mod app_calls;
+mod calling;
+mod close;
+mod frames;
+mod input;
+mod instance;
+mod others;
+mod passes;
+mod session;
+mod spaces;
+mod start;
+
+pub use calling::Runtime;
+pub use close::Closed;
+pub use passes::{AppPass, CompositorPass, DevicePass, Passes};
