@@ -1,19 +1,22 @@
 -- One history: what the seats know of it, when one decides an entry, is cut in two, or takes another in.
-use Rattle.std.proofs.Common.{◌≡◌, ℕ, zero, suc, ◌+◌, ◌<◌, ◌≤◌, ◌≢◌, List, [], ◌∷◌, ◌++◌, length, set, sym, refl, ap, ◌∙◌, subst, inl, inr, ⊎_elim, arith, eq-eqb, ne_eqb, length-append}
+use Rattle.std.proofs.Common.{◌≡◌, ℕ, zero, suc, ◌+◌, ◌<◌, ◌≤◌, ◌≢◌, true, List, [], ◌∷◌, ◌++◌, length, set, sym, refl, ap, ◌∙◌, subst, inl, inr, ⊎_elim, arith, eq-eqb, ne_eqb, length-append}
 use mathlib.Core.Logic.{dite}
 use mathlib.Core.Option.{some, some-injective, some-ne-none}
 use mathlib.Core.List.{IsPrefix}
 use native.Mathlib.Decide.{ℕ_discrete, dec_le}
 use lib.ListN.{get_elem?}
 use Rattle.atomic_table.proofs.Lists.{at_set, at_snoc, at_longer, set_here, set_else}
+use Rattle.xr_model.specs.machine.CoreCalls.{asked}
 use Rattle.xr_model.specs.machine.Request.{Entry, Exchange}
+use Rattle.xr_model.specs.machine.Rule.{is_by}
 use Rattle.xr_model.specs.laws.FewCalls.{HasFew}
 use Rattle.xr_model.specs.laws.Moments.{opening_moment, exchange_at, moment_after, IsLegalAt, calls_by}
 use Rattle.xr_model.proofs.FewCalls.{few_more as few_grow}
 use Rattle.xr_model.proofs.GrowingHistories.{legal_grows, entries_are_by_actors}
+use Rattle.xr_model.proofs.Rows.{both_of}
 use Rattle.xr_rule.specs.Sums.{total}
 use Rattle.xr_rule.specs.View.{Own, Know, know, own_of, with_call, with_seen, is_of, owns, parts, numbers_from, all_numbers, spent_know, longer, know_after}
-use Rattle.xr_rule.specs.Rule.{Knows, OneHistory, MayNote, HasAll}
+use Rattle.xr_rule.specs.Rule.{are_by_callers, Knows, OneHistory, MayNote, HasAll}
 use Rattle.xr_rule.proofs.Histories.{IsBy, calls-mine, calls-other, calls-between}
 use Rattle.xr_rule.proofs.Prefixes.{prefix_self, prefix_more, prefix_trans, prefix_whole, prefix_length, longer_is}
 use Rattle.xr_rule.proofs.Sums.{at_in, at_one, at_append, empty_list, total-append, total-set, term_le, terms_le}
@@ -57,6 +60,12 @@ few_more key log e o os s all may zero p at =
     subst (λ (q : Own). HasFew q.number q.calls) (some-injective (own_of o.number (o.calls ++ x ∷ []) o.saw) p at) (few_grow o.number (moment_after (opening_moment key) log) e o.calls may.by_own may.caller (all 0 o refl) may.few)
 few_more key log e o os s all may (suc i) p at = all (suc i) p at
 
+callers_more : (log : List Entry) (e : Entry) → are_by_callers log ≡ true → is_by (asked e.actor e.request).caller e.actor ≡ true → are_by_callers (log ++ e ∷ []) ≡ true
+callers_more [] e all one = rw one refl
+callers_more (x ∷ xs) e all one =
+    let two = both_of (is_by (asked x.actor x.request).caller x.actor) (are_by_callers xs) all in
+    rw two.0 (callers_more xs e two.1 one)
+
 pub history_decides : (key : ℕ) (log : List Entry) (ks : List Know) (id : ℕ) (e : Entry) (o : Own) (os : List Own) (s : List Entry) → OneHistory key log ks → get_elem? ks id ≡ some (know key (o ∷ os) s)
     → MayNote (know key (o ∷ os) s) log e → OneHistory key (log ++ e ∷ []) (set ks id (know_after (know key (o ∷ os) s) log e))
 history_decides key log ks id e o os s t at may =
@@ -71,6 +80,7 @@ history_decides key log ks id e o os s t at may =
     let known = t.each id k at in
     record {
       legal = legal_grows (opening_moment key) log e t.legal may.comes;
+      by_callers = callers_more log e t.by_callers may.caller;
       each = λ j u h. ⊎_elim
           (λ (q : (j ≡ id) × (w ≡ u)). subst (λ (x : Know). Knows key (log ++ e ∷ []) x) q.1 record {
             apps_are = inr refl;
@@ -115,6 +125,7 @@ history_splits key log ks id a o p os s t at =
     let new = t.newest in
     record {
       legal = t.legal;
+      by_callers = t.by_callers;
       each = λ j u h. ⊎_elim
           (λ (h₁ : get_elem? (set ks id l) j ≡ some u). ⊎_elim (λ (q : (j ≡ id) × (l ≡ u)). subst (λ (x : Know). Knows key log x) q.1 left) (λ (q : (j ≢ id) × (get_elem? ks j ≡ some u)). t.each j u q.1) (at_set ks id j l u h₁))
           (λ (q : r ≡ u). subst (λ (x : Know). Knows key log x) q right) (at_snoc (set ks id l) r u j h);
@@ -202,6 +213,7 @@ history_joins key log ks id other k u t at apart there some_own =
     let new = t.newest in
     record {
       legal = t.legal;
+      by_callers = t.by_callers;
       each = λ j x h. ⊎_elim (λ (q : (j ≡ other) × (spent_know ≡ x)). subst (λ (z : Know). Knows key log z) q.1 (spent_knows key log))
           (λ (q : (j ≢ other) × (get_elem? vs j ≡ some x)). ⊎_elim (λ (y : (j ≡ id) × (w ≡ x)). subst (λ (z : Know). Knows key log z) y.1 joins) (λ (y : (j ≢ id) × (get_elem? ks j ≡ some x)). t.each j x y.1) (at_set ks id j w x q.1))
           (at_set vs other j (spent_know) x h);
@@ -235,6 +247,7 @@ history_keeps key log ks id k t at =
     } in
     record {
       legal = t.legal;
+      by_callers = t.by_callers;
       each = λ j u h. ⊎_elim (λ (q : get_elem? ks j ≡ some u). t.each j u q) (λ (q : r ≡ u). subst (λ (x : Know). Knows key log x) q right) (at_snoc ks r u j h);
       owners = λ n h. omega (arith, total-append (owns n) ks (r ∷ []), t.owners n h);
       nobody = λ n h. omega (arith, total-append (owns n) ks (r ∷ []), t.nobody n h);
@@ -308,6 +321,7 @@ few_of_none (suc (suc k)) = omega arith
 pub history_opens : (key : ℕ) → OneHistory key [] (know key (all_numbers key) [] ∷ [])
 history_opens key = let k : Know = know key (all_numbers key) [] in record {
   legal = tt;
+  by_callers = refl;
   each = λ j u h. first_only j u h;
   owners = λ n l. omega (arith, all_once key n l);
   nobody = λ n l. omega (arith, all_none key n l);

@@ -47,6 +47,7 @@ sees key log ks id k few t at some_own =
       is = known.begins.1;
       none_own = none-between n (opening_moment k.apps) k.seen log known.begins (earlier ∙ sym now);
       legal = subst (λ a. IsLegalAt (opening_moment a) log) (sym apps) t.legal;
+      by_callers = t.by_callers;
       own = now;
       own_seen = earlier;
       few = subst (λ a. (after (opening (with_apps a)) log).core.locked < 2 ^ 44) (sym apps) (locked_fit key log ks few t);

@@ -6,15 +6,18 @@ use Rattle.xr_model.specs.machine.Request.{Entry, leave}
 use Rattle.xr_model.specs.machine.State.{with_apps, opening}
 use Rattle.xr_model.specs.laws.Moments.{Moment, opening_moment, moment_after, IsLegalAt, actor_at, calls_by}
 use Rattle.xr_model.specs.laws.PublicationLaws.{none_is_by}
+use Rattle.xr_rule.specs.Rule.{are_by_callers}
 use Rattle.xr_rule.specs.View.{Know, Hold, View, Idle, Waiting, Holding, view, hold_from, number_in, calls_in, know_after}
 
 -- What a look tells a seat of the history: it begins with what the seat has seen, what has come since is by others, it is legal, it
--- has just those calls of the seat's actor that the seat keeps, and fewer than 2^44 of its calls were counted.
+-- each entry is by one who may ask for it, it has just those calls of the seat's actor that the seat keeps, and fewer than 2^44 of its
+-- calls were counted.
 pub record Sees (k : Know) (look : List Entry) : Type 0 where
   pub more : List Entry
   pub is : k.seen ++ more ≡ look
   pub none_own : none_is_by (actor_at (number_in k.own)) more ≡ true
   pub legal : IsLegalAt (opening_moment k.apps) look
+  pub by_callers : are_by_callers look ≡ true
   pub own : calls_by (number_in k.own) (opening_moment k.apps) look ≡ calls_in k.own
   pub own_seen : calls_by (number_in k.own) (opening_moment k.apps) k.seen ≡ calls_in k.own
   pub few : (after (opening (with_apps k.apps)) look).core.locked < 2 ^ 44

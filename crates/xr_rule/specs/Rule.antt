@@ -1,5 +1,6 @@
 -- The rule of the table: there is one history; what each seat knows of it, the two words and the slot fit it.
-use Rattle.std.specs.Prelude.{◌≡◌, ℕ, ◌+◌, ◌%◌, ◌^◌, ◌<◌, ◌≤◌, ◌⊎◌, true, false, List, [], map, length, slice_index, Option, Some, IfSome}
+use Rattle.std.specs.Prelude.{◌≡◌, ℕ, ◌+◌, ◌%◌, ◌^◌, ◌<◌, ◌≤◌, ◌⊎◌, Bool, true, false, List, [], map, length, slice_index, Option, Some, IfSome}
+use Rattle.std.specs.List.{list_all}
 use mathlib.Core.Option.{Option as Home, some}
 use mathlib.Core.List.{IsPrefix}
 use lib.ListN.{get_elem?}
@@ -15,6 +16,10 @@ use Rattle.xr_rule.specs.View.{Own, Know, Hold, Turn, View, Idle, Waiting, Holdi
 
 -- ---- one history
 
+-- each of these was asked by one who may ask for it
+abbrev pub are_by_callers : List Entry → Bool
+are_by_callers es = list_all (λ e. is_by (asked e.actor e.request).caller e.actor) es
+
 -- What one seat knows: what it has seen is the history's front, each of its numbers has the calls that it keeps, and these are few.
 pub record Knows (apps : ℕ) (log : List Entry) (k : Know) : Type 0 where
   pub apps_are : (k.own ≡ []) ⊎ (k.apps ≡ apps)
@@ -24,9 +29,10 @@ pub record Knows (apps : ℕ) (log : List Entry) (k : Know) : Type 0 where
   pub saw : (i : ℕ) (o : Own) → get_elem? k.own i ≡ some o → IsPrefix o.saw k.seen
   pub few : (i : ℕ) (o : Own) → get_elem? k.own i ≡ some o → HasFew o.number o.calls
 
--- The history is legal, one seat has seen all of it, and each number is one seat's.
+-- The history is legal, each entry is by one who may ask for it, one seat has seen all of it, and each number is one seat's.
 pub record OneHistory (apps : ℕ) (log : List Entry) (knows : List Know) : Type 0 where
   pub legal : IsLegalAt (opening_moment apps) log
+  pub by_callers : are_by_callers log ≡ true
   pub each : (j : ℕ) (k : Know) → get_elem? knows j ≡ some k → Knows apps log k
   pub owners : (n : ℕ) → n < apps + 2 → total (owns n) knows ≡ 1
   pub nobody : (n : ℕ) → apps + 2 ≤ n → total (owns n) knows ≡ 0

@@ -1,16 +1,18 @@
 -- A call under the lock: what is taken, noted and given back, put together.
 use Rattle.std.proofs.Common.{◌≡◌, ℕ, zero, suc, ℤ, ◌<◌, ◌≤ℤ◌, pos, ◌^◌, true, List, [], ◌∷◌, ◌++◌, length, sym, refl, ap, ◌∙◌, subst, Some, true≢false}
 use Rattle.xr_types.specs.declared.calls.Actor.{Actor}
+use Rattle.xr_types.specs.declared.calls.Actor.TheVariants.{App, Compositor, Device}
 use Rattle.xr_types.specs.declared.calls.Call.{Call}
 use Rattle.xr_types.specs.declared.calls.Reply.{Reply}
 use Rattle.xr_types.specs.declared.calls.Step.TheVariants.{Done}
 use Rattle.xr_types.specs.declared.frames.Image.{Image}
 use Rattle.xr_types.specs.declared.code.Code.TheVariants.{Success, CallOrderInvalid}
 use Rattle.xr_model.specs.machine.CoreCalls as core
-use Rattle.xr_model.specs.machine.CoreCalls.{Lent, MayAsk, Applies, entry_of, left_in, WaitsBy}
+use Rattle.xr_model.specs.machine.CoreCalls.{Lent, asked, MayAsk, Applies, entry_of, left_in, WaitsBy}
 use Rattle.xr_model.specs.machine.History.{StartsAt, clock_of}
 use Rattle.xr_model.specs.machine.Machine.{IsPresent, step}
 use Rattle.xr_model.specs.machine.Request.{Request, next_frame, Entry, Exchange, request_of}
+use Rattle.xr_model.specs.machine.Rule.{is_by}
 use Rattle.xr_model.specs.machine.State.{State}
 use Rattle.xr_model.specs.laws.FewCalls.{MayAdd}
 use Rattle.xr_model.specs.laws.ImageLaws.{is_next_frame}
@@ -22,7 +24,7 @@ use Rattle.xr_rule.specs.View.{Know, View, Idle, view, number_in, calls_in, hold
 use Rattle.xr_lock.specs.Holders.{noted_entry, holder, Taken, NotesCall, Noted, MayGive, Given}
 use Rattle.xr_lock.proofs.Answered.{answered_notes}
 use Rattle.xr_runtime.specs.Calling.{Has, actor_of, behind, seen_by, HasRoom, MayMake, Called, Reads}
-use Rattle.xr_runtime.proofs.Going.{here_at_look, clock_at_look}
+use Rattle.xr_runtime.proofs.Going.{here_at_look, clock_at_look, held_at_look}
 
 -- a core stands for the state that it is
 abbrev pub is_state : State → State → Type 0
@@ -62,6 +64,14 @@ asks_frame : (r : Request) → is_next_frame r ≡ true → r ≡ next_frame
 asks_frame next_frame is = refl
 asks_frame r is = absurd (true≢false (sym is))
 
+-- and by the compositor alone
+pub asks_as_compositor : (who : Actor) (what : Request) → is_by (asked who what).caller who ≡ true → is_next_frame what ≡ true → who ≡ Compositor
+asks_as_compositor Compositor what by asks = refl
+asks_as_compositor (App k) next_frame by asks = absurd (true≢false (sym by))
+asks_as_compositor (App k) what by asks = absurd (true≢false (sym asks))
+asks_as_compositor Device next_frame by asks = absurd (true≢false (sym by))
+asks_as_compositor Device what by asks = absurd (true≢false (sym asks))
+
 frame_in_order : (s : State) (e : Entry) → s.cells.held ≡ [] → e.request ≡ next_frame → (step s e).1.reply.code ≡ Success
 frame_in_order s e none asks = subst (λ (r : Request). (step s (record e { request = r })).1.reply.code ≡ Success) (sym asks) (by s.cells.held none)
   where
@@ -79,7 +89,7 @@ may_add zero m e calls room none = room
 may_add (suc (suc n)) m e calls room none = room
 
 module _ (m n : Has) (held new : Held State) (who : Actor) (call : Call) (reply : Reply) (size : ℕ) (before after : Lent) (may : MayMake m who (request_of call) size) (taken : Taken stands m.0.know n held)
-    (done : Applies held.value new.value who call before after (Done reply)) (none_held : is_next_frame (request_of call) ≡ true → held.value.cells.held ≡ []) where
+    (done : Applies held.value new.value who call before after (Done reply)) where
   abbrev k : Know
   k = m.0.know
 
@@ -95,11 +105,16 @@ module _ (m n : Has) (held new : Held State) (who : Actor) (call : Call) (reply 
   starts : StartsAt (clock_of now.clocks (actor_of k)) (request_of call)
   starts = subst (λ (c : ℤ). StartsAt c (request_of call)) (sym (clock_at_look k taken.look taken.sees here)) (subst (λ (a : Actor). StartsAt (clock_of (seen_by k).clocks a) (request_of call)) may.is_own may.starts)
 
+  none_held : is_next_frame (request_of call) ≡ true → now.state.cells.held ≡ []
+  none_held asks =
+      let caller = subst (λ (a : Actor). is_by (asked a (request_of call)).caller a ≡ true) may.is_own may.asks.caller in
+      held_at_look k taken.look taken.sees (asks_as_compositor (actor_of k) (request_of call) caller asks) ∙ may.none_held asks
+
   pub may_note : NotesCall stands n new call reply
   may_note = answered_notes stands k (hold_from taken.ticket taken.look) n new call reply size before after new.value taken.is refl
       (subst (λ (a : Actor). MayAsk a (request_of call) size) may.is_own may.asks)
       starts
-      (may_add (number_in k.own) now (noted_entry k call reply) (calls_in k.own) may.has_room (λ asks. subst (λ (s : State). s.cells.held ≡ []) taken.stands_now (none_held asks)))
+      (may_add (number_in k.own) now (noted_entry k call reply) (calls_in k.own) may.has_room none_held)
       done_now
       (λ x is. sym is)
 

@@ -6,13 +6,14 @@ use Rattle.std.proofs.lemmas.List.{length-set, length-replicate}
 use Rattle.xr_types.specs.declared.calls.Actor.{Actor}
 use Rattle.xr_types.specs.declared.calls.Actor.TheVariants.{App, Compositor, Device}
 use Rattle.xr_types.specs.declared.calls.Reply.{Reply}
+use Rattle.xr_types.specs.declared.frames.Image.{Image}
 use Rattle.xr_model.specs.machine.CoreCalls.{Lent, MayAsk}
 use Rattle.xr_model.specs.machine.History.{after, clock_of, with_clock, clocks_after, opening_clocks, StartsAt}
 use Rattle.xr_model.specs.machine.Machine.{IsPresent, step}
 use Rattle.xr_model.specs.machine.Request.{Entry, Exchange, Request, next_frame, image_done, is_actor, is_locked}
 use Rattle.xr_model.specs.machine.State.{State, opening, with_apps}
 use Rattle.xr_model.specs.laws.FewCalls.{how_many, is_end, tells_end}
-use Rattle.xr_model.specs.laws.ImageLaws.{is_compositor_call}
+use Rattle.xr_model.specs.laws.ImageLaws.{is_compositor_call, is_next_frame}
 use Rattle.xr_model.specs.laws.Moments.{Moment, opening_moment, moment_after, clocks_over, exchange_at, actor_at}
 use Rattle.xr_model.specs.laws.MomentLaws.{is_leave, leaves_by_none}
 use Rattle.xr_model.proofs.MarkValues.{set_there}
@@ -24,6 +25,7 @@ use Rattle.xr_runtime.specs.Passes.{MayCall, AppCalls, IsCompositor, Composes, I
 use Rattle.xr_runtime.specs.declared.passes.AppPass.{AppPass}
 use Rattle.xr_runtime.specs.declared.passes.CompositorPass.{CompositorPass}
 use Rattle.xr_runtime.specs.declared.passes.DevicePass.{DevicePass}
+use Rattle.xr_runtime.proofs.Making.{asks_as_compositor}
 use Rattle.xr_runtime.proofs.Going.{here_at_look, clock_at_look, moments_in_turn, rest_is_legal}
 
 -- ---- what a call makes of a seat
@@ -180,14 +182,22 @@ starts_alone clock next_frame its_own = tt
 starts_alone clock image_done its_own = tt
 starts_alone clock what its_own = absurd (true≢false (sym its_own))
 
-pub may_compose : (table : TableId) (p : CompositorPass) (what : Request) (size : ℕ) → IsCompositor table p → p.ended ≡ false → MayAsk Compositor what size → is_compositor_call what ≡ true → MayMake p.seat.me Compositor what size
-may_compose table p what size is unended asks its_own = record {
+none_left : (held : List Image) → length held ≡ 0 → held ≡ []
+none_left [] none = refl
+none_left (x ∷ xs) none = absurd (omega (arith, none))
+
+no_device : Device ≡ Compositor → ⊥
+no_device is = cc
+
+pub may_compose : (table : TableId) (p : CompositorPass) (what : Request) (size : ℕ) → IsCompositor table p → p.ended ≡ false → MayAsk Compositor what size → is_compositor_call what ≡ true → (is_next_frame what ≡ true → p.held ≡ 0) → MayMake p.seat.me Compositor what size
+may_compose table p what size is unended asks its_own none_held = record {
   between = is.rests.between;
   is_own = sym (ap actor_at is.is_own);
   here = tt;
   asks = asks;
   starts = starts_alone (clock_of (seen_by p.seat.me.0.know).clocks Compositor) what its_own;
   has_room = subst (λ (n : ℕ). HasRoom n (calls_in p.seat.me.0.know.own)) (sym is.is_own) (is.unended unended);
+  none_held = λ asks_it. none_left (seen_by p.seat.me.0.know).state.cells.held (sym is.held_is ∙ none_held asks_it);
 }
 
 pub may_tell : (table : TableId) (p : DevicePass) (what : Request) (size : ℕ) → IsDevice table p → p.calls < 2 ^ 40 → MayAsk Device what size → StartsAt (pos 0) what → MayMake p.seat.me Device what size
@@ -198,6 +208,7 @@ may_tell table p what size is few asks starts = record {
   asks = asks;
   starts = starts;
   has_room = subst (λ (n : ℕ). HasRoom n (calls_in p.seat.me.0.know.own)) (sym is.is_own) (subst (λ (n : ℕ). n < 2 ^ 40) is.counts few);
+  none_held = λ asks_it. absurd (no_device (asks_as_compositor Device what asks.caller asks_it));
 }
 
 how_many_more : (xs : List Exchange) (x : Exchange) → tells_end x ≡ false → how_many tells_end (xs ++ x ∷ []) ≡ how_many tells_end xs

@@ -1,5 +1,5 @@
 -- What a call under the lock asks of its seat, and what it tells.
-use Rattle.std.specs.Prelude.{◌≡◌, ◌^◌, ◌<◌, ℕ, suc, zero, ℤ, pos, ◌≤ℤ◌, List, [], length, Option}
+use Rattle.std.specs.Prelude.{◌≡◌, ◌^◌, ◌<◌, ℕ, suc, zero, ℤ, pos, ◌≤ℤ◌, true, List, [], length, Option}
 use Rattle.atomic_table.specs.Table.{Me}
 use Rattle.xr_types.specs.declared.calls.Actor.{Actor}
 use Rattle.xr_types.specs.declared.calls.Reply.{Reply}
@@ -9,6 +9,7 @@ use Rattle.xr_model.specs.machine.Machine.{IsPresent, step}
 use Rattle.xr_model.specs.machine.Request.{Request, Entry, Exchange}
 use Rattle.xr_model.specs.machine.State.{State}
 use Rattle.xr_model.specs.laws.FewCalls.{how_many, tells_end}
+use Rattle.xr_model.specs.laws.ImageLaws.{is_next_frame}
 use Rattle.xr_model.specs.laws.Moments.{Moment, opening_moment, moment_after, actor_at}
 use Rattle.xr_rule.specs.declared.held.Held.{Held}
 use Rattle.xr_rule.specs.Plays.{Decides}
@@ -41,7 +42,7 @@ HasRoom (suc zero) calls = how_many tells_end calls ≡ 0
 HasRoom _ calls = length calls < 2 ^ 40
 
 -- A seat may make this call: none is under way, it is the actor's own, the actor is there, and it has room for one more; a wait
--- for an image begins at the clock that the seat has seen.
+-- for an image begins at the clock that the seat has seen, and a frame is asked for where no image is held.
 pub record MayMake (m : Has) (who : Actor) (what : Request) (size : ℕ) : Type 0 where
   pub between : IsBetween m
   pub is_own : who ≡ actor_of m.0.know
@@ -49,6 +50,7 @@ pub record MayMake (m : Has) (who : Actor) (what : Request) (size : ℕ) : Type 
   pub asks : MayAsk who what size
   pub starts : StartsAt (clock_of (seen_by m.0.know).clocks who) what
   pub has_room : HasRoom (number_in m.0.know.own) (calls_in m.0.know.own)
+  pub none_held : is_next_frame what ≡ true → (seen_by m.0.know).state.cells.held ≡ []
 
 -- The call is the last entry of a legal history that goes on from what the seat had seen, with nothing of the seat's own between;
 -- the reply, and what is put into what the call was lent, are the machine's at that place.

@@ -1,6 +1,5 @@
 // One private call under the lock, which every public call is made of.
-ghost use Rattle.std.specs.Prelude.{◌≡◌, ◌≤ℤ◌, pos, [], true, false, length, MatchOption};
-ghost use Rattle.xr_model.specs.laws.ImageLaws.{is_next_frame};
+ghost use Rattle.std.specs.Prelude.{◌≡◌, ◌≤ℤ◌, pos, length, MatchOption};
 ghost use Rattle.xr_model.specs.machine.Request.{request_of};
 ghost use Rattle.xr_runtime.specs.Calling.{MayMake, Called, Reads, Waited};
 
@@ -22,16 +21,6 @@ pub(crate) struct Answered {
     pub(crate) reply: Reply,
     pub(crate) clock: i64,
     pub(crate) images: usize,
-}
-
-// whether a call asks for a frame while images are held, which no pass does
-fn is_early(core: &PlainCore, call: &Call<'_>) -> bool
-    ensures { result ≡ false → is_next_frame (request_of call.now) ≡ true → core.now.cells.held ≡ [] }
-{
-    match call {
-        Call::NextFrame => core.held() > 0,
-        _ => false,
-    }
 }
 
 // the reply beside what a pass keeps of the core behind it
@@ -66,10 +55,6 @@ impl Runtime {
     {
         let lock = Lock { table: &self.table };
         let mut held = lock.take(rt, seat);
-        if is_early(&held.value, call) {
-            lock.give(seat, held);
-            return None;
-        }
         match held.value.apply(who, call, text, shown) {
             Step::Done(reply) => {
                 let answered = tell(&held.value, reply);

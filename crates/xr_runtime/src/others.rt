@@ -2,7 +2,7 @@
 ghost use Rattle.std.specs.Prelude.{◌≡◌, ◌<◌, ◌^◌, ℕ, List, [], false, true, length};
 ghost use Rattle.xr_types.specs.Device.{checks};
 ghost use Rattle.xr_model.specs.laws.FewCalls.{is_end};
-ghost use Rattle.xr_model.specs.laws.ImageLaws.{is_compositor_call};
+ghost use Rattle.xr_model.specs.laws.ImageLaws.{is_compositor_call, is_next_frame};
 ghost use Rattle.xr_model.specs.machine.CoreCalls.{Lent, MayAsk};
 ghost use Rattle.xr_model.specs.machine.Request as request;
 ghost use Rattle.xr_types.specs.declared.calls.Actor.TheVariants.{Compositor};
@@ -35,6 +35,7 @@ impl Runtime {
         requires few { pass.old.calls < 2 ^ 63 }
         requires asks { MayAsk Compositor (request_of call.now) 0 }
         requires its_own { is_compositor_call (request_of call.now) ≡ true }
+        requires none_held { is_next_frame (request_of call.now) ≡ true → pass.old.held ≡ 0 }
         ensures called { (text : List ℕ) × Composes (table_of self.now) pass.old (request_of call.now) (record { text = []; frame = shown.old }) (record { text = text; frame = shown.new }) result pass.new }
     {
         let answered = self.make(rt, &mut pass.seat, Actor::Compositor, call, &mut [], shown);

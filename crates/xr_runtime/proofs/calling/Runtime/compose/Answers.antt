@@ -5,7 +5,7 @@ use Rattle.xr_runtime.proofs.Passing.{may_compose, composed}
 use Rattle.xr_runtime.proofs.calling.Runtime.compose.Goals as goal
 
 pub make-answered-requires-clause-may : goal.make-answered-requires-clause-may
-make-answered-requires-clause-may g c = may_compose (table_of c.args.self.now) c.args.pass.now (request_of c.args.call.now) 0 c.requires.is c.requires.unended c.requires.asks c.requires.its_own
+make-answered-requires-clause-may g c = may_compose (table_of c.args.self.now) c.args.pass.now (request_of c.args.call.now) 0 c.requires.is c.requires.unended c.requires.asks c.requires.its_own c.requires.none_held
 
 pub returns : goal.returns
 returns g c = record {
