@@ -58,10 +58,13 @@ class Chain:
         self.last = self.acquired.pop(0)
         self.has_waited = False
 
+    def is_within(self, x: int, y: int, width: int, height: int) -> bool:
+        """Whether this is a part of its images, with at least a pixel."""
+        return x >= 0 and y >= 0 and width > 0 and height > 0 and x + width <= self.width and y + height <= self.height
+
     def has_part(self, x: int, y: int, width: int, height: int) -> bool:
         """Whether an image was released last, and this is a part of it."""
-        is_within = x >= 0 and y >= 0 and x + width <= self.width and y + height <= self.height
-        return is_within and width > 0 and height > 0 and self.last is not None
+        return self.is_within(x, y, width, height) and self.last is not None
 
 
 def parts_of(layer: Fields) -> list[list[int]]:

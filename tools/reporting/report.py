@@ -221,7 +221,15 @@ class Reader:
 
 
 def read_report(data: bytes) -> Report:
-    """The report that these bytes are."""
+    """The report that these bytes are, whose lines agree on who has ended, and on places."""
+    report = read_lines(data)
+    check_ends(report)
+    check_places(report)
+    return report
+
+
+def read_lines(data: bytes) -> Report:
+    """The report that these bytes have the form of. Whether its lines agree isn't looked at."""
     reader, report = Reader(data), Report()
     while len(report.scripts) < MOST_SCRIPTS and reader.takes(f"thread {len(report.scripts) + 1}"):
         report.scripts.append(reader.script(len(report.scripts) + 1))
@@ -241,8 +249,6 @@ def read_report(data: bytes) -> Report:
     report.status = int(status[1])
     if reader.at < len(reader.lines):
         raise reader.due("nothing")
-    check_ends(report)
-    check_places(report)
     return report
 
 
