@@ -7,11 +7,10 @@ from __future__ import annotations
 
 import re
 
-from states import LAST, MOST_FRAMES, next_state
+from states import LAST, MOST_FRAMES, next_state, predicted_time
 
 from .images import Chain, Fields, Frames, images_of, may_make
 
-MOST_TIME = 2**63 - 1
 MOST_SPACES = 64
 
 
@@ -192,9 +191,7 @@ class Machine:
         session = self.running(fields)
         if not session:
             return 0
-        last = max(session.predicted, self.clock)
-        time = self.base if last < self.base else last + self.period - (last - self.base) % self.period
-        session.predicted = min(time, MOST_TIME)
+        session.predicted = predicted_time(session.predicted, self.clock, self.base, self.period)
         session.has_waited = True
         return session.predicted
 

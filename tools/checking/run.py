@@ -42,6 +42,15 @@ class Answer:
     more: tuple[str, ...] = ()
 
 
+def named(value: Any, values: dict[str, int]) -> Any:
+    """What stands in a field, with values in the place of names."""
+    if isinstance(value, str):
+        return values.get(value, 0)
+    if isinstance(value, list):
+        return [named(it, values) for it in value]
+    return {key: named(it, values) for key, it in value.items()} if isinstance(value, dict) else value
+
+
 class Script:
     """A script on its way: its ops, how many of them were made, the clock after the last one, and what its names stand for."""
 
@@ -60,20 +69,12 @@ class Script:
     def next(self) -> Step:
         return self.steps[self.made]
 
-    def named(self, value: Any) -> Any:
-        """What stands in a field, with values in the place of names."""
-        if isinstance(value, str):
-            return self.values.get(value, 0)
-        if isinstance(value, list):
-            return [self.named(it) for it in value]
-        return {key: self.named(it) for key, it in value.items()} if isinstance(value, dict) else value
-
     def fields(self) -> Fields:
         """The fields of the next op, with values in the place of names. They stay as long as it waits."""
         if self.known is None:
             self.known = dict(self.next.fields)
             for key in USES & self.known.keys():
-                self.known[key] = self.named(self.known[key])
+                self.known[key] = named(self.known[key], self.values)
         return self.known
 
     def turn(self, machine: Machine) -> bool:

@@ -16,9 +16,8 @@ from judging.answers import (
 )
 from judging.frames import layers_of
 from judging.state import State
-from states import MOST_FRAMES
+from states import MOST_FRAMES, MOST_TIME, predicted_time
 
-FOREVER = 2**63 - 1
 ENDED = "ended"
 
 
@@ -47,11 +46,12 @@ class ImageCalls(State):
         return session.answer(str(index))
 
     def wait_image(self, chain: int, timeout: int, since: int) -> Answer:
-        """The time runs on the device's clock, from what that showed after the caller's last locked call."""
+        """The time runs on the device's clock, from what that showed after the caller's last locked call. The longest timeout is
+        never up."""
         found, session = self.live_chain(chain), self.session_above()
         refuse(not found.may_wait, CALL_ORDER_INVALID)
         if self.frames.is_used(found.oldest):
-            refuse(timeout < FOREVER and timeout <= self.device.clock - since, TIMEOUT_EXPIRED)
+            refuse(timeout < MOST_TIME and timeout <= self.device.clock - since, TIMEOUT_EXPIRED)
             raise HeldBack
         found.has_waited = True
         return session.answer()
@@ -81,7 +81,7 @@ class FrameCalls(State):
         found, device = self.running_session(session), self.device
         if found.has_waited or len(self.frames.pending) + found.has_begun > MOST_FRAMES:
             raise HeldBack
-        found.predicted = found.next_time(device.clock, device.base, device.period)
+        found.predicted = predicted_time(found.predicted, device.clock, device.base, device.period)
         found.has_waited = True
         render = flag(found.state in ("VISIBLE", "FOCUSED"))
         return found.answer(f"time {found.predicted} period {device.period} render {render}", found.predicted)

@@ -27,9 +27,7 @@ class Line(NamedTuple):
         made = self.made
         if made.actor == "script":
             return f"script {made.script} op {made.number} {made.op}"
-        if made.what == "event":
-            return f"event {made.number} {made.op}"
-        return f"{made.what} {made.number or made.text}".rstrip()
+        return f"device event {made.number}" if made.what == "event" else made.actor
 
     @property
     def told(self) -> str:

@@ -7,6 +7,7 @@ from judging.input_calls import ActionCalls, SyncCalls
 from judging.session_calls import InstanceCalls, SessionCalls, SpaceCalls
 from judging.state import State
 from reporting.report import GETTERS
+from reporting.scenario import MOST_HANDLE_MARK
 
 # the calls that publish what getters answer from, and the codes by which they do
 PUBLISHING = frozenset(
@@ -14,7 +15,6 @@ PUBLISHING = frozenset(
     sync_actions""".split()
 )
 PUBLISHED_BY = (SUCCESS, LOSS_PENDING, NOT_FOCUSED)
-MOST_HANDLE_MARK = 32
 
 
 class OwnCalls(State):

@@ -138,9 +138,9 @@ class Replay:
         try:
             told = self.machine.ask_for_frame()
         except HeldBack:
-            raise line.wrong(f"{line.told}, and the machine has the compositor wait there") from None
+            raise line.wrong(f"{line.told}, and the machine has it wait there") from None
         if told != line.told:
-            raise line.wrong(f"{line.told}, and the machine tells the compositor {told} there")
+            raise line.wrong(f"{line.told}, and the machine tells it {told} there")
         self.has_ended = told == ENDED
 
     def give_back_all(self) -> None:
@@ -157,7 +157,7 @@ class Replay:
         try:
             self.machine.tell_event(told)
         except HeldBack:
-            raise line.wrong(f"{told}, and the machine has the device wait there") from None
+            raise line.wrong(f"{told}, and the machine has it wait there") from None
         self.told += 1
 
     # ---- the end

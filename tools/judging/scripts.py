@@ -1,12 +1,11 @@
 """A script on its way: the ops that it has still to make, and what its names stand for."""
 from __future__ import annotations
 
-from typing import Any
-
+from checking.run import named
 from judging.answers import Answer, Fields
-from judging.frame_calls import FOREVER
 from reporting.report import GETTERS
 from reporting.scenario import LEAVE, Op
+from states import MOST_TIME
 
 # the fields that may have names, also in lists within them
 USES = frozenset(
@@ -34,22 +33,15 @@ class Script:
     def next(self) -> Op:
         return self.ops[self.made]
 
-    def named(self, value: Any) -> Any:
-        """What stands in a field, with values in the place of names."""
-        if isinstance(value, str):
-            return self.values.get(value, 0)
-        if isinstance(value, list):
-            return [self.named(it) for it in value]
-        return {key: self.named(it) for key, it in value.items()} if isinstance(value, dict) else value
-
     def fields(self) -> Fields:
         """The fields of the next call by their values, which stay as long as it waits."""
         if self.known is None:
             op = self.next
-            self.known = {key: self.named(it) if key in USES else it for key, it in op.arguments.items() if key != "as"}
+            given = {key: it for key, it in op.arguments.items() if key != "as"}
+            self.known = {key: named(it, self.values) if key in USES else it for key, it in given.items()}
             if op.name == "wait_image":
                 timeout = self.known["timeout"]
-                self.known.update(timeout=FOREVER if timeout == "inf" else timeout, since=self.clock)
+                self.known.update(timeout=MOST_TIME if timeout == "inf" else timeout, since=self.clock)
         return self.known
 
     def keep(self, answer: Answer, clock: int) -> None:

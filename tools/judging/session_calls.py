@@ -2,10 +2,11 @@
 (chapter 7). A method of the name of a call makes it, by the values of its fields."""
 from __future__ import annotations
 
+from checking.machine import MOST_SPACES
 from judging.actions import INACTIVE, column_of
 from judging.answers import ACTION_TYPE_MISMATCH, LIMIT_REACHED, POSE_INVALID, TIME_INVALID, Answer, Refused, refuse
 from judging.sessions import Session
-from judging.spaces import MOST_SPACES, Space
+from judging.spaces import Space
 from judging.state import State
 
 THE_SYSTEM = 1

@@ -8,7 +8,6 @@ from states import LAST, next_state
 
 MOST_EVENTS = 32
 MOST_LOST = 2**64 - 1
-MOST_TIME = 2**63 - 1
 
 
 class Events:
@@ -90,9 +89,3 @@ class Session:
         """A running period begins or ends. A frame that is waited for or begun is forgotten."""
         self.is_running = is_running
         self.has_waited = self.has_begun = False
-
-    def next_time(self, clock: int, base: int, period: int) -> int:
-        """The time of the grid that is predicted next."""
-        last = max(self.predicted, clock)
-        time = base if last < base else last + period - (last - base) % period
-        return min(time, MOST_TIME)

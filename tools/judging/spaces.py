@@ -3,7 +3,6 @@ from __future__ import annotations
 
 from typing import NamedTuple
 
-MOST_SPACES = 64
 MOST_SAMPLES = 16
 
 
