@@ -6,11 +6,15 @@ ghost use Rattle.std.specs.Prelude.{◌≡◌};
 ghost use Rattle.xr_lock.specs.Holders.{noted_entry, Taken, NotesCall, MayNoteAs, Noted, MayGive, Given};
 ghost use Rattle.xr_rule.specs.Seats.{stands_in, IsBetween};
 
+use std::hint::spin_loop;
 use std::marker::Brand;
 use std::sync::Wait;
 use xr_model::Machine;
 use xr_rule::{Draw, Held, Look, Note, Noting, Serve, XrSeat, XrTable};
 use xr_types::{Call, Reply};
+
+// how often one who waits looks before it parks
+const LOOKS: u32 = 256;
 
 /// The lock of a table.
 #[derive(Drop)]
@@ -20,7 +24,8 @@ pub struct Lock<'a, M: Machine> {
 }
 
 impl<M: Machine + Drop> Lock<'_, M> {
-    /// Draws a ticket, waits until it is served, and takes the value, which stands for the state after the history so far.
+    /// Draws a ticket, waits until it is served, and takes the value, which stands for the state after the history so far. It parks
+    /// only where a bounded number of looks didn't find its ticket served.
     pub fn take<R: Wait>(&self, rt: &R, seat: &mut XrSeat<M>) -> Held<M>
         requires own { seat.old.table_id ≡ self.now.table.now.table.shared.table_id }
         requires between { IsBetween seat.old.me }
@@ -29,12 +34,18 @@ impl<M: Machine + Drop> Lock<'_, M> {
     {
         let shared = &self.table.table.shared;
         let mine = shared.fetch_add::<Draw>(seat, 0, 1);
+        let mut looks = 0;
         for _ in rt.forever() {
             let now = shared.load::<Look>(seat, 1);
             if now == mine {
                 return shared.exchange(seat, 0, None).unwrap();
             }
-            shared.park(rt, 1, (now & 0xffff_ffff) as u32);
+            if looks < LOOKS {
+                looks += 1;
+                spin_loop();
+            } else {
+                shared.park(rt, 1, (now & 0xffff_ffff) as u32);
+            }
         }
         unreachable!()
     }
