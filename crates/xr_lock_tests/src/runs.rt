@@ -1,0 +1,142 @@
+// Runs of eight applications on threads, each looked at whether one history explains its replies.
+ghost use Rattle.std.specs.Prelude.{◌≡◌, ◌<◌, ℕ, length, slice_index_or};
+ghost use Rattle.xr_lock_tests.specs.Resting.{Rests, IsNumbered};
+
+use crate::calling::take_part;
+use crate::calls::{APPS, Made, STEPS, Steps, call_of, is_own, is_same};
+use crate::seats::end;
+use std::alloc::Global;
+use std::io;
+use std::io::Print;
+use std::sync::{Mutex, Wait};
+use std::thread::{Threads, for_each_mut};
+use xr_core::PlainCore;
+use xr_rule::{XrSeat, XrTable};
+use xr_types::{Actor, NoMemory, Shown, Step};
+
+/// The calls of all applications.
+#[derive(Clone, Copy)]
+pub(crate) struct Story {
+    pub(crate) apps: [Steps; APPS as usize],
+}
+
+/// The calls of the seat at this place, which go into the story.
+fn tell<R: Wait>(
+    rt: &R,
+    table: &XrTable<PlainCore>,
+    place: usize,
+    seat: &mut XrSeat<PlainCore>,
+    run: u64,
+    story: &Mutex<Story>,
+)
+    requires numbered { IsNumbered table.now.table.shared.table_id place seat.old }
+    ensures rests { Rests table.now.table.shared.table_id seat.new }
+{
+    let steps = take_part(rt, table, place, seat, run);
+    if place < APPS as usize {
+        story.lock(rt).apps[place] = steps;
+    }
+}
+
+/// Each seat makes its calls on a thread of its own.
+fn tell_all<R: Threads + Wait + Sync>(
+    rt: &R,
+    table: &XrTable<PlainCore>,
+    seats: &mut [XrSeat<PlainCore>],
+    run: u64,
+    story: &Mutex<Story>,
+)
+    requires numbered { (i : ℕ) (d : _) → i < length seats.old → IsNumbered table.now.table.shared.table_id i (slice_index_or seats.old i d) }
+    ensures rest { (i : ℕ) (d : _) → i < length seats.old → Rests table.now.table.shared.table_id (slice_index_or seats.new i d) }
+{
+    for_each_mut(
+        rt,
+        seats,
+        10,
+        &|place, seat: &mut XrSeat<PlainCore>| tell(rt, table, place, seat, run, story),
+    );
+}
+
+/// The call that was answered with this place, and its application.
+fn made_at(story: &Story, place: u64) -> Option<(u8, Made)> {
+    for app in 0..APPS {
+        for step in 0..STEPS {
+            if let Some(made) = story.apps[app as usize][step] {
+                if made.reply.place == place {
+                    return Some((app + 1, made));
+                }
+            }
+        }
+    }
+    None
+}
+
+/// Whether a core answers this call so.
+fn answers(core: &mut PlainCore, app: u8, made: &Made) -> bool {
+    let call = call_of(made.kind, made.instance);
+    if !is_own(app, &call) || !core.is_present(app) || core.calls() >= 1 << 44 {
+        return false;
+    }
+    match core.apply(Actor::App(app), &call, &mut [], &mut Shown::default()) {
+        Step::Done(reply) => is_same(&reply, &made.reply),
+        Step::NotReady => false,
+    }
+}
+
+/// How many calls were made.
+fn count(story: &Story) -> u64 {
+    let mut count = 0u64;
+    for app in 0..APPS {
+        for step in 0..STEPS {
+            if story.apps[app as usize][step].is_some() {
+                count = count.wrapping_add(1);
+            }
+        }
+    }
+    count
+}
+
+/// Whether the calls in the order of their places are answered so by a new core on one thread, and there are no others.
+fn is_legal(alloc: Global, story: &Story, calls: u64) -> Result<bool, NoMemory> {
+    let mut core = PlainCore::start(alloc, APPS)?;
+    for place in 0..count(story) {
+        match made_at(story, place.wrapping_add(1)) {
+            Some((app, made)) if answers(&mut core, app, &made) => {}
+            _ => return Ok(false),
+        }
+    }
+    Ok(core.calls() == calls)
+}
+
+/// Makes a run; whether it was legal.
+pub(crate) fn run<R: Threads + Wait + Sync>(
+    rt: &R,
+    alloc: Global,
+    run: u64,
+) -> Result<bool, NoMemory> {
+    let core = PlainCore::start(alloc, APPS)?;
+    let (table, mut seats) = XrTable::start(alloc, core, APPS)?;
+    let story = Mutex::new(Story {
+        apps: [[None; STEPS]; APPS as usize],
+    });
+    tell_all(rt, &table, seats.as_mut_slice(), run, &story);
+    let calls = end(table, seats).calls();
+    let told = *story.lock(rt);
+    is_legal(alloc, &told, calls)
+}
+
+/// Makes runs, and says how many were legal; whether all were.
+pub(crate) fn tell_runs<R: Threads + Wait + Sync + Print>(
+    rt: &R,
+    alloc: Global,
+    runs: u64,
+) -> io::Result<bool> {
+    let mut legal = 0u64;
+    for each in 0..runs {
+        if let Ok(true) = run(rt, alloc, each) {
+            legal = legal.wrapping_add(1);
+        }
+    }
+    println!(rt; "{legal} of {runs} runs of {APPS} threads were legal")?;
+    Ok(legal == runs)
+}
