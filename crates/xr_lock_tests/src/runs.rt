@@ -8,16 +8,41 @@ use crate::seats::end;
 use std::alloc::Global;
 use std::io;
 use std::io::Print;
+use std::sync::atomic::AtomicU64;
+use std::sync::atomic::Ordering::SeqCst;
 use std::sync::{Mutex, Wait};
-use std::thread::{Threads, for_each_mut};
+use std::thread::{Threads, for_each_mut, yield_now};
 use xr_core::PlainCore;
 use xr_rule::{XrSeat, XrTable};
 use xr_types::{Actor, NoMemory, Shown, Step};
+
+/// How often a thread looks whether the others have come.
+const PATIENCE: u32 = 10_000;
 
 /// The calls of all applications.
 #[derive(Clone, Copy)]
 pub(crate) struct Story {
     pub(crate) apps: [Steps; APPS as usize],
+}
+
+/// What the threads of a run share beside the table: the story, and how many of them have come.
+#[derive(Drop)]
+struct Meeting {
+    story: Mutex<Story>,
+    came: AtomicU64,
+}
+
+impl Meeting {
+    /// Waits for the others, but not for long.
+    fn wait(&self) {
+        self.came.fetch_add(1, SeqCst);
+        for _ in 0..PATIENCE {
+            if self.came.load(SeqCst) >= APPS as u64 {
+                return;
+            }
+            yield_now();
+        }
+    }
 }
 
 /// The calls of the seat at this place, which go into the story.
@@ -27,14 +52,15 @@ fn tell<R: Wait>(
     place: usize,
     seat: &mut XrSeat<PlainCore>,
     run: u64,
-    story: &Mutex<Story>,
+    meeting: &Meeting,
 )
     requires numbered { IsNumbered table.now.table.shared.table_id place seat.old }
     ensures rests { Rests table.now.table.shared.table_id seat.new }
 {
-    let steps = take_part(rt, table, place, seat, run);
     if place < APPS as usize {
-        story.lock(rt).apps[place] = steps;
+        meeting.wait();
+        let steps = take_part(rt, table, place, seat, run);
+        meeting.story.lock(rt).apps[place] = steps;
     }
 }
 
@@ -44,7 +70,7 @@ fn tell_all<R: Threads + Wait + Sync>(
     table: &XrTable<PlainCore>,
     seats: &mut [XrSeat<PlainCore>],
     run: u64,
-    story: &Mutex<Story>,
+    meeting: &Meeting,
 )
     requires numbered { (i : ℕ) (d : _) → i < length seats.old → IsNumbered table.now.table.shared.table_id i (slice_index_or seats.old i d) }
     ensures rest { (i : ℕ) (d : _) → i < length seats.old → Rests table.now.table.shared.table_id (slice_index_or seats.new i d) }
@@ -53,7 +79,7 @@ fn tell_all<R: Threads + Wait + Sync>(
         rt,
         seats,
         10,
-        &|place, seat: &mut XrSeat<PlainCore>| tell(rt, table, place, seat, run, story),
+        &|place, seat: &mut XrSeat<PlainCore>| tell(rt, table, place, seat, run, meeting),
     );
 }
 
@@ -116,12 +142,15 @@ pub(crate) fn run<R: Threads + Wait + Sync>(
 ) -> Result<bool, NoMemory> {
     let core = PlainCore::start(alloc, APPS)?;
     let (table, mut seats) = XrTable::start(alloc, core, APPS)?;
-    let story = Mutex::new(Story {
-        apps: [[None; STEPS]; APPS as usize],
-    });
-    tell_all(rt, &table, seats.as_mut_slice(), run, &story);
+    let meeting = Meeting {
+        story: Mutex::new(Story {
+            apps: [[None; STEPS]; APPS as usize],
+        }),
+        came: AtomicU64::new(0),
+    };
+    tell_all(rt, &table, seats.as_mut_slice(), run, &meeting);
     let calls = end(table, seats).calls();
-    let told = *story.lock(rt);
+    let told = *meeting.story.lock(rt);
     is_legal(alloc, &told, calls)
 }
 
