@@ -1,11 +1,11 @@
 use Rattle.std.proofs.Common.{arith}
 use Rattle.xr_drive.proofs.serial.run_text.Goals as goal
 
-pub run-requires-clause-runs : goal.run-requires-clause-runs
-run-requires-clause-runs g c =
+pub run-requires : goal.run-requires
+run-requires g c =
     let read = c.in_ok-scenario.ensures in
     let few = read.few in
-    record { some = read.count.0; most = read.count.1; few = omega (arith, few); formed = read.formed }
+    record { runs = record { some = read.count.0; most = read.count.1; few = omega (arith, few); formed = read.formed } }
 
 pub returns-in-Ok-clause-means : goal.returns-in-Ok-clause-means
 returns-in-Ok-clause-means g c =
