@@ -9,7 +9,7 @@ from __future__ import annotations
 import re
 from collections.abc import Callable, Container
 from dataclasses import dataclass
-from typing import Any
+from typing import Any, Generic, TypeVar
 
 from .device import END, DeviceFound, Told
 from .images import Fields
@@ -51,11 +51,15 @@ def named(value: Any, values: dict[str, int]) -> Any:
     return {key: named(it, values) for key, it in value.items()} if isinstance(value, dict) else value
 
 
-class Script:
-    """A script on its way: its ops, how many of them were made, the clock after the last one, and what its names stand for."""
+OpT = TypeVar("OpT")
 
-    def __init__(self, steps: list[Step]) -> None:
-        self.steps = steps
+
+class OnItsWay(Generic[OpT]):
+    """A script on its way: its ops, how many of them were made, the clock after the last one, what its names stand for, and the
+    fields of the next op once they are known."""
+
+    def __init__(self, ops: list[OpT]) -> None:
+        self.ops = ops
         self.made = 0
         self.clock = 0
         self.values: dict[str, int] = {}
@@ -63,11 +67,15 @@ class Script:
 
     @property
     def is_done(self) -> bool:
-        return self.made == len(self.steps)
+        return self.made == len(self.ops)
 
     @property
-    def next(self) -> Step:
-        return self.steps[self.made]
+    def next(self) -> OpT:
+        return self.ops[self.made]
+
+
+class Script(OnItsWay[Step]):
+    """A script that makes an op in a turn, unless it has to wait."""
 
     def fields(self) -> Fields:
         """The fields of the next op, with values in the place of names. They stay as long as it waits."""
@@ -94,7 +102,7 @@ class Script:
 
     def left(self, does: Callable[[Step], bool]) -> int:
         """The place of the first op that does something and wasn't made, or 0."""
-        return next((place for place, it in enumerate(self.steps[self.made :], self.made + 1) if does(it)), 0)
+        return next((place for place, it in enumerate(self.ops[self.made :], self.made + 1) if does(it)), 0)
 
 
 def unset(marks: Container[int]) -> str:

@@ -1,7 +1,7 @@
 """A script on its way: the ops that it has still to make, and what its names stand for."""
 from __future__ import annotations
 
-from checking.run import named
+from checking.run import OnItsWay, named
 from judging.answers import Answer, Fields
 from reporting.report import GETTERS
 from reporting.scenario import LEAVE, Op
@@ -14,24 +14,12 @@ USES = frozenset(
 )
 
 
-class Script:
-    """A script by its number from 1, how many of its calls were made, and the clock after its last locked call."""
+class Script(OnItsWay[Op]):
+    """A script by its number from 1, which ends in `leave`."""
 
     def __init__(self, number: int, ops: list[Op]) -> None:
+        super().__init__([*ops, LEAVE])
         self.number = number
-        self.ops = [*ops, LEAVE]
-        self.made = 0
-        self.clock = 0
-        self.values: dict[str, int] = {}
-        self.known: Fields | None = None
-
-    @property
-    def is_done(self) -> bool:
-        return self.made == len(self.ops)
-
-    @property
-    def next(self) -> Op:
-        return self.ops[self.made]
 
     def fields(self) -> Fields:
         """The fields of the next call by their values, which stay as long as it waits."""
