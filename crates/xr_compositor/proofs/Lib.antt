@@ -1,0 +1,2 @@
+pub mod FewImages
+pub mod Turning
