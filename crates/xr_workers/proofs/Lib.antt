@@ -1,0 +1,4 @@
+pub mod CallsMade
+pub mod EventsMade
+pub mod ScriptsMade
+pub mod FramesMade

@@ -1,0 +1,13 @@
+use Rattle.std.proofs.Common.{◌+◌}
+use Rattle.xr_types.specs.declared.calls.Actor.TheVariants.{Compositor}
+use Rattle.xr_runtime.specs.Passes.{table_of}
+use Rattle.xr_workers.specs.Workers.{IsGated}
+use Rattle.xr_workers.specs.inside.Composing.{Composes}
+use Rattle.xr_workers.proofs.compositor.run_compositor.Given as goal
+
+-- so many turns were had
+abbrev pub invariant-loop : goal.invariant-loop
+invariant-loop g l = record {
+  went : Composes (table_of l.runtime) l.turns l.initial.pass l.pass l.kept;
+  gated : IsGated (g.G.Gate.came l.gate) (g.G.Gate.went l.gate) Compositor 0 l.turns;
+}

@@ -1,0 +1,6 @@
+-- What only proofs and private functions need.
+pub mod Groups
+pub mod Made
+pub mod Script
+pub mod Composing
+pub mod Telling

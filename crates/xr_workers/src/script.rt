@@ -1,0 +1,165 @@
+// A script on its way: its calls, one after another.
+ghost use Rattle.std.specs.Prelude.{◌≡◌, ◌+◌, ◌≤◌, ◌<◌, ◌^◌, false, IfOk, length, option_map};
+ghost use Rattle.xr_types.specs.declared.calls.Actor.TheVariants.{App};
+ghost use Rattle.xr_model.specs.runs.NameValues.{no_values};
+ghost use Rattle.xr_model.specs.runs.Robin.{with_start};
+ghost use Rattle.xr_model.specs.runs.Scripts.{request_for};
+ghost use Rattle.xr_model.specs.scenario.ScriptForm.{IsInRange, IsInForm};
+ghost use Rattle.xr_runtime.specs.Passes.{table_of, IsApp, MayCall};
+ghost use Rattle.xr_workers.specs.Workers.{IsGated};
+ghost use Rattle.xr_workers.specs.inside.Made.{AskedBy};
+ghost use Rattle.xr_workers.specs.inside.Script.{MadeOp, MadeSome};
+
+use crate::buffer::{lent_size, op_mark, op_start, written_size};
+use crate::calls::make_call;
+use crate::gate::Gate;
+use std::alloc::Global;
+use std::sync::Wait;
+use xr_runtime::{AppPass, Runtime};
+use xr_scenario_calls::{Names, Scratch, call_of};
+use xr_types::{Actor, Bytes, MOST_CAPACITY, Made, NoMemory, Op, Reply};
+
+/// How many bytes a call of a script is lent at most: the largest `capacity` of the format.
+const MOST_LENT: usize = MOST_CAPACITY as usize;
+
+/// A script on its way: what its names stand for, and the room where the lists of a call and the bytes that it is lent stand.
+#[derive(Drop)]
+pub(crate) struct Script {
+    pub(crate) names: Names,
+    scratch: Box<Scratch>,
+    buffer: [u8; MOST_LENT],
+}
+
+/// A reply, and the bytes that the call put into what it was lent, or nothing where memory was short.
+#[derive(Drop)]
+pub(crate) struct Asked {
+    pub(crate) reply: Reply,
+    pub(crate) text: Option<Bytes>,
+}
+
+impl Script {
+    /// A script of so many ops before its first call.
+    pub(crate) fn start(alloc: Global, ops: usize) -> Result<Script, NoMemory>
+        ensures { IfOk result (λ script. script.names ≡ no_values ops) }
+    {
+        let names = Names::start(alloc, ops)?;
+        let scratch = Box::new(alloc, Scratch::new()).map_err(|_| NoMemory)?;
+        Ok(Script {
+            names,
+            scratch,
+            buffer: [0; MOST_LENT],
+        })
+    }
+
+    /// Makes the call of the op at this place, from 1, and tells what is listed of it, or nothing where memory is short.
+    fn make_op<R: Wait, G: Gate>(
+        &mut self,
+        rt: &R,
+        alloc: Global,
+        runtime: &Runtime,
+        gate: &G,
+        place: u32,
+        op: &Op,
+        pass: &mut AppPass,
+        app: u8,
+    ) -> Option<Made>
+        requires may { MayCall (table_of runtime.now) pass.old }
+        requires own { pass.old.app ≡ app }
+        requires ranged { IsInRange op.now }
+        requires first { 1 ≤ place }
+        requires within { place ≤ length self.old.names }
+        ensures made { MadeOp (table_of runtime.now) place op.now pass.old pass.new self.old.names self.new.names result }
+        ensures gated { IsGated (G.came gate.now) (G.went gate.now) (App app) pass.old.calls (pass.old.calls + 1) }
+    {
+        let Script {
+            names,
+            scratch,
+            buffer,
+        } = self;
+        let start = op_start(pass.clock(), op);
+        let answered = ask(
+            rt, alloc, runtime, gate, app, op, names, scratch, buffer, pass,
+        );
+        let reply = answered.reply;
+        names.learn(place, op, &reply);
+        let text = answered.text?;
+        Some(Made {
+            op: place,
+            name: op.name(),
+            mark: op_mark(op),
+            start,
+            reply,
+            text,
+        })
+    }
+}
+
+/// Makes the call of an op, which is lent the front of a buffer, and copies what it wrote.
+fn ask<R: Wait, G: Gate>(
+    rt: &R,
+    alloc: Global,
+    runtime: &Runtime,
+    gate: &G,
+    app: u8,
+    op: &Op,
+    names: &Names,
+    scratch: &mut Scratch,
+    buffer: &mut [u8],
+    pass: &mut AppPass,
+) -> Asked
+    requires may { MayCall (table_of runtime.now) pass.old }
+    requires own { pass.old.app ≡ app }
+    requires ranged { IsInRange op.now }
+    requires size { MOST_LENT ≤ length buffer.old }
+    ensures made { AskedBy (table_of runtime.now) pass.old (with_start pass.old.clock (request_for names.now op.now)) result pass.new }
+    ensures gated { IsGated (G.came gate.now) (G.went gate.now) (App app) pass.old.calls (pass.old.calls + 1) }
+{
+    let number = pass.calls() + 1;
+    let lent = &mut buffer[..lent_size(op) as usize];
+    let call = call_of(op, names, scratch);
+    gate.before(Actor::App(app), number);
+    let reply = make_call(rt, runtime, pass, &call, lent);
+    gate.after(Actor::App(app), number);
+    let written = written_size(reply.gives, lent.len() as u64) as usize;
+    let text = match Bytes::from_slice(alloc, &lent[..written]) {
+        Ok(text) => Some(text),
+        Err(_) => None,
+    };
+    Asked { reply, text }
+}
+
+/// Makes the calls of all ops in their order, and lists them, or stops where memory is short.
+pub(crate) fn make_ops<R: Wait, G: Gate>(
+    rt: &R,
+    alloc: Global,
+    runtime: &Runtime,
+    gate: &G,
+    app: u8,
+    ops: &[Op],
+    pass: &mut AppPass,
+) -> Option<Vec<Made>>
+    requires is { IsApp (table_of runtime.now) pass.old }
+    requires first { (pass.old.left ≡ false) × (pass.old.calls ≡ 0) }
+    requires own { pass.old.app ≡ app }
+    requires few { length ops.now < 2 ^ 22 }
+    requires formed { IsInForm ops.now }
+    ensures made { MadeSome (table_of runtime.now) ops.now pass.old pass.new (option_map (λ list. list.items) result) }
+    ensures gated { IsGated (G.came gate.now) (G.went gate.now) (App app) pass.old.calls pass.new.calls }
+{
+    let Ok(mut script) = Script::start(alloc, ops.len()) else {
+        return None;
+    };
+    let Ok(mut list) = Vec::with_capacity(alloc, ops.len() + 1) else {
+        return None;
+    };
+    let mut count = 0;
+    while count < ops.len() {
+        let place = count as u32 + 1;
+        let made = script.make_op(rt, alloc, runtime, gate, place, &ops[count], pass, app)?;
+        let Ok(()) = list.push(made) else {
+            return None;
+        };
+        count += 1;
+    }
+    Some(list)
+}
