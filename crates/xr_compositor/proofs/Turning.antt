@@ -1,7 +1,6 @@
 -- The calls of a turn, put together.
-use Rattle.std.proofs.Common.{◌≡◌, ◌≤◌, ◌<◌, ◌^◌, ◌+◌, true, false, List, [], ◌∷◌, ◌++◌, length, refl, sym, ap, ◌∙◌, arith, true≢false, append_assoc, append-nil, length-append, Option, Some, None}
+use Rattle.std.proofs.Common.{◌≡◌, ◌≤◌, ◌<◌, ◌^◌, ◌+◌, false, List, [], ◌∷◌, ◌++◌, length, refl, sym, ap, ◌∙◌, arith, append_assoc, append-nil, length-append, Option, Some, None}
 use Rattle.atomic_table.specs.Seated.{TableId}
-use Rattle.xr_types.specs.Code.{is_success}
 use Rattle.xr_types.specs.declared.calls.Gives.TheVariants as gives
 use Rattle.xr_types.specs.declared.calls.Reply.{Reply}
 use Rattle.xr_types.specs.declared.code.Code.TheVariants.{Success}
@@ -25,36 +24,52 @@ use Rattle.xr_compositor.proofs.FewImages.{few_held}
 
 -- ---- an image that is given back
 
-returned_so : (s : State) (e : Entry) → is_success (step s (record e { request = image_done })).1.reply.code ≡ true
+-- where some are held one is given back, and one less is held behind that
+returned_so : (s : State) (e : Entry) → 0 < length s.cells.held
     → ((step s (record e { request = image_done })).1.reply.code ≡ Success) × ((step s (record e { request = image_done })).1.reply.gives ≡ gives.Nothing) × ((step s (record e { request = image_done })).1.shown ≡ None)
 returned_so s e = by s.cells.held
   where
     at : List Image → State
     at held = record s { cells = record s.cells { held = held } }
 
-    by : (held : List Image) → is_success (step (at held) (record e { request = image_done })).1.reply.code ≡ true
+    by : (held : List Image) → 0 < length held
         → ((step (at held) (record e { request = image_done })).1.reply.code ≡ Success) × ((step (at held) (record e { request = image_done })).1.reply.gives ≡ gives.Nothing) × ((step (at held) (record e { request = image_done })).1.shown ≡ None)
-    by [] ok = absurd (true≢false (sym ok))
-    by (i ∷ held) ok = (refl, refl, refl)
+    by [] some = absurd (omega arith)
+    by (i ∷ held) some = (refl, refl, refl)
 
-is_return : (m : Moment) (e : Entry) → is_success (step m.state (record e { request = image_done })).1.reply.code ≡ true → IsReturn (exchange_at m (record e { request = image_done }))
+one_less : (s : State) (e : Entry) → 0 < length s.cells.held → length (step s (record e { request = image_done })).0.cells.held + 1 ≡ length s.cells.held
+one_less s e = by s.cells.held
+  where
+    at : List Image → State
+    at held = record s { cells = record s.cells { held = held } }
+
+    by : (held : List Image) → 0 < length held → length (step (at held) (record e { request = image_done })).0.cells.held + 1 ≡ length held
+    by [] some = absurd (omega arith)
+    by (i ∷ held) some = omega arith
+
+is_return : (m : Moment) (e : Entry) → 0 < length m.state.cells.held → IsReturn (exchange_at m (record e { request = image_done }))
 unfolding exchange_at
-is_return m e ok = let two = returned_so m.state e ok in record { asks = refl; succeeds = two.0; gives_nothing = two.1; shows_none = two.2 }
+is_return m e some = let so = returned_so m.state e some in record { asks = refl; succeeds = so.0; gives_nothing = so.1; shows_none = so.2 }
 
 pub gave_one : (table : TableId) (old new : CompositorPass) (reply : Reply) (before after : Lent) → IsCompositor table old → Composes table old image_done before after reply new
-    → is_success reply.code ≡ true → new.held + 1 ≡ old.held → GaveOneBack table old new
-gave_one table old new reply before after is c ok fewer =
+    → 0 < old.held → GaveOneBack table old new
+gave_one table old new reply before after is c some_held =
     let k = know_of old in
     let e : Entry = entry_by k image_done reply in
     let m : Moment = behind k c.called.look in
-    let came : is_success (step m.state e).1.reply.code ≡ true = ap (λ (r : Reply). is_success r.code) c.called.replies ∙ ok in
-    let two = returned_so m.state e came in record {
+    let known = c.held_before in
+    let some : 0 < length m.state.cells.held = omega (arith, some_held, known) in
+    let so = returned_so m.state e some in
+    let less = one_less m.state e some in
+    let now : new.held ≡ length (step m.state e).0.cells.held =
+    c.is.held_is ∙ ap (λ (q : Know). length (seen_by q).state.cells.held) (knows_after old.seat.me new.seat.me image_done reply before after is.rests.between c.called)
+    ∙ ap (λ (z : Moment). length z.state.cells.held) (moments_in_turn (opening_moment k.apps) c.called.look (e ∷ [])) in record {
       is = c.is;
-      unended = c.ended_is ∙ (ap (λ (r : Reply). is_end r.gives) (sym c.called.replies) ∙ ap is_end two.1);
+      unended = c.ended_is ∙ (ap (λ (r : Reply). is_end r.gives) (sym c.called.replies) ∙ ap is_end so.1);
       image = exchange_at m e;
       made = (seat_is old.seat.me new.seat.me image_done reply before after is.rests.between c.called).calls;
-      returns = is_return m e came;
-      held = fewer;
+      returns = is_return m e some;
+      held = omega (arith, now, less, known);
     }
 
 -- ---- all images

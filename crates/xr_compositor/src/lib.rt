@@ -18,13 +18,6 @@ pub enum Turned {
     Ended(Reply),
 }
 
-// Goes on for ever. It is for answers that nobody gives: the images of a frame are the compositor's own, so they are held
-// until it gives them back.
-fn wait_for_ever<R: Wait>(rt: &R) -> ! {
-    for _ in rt.forever() {}
-    unreachable!()
-}
-
 // Gives one image back.
 fn give_back<R: Wait>(runtime: &Runtime, rt: &R, pass: &mut CompositorPass)
     requires is { IsCompositor (table_of runtime.now) pass.old }
@@ -33,11 +26,7 @@ fn give_back<R: Wait>(runtime: &Runtime, rt: &R, pass: &mut CompositorPass)
     requires some_held { 0 < pass.old.held }
     ensures gave { GaveOneBack (table_of runtime.now) pass.old pass.new }
 {
-    let before = pass.held();
-    let reply = runtime.image_done(rt, pass);
-    if !reply.code.is_success() || pass.held() != before - 1 {
-        wait_for_ever(rt);
-    }
+    runtime.image_done(rt, pass);
 }
 
 // Gives back all images that are held.
@@ -73,6 +62,6 @@ pub fn turn<R: Wait>(
             Turned::Shown(reply)
         }
         Gives::Ended => Turned::Ended(reply),
-        _ => wait_for_ever(rt),
+        _ => unreachable!(),
     }
 }

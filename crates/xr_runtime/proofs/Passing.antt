@@ -26,7 +26,7 @@ use Rattle.xr_runtime.specs.declared.passes.AppPass.{AppPass}
 use Rattle.xr_runtime.specs.declared.passes.CompositorPass.{CompositorPass}
 use Rattle.xr_runtime.specs.declared.passes.DevicePass.{DevicePass}
 use Rattle.xr_runtime.proofs.Making.{asks_as_compositor}
-use Rattle.xr_runtime.proofs.Going.{here_at_look, clock_at_look, moments_in_turn, rest_is_legal}
+use Rattle.xr_runtime.proofs.Going.{here_at_look, clock_at_look, held_at_look, moments_in_turn, rest_is_legal}
 
 -- ---- what a call makes of a seat
 
@@ -234,6 +234,7 @@ module _ (table : TableId) (old new : CompositorPass) (what : Request) (reply : 
         };
         ended_is = ended_is;
         called = c;
+        held_before = is.held_is ∙ ap length (sym (held_at_look old.seat.me.0.know c.look c.decides.saw (ap actor_at is.is_own)));
       }
 
 pub told : (table : TableId) (old new : DevicePass) (what : Request) (reply : Reply) (before after : Lent) → IsDevice table old → Called old.seat.me what reply before after new.seat.me → new.seat.table_id ≡ old.seat.table_id → new.calls ≡ old.calls + 1

@@ -19,7 +19,7 @@ use Rattle.xr_runtime.specs.declared.passes.AppPass.{AppPass}
 use Rattle.xr_runtime.specs.declared.passes.CompositorPass.{CompositorPass}
 use Rattle.xr_runtime.specs.declared.passes.DevicePass.{DevicePass}
 use Rattle.xr_runtime.specs.declared.passes.Passes.{Passes}
-use Rattle.xr_runtime.specs.Calling.{actor_of, seen_by, Called}
+use Rattle.xr_runtime.specs.Calling.{actor_of, behind, seen_by, Called}
 
 -- which table is a runtime's
 abbrev pub table_of : Runtime → TableId
@@ -75,11 +75,13 @@ pub record IsCompositor (table : TableId) (p : CompositorPass) : Type 0 where
   pub counts : p.calls ≡ length (calls_in p.seat.me.0.know.own)
   pub unended : p.ended ≡ false → how_many tells_end (calls_in p.seat.me.0.know.own) ≡ 0
 
--- The call was made by the compositor's seat, and the pass keeps its promise; it is told the end where the reply says so.
+-- The call was made by the compositor's seat, at a place where as many images are held as the pass knew, and the pass keeps its
+-- promise; it is told the end where the reply says so.
 pub record Composes (table : TableId) (old : CompositorPass) (what : Request) (before after : Lent) (reply : Reply) (new : CompositorPass) : Type 0 where
   pub is : IsCompositor table new
   pub ended_is : new.ended ≡ is_end reply.gives
   pub called : Called old.seat.me what reply before after new.seat.me
+  pub held_before : old.held ≡ length (behind old.seat.me.0.know called.look).state.cells.held
 
 -- What the device's pass promises between calls: its seat rests and is the device's, and it has counted its calls.
 pub record IsDevice (table : TableId) (p : DevicePass) : Type 0 where
