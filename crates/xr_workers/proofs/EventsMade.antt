@@ -33,7 +33,7 @@ use Rattle.xr_serial.proofs.DeviceAnswers.{tells_event, tells_end, tells_garbled
 use Rattle.xr_serial.proofs.Failing.{reads_on, fails_behind}
 use Rattle.xr_workers.specs.declared.device.DeviceMade.{DeviceMade}
 use Rattle.xr_workers.specs.Workers.{RanDevice}
-use Rattle.xr_workers.specs.inside.Telling.{MadeEvent, Told, side_of}
+use Rattle.xr_workers.specs.inside.Telling.{MadeEvent, MadeEvents, side_of}
 use Rattle.xr_workers.proofs.CallsMade.{fits_at, none_written, is_none, text_at}
 
 as_exchange : (m : Moment) (e : Entry) → exchange_at m e ≡ exchange_of e.request (step m.state e).1
@@ -53,7 +53,7 @@ event_made table old new event reply is t =
 
 -- ---- all events
 
-pub none_told : (table : TableId) (start : Prospect) (p : DevicePass) → IsDevice table p → start.bound ≤ MOST_DEVICE → Told table start start p p [] [] false
+pub none_told : (table : TableId) (start : Prospect) (p : DevicePass) → IsDevice table p → start.bound ≤ MOST_DEVICE → MadeEvents table start start p p [] [] false
 none_told table start p is few = record {
   is = is;
   calls = [];
@@ -93,11 +93,11 @@ fewer_then : (now now2 : Prospect) (event : DeviceEvent) (over : Bool) → Fetch
 fewer_then now now2 event false f is = let less = f.2 in omega (arith, less)
 fewer_then now now2 event true f is = absurd (true≢false is)
 
-module _ (table : TableId) (start now now2 : Prospect) (old mid : DevicePass) (events : List DeviceEvent) (list : List Made) (t : Told table start now old mid events list false) (grew : now.faults ≤ now2.faults) (on : ReadsOn now now2) where
-  pub told_none : (event : Option DeviceEvent) (over : Bool) → event ≡ None → Fetched now now2 event over → Told table start now2 old mid events list over × (over ≡ true)
+module _ (table : TableId) (start now now2 : Prospect) (old mid : DevicePass) (events : List DeviceEvent) (list : List Made) (t : MadeEvents table start now old mid events list false) (grew : now.faults ≤ now2.faults) (on : ReadsOn now now2) where
+  pub told_none : (event : Option DeviceEvent) (over : Bool) → event ≡ None → Fetched now now2 event over → MadeEvents table start now2 old mid events list over × (over ≡ true)
   told_none event over none f = by over (subst (λ (e : Option DeviceEvent). Fetched now now2 e over) none f)
     where
-      by : (o : Bool) → Fetched now now2 None o → Told table start now2 old mid events list o × (o ≡ true)
+      by : (o : Bool) → Fetched now now2 None o → MadeEvents table start now2 old mid events list o × (o ≡ true)
       by false g = absurd g
       by true g = (
         record {
@@ -120,7 +120,7 @@ module _ (table : TableId) (start now now2 : Prospect) (old mid : DevicePass) (e
       omega (arith, few, before, here, more, none, length-append (calls_in old.seat.me.0.know.own) t.calls)
 
   pub told_event : (event : DeviceEvent) (over : Bool) (new : DevicePass) (reply : Reply) (made : Made) → Fetched now now2 (Some event) over → MadeEvent table mid event reply new
-      → made ≡ record { op = length list + 1; name = Device; mark = 0; start = pos 0; reply = reply; text = [] } → Told table start now2 old new (events ++ event ∷ []) (list ++ made ∷ []) over
+      → made ≡ record { op = length list + 1; name = Device; mark = 0; start = pos 0; reply = reply; text = [] } → MadeEvents table start now2 old new (events ++ event ∷ []) (list ++ made ∷ []) over
   told_event event over new reply made f m is =
       let x : Exchange = exchange_of (device event) m.outcome in
       let asked = asked_kept (side_of events list false) t.calls start now now2 (Some event) over grew f t.kept in
@@ -141,15 +141,15 @@ module _ (table : TableId) (start now now2 : Prospect) (old mid : DevicePass) (e
       record { is = told.is; calls = told.calls; made = told.adds; lists = tt; later = told.kept.later; reads = told.reads }
 
 -- the same of an equal pass and equal lists
-pub told_at : (table : TableId) (start now : Prospect) (old p q : DevicePass) (es fs : List DeviceEvent) (ls ms : List Made) (over : Bool) → p ≡ q → es ≡ fs → ls ≡ ms → Told table start now old q fs ms over → Told table start now old p es ls over
+pub told_at : (table : TableId) (start now : Prospect) (old p q : DevicePass) (es fs : List DeviceEvent) (ls ms : List Made) (over : Bool) → p ≡ q → es ≡ fs → ls ≡ ms → MadeEvents table start now old q fs ms over → MadeEvents table start now old p es ls over
 told_at table start now old p q es fs ls ms over a b c t =
-    subst (λ (x : DevicePass). Told table start now old x es ls over) (sym a) (subst (λ (x : List DeviceEvent). Told table start now old q x ls over) (sym b) (subst (λ (x : List Made). Told table start now old q fs x over) (sym c) t))
+    subst (λ (x : DevicePass). MadeEvents table start now old x es ls over) (sym a) (subst (λ (x : List DeviceEvent). MadeEvents table start now old q x ls over) (sym b) (subst (λ (x : List Made). MadeEvents table start now old q fs x over) (sym c) t))
 
 as_many : (place : ℕ) (calls : List Exchange) → length (made_from place calls) ≡ length calls
 as_many place [] = refl
 as_many place (t ∷ calls) = let rest = as_many (place + 1) calls in omega (arith, rest)
 
-pub few_listed : (table : TableId) (start now : Prospect) (old new : DevicePass) (events : List DeviceEvent) (list : List Made) → Told table start now old new events list false → length list < 2147483648
+pub few_listed : (table : TableId) (start now : Prospect) (old new : DevicePass) (events : List DeviceEvent) (list : List Made) → MadeEvents table start now old new events list false → length list < 2147483648
 few_listed table start now old new events list t =
     let few : length t.calls + now.bound ≤ 16777216 = t.few refl in
     let size = ap length t.kept.list_is in
@@ -165,7 +165,7 @@ event_calls table old new event reply is m =
 
 -- ---- the end
 
-module _ (table : TableId) (start now : Prospect) (old new : DevicePass) (list : DeviceMade) (over : Bool) (t : Told table start now old new list.events list.calls over) (is : over ≡ true) where
+module _ (table : TableId) (start now : Prospect) (old new : DevicePass) (list : DeviceMade) (over : Bool) (t : MadeEvents table start now old new list.events list.calls over) (is : over ≡ true) where
   k : DeviceKept (side_of list.events list.calls true) t.calls start now
   k = subst (λ (b : Bool). DeviceKept (side_of list.events list.calls b) t.calls start now) is t.kept
 

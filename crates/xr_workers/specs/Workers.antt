@@ -55,8 +55,8 @@ pub record RanScript (table : TableId) (ops : List Op) (old new : AppPass) (list
 
 -- ---- the device
 
--- What the device's worker lists: the events that its device gave, its fault or its line that is none last, and the calls of these in
--- their order. A fault is listed only where the count of faults rose, and behind the events that were given.
+-- What the device's worker lists: the events that its device gave, a fault or a malformed line last, and the calls of these in their
+-- order. A fault is listed only where the count of faults rose, and behind the events that were given.
 pub record ListsDevice (start now : Prospect) (calls : List Exchange) (list : DeviceMade) : Type 0 where
   pub told : List DeviceEvent
   pub ending : Option Ending

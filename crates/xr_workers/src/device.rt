@@ -24,32 +24,32 @@ pub struct DeviceMade {
 
 // What a device answered: the event whose call comes next, if there is one, and whether nothing more comes behind it.
 #[derive(Clone, Copy)]
-struct Told {
+struct NextEvent {
     event: Option<DeviceEvent>,
     over: bool,
 }
 
 // Asks the device what comes next.
-fn fetch<D: Device>(device: &mut D) -> Told
+fn fetch<D: Device>(device: &mut D) -> NextEvent
     ensures fetched { Fetched (D.prospect device.old) (D.prospect device.new) result.event result.over }
     ensures done { IfSome result.event IsDone }
     ensures reads { ReadsOn (D.prospect device.old) (D.prospect device.new) }
     ensures later { (D.prospect device.old).faults ≤ (D.prospect device.new).faults }
 {
     match device.next() {
-        Next::Event(event) => Told {
+        Next::Event(event) => NextEvent {
             event: Some(event),
             over: false,
         },
-        Next::End => Told {
+        Next::End => NextEvent {
             event: None,
             over: true,
         },
-        Next::Garbled(line) => Told {
+        Next::Garbled(line) => NextEvent {
             event: Some(DeviceEvent::Garbled(line)),
             over: true,
         },
-        Next::Failed => Told {
+        Next::Failed => NextEvent {
             event: Some(DeviceEvent::Fault),
             over: true,
         },
@@ -77,8 +77,8 @@ fn make_event<R: Wait, G: Gate>(
     reply
 }
 
-/// Asks a device for its events and makes the call of each before it asks for the next, its fault or its line that is none last, and
-/// lists them. The pass has made no call yet. Where memory is short it makes no further call, and answers `NoMemory`.
+/// Asks a device for its events and makes the call of each before it asks for the next, and lists them. A fault or a malformed line
+/// is the last. The pass has made no call yet. Where memory is short it makes no further call, and answers `NoMemory`.
 pub fn run_device<R: Wait, G: Gate, D: Device>(
     rt: &R,
     alloc: Global,

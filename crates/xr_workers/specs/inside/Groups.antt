@@ -1,5 +1,5 @@
 -- The calls of scripts by groups: a group is one function that makes them.
-use Rattle.xr_model.specs.machine.Request.{Request, create_instance, destroy_instance, get_system, string_to_path, poll_event, create_session, destroy_session, begin_session, end_session, request_exit_session, create_reference_space, create_action_space, destroy_space, locate_space, create_action_set, destroy_action_set, create_action, destroy_action, suggest_bindings, attach_sets, sync_actions, get_boolean, get_float, get_vector, get_pose_active, create_swapchain, destroy_swapchain, acquire_image, wait_image, paint, release_image, wait_frame, begin_frame, end_frame, mark, await_mark, path_to_string}
+use Rattle.xr_model.specs.machine.Request.{Request, create_instance, destroy_instance, get_system, string_to_path, poll_event, create_session, destroy_session, begin_session, end_session, request_exit_session, create_reference_space, create_action_space, destroy_space, locate_space, create_action_set, destroy_action_set, create_action, destroy_action, suggest_bindings, attach_sets, sync_actions, get_boolean, get_float, get_vector, get_pose_active, create_swapchain, destroy_swapchain, acquire_image, wait_image, paint, release_image, wait_frame, begin_frame, end_frame, mark, await_mark, path_to_string, leave, device, next_frame, image_done}
 
 -- an instance, its system, its paths or its events
 abbrev pub IsInstanceCall : Request → Type 0
@@ -69,46 +69,13 @@ IsMarkCall (mark number value) = Unit {0}
 IsMarkCall (await_mark number) = Unit {0}
 IsMarkCall _ = ⊥
 
--- any that an op asks for
+-- any that an op asks for: none of these four is
 abbrev pub IsOpCall : Request → Type 0
-IsOpCall (create_instance major minor) = Unit {0}
-IsOpCall (destroy_instance instance) = Unit {0}
-IsOpCall (get_system instance form) = Unit {0}
-IsOpCall (string_to_path instance text) = Unit {0}
-IsOpCall (poll_event instance) = Unit {0}
-IsOpCall (create_session instance system) = Unit {0}
-IsOpCall (destroy_session session) = Unit {0}
-IsOpCall (begin_session session view) = Unit {0}
-IsOpCall (end_session session) = Unit {0}
-IsOpCall (request_exit_session session) = Unit {0}
-IsOpCall (create_reference_space session kind offset) = Unit {0}
-IsOpCall (create_action_space session action sub offset) = Unit {0}
-IsOpCall (destroy_space space) = Unit {0}
-IsOpCall (locate_space space base time) = Unit {0}
-IsOpCall (create_action_set instance name localized priority) = Unit {0}
-IsOpCall (destroy_action_set set) = Unit {0}
-IsOpCall (create_action set name kind subs localized) = Unit {0}
-IsOpCall (destroy_action action) = Unit {0}
-IsOpCall (suggest_bindings instance profile list) = Unit {0}
-IsOpCall (attach_sets session sets) = Unit {0}
-IsOpCall (sync_actions session active) = Unit {0}
-IsOpCall (get_boolean session action sub) = Unit {0}
-IsOpCall (get_float session action sub) = Unit {0}
-IsOpCall (get_vector session action sub) = Unit {0}
-IsOpCall (get_pose_active session action sub) = Unit {0}
-IsOpCall (create_swapchain session format width height fixed) = Unit {0}
-IsOpCall (destroy_swapchain chain) = Unit {0}
-IsOpCall (acquire_image chain) = Unit {0}
-IsOpCall (wait_image chain timeout start) = Unit {0}
-IsOpCall (paint chain stamp) = Unit {0}
-IsOpCall (release_image chain) = Unit {0}
-IsOpCall (wait_frame session) = Unit {0}
-IsOpCall (begin_frame session) = Unit {0}
-IsOpCall (end_frame session time blend layers) = Unit {0}
-IsOpCall (mark number value) = Unit {0}
-IsOpCall (await_mark number) = Unit {0}
-IsOpCall (path_to_string instance path capacity) = Unit {0}
-IsOpCall _ = ⊥
+IsOpCall leave = ⊥
+IsOpCall (device event) = ⊥
+IsOpCall next_frame = ⊥
+IsOpCall image_done = ⊥
+IsOpCall _ = Unit {0}
 
 -- a text that is put into the buffer that the call is lent
 abbrev pub IsTextCall : Request → Type 0

@@ -28,7 +28,7 @@ abbrev pub side_of : List DeviceEvent → List Made → Bool → SideState
 side_of events list over = record { pending = None; over = over; events = events; calls = list }
 
 -- These events were told and their calls made and listed; and where more may come, how many are still to come at most.
-pub record Told (table : TableId) (start now : Prospect) (old new : DevicePass) (events : List DeviceEvent) (list : List Made) (over : Bool) : Type 0 where
+pub record MadeEvents (table : TableId) (start now : Prospect) (old new : DevicePass) (events : List DeviceEvent) (list : List Made) (over : Bool) : Type 0 where
   pub is : IsDevice table new
   pub calls : List Exchange
   pub adds : Adds old.seat.me.0.know new.seat.me.0.know calls

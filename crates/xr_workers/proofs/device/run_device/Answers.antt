@@ -6,7 +6,7 @@ use Rattle.xr_types.specs.declared.names.CallName.TheVariants as name
 use Rattle.xr_runtime.specs.Passes.{table_of}
 use Rattle.xr_serial.specs.inside.Sides.{Fetched}
 use Rattle.xr_workers.specs.Workers.{IsGated}
-use Rattle.xr_workers.specs.inside.Telling.{Told}
+use Rattle.xr_workers.specs.inside.Telling.{MadeEvents}
 use Rattle.xr_workers.proofs.EventsMade.{told_none, told_event, told_at, few_listed, event_calls, ran_device}
 use Rattle.xr_workers.proofs.ScriptsMade.{op_gated}
 use Rattle.xr_workers.proofs.device.run_device.Goals as goal
@@ -34,7 +34,7 @@ returns-then-told-clause-ran g c =
     let now2 = g.D.Device.prospect c.fetch-told.new.device in
     let over = c.fetch-told.result.over in
     let before = c.loop.invariant.told in
-    let t : Told table start now2 c.args.pass.now c.match-told.pass c.match-told.events.items c.match-told.calls.items over = elim c.match-told.branch [
+    let t : MadeEvents table start now2 c.args.pass.now c.match-told.pass c.match-told.events.items c.match-told.calls.items over = elim c.match-told.branch [
       | in-Some-event+in-Ok+in-Ok-push w ↦
           let f : Fetched now now2 (Some w.in-Some-event.event) over = subst (λ (e : Option DeviceEvent). Fetched now now2 e over) w.in-Some-event.is c.fetch-told.ensures.fetched in
           let made : Made = record { op = length c.loop.calls.items + 1; name = name.Device; mark = 0; start = pos 0; reply = w.make_event-reply.result; text = [] } in
@@ -66,7 +66,7 @@ loop-preserved g c =
           let t = told_at table start now2 c.args.pass.now c.match-told.pass w.make_event-reply.new.pass c.match-told.events.items (c.loop.events.items ++ w.in-Some-event.event ∷ []) c.match-told.calls.items (c.loop.calls.items ++ made ∷ []) over w.pass-is (search rules) (search rules) next in
           let one = event_calls table c.loop.pass w.make_event-reply.new.pass w.in-Some-event.event w.make_event-reply.result before.is w.make_event-reply.ensures.made in
           let more = op_gated came went Devices c.args.pass.now.calls c.loop.pass.calls w.make_event-reply.new.pass.calls one c.loop.invariant.gated w.make_event-reply.ensures.gated in
-          record { told = subst (λ (b : Bool). Told table start now2 c.args.pass.now c.match-told.pass c.match-told.events.items c.match-told.calls.items b) c.if-told.false t; gated = rw w.pass-is more }
+          record { told = subst (λ (b : Bool). MadeEvents table start now2 c.args.pass.now c.match-told.pass c.match-told.events.items c.match-told.calls.items b) c.if-told.false t; gated = rw w.pass-is more }
       | in_default w ↦
           let none : c.fetch-told.result.event ≡ None = search rules in
           let next = told_none table start now now2 c.args.pass.now c.loop.pass c.loop.events.items c.loop.calls.items before c.fetch-told.ensures.later c.fetch-told.ensures.reads c.fetch-told.result.event over none c.fetch-told.ensures.fetched in
