@@ -14,6 +14,8 @@ from drawing.replay import sessions_of
 from drawing.report import Call, Report, Unreadable
 
 PICTURES = ("life", "frames", "handover", "stuck")
+# those of runs on threads, whose reports are stored
+ON_THREADS = ("threads",)
 
 
 def examples(tally: Tally, program: str, room: Path) -> None:
@@ -34,9 +36,10 @@ def examples(tally: Tally, program: str, room: Path) -> None:
 
 def pictures(tally: Tally, room: Path) -> None:
     """The stored pictures are what is drawn today."""
-    for name in PICTURES:
+    for name in (*PICTURES, *ON_THREADS):
         stored = ROOT / f"docs/pictures/{name}.svg"
-        ran = tool([str(room / f"{name}.report"), str(ROOT / f"examples/{name}.json"), "--svg"])
+        report = ROOT / f"examples/{name}.places" if name in ON_THREADS else room / f"{name}.report"
+        ran = tool([str(report), str(ROOT / f"examples/{name}.json"), "--svg"])
         same = stored.exists() and ran.stdout == stored.read_bytes()
         tally.check(same, f"docs/pictures/{name}.svg isn't what tools/timeline draws with --svg")
         tally.check(

@@ -1,7 +1,7 @@
 //! The words of the command line, read by `clap`. It knows words alone, and opens no file.
 #![tactic(auto)]
 
-ghost use Rattle.std.specs.Prelude.{◌≡◌, ◌≤◌, IfOk, IfSome, true, false, length, map, option_map, string_bytes};
+ghost use Rattle.std.specs.Prelude.{◌≡◌, ◌≤◌, IfOk, IfSome, true, false, length, map, option_map, string_bytes, codes};
 ghost use Rattle.clap.specs.Words.{app_of, rule_of, first_of, found_of, rows_of, is_simple};
 ghost use Rattle.clap.specs.Faults.{is_simple_and_free};
 ghost use Rattle.xr_model.specs.command_line.Words.{run_app, file_arg, device_arg, places_arg, load_app, frames_arg, is_file, is_file_or_none, begins_with, options_in, run_under, frames_of, frames_in, load_under, form_of};
@@ -230,4 +230,14 @@ pub fn form_of<'a>(alloc: Global, words: &'a [String]) -> Result<WordsForm<'a>, 
     }
     let options = run_under(alloc, "serial", words)?;
     Ok(WordsForm::Run(options))
+}
+
+/// The form of the words on threads: `threads FILE`, with `--device FILE` and `--places` where these are wanted. `Usage` comes
+/// exactly where they don't have it, and `NoMemory` is free.
+pub fn threads_options<'a>(alloc: Global, words: &'a [String]) -> Result<RunOptions<'a>, WordsFault>
+    ensures form { ReadsAs shown result (run_under (codes "threads") (map string_bytes words.entry.now)) }
+    ensures short { IfOk result (λ options. length options.file.now ≤ MOST_FILE_NAME) }
+    ensures short_device { IfOk result (λ options. IfSome options.device (λ name. length name.now ≤ MOST_FILE_NAME)) }
+{
+    run_under(alloc, "threads", words)
 }

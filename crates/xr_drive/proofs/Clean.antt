@@ -10,8 +10,6 @@ use Rattle.xr_types.specs.declared.device.Wish.{Wish}
 use Rattle.xr_types.specs.declared.input.Profile.{Profile}
 use Rattle.xr_types.specs.declared.input.User.{User}
 use Rattle.xr_types.specs.declared.spaces.Origin.{Origin}
-use Rattle.xr_types.specs.declared.made.Lists.{Lists}
-use Rattle.xr_types.specs.declared.scenario.Scenario.{Scenario}
 use Rattle.xr_types.specs.declared.limits.TheConstants.{MOST_LINE, MOST_DEVICE}
 use Rattle.xr_types.specs.Device.{checks}
 use Rattle.xr_types.specs.Printed.{wish_name, all_wishes, origin_name, all_origins, user_path, all_users}
@@ -23,7 +21,9 @@ use Rattle.xr_model.specs.report.RunEnding.{is_garbled}
 use Rattle.xr_model.specs.runs.Robin.{device_calls, last_event}
 use Rattle.xr_serial.specs.Ran.{settings_of, Gave, Ran}
 use Rattle.xr_drive.specs.Top.{told_under}
-use Rattle.xr_drive.proofs.Status.{IsClean, clean_front, clean_both}
+use Rattle.xr_drive.specs.Run.{IsClean}
+use Rattle.xr_drive.specs.TopLaws.{KeepsClean}
+use Rattle.xr_drive.proofs.Status.{clean_front, clean_both}
 
 -- ---- one line
 
@@ -152,11 +152,11 @@ last_clean : (e : Ending) → ends ≡ e → IsClean (last_event (Some e))
 last_clean e is = subst (λ (e : Ending). IsClean (last_event (Some e))) is refl
 
 -- a device that is known to end at the end of its text does nothing that is garbled
-calls_clean : (told : DeviceStream) (count : ℕ) (events : List DeviceEvent) (ending : Option Ending) → IsClean told.events → told.ending ≡ ends → Gave (Some told) count events ending → IsClean (device_calls events ending)
+pub calls_clean : (told : DeviceStream) (count : ℕ) (events : List DeviceEvent) (ending : Option Ending) → IsClean told.events → told.ending ≡ ends → Gave (Some told) count events ending → IsClean (device_calls events ending)
 calls_clean told count events None clean end gave = clean_both events (event.Fault ∷ []) (clean_front events gave.0 (subst IsClean gave.1 clean)) refl
 calls_clean told count events (Some e) clean end gave = clean_both events (last_event (Some e)) (subst IsClean gave.0 clean) (last_clean e (sym end ∙ gave.1))
 
-pub run_clean : (scenario : Scenario) (told : DeviceStream) (count : ℕ) (lists : Lists) → IsClean told.events → told.ending ≡ ends → Ran scenario (Some told) count lists → IsClean lists.events
+pub run_clean : KeepsClean Ran
 run_clean scenario told count lists clean end ran =
     let calls = calls_clean told count ran.events ran.ending clean end ran.gave in
     rw ran.made (clean_front (events_in (calls_of (settings_of scenario) actor.Device ran.history)) ran.device.0 (subst IsClean ran.device.1 calls))

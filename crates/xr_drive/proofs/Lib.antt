@@ -3,6 +3,7 @@ pub mod Digits
 pub mod Status
 pub mod Clean
 pub mod Runs
-pub mod Counts
-pub mod Beside
+pub mod DeviceRead
 pub mod Loads
+pub mod Ended
+pub mod FilesRan

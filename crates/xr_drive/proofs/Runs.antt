@@ -3,7 +3,8 @@ use Rattle.std.proofs.Common.{◌≡◌, ◌<◌, ◌≤◌, ◌+◌, inl, inr, 
 use Rattle.std.proofs.lemmas.Grind.{common_steps}
 use Rattle.std.proofs.lemmas.Bool.{ltb-true, ltb-false, lt-ltb}
 use Rattle.std.proofs.lemmas.Option.{none-some, same_Some}
-use Rattle.xr_io.specs.Outside.{Files}
+use Rattle.std.specs.List.{list_any}
+use Rattle.xr_io.specs.Outside.{Files, Rose}
 use Rattle.xr_io.specs.declared.Which.TheVariants as which
 use Rattle.xr_types.specs.declared.made.Lists.{Lists}
 use Rattle.xr_types.specs.declared.scenario.Scenario.{Scenario}
@@ -16,15 +17,16 @@ use Rattle.xr_model.specs.scenario.LoadScenario.{load_scenario, load_device}
 use Rattle.xr_model.specs.scenario.Scenario.{scenario_of}
 use Rattle.xr_model.specs.device_text.DeviceText.{DeviceStream, ends}
 use Rattle.xr_serial.specs.Ran.{Ran}
-use Rattle.xr_drive.specs.Run.{KnownDevice, RunOf}
+use Rattle.xr_drive.specs.Run.{HowRan, RunBy, RunOf, IsClean}
 use Rattle.xr_drive.specs.Top.{Outside, Writes, told_under, known_under, RunsText, text_of, EndsSo, Means, HasItsCause}
-use Rattle.xr_drive.specs.TopLaws.{NoneRose, IsRun, IsComplete, GoodInputIsRun, LoadsAreRun}
-use Rattle.xr_drive.specs.inside.CallParts.{RunText, RunLoad, MeansText, fault_of_scenario, MeansRun, MeansForm, HasRunCause}
+use Rattle.xr_drive.specs.TopLaws.{NoneRose, IsRun, IsComplete, GoodInputIsRunBy, GoodInputIsRun, KeepsClean, LoadsAreRun}
+use Rattle.xr_drive.specs.inside.CallParts.{RunLoad, UnreadBy, fault_of_scenario}
+use Rattle.xr_scenario.specs.inside.Shapes.{ReadsShape}
 use Rattle.xr_scenario.specs.declared.fault.ScenarioFault.{ScenarioFault}
 use Rattle.xr_scenario.specs.declared.fault.ScenarioFault.TheVariants as scenario_fault
 use Rattle.xr_drive.proofs.Clean.{told_clean, run_clean}
-use Rattle.xr_drive.proofs.Status.{IsEnding, IsClean, is_ending, fault_of_failed, never_garbled}
-use Rattle.xr_model.specs.report.RunEnding.{ending_of}
+use Rattle.xr_drive.proofs.Status.{IsEnding, is_ending, fault_of_failed, never_garbled}
+use Rattle.xr_model.specs.report.RunEnding.{ending_of, is_fault}
 
 long_take : (n : ℕ) (bytes : List ℕ) → n < length bytes → n < length (take (n + 1) bytes)
 long_take n bytes h = grind (arith, common_steps)
@@ -66,30 +68,20 @@ whole_of_read bytes text s e reads =
     let short : length (take 1048577 bytes) ≤ 1048576 = subst (λ (t : List ℕ). length t ≤ 1048576) e (scenario_short text s reads) in
     short_take 1048576 bytes short ∙ sym e
 
-runs_text : (all : Option (List ℕ)) (text : List ℕ) (device : KnownDevice) (lists : Lists) → IfSome all (λ bytes. text ≡ take 1048577 bytes) → RunText text device lists → RunsText RunOf all device lists
-runs_text all text device lists read of = record {
-  text = text;
-  is_all = by all read;
-  scenario = of.scenario;
-  reads = of.reads;
-  runs = of.runs;
-}
-  where
-    by : (all : Option (List ℕ)) → IfSome all (λ bytes. text ≡ take 1048577 bytes) → IfSome all (λ bytes. bytes ≡ text)
-    by None read = tt
-    by (Some bytes) read = whole_of_read bytes text of.scenario read of.reads
+pub scenario_whole : (all : Option (List ℕ)) (text : List ℕ) (s : Scenario) → IfSome all (λ bytes. text ≡ take 1048577 bytes) → scenario_of text ≡ Ok s → IfSome all (λ bytes. bytes ≡ text)
+scenario_whole None text s read reads = tt
+scenario_whole (Some bytes) text s read reads = whole_of_read bytes text s read reads
 
+-- what refuses the bytes that were read refuses all that there were
 refused_if_told : (told : Option (List ℕ)) (text : List ℕ) (why : Refusal) → IfSome told (λ bytes. text ≡ take 1048577 bytes) → scenario_of text ≡ Err why → IfSome told (λ bytes. scenario_of bytes ≡ Err why)
 refused_if_told None text why read e = tt
 refused_if_told (Some bytes) text why read e = sym (scenario_of-take bytes) ∙ rw (← read) e
 
--- what holds of the bytes that were read holds of all that there were
-pub means_ran : (all : Option (List ℕ)) (text : List ℕ) (device : KnownDevice) (lists : Lists) → IfSome all (λ bytes. text ≡ take 1048577 bytes) → MeansText text device (Ok lists) → MeansRun all device (Ok lists)
-means_ran all text device lists read of = runs_text all text device lists read of
-
-pub means_unrun : (all : Option (List ℕ)) (text : List ℕ) (device : KnownDevice) (fault : ScenarioFault) → IfSome all (λ bytes. text ≡ take 1048577 bytes) → MeansText text device (Err fault) → MeansRun all device (Err (fault_of_scenario fault))
-means_unrun all text device (scenario_fault.Refused why) read e = refused_if_told all text why read e
-means_unrun all text device scenario_fault.NoMemory read e = tt
+-- so a text that was read gives no scenario, or memory was short
+pub refused_text : (all : Option (List ℕ)) (text : List ℕ) (old new : Files) (fault : ScenarioFault) → IfSome all (λ bytes. text ≡ take 1048577 bytes) → new.read_faults which.Scenario ≡ old.read_faults which.Scenario
+    → ReadsShape {T = Scenario} (Err fault) (scenario_of text) → UnreadBy all old new (fault_of_scenario fault)
+refused_text all text old new (scenario_fault.Refused why) read kept refused = (refused_if_told all text why read refused, kept)
+refused_text all text old new scenario_fault.NoMemory read kept refused = kept
 
 -- ---- what a status means
 
@@ -97,11 +89,12 @@ means_unrun all text device scenario_fault.NoMemory read e = tt
 load_clean : (frames : ℕ) (lists : Lists) → RunLoad frames lists → IsClean lists.events
 load_clean frames lists of = run_clean (load_scenario frames) load_device of.runs.count lists refl refl of.runs.ran
 
--- behind a whole text
-pub means_ending : (form : WordsForm) (old new : Outside) (lists : Lists) → MeansForm old.files new.files form (Ok lists) → Writes old new (text_of form lists) → Means RunOf (Some form) old new (ending_of lists)
-means_ending (run options) old new lists of written = by (ending_of lists) (is_ending lists.events lists.next) (lists, of, refl, written)
+-- behind the whole text of a run of files
+pub means_ending : (How : HowRan) (options : RunOptions) (old new : Outside) (lists : Lists) → RunsText (RunBy How) (old.files.bytes options.file) (known_under old.files new.files options.device) lists
+    → Writes old new (text_of (run options) lists) → Means (RunBy How) (Some (run options)) old new (ending_of lists)
+means_ending How options old new lists of written = by (ending_of lists) (is_ending lists.events lists.next) (lists, of, refl, written)
   where
-    by : (status : Status) → IsEnding status → EndsSo RunOf old new status (run options) → Means RunOf (Some (run options)) old new status
+    by : (status : Status) → IsEnding status → EndsSo (RunBy How) old new status (run options) → Means (RunBy How) (Some (run options)) old new status
     by Done ok so = (run options, refl, so)
     by DeviceFailed ok so = (options, refl, so)
     by (DeviceGarbled line) ok so = (options, refl, so)
@@ -112,7 +105,10 @@ means_ending (run options) old new lists of written = by (ending_of lists) (is_e
     by (ScenarioRefused why) ok so = absurd ok
     by WriteFault ok so = absurd ok
     by NoMemory ok so = absurd ok
-means_ending (load frames) old new lists of written = by (ending_of lists) refl (is_ending lists.events lists.next) (lists, of.runs, refl, written)
+
+-- behind that of a load
+pub means_load : (frames : ℕ) (old new : Outside) (lists : Lists) → RunLoad frames lists → Writes old new (text_of (load frames) lists) → Means RunOf (Some (load frames)) old new (ending_of lists)
+means_load frames old new lists of written = by (ending_of lists) refl (is_ending lists.events lists.next) (lists, of.runs, refl, written)
   where
     by : (status : Status) → ending_of lists ≡ status → IsEnding status → EndsSo RunOf old new status (load frames) → Means RunOf (Some (load frames)) old new status
     by Done is ok so = (load frames, refl, so)
@@ -126,7 +122,7 @@ means_ending (load frames) old new lists of written = by (ending_of lists) refl 
     by WriteFault is ok so = absurd ok
     by NoMemory is ok so = absurd ok
 
-pub cause_ending : (old new : Outside) (lists : Lists) → HasRunCause old.files new.files (Ok lists) → HasItsCause old new (ending_of lists)
+pub cause_ending : (old new : Outside) (lists : Lists) → (list_any is_fault lists.events ≡ true → Rose (old.files.read_faults which.Device) (new.files.read_faults which.Device)) → HasItsCause old new (ending_of lists)
 cause_ending old new lists cause = by (ending_of lists) refl (is_ending lists.events lists.next)
   where
     by : (status : Status) → ending_of lists ≡ status → IsEnding status → HasItsCause old new status
@@ -151,12 +147,12 @@ no_opening old new none (inl rose) = none.opens which.Scenario rose
 no_opening old new none (inr rose) = none.opens which.Device rose
 
 -- a device that is known to end at the end of its text has no line that is none
-no_garbled : (old new : Files) (device : Option (List ℕ)) (all : Option (List ℕ)) (told : DeviceStream) (lists : Lists) (line : ℕ) → told_under old.bytes device ≡ Some told → told.ending ≡ ends
-    → RunsText RunOf all (known_under old new device) lists → ending_of lists ≡ DeviceGarbled line → ⊥
-no_garbled old new device all told lists line is end of status =
+no_garbled : (How : HowRan) → KeepsClean How → (old new : Files) (device : Option (List ℕ)) (all : Option (List ℕ)) (told : DeviceStream) (lists : Lists) (line : ℕ) → told_under old.bytes device ≡ Some told → told.ending ≡ ends
+    → RunsText (RunBy How) all (known_under old new device) lists → ending_of lists ≡ DeviceGarbled line → ⊥
+no_garbled How clean old new device all told lists line is end of status =
     let count : ℕ = of.runs.count in
-    let ran : Ran of.scenario (Some told) count lists = subst (λ (t : Option DeviceStream). Ran of.scenario t count lists) is of.runs.ran in
-    never_garbled lists.events lists.next line (run_clean of.scenario told count lists (told_clean old.bytes device told is) end ran) status
+    let ran : How of.scenario (Some told) count lists = subst (λ (t : Option DeviceStream). How of.scenario t count lists) is of.runs.ran in
+    never_garbled lists.events lists.next line (clean of.scenario told count lists (told_clean old.bytes device told is) end ran) status
 
 -- the options of a run
 abbrev options_or : RunOptions → WordsForm → RunOptions
@@ -167,27 +163,31 @@ same_options : (form : Option WordsForm) (options others : RunOptions) → form 
 same_options form options others a b = ap (options_or others) (same_Some (run options) (run others) (sym a ∙ b))
 
 -- good words, a good text, a good device and no fault leave a run that is done or stuck, or want of memory
-complete : (form : Option WordsForm) (old new : Outside) (status : Status) → Means RunOf form old new status → HasItsCause old new status → IsComplete form old new status
-complete form old new Done means cause = λ options text scenario told is there good tells end none. inl refl
-complete form old new Usage means cause = λ options text scenario told is there good tells end none. absurd (none-some (run options) (sym means.0 ∙ is))
-complete form old new OpenFault means cause = λ options text scenario told is there good tells end none. absurd (no_opening old new none cause)
-complete form old new ReadFault means cause = λ options text scenario told is there good tells end none. absurd (none.reads which.Scenario cause)
-complete form old new (ScenarioRefused why) means cause = λ options text scenario told is there good tells end none.
+complete : (How : HowRan) → KeepsClean How → (form : Option WordsForm) (old new : Outside) (status : Status) → Means (RunBy How) form old new status → HasItsCause old new status → IsComplete form old new status
+complete How clean form old new Done means cause = λ options text scenario told is there good tells end none. inl refl
+complete How clean form old new Usage means cause = λ options text scenario told is there good tells end none. absurd (none-some (run options) (sym means.0 ∙ is))
+complete How clean form old new OpenFault means cause = λ options text scenario told is there good tells end none. absurd (no_opening old new none cause)
+complete How clean form old new ReadFault means cause = λ options text scenario told is there good tells end none. absurd (none.reads which.Scenario cause)
+complete How clean form old new (ScenarioRefused why) means cause = λ options text scenario told is there good tells end none.
     let same : means.0 ≡ options = same_options form means.0 options means.1 is in
     let refused : IsRefusedIfTold why (Some text) = subst (IsRefusedIfTold why) (ap (λ (o : RunOptions). old.files.bytes o.file) same ∙ there) means.2.0 in
     absurd (err_is_not scenario why (sym refused ∙ good))
-complete form old new DeviceFailed means cause = λ options text scenario told is there good tells end none. absurd (none.reads which.Device cause)
-complete form old new (DeviceGarbled line) means cause = λ options text scenario told is there good tells end none.
+complete How clean form old new DeviceFailed means cause = λ options text scenario told is there good tells end none. absurd (none.reads which.Device cause)
+complete How clean form old new (DeviceGarbled line) means cause = λ options text scenario told is there good tells end none.
     let same : means.0 ≡ options = same_options form means.0 options means.1 is in
     let known : told_under old.files.bytes means.0.device ≡ Some told = ap (λ (o : RunOptions). told_under old.files.bytes o.device) same ∙ tells in
-    let so : EndsSo RunOf old new (DeviceGarbled line) (run means.0) = means.2 in
-    absurd (no_garbled old.files new.files means.0.device (old.files.bytes means.0.file) told so.0 line known end so.1 so.2)
-complete form old new Stuck means cause = λ options text scenario told is there good tells end none. inr (inl refl)
-complete form old new WriteFault means cause = λ options text scenario told is there good tells end none. absurd (none.writes cause)
-complete form old new NoMemory means cause = λ options text scenario told is there good tells end none. inr (inr refl)
+    let so : EndsSo (RunBy How) old new (DeviceGarbled line) (run means.0) = means.2 in
+    absurd (no_garbled How clean old.files new.files means.0.device (old.files.bytes means.0.file) told so.0 line known end so.1 so.2)
+complete How clean form old new Stuck means cause = λ options text scenario told is there good tells end none. inr (inl refl)
+complete How clean form old new WriteFault means cause = λ options text scenario told is there good tells end none. absurd (none.writes cause)
+complete How clean form old new NoMemory means cause = λ options text scenario told is there good tells end none. inr (inr refl)
+
+-- so it is of each way to run beside which a device stays clean
+pub good_input_is_run_by : (How : HowRan) → KeepsClean How → GoodInputIsRunBy How
+good_input_is_run_by How clean form old new status answer = complete How clean form old new status answer.means answer.causes
 
 pub good_input_is_run : GoodInputIsRun
-good_input_is_run form old new status answer = complete form old new status answer.means answer.causes
+good_input_is_run = good_input_is_run_by Ran run_clean
 
 -- a load is no run of files
 not_files : (frames : ℕ) (options : RunOptions) → Some (load frames) ≡ Some (run options) → ⊥

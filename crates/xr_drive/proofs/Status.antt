@@ -9,6 +9,7 @@ use Rattle.xr_types.specs.declared.device.DeviceEvent.TheVariants as event
 use Rattle.xr_types.specs.declared.made.Waiting.{Waiting}
 use Rattle.xr_types.specs.declared.status.Status.{Status}
 use Rattle.xr_types.specs.declared.status.Status.TheVariants.{Done, DeviceFailed, DeviceGarbled, Stuck}
+use Rattle.xr_drive.specs.Run.{IsClean}
 use Rattle.xr_model.specs.report.RunEnding.{is_fault, is_garbled, garbled_line, first_garbled, stuck_or_done, unless_garbled, ending_by}
 
 -- the four ways to end with a report
@@ -39,9 +40,6 @@ fault_of_failed events next is = by (list_any is_fault events) (first_garbled ev
     by false None (w ∷ ws) is = cc
 
 -- ---- events without a garbled one
-
-abbrev pub IsClean : List DeviceEvent → Type 0
-IsClean events = list_any is_garbled events ≡ false
 
 none_clean : (e : DeviceEvent) → is_garbled e ≡ false → garbled_line e ≡ None
 none_clean (event.Garbled line) is = cc

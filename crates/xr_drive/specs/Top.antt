@@ -132,6 +132,14 @@ abbrev pub is_write_fault : Status → Bool
 is_write_fault WriteFault = true
 is_write_fault _ = false
 
+-- Nothing was run: the words have no form, a file couldn't be opened or read, or its text is no scenario.
+abbrev pub is_unrun : Status → Bool
+is_unrun Usage = true
+is_unrun OpenFault = true
+is_unrun ReadFault = true
+is_unrun (ScenarioRefused why) = true
+is_unrun _ = false
+
 -- the device may have failed: so it is told, or a fault of the output or want of memory came behind it
 abbrev pub may_hide_device : Status → Bool
 may_hide_device DeviceFailed = true

@@ -8,7 +8,9 @@ use Rattle.xr_types.specs.declared.status.Status.TheVariants.{Done, Stuck, NoMem
 use Rattle.xr_model.specs.command_line.Words.{RunOptions, WordsForm, run, load}
 use Rattle.xr_model.specs.scenario.Scenario.{scenario_of}
 use Rattle.xr_model.specs.device_text.DeviceText.{DeviceStream, ends}
-use Rattle.xr_drive.specs.Run.{RunOf}
+use Rattle.xr_types.specs.declared.made.Lists.{Lists}
+use Rattle.xr_serial.specs.Ran.{Ran}
+use Rattle.xr_drive.specs.Run.{HowRan, RunBy, RunOf, IsClean}
 use Rattle.xr_drive.specs.Top.{Outside, IsAnswer, told_under}
 
 -- no count rose
@@ -28,9 +30,17 @@ IsComplete form old new status =
     (options : RunOptions) (text : List ℕ) (scenario : Scenario) (told : DeviceStream) → form ≡ Some (run options) → old.files.bytes options.file ≡ Some text → scenario_of text ≡ Ok scenario
     → told_under old.files.bytes options.device ≡ Some told → told.ending ≡ ends → NoneRose old new → IsRun status
 
--- so it is of each answer
+-- so it is of each answer of this way to run
+abbrev pub GoodInputIsRunBy : HowRan → Type 0
+GoodInputIsRunBy How = (form : Option WordsForm) (old new : Outside) (status : Status) → IsAnswer (RunBy How) form old new status → IsComplete form old new status
+
+-- and of each of the round robin
 abbrev pub GoodInputIsRun : Type 0
-GoodInputIsRun = (form : Option WordsForm) (old new : Outside) (status : Status) → IsAnswer RunOf form old new status → IsComplete form old new status
+GoodInputIsRun = GoodInputIsRunBy Ran
+
+-- a device that is known to end at the end of its text does nothing that is garbled, if it is run so
+abbrev pub KeepsClean : HowRan → Type 0
+KeepsClean How = (scenario : Scenario) (told : DeviceStream) (count : ℕ) (lists : Lists) → IsClean told.events → told.ending ≡ ends → How scenario (Some told) count lists → IsClean lists.events
 
 -- And where the words ask for a load, and no count rose.
 abbrev pub LoadsAreRun : Type 0

@@ -1,17 +1,22 @@
 // Why a part of a top call has no result, and the status that this is.
 ghost use Rattle.std.specs.Prelude.{◌≡◌};
-ghost use Rattle.xr_drive.specs.inside.CallParts.{fault_of_stop, fault_of_scenario, status_of_fault};
+ghost use Rattle.xr_drive.specs.inside.CallParts.{fault_of_stop, fault_of_scenario, status_of_unwritten};
+ghost use Rattle.xr_drive.specs.Files.{status_of_fault};
 
 use crate::input::Stop;
 use xr_scenario::ScenarioFault;
 use xr_types::{Refusal, Status};
 
-/// Why files aren't run.
+/// Why the files of a run give no lists.
 #[derive(Clone, Copy)]
-pub(crate) enum RunFault {
+pub enum RunFault {
+    /// The scenario's file couldn't be opened, or the device's.
     OpenFault,
+    /// The scenario's file couldn't be read.
     ReadFault,
+    /// Its text is no scenario.
     Refused(Refusal),
+    /// Memory was short.
     NoMemory,
 }
 
@@ -51,6 +56,17 @@ impl RunFault {
             RunFault::ReadFault => Status::ReadFault,
             RunFault::Refused(why) => Status::ScenarioRefused(why),
             RunFault::NoMemory => Status::NoMemory,
+        }
+    }
+}
+
+impl Unwritten {
+    pub(crate) fn status(self) -> Status
+        ensures { result ≡ status_of_unwritten self }
+    {
+        match self {
+            Unwritten::Failed => Status::WriteFault,
+            Unwritten::NoMemory => Status::NoMemory,
         }
     }
 }

@@ -350,6 +350,7 @@ history_ends key log ks id k t at all =
     record {
       apps_are = ⊎_elim (λ (z : k.own ≡ []). absurd (omega (arith, ap length z))) (λ (z : k.apps ≡ key). z) known.apps_are;
       legal = subst (IsLegalAt (opening_moment key)) (sym is) t.legal;
+      by_callers = subst (λ (es : List Entry). are_by_callers es ≡ true) (sym is) t.by_callers;
       own_all = known.own_seen;
       saw = known.saw;
       owners = λ n l. alone (owns n) ks id k at (λ j u apart there. let z = others_spent key log ks id j k u t at all apart there in ap (λ (os : List Own). total (is_of n) os) z) ∙ t.owners n l;

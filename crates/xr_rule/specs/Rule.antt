@@ -102,11 +102,12 @@ pub record FollowsRule {S : Type 0} (stands : S → Moment → Type 0) (apps : �
   pub slot : SlotStands stands apps log served s.homes (map turn_of s.views)
   pub fits : (j : ℕ) (v : View) → get_elem? s.views j ≡ some v → Fits v
 
--- A seat has all numbers: what it saw is the whole history, which is legal and by actors that there are. Of each number it has the
--- calls, and what its seat had seen.
+-- A seat has all numbers: what it saw is the whole history, which is legal and by actors that there are, each entry by one who may ask
+-- for it. Of each number it has the calls, and what its seat had seen.
 pub record HasAll (apps : ℕ) (k : Know) : Type 0 where
   pub apps_are : k.apps ≡ apps
   pub legal : IsLegalAt (opening_moment apps) k.seen
+  pub by_callers : are_by_callers k.seen ≡ true
   pub own_all : (i : ℕ) (o : Own) → get_elem? k.own i ≡ some o → calls_by o.number (opening_moment apps) k.seen ≡ o.calls
   pub saw : (i : ℕ) (o : Own) → get_elem? k.own i ≡ some o → IsPrefix o.saw k.seen
   pub owners : (n : ℕ) → n < apps + 2 → owns n k ≡ 1

@@ -1,11 +1,12 @@
 -- What the end of a runtime asks of its passes, and what is left of it.
-use Rattle.std.specs.Prelude.{◌≡◌, ◌+◌, ◌≤◌, ℕ, List, [], length, slice_get, Some}
+use Rattle.std.specs.Prelude.{◌≡◌, ◌+◌, ◌≤◌, ℕ, true, List, [], length, slice_get, Some}
 use mathlib.Core.List.{IsPrefix}
 use Rattle.xr_model.specs.machine.History.{after, IsLegal}
 use Rattle.xr_model.specs.machine.Request.{Entry}
 use Rattle.xr_model.specs.machine.State.{with_apps, opening}
 use Rattle.xr_model.specs.laws.Laws.{count_locked}
 use Rattle.xr_model.specs.laws.Moments.{opening_moment, calls_by}
+use Rattle.xr_rule.specs.Rule.{are_by_callers}
 use Rattle.xr_rule.specs.View.{Know, number_in, calls_in}
 use Rattle.xr_runtime.specs.declared.calling.Runtime.{Runtime}
 use Rattle.xr_runtime.specs.declared.close.Closed.{Closed}
@@ -29,10 +30,11 @@ pub record Holds (apps : ℕ) (history : List Entry) (k : Know) : Type 0 where
 abbrev pub history_of : Closed → List Entry
 history_of c = c.seat.me.0.know.seen
 
--- The history is legal, holds each pass's calls, and no others; the core stands for the state behind it; and its counted calls are
--- so many.
+-- The history is legal, each entry is by one who may ask for it, and it holds each pass's calls, and no others; the core stands for the
+-- state behind it; and its counted calls are so many.
 pub record IsClosed (r : Runtime) (p : Passes) (c : Closed) : Type 0 where
   pub legal : IsLegal (with_apps (apps_of r)) (history_of c)
+  pub by_callers : are_by_callers (history_of c) ≡ true
   pub apps : (i : ℕ) (a : AppPass) → slice_get p.apps.items i ≡ Some a → Holds (apps_of r) (history_of c) a.seat.me.0.know
   pub compositor : Holds (apps_of r) (history_of c) p.compositor.seat.me.0.know
   pub device : Holds (apps_of r) (history_of c) p.device.seat.me.0.know

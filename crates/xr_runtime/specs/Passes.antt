@@ -120,5 +120,6 @@ pub record IsStarted (r : Runtime) (apps : ℕ) (p : Passes) : Type 0 where
   pub passes : AreFirst (table_of r) p.apps.items
   pub compositor : IsCompositor (table_of r) p.compositor
   pub none_shown : (p.compositor.ended ≡ false) × (p.compositor.calls ≡ 0)
+  pub none_held : p.compositor.held ≡ 0
   pub device : IsDevice (table_of r) p.device
   pub none_told : p.device.calls ≡ 0

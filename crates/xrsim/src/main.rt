@@ -1,6 +1,6 @@
 //! `xrsim` runs a scenario of OpenXR calls on the written machine, beside a device if one is named, and prints
-//! its report. The top call is `xr_drive`'s, over any files and output, and so is what a program does with its status.
-//! This file makes the real ones; `help` has what the program says of itself.
+//! its report. The top calls are `xr_drive`'s and, on threads, `xr_drive_threads`', over any files and output, and so is what a
+//! program does with a status. This file makes the real ones; `help` has what the program says of itself.
 #![tactic(auto)]
 
 mod help;
@@ -12,6 +12,7 @@ use std::io::ErrorKind;
 use std::process::ExitCode;
 use std::rt::Env;
 use xr_drive::{end_with, print, run_program};
+use xr_drive_threads::run_threads_program;
 use xr_io::{FileOpener, StdSink};
 use xr_types::Status;
 
@@ -41,6 +42,16 @@ fn main(rt: HostRuntime) -> ExitCode {
         return end_with(&mut errors, status);
     }
     let mut opener = FileOpener::new(&rt);
+    if words.first().is_some_and(|word| word.as_str() == "threads") {
+        return run_threads_program(
+            &rt,
+            rt.alloc(),
+            words.as_slice(),
+            &mut opener,
+            &mut sink,
+            &mut errors,
+        );
+    }
     run_program(
         rt.alloc(),
         words.as_slice(),

@@ -1,10 +1,11 @@
-use Rattle.std.proofs.Common.{◌≡◌, List, [], sym, refl, ap, ◌∙◌, subst, arith}
+use Rattle.std.proofs.Common.{◌≡◌, true, List, [], sym, refl, ap, ◌∙◌, subst, arith}
 use Rattle.xr_model.specs.machine.History.{after, IsLegal}
 use Rattle.xr_model.specs.machine.Request.{Entry}
 use Rattle.xr_model.specs.machine.State.{State, with_apps, opening}
 use Rattle.xr_model.specs.laws.Laws.{count_locked}
 use Rattle.xr_model.specs.laws.Moments.{opening_moment, calls_by}
 use Rattle.xr_model.proofs.Histories.{entries_are_counted}
+use Rattle.xr_rule.specs.Rule.{are_by_callers}
 use Rattle.xr_rule.specs.View.{keepsake, joined_view}
 use Rattle.xr_runtime.specs.Calling.{Has}
 use Rattle.xr_runtime.specs.Closing.{Holds}
@@ -65,6 +66,7 @@ returns c =
     let back : k.seen ≡ c.finish-finished.result.seat.me.0.know.seen = sym seen in record {
       closed = record {
         legal = subst (IsLegal (with_apps apps)) back has.legal;
+        by_callers = subst (λ (l : List Entry). are_by_callers l ≡ true) back has.by_callers;
         apps = λ j a at. subst (λ (l : List Entry). Holds apps l a.seat.me.0.know) back (apps_are_held apps c.args.passes.apps.items c.loop-pass.apps.items _ _ k i.2 none has j a at);
         compositor = subst (λ (l : List Entry). Holds apps l c.args.passes.compositor.seat.me.0.know) back (is_held apps k c.args.passes.compositor.seat.me.0.know k.own refl has i.2.compositor);
         device = subst (λ (l : List Entry). Holds apps l c.args.passes.device.seat.me.0.know) back (is_held apps k c.args.passes.device.seat.me.0.know k.own refl has i.2.device);

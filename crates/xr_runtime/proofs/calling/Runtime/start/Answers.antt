@@ -17,6 +17,7 @@ returns c =
         passes = c.seat_apps.ensures.passes;
         compositor = compositor_first table c.args.apps (record { seat = c.in-Some-pop.compositor; calls = 0; held = 0; ended = false }) two.0 refl refl;
         none_shown = (refl, refl);
+        none_held = refl;
         device = device_first table c.args.apps (record { seat = c.in-Some.device; calls = 0 }) two.1 refl;
         none_told = refl;
       };

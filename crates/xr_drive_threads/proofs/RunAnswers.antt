@@ -1,0 +1,64 @@
+-- What comes of files that are run on threads.
+use Rattle.std.proofs.Common.{◌≡◌, ◌+◌, ℕ, Bool, true, false, true≢false, List, Option, Some, None, Result, Ok, Err, IfOk, refl, sym, subst}
+use Rattle.std.specs.Prelude.{IsErr}
+use Rattle.std.specs.List.{list_any}
+use Rattle.xr_io.specs.Outside.{Rose, Files, Output}
+use Rattle.xr_types.specs.declared.calls.NoMemory.{NoMemory}
+use Rattle.xr_types.specs.declared.made.Lists.{Lists}
+use Rattle.xr_types.specs.declared.scenario.Scenario.{Scenario}
+use Rattle.xr_types.specs.declared.status.Status.{Status}
+use Rattle.xr_model.specs.command_line.Words.{RunOptions}
+use Rattle.xr_model.specs.report.RunEnding.{is_fault}
+use Rattle.xr_device.specs.Answers.{ReadsOn}
+use Rattle.xr_device.specs.Kinds.{TextReading, of_text}
+use Rattle.xr_device.specs.Prospect.{Prospect}
+use Rattle.xr_runtime.specs.declared.close.Closed.{Closed}
+use Rattle.xr_runtime.specs.Closing.{history_of}
+use Rattle.xr_serial.specs.Ran.{FailsBehind}
+use Rattle.xr_threads.specs.declared.threads.Ended.{Ended}
+use Rattle.xr_threads.specs.Threads.{RanOnThreads}
+use Rattle.xr_drive.specs.Files.{FilesAnswer, ReportsFiles, ReadBeside, DeviceClosed}
+use Rattle.xr_drive.specs.Top.{is_unrun}
+use Rattle.xr_drive.specs.declared.faults.RunFault.{RunFault}
+use Rattle.xr_drive.proofs.FilesRan.{beside_ran, beside_short}
+use Rattle.xr_drive_threads.specs.Top.{RanClosed}
+use Rattle.xr_drive_threads.specs.inside.Runs.{lists_or_fault, files_run, NoneIfUnrun}
+
+-- how the lists of a run came, beside a device that was so before it and is so behind it
+abbrev CameFrom : Closed → Scenario → Prospect → Prospect → Lists → Type 0
+CameFrom c scenario start now lists = (count : ℕ) × (now.given ≡ start.given + count) × RanOnThreads (history_of c) scenario start.remaining count lists
+
+-- ---- beside the device's file
+
+module _ (file name : List ℕ) (places : Bool) (old mid new : Files) (scenario : Scenario) (first last : TextReading) (read : ReadBeside file name old mid scenario first) (on : ReadsOn (of_text first) (of_text last)) (end : DeviceClosed last mid new) where
+  abbrev beside_options : RunOptions
+  beside_options = record { file = file; device = Some name; places = places }
+
+  listed_beside : (c : Closed) (l : Result Lists NoMemory) → IfOk l (CameFrom c scenario (of_text first) (of_text last)) → IfOk l (λ lists. list_any is_fault lists.events ≡ true → Rose (of_text first).faults (of_text last).faults)
+      → IfOk l (λ lists. list_any is_fault lists.events ≡ false → (of_text last).faults ≡ (of_text first).faults) → IfOk l (λ lists. list_any is_fault lists.events ≡ true → FailsBehind (of_text first) (of_text last) lists.events)
+      → FilesAnswer (RanClosed (Some c)) beside_options old new (lists_or_fault l)
+  listed_beside c (Ok lists) came fault unfailed failed = beside_ran file name old mid new scenario first last read on end (RanClosed (Some c)) lists (came.0, came.1, (c, refl, came.2)) fault unfailed failed
+  listed_beside c (Err short) came fault unfailed failed = beside_short file name old mid new scenario first last read on end
+
+  pub run_beside : (run : Result Ended NoMemory) → IfOk run (λ e. IfOk e.lists (CameFrom e.closed scenario (of_text first) (of_text last)))
+      → IfOk run (λ e. IfOk e.lists (λ lists. list_any is_fault lists.events ≡ true → Rose (of_text first).faults (of_text last).faults))
+      → IfOk run (λ e. IfOk e.lists (λ lists. list_any is_fault lists.events ≡ false → (of_text last).faults ≡ (of_text first).faults))
+      → IfOk run (λ e. IfOk e.lists (λ lists. list_any is_fault lists.events ≡ true → FailsBehind (of_text first) (of_text last) lists.events))
+      → FilesAnswer (RanClosed (files_run run).closed) beside_options old new (files_run run).lists
+  run_beside (Ok e) came fault unfailed failed = listed_beside e.closed e.lists came fault unfailed failed
+  run_beside (Err short) came fault unfailed failed = beside_short file name old mid new scenario first last read on end
+
+-- ---- no runtime where nothing was run
+
+listed_kept : (l : Result Lists NoMemory) (closed : Option Closed) → NoneIfUnrun (lists_or_fault l) closed
+listed_kept (Ok lists) closed = tt
+listed_kept (Err short) closed = λ is. cc is
+
+pub run_kept : (run : Result Ended NoMemory) → NoneIfUnrun (files_run run).lists (files_run run).closed
+run_kept (Ok e) = listed_kept e.lists (Some e.closed)
+run_kept (Err short) = λ is. refl
+
+pub none_closed : (options : RunOptions) (lists : Result Lists RunFault) (closed : Option Closed) (before behind : Output) (status : Status) → NoneIfUnrun lists closed → ReportsFiles options lists before behind status → (is_unrun status ≡ true → IsErr lists)
+    → is_unrun status ≡ true → closed ≡ None
+none_closed options (Ok lists) closed before behind status none reported unrun is = absurd (true≢false (sym (unrun is)))
+none_closed options (Err fault) closed before behind status none reported unrun is = none (subst (λ (s : Status). is_unrun s ≡ true) reported.0 is)

@@ -1,0 +1,3 @@
+pub mod Top
+pub mod TopLaws
+pub mod inside

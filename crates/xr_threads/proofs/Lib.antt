@@ -1,0 +1,4 @@
+pub mod Places
+pub mod Workers
+pub mod Shown
+pub mod Ending

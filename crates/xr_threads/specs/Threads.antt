@@ -1,0 +1,50 @@
+-- A run of a scenario on threads: the one history that its lists are of.
+use Rattle.std.specs.Prelude.{◌≡◌, ◌+◌, ◌≤◌, ◌<◌, ℕ, true, List, [], length, Option}
+use Rattle.xr_types.specs.declared.calls.Actor.{Actor}
+use Rattle.xr_types.specs.declared.calls.Actor.TheVariants.{App, Compositor, Device}
+use Rattle.xr_types.specs.declared.device.DeviceEvent.{DeviceEvent}
+use Rattle.xr_types.specs.declared.made.Lists.{Lists}
+use Rattle.xr_types.specs.declared.scenario.Scenario.{Scenario}
+use Rattle.xr_model.specs.device_text.DeviceText.{DeviceStream, Ending}
+use Rattle.xr_model.specs.laws.FrameLaws.{shown_from}
+use Rattle.xr_model.specs.laws.Laws.{count_locked}
+use Rattle.xr_model.specs.laws.Moments.{opening_moment, calls_by}
+use Rattle.xr_model.specs.machine.History.{calls_of, IsLegal}
+use Rattle.xr_model.specs.machine.Request.{Entry}
+use Rattle.xr_model.specs.machine.State.{Settings, opening}
+use Rattle.xr_model.specs.runs.Lists.{lists_of}
+use Rattle.xr_rule.specs.Rule.{are_by_callers}
+use Rattle.xr_runtime.specs.declared.close.Closed.{Closed}
+use Rattle.xr_runtime.specs.Closing.{history_of}
+use Rattle.xr_serial.specs.Ran.{settings_of, Gave, AreSound, IsWhole}
+use Rattle.xr_workers.specs.Workers.{IsGated, turns_in}
+
+-- The lists of a history in which all have come to their end. How many counted calls came before an image was given back is not known.
+abbrev pub lists_on_threads : Settings → List Entry → Lists
+lists_on_threads settings history = record (lists_of settings history []) { done = []; next = [] }
+
+-- A run of a scenario on threads: a legal history of the machine of one thread, in which each entry is by one who may ask for it. It
+-- holds each application's calls, which are its script's ops in their order and then `leave`; the compositor's, up to the one that told
+-- it the end; the device's, which are all that the device did; and no others. The device gave so many events, of what it has told if it
+-- told anything. The lists are those of this history, so each reply is the machine's at its call's place, and the frames are all that
+-- the history shows.
+pub record RanOnThreads (history : List Entry) (scenario : Scenario) (told : Option DeviceStream) (count : ℕ) (lists : Lists) : Type 0 where
+  pub events : List DeviceEvent
+  pub ending : Option Ending
+  pub gave : Gave told count events ending
+  pub sound : AreSound lists.events
+  pub legal : IsLegal (settings_of scenario) history
+  pub by_callers : are_by_callers history ≡ true
+  pub whole : IsWhole scenario events ending history
+  pub no_others : (n : ℕ) → length scenario.scripts + 2 ≤ n → calls_by n (opening_moment (length scenario.scripts)) history ≡ []
+  pub shown : lists.compositor ≡ shown_from (opening (settings_of scenario)) history
+  pub made : lists ≡ lists_on_threads (settings_of scenario) history
+
+-- What a closed runtime stands for, also where memory was short for a list: a legal history, with so many counted calls. The gate was
+-- called before and behind each call of the scripts and of the device, and each turn of the compositor.
+pub record ClosesRun (came went : Actor → ℕ → Type 0) (scenario : Scenario) (c : Closed) : Type 0 where
+  pub legal : IsLegal (settings_of scenario) (history_of c)
+  pub places_are : c.places ≡ count_locked (history_of c)
+  pub apps_gated : (place : ℕ) → place < length scenario.scripts → IsGated came went (App (place + 1)) 0 (length (calls_of (settings_of scenario) (App (place + 1)) (history_of c)))
+  pub compositor_gated : IsGated came went Compositor 0 (turns_in (calls_of (settings_of scenario) Compositor (history_of c)))
+  pub device_gated : IsGated came went Device 0 (length (calls_of (settings_of scenario) Device (history_of c)))
