@@ -1,5 +1,5 @@
 -- What comes of files that are run on threads.
-use Rattle.std.proofs.Common.{◌≡◌, ◌+◌, ℕ, Bool, true, false, true≢false, List, Option, Some, None, Result, Ok, Err, IfOk, refl, sym, subst}
+use Rattle.std.proofs.Common.{◌≡◌, ◌+◌, inl, ℕ, Bool, true, false, true≢false, List, [], Option, Some, None, Result, Ok, Err, IfOk, refl, sym, subst, arith}
 use Rattle.std.specs.Prelude.{IsErr}
 use Rattle.std.specs.List.{list_any}
 use Rattle.xr_io.specs.Outside.{Rose, Files, Output}
@@ -10,16 +10,20 @@ use Rattle.xr_types.specs.declared.status.Status.{Status}
 use Rattle.xr_model.specs.command_line.Words.{RunOptions}
 use Rattle.xr_model.specs.report.RunEnding.{is_fault}
 use Rattle.xr_device.specs.Answers.{ReadsOn}
-use Rattle.xr_device.specs.Kinds.{TextReading, of_text}
+use Rattle.xr_types.specs.declared.device.DeviceEvent.{DeviceEvent}
+use Rattle.xr_model.specs.device_text.DeviceText.{ends}
+use Rattle.xr_device.specs.Kinds.{Stored, of_list, TextReading, of_text}
 use Rattle.xr_device.specs.Prospect.{Prospect}
 use Rattle.xr_runtime.specs.declared.close.Closed.{Closed}
 use Rattle.xr_runtime.specs.Closing.{history_of}
 use Rattle.xr_serial.specs.Ran.{FailsBehind}
 use Rattle.xr_threads.specs.declared.threads.Ended.{Ended}
 use Rattle.xr_threads.specs.Threads.{RanOnThreads}
-use Rattle.xr_drive.specs.Files.{FilesAnswer, ReportsFiles, ReadBeside, DeviceClosed}
+use Rattle.xr_drive.specs.Files.{FilesUnrun, FilesRan, FilesAnswer, ReportsFiles, ReadAlone, ReadBeside, DeviceClosed}
 use Rattle.xr_drive.specs.Top.{is_unrun}
+use Rattle.xr_drive.specs.Run.{HowRan}
 use Rattle.xr_drive.specs.declared.faults.RunFault.{RunFault}
+use Rattle.xr_drive.specs.declared.faults.RunFault.TheVariants as run_fault
 use Rattle.xr_drive.proofs.FilesRan.{beside_ran, beside_short}
 use Rattle.xr_drive_threads.specs.Top.{RanClosed}
 use Rattle.xr_drive_threads.specs.inside.Runs.{lists_or_fault, files_run, NoneIfUnrun}
@@ -27,6 +31,69 @@ use Rattle.xr_drive_threads.specs.inside.Runs.{lists_or_fault, files_run, NoneIf
 -- how the lists of a run came, beside a device that was so before it and is so behind it
 abbrev CameFrom : Closed → Scenario → Prospect → Prospect → Lists → Type 0
 CameFrom c scenario start now lists = (count : ℕ) × (now.given ≡ start.given + count) × RanOnThreads (history_of c) scenario start.remaining count lists
+
+-- ---- beside no device's file
+
+none_rose : Rose 0 0 → ⊥
+none_rose rose = omega (arith, rose)
+
+-- the lists were made beside a device of no events
+alone_ran : (How : HowRan) (file : List ℕ) (old new : Files) (scenario : Scenario) → ReadAlone file old new scenario → (first last : Stored) → first.events ≡ [] → (lists : Lists) → (count : ℕ) × ((of_list last).given ≡ (of_list first).given + count) × How scenario (of_list first).remaining count lists
+    → (list_any is_fault lists.events ≡ true → Rose (of_list first).faults (of_list last).faults) → FilesRan How file None old new lists
+alone_ran How file old new scenario read first last empty lists ran fault = record {
+  means = record {
+    text = read.is.text;
+    is_all = read.is.is_all;
+    scenario = scenario;
+    reads = read.is.reads;
+    runs = record {
+      count = ran.0;
+      ran = subst (λ (es : List DeviceEvent). How scenario (Some (record { events = es; ending = ends })) ran.0 lists) empty ran.2;
+      fails = λ h. tt;
+    };
+  };
+  cause = λ h. absurd (none_rose (fault h));
+  opens = read.opens;
+  scenario = read.sound;
+  unfailed = λ h. read.device.reads;
+  asked = read.asked;
+  device_asked = read.none;
+  alone = read.device;
+  within = read.within;
+  device_within = λ named. absurd (true≢false (sym named));
+  closed = read.closed;
+  same = read.same;
+}
+
+-- memory was short in the run
+alone_short : (file : List ℕ) (old new : Files) (scenario : Scenario) → ReadAlone file old new scenario → FilesUnrun file None old new run_fault.NoMemory
+alone_short file old new scenario read = record {
+  means = tt;
+  cause = tt;
+  counts = (read.opens, read.sound);
+  asked = read.asked;
+  device_asked = inl read.none;
+  turn = tt;
+  alone = read.device;
+  taken = inl read.within;
+  device_taken = λ named. absurd (true≢false (sym named));
+  closed = read.closed;
+  same = read.same;
+}
+
+module _ (file : List ℕ) (places : Bool) (old new : Files) (scenario : Scenario) (read : ReadAlone file old new scenario) (first last : Stored) (empty : first.events ≡ []) where
+  abbrev alone_options : RunOptions
+  alone_options = record { file = file; device = None; places = places }
+
+  listed_alone : (c : Closed) (l : Result Lists NoMemory) → IfOk l (CameFrom c scenario (of_list first) (of_list last)) → IfOk l (λ lists. list_any is_fault lists.events ≡ true → Rose (of_list first).faults (of_list last).faults)
+      → FilesAnswer (RanClosed (Some c)) alone_options old new (lists_or_fault l)
+  listed_alone c (Ok lists) came fault = alone_ran (RanClosed (Some c)) file old new scenario read first last empty lists (came.0, came.1, (c, refl, came.2)) fault
+  listed_alone c (Err short) came fault = alone_short file old new scenario read
+
+  pub run_alone : (run : Result Ended NoMemory) → IfOk run (λ e. IfOk e.lists (CameFrom e.closed scenario (of_list first) (of_list last)))
+      → IfOk run (λ e. IfOk e.lists (λ lists. list_any is_fault lists.events ≡ true → Rose (of_list first).faults (of_list last).faults)) → FilesAnswer (RanClosed (files_run run).closed) alone_options old new (files_run run).lists
+  run_alone (Ok e) came fault = listed_alone e.closed e.lists came fault
+  run_alone (Err short) came fault = alone_short file old new scenario read
 
 -- ---- beside the device's file
 
