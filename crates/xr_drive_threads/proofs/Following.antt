@@ -10,7 +10,7 @@ use Rattle.xr_drive.proofs.Clean.{calls_clean}
 use Rattle.xr_drive.proofs.Runs.{good_input_is_run_by}
 use Rattle.xr_drive_threads.specs.Top.{RanClosed}
 use Rattle.xr_drive_threads.specs.TopLaws.{GoodInputIsRunOnThreads, ThreadsEnd}
-use Rattle.xr_drive_threads.proofs.Closed.{never_stuck}
+use Rattle.xr_drive_threads.proofs.NeverStuck.{never_stuck}
 
 -- a device that is known to end at the end of its text does nothing that is garbled
 keeps_clean : (closed : Option Closed) → KeepsClean (RanClosed closed)

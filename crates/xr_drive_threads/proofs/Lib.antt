@@ -1,3 +1,3 @@
-pub mod Closed
+pub mod NeverStuck
 pub mod Following
 pub mod RunAnswers

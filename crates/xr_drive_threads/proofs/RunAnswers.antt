@@ -1,12 +1,10 @@
 -- What comes of files that are run on threads.
-use Rattle.std.proofs.Common.{◌≡◌, ◌+◌, inl, ℕ, Bool, true, false, true≢false, List, [], Option, Some, None, Result, Ok, Err, IfOk, refl, sym, subst, arith}
-use Rattle.std.specs.Prelude.{IsErr}
+use Rattle.std.proofs.Common.{◌≡◌, inl, ℕ, Bool, true, false, true≢false, List, [], Some, None, Result, Ok, Err, IfOk, refl, sym, subst, arith}
 use Rattle.std.specs.List.{list_any}
-use Rattle.xr_io.specs.Outside.{Rose, Files, Output}
+use Rattle.xr_io.specs.Outside.{Rose, Files}
 use Rattle.xr_types.specs.declared.calls.NoMemory.{NoMemory}
 use Rattle.xr_types.specs.declared.made.Lists.{Lists}
 use Rattle.xr_types.specs.declared.scenario.Scenario.{Scenario}
-use Rattle.xr_types.specs.declared.status.Status.{Status}
 use Rattle.xr_model.specs.command_line.Words.{RunOptions}
 use Rattle.xr_model.specs.report.RunEnding.{is_fault}
 use Rattle.xr_device.specs.Answers.{ReadsOn}
@@ -19,18 +17,16 @@ use Rattle.xr_runtime.specs.Closing.{history_of}
 use Rattle.xr_serial.specs.Ran.{FailsBehind}
 use Rattle.xr_threads.specs.declared.threads.Ended.{Ended}
 use Rattle.xr_threads.specs.Threads.{RanOnThreads}
-use Rattle.xr_drive.specs.Files.{FilesUnrun, FilesRan, FilesAnswer, ReportsFiles, ReadAlone, ReadBeside, DeviceClosed}
-use Rattle.xr_drive.specs.Top.{is_unrun}
+use Rattle.xr_drive.specs.Files.{FilesUnrun, FilesRan, FilesAnswer, ReadAlone, ReadBeside, DeviceClosed}
 use Rattle.xr_drive.specs.Run.{HowRan}
-use Rattle.xr_drive.specs.declared.faults.RunFault.{RunFault}
 use Rattle.xr_drive.specs.declared.faults.RunFault.TheVariants as run_fault
-use Rattle.xr_drive.proofs.FilesRan.{beside_ran, beside_short}
+use Rattle.xr_drive.proofs.FilesRan.{CameSo, beside_ran, beside_short}
 use Rattle.xr_drive_threads.specs.Top.{RanClosed}
-use Rattle.xr_drive_threads.specs.inside.Runs.{lists_or_fault, files_run, NoneIfUnrun}
+use Rattle.xr_drive_threads.specs.inside.Runs.{lists_or_fault, files_run}
 
 -- how the lists of a run came, beside a device that was so before it and is so behind it
 abbrev CameFrom : Closed → Scenario → Prospect → Prospect → Lists → Type 0
-CameFrom c scenario start now lists = (count : ℕ) × (now.given ≡ start.given + count) × RanOnThreads (history_of c) scenario start.remaining count lists
+CameFrom c = CameSo (RanOnThreads (history_of c))
 
 -- ---- beside no device's file
 
@@ -38,7 +34,7 @@ none_rose : Rose 0 0 → ⊥
 none_rose rose = omega (arith, rose)
 
 -- the lists were made beside a device of no events
-alone_ran : (How : HowRan) (file : List ℕ) (old new : Files) (scenario : Scenario) → ReadAlone file old new scenario → (first last : Stored) → first.events ≡ [] → (lists : Lists) → (count : ℕ) × ((of_list last).given ≡ (of_list first).given + count) × How scenario (of_list first).remaining count lists
+alone_ran : (How : HowRan) (file : List ℕ) (old new : Files) (scenario : Scenario) → ReadAlone file old new scenario → (first last : Stored) → first.events ≡ [] → (lists : Lists) → CameSo How scenario (of_list first) (of_list last) lists
     → (list_any is_fault lists.events ≡ true → Rose (of_list first).faults (of_list last).faults) → FilesRan How file None old new lists
 alone_ran How file old new scenario read first last empty lists ran fault = record {
   means = record {
@@ -114,18 +110,3 @@ module _ (file name : List ℕ) (places : Bool) (old mid new : Files) (scenario 
       → FilesAnswer (RanClosed (files_run run).closed) beside_options old new (files_run run).lists
   run_beside (Ok e) came fault unfailed failed = listed_beside e.closed e.lists came fault unfailed failed
   run_beside (Err short) came fault unfailed failed = beside_short file name old mid new scenario first last read on end
-
--- ---- no runtime where nothing was run
-
-listed_kept : (l : Result Lists NoMemory) (closed : Option Closed) → NoneIfUnrun (lists_or_fault l) closed
-listed_kept (Ok lists) closed = tt
-listed_kept (Err short) closed = λ is. cc is
-
-pub run_kept : (run : Result Ended NoMemory) → NoneIfUnrun (files_run run).lists (files_run run).closed
-run_kept (Ok e) = listed_kept e.lists (Some e.closed)
-run_kept (Err short) = λ is. refl
-
-pub none_closed : (options : RunOptions) (lists : Result Lists RunFault) (closed : Option Closed) (before behind : Output) (status : Status) → NoneIfUnrun lists closed → ReportsFiles options lists before behind status → (is_unrun status ≡ true → IsErr lists)
-    → is_unrun status ≡ true → closed ≡ None
-none_closed options (Ok lists) closed before behind status none reported unrun is = absurd (true≢false (sym (unrun is)))
-none_closed options (Err fault) closed before behind status none reported unrun is = none (subst (λ (s : Status). is_unrun s ≡ true) reported.0 is)

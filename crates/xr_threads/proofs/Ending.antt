@@ -1,19 +1,16 @@
 -- The history that a closed runtime stands for is the run's.
-use Rattle.std.proofs.Common.{◌≡◌, ◌<◌, ◌≤◌, ◌+◌, ℕ, zero, suc, true, List, [], ◌∷◌, ◌++◌, length, map, get_or, take, slice_get, Option, Some, None, IfSome, IfOk, Result, Ok, Err, Bool, false, refl, sym, ap, ◌∙◌, subst, arith, add-one}
+use Rattle.std.proofs.Common.{◌≡◌, ◌<◌, ◌≤◌, ◌+◌, ℕ, zero, suc, true, List, [], ◌∷◌, ◌++◌, length, map, get_or, take, slice_get, Option, Some, None, IfSome, IfOk, Result, Ok, Err, Bool, refl, sym, ap, ◌∙◌, subst, arith, add-one}
 use Rattle.std.proofs.lemmas.List.{map_more, take_all}
 use Rattle.std.specs.Prelude.{is_some, unwrap_or}
-use Rattle.std.specs.List.{list_all, list_any}
+use Rattle.std.specs.List.{list_all}
 use Rattle.atomic_table.specs.Seated.{TableId}
 use Rattle.xr_types.specs.declared.calls.Actor.{Actor}
 use Rattle.xr_types.specs.declared.calls.Actor.TheVariants.{App, Compositor, Device}
 use Rattle.xr_types.specs.declared.calls.NoMemory.{NoMemory}
-use Rattle.xr_types.specs.declared.device.DeviceEvent.{DeviceEvent}
 use Rattle.xr_types.specs.declared.made.Lists.{Lists}
 use Rattle.xr_types.specs.declared.made.Made.{Made}
 use Rattle.xr_types.specs.declared.scenario.Scenario.{Scenario}
 use Rattle.xr_device.specs.Prospect.{Prospect}
-use Rattle.xr_io.specs.Outside.{Rose}
-use Rattle.xr_model.specs.report.RunEnding.{is_fault}
 use Rattle.xr_model.specs.laws.Moments.{opening_moment, actor_at, calls_by}
 use Rattle.xr_model.specs.machine.History.{calls_from, calls_of, IsLegal}
 use Rattle.xr_model.specs.machine.Request.{Entry, Exchange}
@@ -30,10 +27,10 @@ use Rattle.xr_runtime.specs.declared.passes.DevicePass.{DevicePass}
 use Rattle.xr_runtime.specs.declared.passes.Passes.{Passes}
 use Rattle.xr_runtime.specs.Closing.{Holds, history_of, IsClosed}
 use Rattle.xr_runtime.specs.Passes.{apps_of, IsCompositor, IsDevice}
-use Rattle.xr_serial.specs.Ran.{settings_of, OfEachScript, FailsBehind}
+use Rattle.xr_serial.specs.Ran.{settings_of, OfEachScript}
 use Rattle.xr_workers.specs.declared.compositor.Composed.{Composed}
 use Rattle.xr_workers.specs.declared.device.DeviceMade.{DeviceMade}
-use Rattle.xr_workers.specs.Workers.{Adds, IsGated, turns_in, RanCompositor, RanDevice, ListsDevice}
+use Rattle.xr_workers.specs.Workers.{Adds, IsGated, turns_in, RanCompositor, RanDevice}
 use Rattle.xr_threads.specs.declared.app.AppWorker.{AppWorker}
 use Rattle.xr_threads.specs.Threads.{RanOnThreads, ClosesRun}
 use Rattle.xr_threads.specs.inside.Working.{pass_of, calls_made, HasWorked, HaveWorked, list_of, is_listed, Parted}
@@ -175,12 +172,6 @@ module _ (came went : Actor → ℕ → Type 0) (table : TableId) (r : Runtime) 
           },
         )
 
--- what the device's worker says of its faults, and of what it gave before one
-pub record Faults (start now : Prospect) (lists : Lists) : Type 0 where
-  pub fault : list_any is_fault lists.events ≡ true → Rose start.faults now.faults
-  pub unfailed : list_any is_fault lists.events ≡ false → now.faults ≡ start.faults
-  pub failed : list_any is_fault lists.events ≡ true → FailsBehind start now lists.events
-
 module _ (came went : Actor → ℕ → Type 0) (table : TableId) (ws : List AppWorker) (r : Runtime) (p : Passes) (c : Closed) (scenario : Scenario) (k : IsClosed r p c) (apps : apps_of r ≡ length scenario.scripts) (lists : List (List Made)) (all : Bool)
     (parts : Parted ws p.apps.items lists all) (count : length ws ≡ length scenario.scripts) (have : HaveWorked came went table scenario ws) (composed : Result Composed NoMemory) (told : Result DeviceMade NoMemory) (start now : Prospect)
     (c_old : CompositorPass) (is_c : IsCompositor table c_old) (none_c : c_old.calls ≡ 0) (ran_c : RanCompositor table c_old p.compositor composed)
@@ -191,15 +182,3 @@ module _ (came went : Actor → ℕ → Type 0) (table : TableId) (ws : List App
       ran_on_threads came went table r p c scenario k apps ws parts.passes_are count have (parts.listed if.listed) c_old d_old start now if.frames if.made l is_c none_c (subst (RanCompositor table c_old p.compositor) if.composed_is ran_c) is_d none_d
       (subst (RanDevice table start now d_old p.device) if.told_is ran_d)
       (if.lists_are ∙ (λ i. record { apps = parts.lists_are if.listed i; device = if.made.calls; compositor = if.frames.frames; ended = Some if.frames.ended; shown = if.frames.replies; done = []; events = if.made.events; next = [] }))
-
-  pub faults_if : (result : Result Lists NoMemory) → IfOk result (AreListed lists all composed told) → IfOk result (Faults start now)
-  faults_if (Err short) if = tt
-  faults_if (Ok l) if =
-      let ran : RanDevice table start now d_old p.device (Ok if.made) = subst (RanDevice table start now d_old p.device) if.told_is ran_d in
-      let list : ListsDevice start now ran.calls if.made = ran.lists in
-      let events : if.made.events ≡ l.events = sym (ap (λ (z : Lists). z.events) if.lists_are) in
-      record {
-        fault = subst (λ (es : List DeviceEvent). list_any is_fault es ≡ true → Rose start.faults now.faults) events list.fault;
-        unfailed = subst (λ (es : List DeviceEvent). list_any is_fault es ≡ false → now.faults ≡ start.faults) events list.unfailed;
-        failed = subst (λ (es : List DeviceEvent). list_any is_fault es ≡ true → FailsBehind start now es) events list.failed;
-      }
