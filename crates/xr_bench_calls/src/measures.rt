@@ -125,15 +125,19 @@ fn tell_suggesting<R: Clock + Print>(rt: &R, core: &mut PlainCore, rounds: u64) 
     tell(rt, start, "suggesting", taken, "bindings")
 }
 
-/// Measures syncs: of one action with one binding, and, a 64th as often, of 64 actions with 512.
-fn tell_syncs<R: Clock + Print>(rt: &R, rounds: u64) -> io::Result<()> {
+/// Measures syncs: of one action with one binding, and, a 64th as often, of 64 actions with 512. Nothing is told of those for which
+/// there is no memory.
+fn tell_syncs<R: Clock + Print>(rt: &R, alloc: Global, rounds: u64) -> io::Result<()> {
     let start = Instant::now(rt)?;
-    let _ = sync_often(false, rounds);
-    tell(rt, start, "syncing one action", rounds, "times")?;
+    if sync_often(alloc, false, rounds).is_ok() {
+        tell(rt, start, "syncing one action", rounds, "times")?;
+    }
     let times = (rounds / 64).max(1);
     let start = Instant::now(rt)?;
-    let _ = sync_often(true, times);
-    tell(rt, start, "syncing all actions", times, "times")
+    if sync_often(alloc, true, times).is_ok() {
+        tell(rt, start, "syncing all actions", times, "times")?;
+    }
+    Ok(())
 }
 
 /// Measures syncs by calls, each with a getter behind it, and getters alone: of one action with one binding.
@@ -182,6 +186,7 @@ enum Measure {
 /// Takes this measure on a core that is new.
 fn take<R: Clock + Print>(
     rt: &R,
+    alloc: Global,
     core: &mut PlainCore,
     what: Measure,
     rounds: u64,
@@ -194,7 +199,7 @@ fn take<R: Clock + Print>(
         Measure::Images => tell_images(rt, core, rounds),
         Measure::Waits => tell_waits(rt, core, rounds),
         Measure::Suggesting => tell_suggesting(rt, core, rounds),
-        Measure::Syncs => tell_syncs(rt, rounds),
+        Measure::Syncs => tell_syncs(rt, alloc, rounds),
         Measure::Reading => tell_reading(rt, core, rounds),
         Measure::ReadingAll => tell_reading_all(rt, core, rounds),
     }
@@ -221,7 +226,7 @@ pub(crate) fn measure_each<R: Clock + Print>(
         let Ok(mut core) = PlainCore::start(alloc, 1) else {
             return Ok(false);
         };
-        take(rt, &mut core, what, rounds)?;
+        take(rt, alloc, &mut core, what, rounds)?;
     }
     Ok(true)
 }

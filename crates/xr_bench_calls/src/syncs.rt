@@ -2,8 +2,9 @@
 ghost use Rattle.std.specs.Prelude.{◌<◌, All};
 ghost use Rattle.xr_sync.specs.Ranks.{IsPlaced};
 
+use std::alloc::Global;
 use xr_sync::Columns;
-use xr_types::{ActionType, Bound, Heard, Inputs, Part, Pick, Ranked, User};
+use xr_types::{ActionType, Bound, Heard, Inputs, NoMemory, Part, Pick, Ranked, User};
 
 /// The set of all actions, heard at every user path.
 const HEARD: [Heard; 1] = [Heard { set: 7, user: None }];
@@ -50,14 +51,14 @@ fn all_bindings() -> [Ranked; 512]
 }
 
 /// Syncs one action, or all, so often; how many changes its first column showed.
-pub(crate) fn sync_often(all: bool, times: u64) -> u64 {
+pub(crate) fn sync_often(alloc: Global, all: bool, times: u64) -> Result<u64, NoMemory> {
     let list = all_bindings();
     let one = [binding(0)];
     let mut inputs = Inputs {
         values: [[0; 40]; 5],
         pressed: [[false; 40]; 5],
     };
-    let mut columns = Columns::start();
+    let mut columns = Columns::start(alloc)?;
     let mut changes: u64 = 0;
     for time in 0..times {
         inputs.values[0][0] = (time % 3) as i32;
@@ -70,5 +71,5 @@ pub(crate) fn sync_often(all: bool, times: u64) -> u64 {
             changes = changes.saturating_add(1);
         }
     }
-    changes
+    Ok(changes)
 }

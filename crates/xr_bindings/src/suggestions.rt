@@ -1,6 +1,6 @@
 // What is suggested for one profile, and what an action that goes takes from all of them.
-ghost use Rattle.std.specs.Prelude.{◌≡◌, ◌≤◌, ◌==◌, [], true, not, map, take, length, IfOk};
-ghost use Rattle.std.specs.List.{filter, list_all};
+ghost use Rattle.std.specs.Prelude.{◌≡◌, ◌≤◌, ◌==◌, [], true, nat_le, not, map, take, length, IfOk};
+ghost use Rattle.std.specs.List.{filter, list_all, list_any};
 ghost use Rattle.xr_types.specs.declared.limits.TheConstants.{MOST_SUGGESTED};
 ghost use Rattle.xr_model.specs.machine.Bindings.{without_suggestions_of};
 ghost use Rattle.xr_model.specs.machine.Sync.{is_source};
@@ -17,10 +17,12 @@ pub(crate) struct Suggestions {
     list: Option<BoxedSlice<Bound>>,
     /// How many are left, at the front of the list.
     left: usize,
+    /// None that is left is for an action behind this one.
+    last: u64,
 }
 
 impl Model for Suggestions {
-    ghost use Rattle.std.specs.Prelude.{List, [], ◌≤◌, ◌≡◌, true, option_map, unwrap_or, take, length};
+    ghost use Rattle.std.specs.Prelude.{List, [], ◌≤◌, ◌≡◌, true, nat_le, option_map, unwrap_or, take, length};
     ghost use Rattle.std.specs.List.{list_all};
     ghost use Rattle.xr_types.specs.declared.input.Bound.{Bound};
     ghost use Rattle.xr_types.specs.declared.limits.TheConstants.{MOST_SUGGESTED};
@@ -30,7 +32,7 @@ impl Model for Suggestions {
 
     ghost view = { λ s. take s.left (unwrap_or (option_map (λ list. list.items.items) s.list) []) };
 
-    ghost invariant = { λ s. (s.left ≤ length (unwrap_or (option_map (λ list. list.items.items) s.list) [])) × (s.left ≤ MOST_SUGGESTED) × (list_all is_source (take s.left (unwrap_or (option_map (λ list. list.items.items) s.list) [])) ≡ true) };
+    ghost invariant = { λ s. (s.left ≤ length (unwrap_or (option_map (λ list. list.items.items) s.list) [])) × (s.left ≤ MOST_SUGGESTED) × (list_all is_source (take s.left (unwrap_or (option_map (λ list. list.items.items) s.list) [])) ≡ true) × (list_all (λ b. nat_le b.action s.last) (take s.left (unwrap_or (option_map (λ list. list.items.items) s.list) [])) ≡ true) };
 }
 
 impl Suggestions {
@@ -41,6 +43,7 @@ impl Suggestions {
         Suggestions {
             list: None,
             left: 0,
+            last: 0,
         }
     }
 
@@ -51,10 +54,12 @@ impl Suggestions {
         ensures { IfOk result (λ suggestions. suggestions ≡ list.now) }
     {
         let left = list.len();
+        let last = last_of(list);
         let list = BoxedSlice::from_slice(alloc, list)?;
         Ok(Suggestions {
             list: Some(list),
             left,
+            last,
         })
     }
 
@@ -74,18 +79,45 @@ impl Suggestions {
     fn forget(&mut self, action: u64)
         ensures { self.new ≡ filter (λ b. not (b.action == action)) self.old }
     {
+        if action > self.last {
+            return;
+        }
         if let Some(list) = &mut self.list {
             self.left = keep_others(list.as_mut_slice(), self.left, action);
         }
     }
 }
 
-/// Of the first `left`, moves those for other actions to the front, in their order, and tells how many they are.
+/// The action of these that was created last, or 0 where there is none.
+fn last_of(list: &[Bound]) -> u64
+    ensures { list_all (λ b. nat_le b.action result) list.now ≡ true }
+{
+    let mut last = 0;
+    for bound in list {
+        if bound.action > last {
+            last = bound.action;
+        }
+    }
+    last
+}
+
+/// Whether any of these is for an action.
+fn has(list: &[Bound], action: u64) -> bool
+    ensures { result ≡ list_any (λ b. b.action == action) list.now }
+{
+    list.iter().any(|bound| bound.action == action)
+}
+
+/// Of the first `left`, moves those for other actions to the front, in their order, and tells how many they are. Mostly
+/// all are for others, so nothing is moved before one is found that isn't.
 fn keep_others(list: &mut [Bound], left: usize, action: u64) -> usize
     requires { left ≤ length list.old }
     ensures kept { take result list.new ≡ filter (λ b. not (b.action == action)) (take left list.old) }
     ensures within { result ≤ left }
 {
+    if !has(&list[..left], action) {
+        return left;
+    }
     let mut kept = 0;
     for next in 0..left {
         let bound = list[next];

@@ -5,7 +5,8 @@ use Rattle.xr_types.specs.declared.calls.Gives.TheVariants as gives
 use Rattle.xr_types.specs.declared.calls.Reply.{Reply}
 use Rattle.xr_types.specs.declared.code.Code.TheVariants.{Success}
 use Rattle.xr_types.specs.declared.frames.Image.{Image}
-use Rattle.xr_types.specs.Frames.{PendingFrame, ShownFrame}
+use Rattle.xr_types.specs.Frames.{PendingFrame}
+use Rattle.xr_types.specs.declared.frames.Shown.{Shown}
 use Rattle.xr_model.specs.laws.FewCalls.{is_end}
 use Rattle.xr_model.specs.laws.Moments.{Moment, opening_moment, exchange_at}
 use Rattle.xr_model.specs.machine.CoreCalls.{Lent, left_in, shown_over}
@@ -114,7 +115,7 @@ ended_so s e = by s.cells.held s.core.frames.pending
     by (i ∷ held) pending told = absurd (cc told)
 
 -- where a frame is told, it is shown, and else none is
-told_so : (s : State) (e : Entry) (before : ShownFrame) → (step s (record e { request = next_frame })).1.reply.gives ≡ gives.Shown
+told_so : (s : State) (e : Entry) (before : Shown) → (step s (record e { request = next_frame })).1.reply.gives ≡ gives.Shown
     → (step s (record e { request = next_frame })).1.shown ≡ Some (shown_over (step s (record e { request = next_frame })).1.shown before)
 told_so s e before = by s.cells.held s.core.frames.pending
   where
@@ -146,7 +147,7 @@ shown_there m e before after is told = told_so m.state e before.frame told ∙ a
 none_there : (m : Moment) (e : Entry) (before after : Lent) → after ≡ left_in (step m.state (record e { request = next_frame })).1.text (step m.state (record e { request = next_frame })).1.shown before
     → (step m.state (record e { request = next_frame })).1.reply.gives ≡ gives.Ended → ((exchange_at m (record e { request = next_frame })).outcome.shown ≡ None) × (after.frame ≡ before.frame)
 unfolding exchange_at
-none_there m e before after is told = let none = none_so m.state e told in (none, ap (λ (l : Lent). l.frame) is ∙ ap (λ (o : Option ShownFrame). shown_over o before.frame) none)
+none_there m e before after is told = let none = none_so m.state e told in (none, ap (λ (l : Lent). l.frame) is ∙ ap (λ (o : Option Shown). shown_over o before.frame) none)
 
 replies_so : (m : Moment) (e : Entry) (reply : Reply) → (step m.state e).1.reply ≡ reply → reply ≡ (exchange_at m e).outcome.reply
 unfolding exchange_at

@@ -3,7 +3,7 @@ use Rattle.std.specs.Prelude.{◌≡◌, ◌≤◌, ◌+◌, false, List, [], �
 use Rattle.atomic_table.specs.Seated.{TableId}
 use Rattle.xr_types.specs.declared.calls.Gives.TheVariants as gives
 use Rattle.xr_types.specs.declared.code.Code.TheVariants.{Success}
-use Rattle.xr_types.specs.Frames.{ShownFrame}
+use Rattle.xr_types.specs.declared.frames.Shown.{Shown}
 use Rattle.xr_model.specs.machine.Request.{next_frame, image_done, Entry, Outcome, Exchange}
 use Rattle.xr_rule.specs.View.{Know, calls_in, know_after}
 use Rattle.xr_rule.specs.Plays.{Sees}
@@ -59,7 +59,7 @@ pub record GaveAllBack (table : TableId) (old new : CompositorPass) : Type 0 whe
 
 -- What a turn came to is what its request for a frame came to: a frame was shown, which is left in the place that was lent, or the end
 -- was told, and that place is as it was.
-abbrev pub IsTold : Turned → Outcome → ShownFrame → ShownFrame → Type 0  -- before, after
+abbrev pub IsTold : Turned → Outcome → Shown → Shown → Type 0  -- before, after
 IsTold (turned.Shown reply) o before after = (reply ≡ o.reply) × (reply.gives ≡ gives.Shown) × (o.shown ≡ Some after)
 IsTold (turned.Ended reply) o before after = (reply ≡ o.reply) × (reply.gives ≡ gives.Ended) × (o.shown ≡ None) × (after ≡ before)
 
@@ -80,7 +80,7 @@ NoneAtEnd (turned.Ended reply) images = images ≡ []
 
 -- A turn: the pass asked for a frame once, and then gave back as many images as were held behind that, each once; where it was told
 -- the end there were none. It holds none now, and keeps its promise. There are at most three images of each of sixteen swapchains.
-pub record Turns (table : TableId) (old : CompositorPass) (before after : ShownFrame) (came : Turned) (new : CompositorPass) : Type 0 where
+pub record Turns (table : TableId) (old : CompositorPass) (before after : Shown) (came : Turned) (new : CompositorPass) : Type 0 where
   pub is : IsCompositor table new
   pub frame : Exchange
   pub images : List Exchange

@@ -8,7 +8,8 @@ use Rattle.xr_types.specs.declared.calls.Call.TheVariants as call
 use Rattle.xr_types.specs.declared.calls.Gives.TheVariants.{Nothing, Shown, Ended}
 use Rattle.xr_types.specs.declared.code.Code.TheVariants.{Success, CallOrderInvalid}
 use Rattle.xr_types.specs.declared.frames.Image.{Image}
-use Rattle.xr_types.specs.Frames.{PendingFrame, ShownFrame}
+use Rattle.xr_types.specs.Frames.{PendingFrame}
+use Rattle.xr_types.specs.declared.frames.Shown as frames
 use Rattle.xr_model.specs.machine.CellCalls.{CellCall, give_back, MayCall, Leads, peek_calls, return_calls}
 use Rattle.xr_model.specs.machine.CoreCalls.{Lent}
 use Rattle.xr_model.specs.machine.Frames.{is_empty}
@@ -45,7 +46,7 @@ module _ {C : Type 0} (does : C → CellCall → C → Type 0) (s : CoreState) (
       or_true false = refl
 
   -- the frame that is pending longest is shown
-  pub shown_decides : (f : PendingFrame) (stamps : List ℕ) (c d : C) (text : List ℕ) (before after : ShownFrame) → slice_get s.frames.pending 0 ≡ Some f → length stamps ≡ length f.images → Leads does c (peek_calls f.images stamps) d → after ≡ shown_of f stamps
+  pub shown_decides : (f : PendingFrame) (stamps : List ℕ) (c d : C) (text : List ℕ) (before after : frames.Shown) → slice_get s.frames.pending 0 ≡ Some f → length stamps ≡ length f.images → Leads does c (peek_calls f.images stamps) d → after ≡ shown_of f stamps
       → DecidesAlong does (beside s [] c (record { text = text; frame = before })) (beside (with_frame_taken s) f.images d (record { text = text; frame = after })) who next_frame (Ok (record { code = Success; gives = Shown; place = 0 }))
   shown_decides f stamps c d text before after first each leads is = by s.frames.pending first refl
     where
@@ -64,7 +65,7 @@ module _ {C : Type 0} (does : C → CellCall → C → Type 0) (s : CoreState) (
           }
 
   -- the end is told
-  pub end_decides : (c : C) (text : List ℕ) (frame : ShownFrame) → slice_get s.frames.pending 0 ≡ None → list_all (λ has_left. has_left) s.left ≡ true
+  pub end_decides : (c : C) (text : List ℕ) (frame : frames.Shown) → slice_get s.frames.pending 0 ≡ None → list_all (λ has_left. has_left) s.left ≡ true
       → DecidesAlong does (beside s [] c (record { text = text; frame = frame })) (beside (with_frame_taken s) [] c (record { text = text; frame = frame })) who next_frame (Ok (record { code = Success; gives = Ended; place = 0 }))
   end_decides c text frame first left = by s.frames.pending first refl
     where
@@ -89,7 +90,7 @@ module _ {C : Type 0} (does : C → CellCall → C → Type 0) (s : CoreState) (
       by (f ∷ fs) none same = cc
 
   -- the call waits
-  pub frame_waits : (c : C) (text : List ℕ) (frame : ShownFrame) → slice_get s.frames.pending 0 ≡ None → list_all (λ has_left. has_left) s.left ≡ false
+  pub frame_waits : (c : C) (text : List ℕ) (frame : frames.Shown) → slice_get s.frames.pending 0 ≡ None → list_all (λ has_left. has_left) s.left ≡ false
       → DecidesAlong does (beside s [] c (record { text = text; frame = frame })) (beside (with_frame_taken s) [] c (record { text = text; frame = frame })) who next_frame (Err NotReady)
   frame_waits c text frame first left = by s.frames.pending first refl
     where
@@ -106,7 +107,7 @@ module _ {C : Type 0} (does : C → CellCall → C → Type 0) (s : CoreState) (
       }
 
   -- where no image is held
-  module _ (text : List ℕ) (before after : ShownFrame) where
+  module _ (text : List ℕ) (before after : frames.Shown) where
     abbrev lending : Lent
     lending = record { text = text; frame = before }
 

@@ -1,5 +1,5 @@
-// What suggested bindings come to: a profile by its atom, and what each binding picks of its controller. It changes nothing.
-ghost use Rattle.std.specs.Prelude.{◌≡◌, ◌≤◌, IfOk, length, filter_map, flat_map};
+// What suggested bindings come to: a profile by its atom, and what each binding picks of its controller. It changes no part.
+ghost use Rattle.std.specs.Prelude.{◌≡◌, ◌≤◌, ◌<◌, ◌++◌, [], ◌∷◌, IfOk, length, filter_map, flat_map};
 ghost use Rattle.std.specs.Result.{result_map_both};
 ghost use Rattle.xr_types.specs.declared.limits.TheConstants.{MOST_SUGGESTED};
 ghost use Rattle.xr_model.specs.machine.Refusals.{first_of};
@@ -8,9 +8,62 @@ ghost use Rattle.xr_model.specs.machine.PartAnswers.{or_refused};
 ghost use Rattle.xr_core.specs.inside.Refusing.{some_or_refused};
 
 use crate::parts::Parts;
-use arrayvec::ArrayVec;
+use std::alloc::Global;
+use std::marker::Model;
 use xr_profiles::{component, profile_of};
-use xr_types::{Binding, Bound, Code, Kind, MOST_SUGGESTED, Pick, Profile};
+use xr_types::{Binding, Bound, Code, Kind, MOST_SUGGESTED, NoMemory, Pick, Profile};
+
+/// What the bindings of a call come to, in their order. Its room is taken at the start, and each call fills it anew.
+#[derive(Drop)]
+pub(crate) struct Draft {
+    list: Vec<Bound>,
+}
+
+impl Model for Draft {
+    ghost use Rattle.std.specs.Prelude.{List, ◌≤◌, vec_capacity};
+    ghost use Rattle.xr_types.specs.declared.input.Bound.{Bound};
+    ghost use Rattle.xr_types.specs.declared.limits.TheConstants.{MOST_SUGGESTED};
+
+    ghost Value = { List Bound };
+
+    ghost view = { λ d. d.list.items };
+
+    ghost invariant = { λ d. MOST_SUGGESTED ≤ vec_capacity d.list };
+}
+
+impl Draft {
+    /// Nothing yet. Takes the room of as many as may be suggested at once, and nothing later takes any.
+    pub(crate) fn start(alloc: Global) -> Result<Draft, NoMemory>
+        ensures { IfOk result (λ draft. draft ≡ []) }
+    {
+        match Vec::with_capacity(alloc, MOST_SUGGESTED) {
+            Ok(list) => Ok(Draft { list }),
+            Err(_) => Err(NoMemory),
+        }
+    }
+
+    /// Nothing from now on.
+    fn clear(&mut self)
+        ensures { self.new ≡ [] }
+    {
+        self.list.clear();
+    }
+
+    /// One more.
+    fn push(&mut self, bound: Bound)
+        requires room { length self.old < MOST_SUGGESTED }
+        ensures { self.new ≡ self.old ++ bound ∷ [] }
+    {
+        self.list.push_reserved(bound);
+    }
+
+    /// All of them.
+    pub(crate) fn as_slice(&self) -> &[Bound]
+        ensures { result.now ≡ self.now }
+    {
+        self.list.as_slice()
+    }
+}
 
 impl Parts {
     /// The profile of an atom. Refused are what is no atom (`PathInvalid`), and the atom of another path
@@ -46,26 +99,27 @@ impl Parts {
     }
 
     /// What these bindings come to, in their order, or the refusal of the first that is refused. There are 512 of them at
-    /// most. The time is linear in their number.
+    /// most. The time is linear in their number. The draft has room for them, since a list of so many is kilobytes to move.
     pub(crate) fn bound_by(
         &self,
         profile: Profile,
         list: &[Binding],
-    ) -> Result<ArrayVec<Bound, MOST_SUGGESTED>, Code>
+        draft: &mut Draft,
+    ) -> Result<(), Code>
         requires { length list.now ≤ MOST_SUGGESTED }
-        ensures bound { result_map_both (λ bound. bound.items) (λ code. code) result ≡ or_refused (first_of (flat_map (binding_checks self.now profile) list.now)) (filter_map (bound_of self.now profile) list.now) }
-        ensures counted { IfOk result (λ bound. length bound.items ≡ length list.now) }
+        ensures bound { result_map_both (λ done. draft.new) (λ code. code) result ≡ or_refused (first_of (flat_map (binding_checks self.now profile) list.now)) (filter_map (bound_of self.now profile) list.now) }
+        ensures counted { IfOk result (λ done. length draft.new ≡ length list.now) }
     {
-        let mut bound = ArrayVec::new();
+        draft.clear();
         for binding in list {
             match self.pick_of(profile, *binding) {
-                Ok(pick) => bound.push(Bound {
+                Ok(pick) => draft.push(Bound {
                     action: binding.action,
                     pick,
                 }),
                 Err(code) => return Err(code),
             }
         }
-        Ok(bound)
+        Ok(())
     }
 }

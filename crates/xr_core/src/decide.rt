@@ -2,7 +2,7 @@
 // inlined here, so that a call pays for the locals of its own group alone.
 ghost use Rattle.std.specs.Prelude.{◌≡◌, ◌<◌, ◌^◌, true, length, List};
 ghost use Rattle.xr_types.specs.declared.frames.Image.{Image};
-ghost use Rattle.xr_types.specs.Frames.{ShownFrame};
+ghost use Rattle.xr_types.specs.declared.frames.Shown.{Shown};
 ghost use Rattle.xr_model.specs.machine.Request.{request_of};
 ghost use Rattle.xr_model.specs.machine.CoreCalls.{Fits, asked};
 ghost use Rattle.xr_model.specs.machine.Rule.{is_by};
@@ -10,6 +10,7 @@ ghost use Rattle.xr_model.specs.machine.Machine.{IsPresent};
 ghost use Rattle.xr_model.proofs.HeldFits.{IsAside};
 ghost use Rattle.xr_core.specs.inside.Deciding.{DecidesAlong, MayTouch};
 
+use crate::bound::Draft;
 use crate::halt::Halt;
 use crate::parts::Parts;
 use std::alloc::Global;
@@ -23,6 +24,7 @@ impl Parts {
     pub(crate) fn decide<C: Cells>(
         &mut self,
         alloc: Global,
+        draft: &mut Draft,
         cells: &mut C,
         who: Actor,
         call: &Call<'_>,
@@ -37,7 +39,7 @@ impl Parts {
         requires buffer { Fits (asked who (request_of call.now)).lent (length text.old) }
         requires aside { IsAside (request_of call.now) }
         requires cells { MayTouch C.may C.does self.old cells.old (request_of call.now) }
-        ensures { (held : List Image) (frame : ShownFrame) → DecidesAlong C.does (record { core = record { kept = self.old; held = held }; cells = cells.old; lent = record { text = text.old; frame = frame } }) (record { core = record { kept = self.new; held = held }; cells = cells.new; lent = record { text = text.new; frame = frame } }) who (request_of call.now) result }
+        ensures { (held : List Image) (frame : Shown) → DecidesAlong C.does (record { core = record { kept = self.old; held = held }; cells = cells.old; lent = record { text = text.old; frame = frame } }) (record { core = record { kept = self.new; held = held }; cells = cells.new; lent = record { text = text.new; frame = frame } }) who (request_of call.now) result }
     {
         match call {
             Call::DestroyInstance { instance } => self.destroy_instance(cells, *instance),
@@ -64,7 +66,7 @@ impl Parts {
                 instance,
                 profile,
                 list,
-            } => self.suggest_bindings(alloc, *instance, *profile, list),
+            } => self.suggest_bindings(alloc, draft, *instance, *profile, list),
             Call::SyncActions { session, active } => self.sync_actions(*session, active),
             Call::GetBoolean { .. }
             | Call::GetFloat { .. }

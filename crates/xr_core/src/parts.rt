@@ -185,6 +185,7 @@ impl Parts {
         let paths = Paths::start(alloc)?;
         let events = Events::start(alloc)?;
         let spaces = Spaces::start(alloc)?;
+        let columns = Columns::start(alloc)?;
         let ranking = Ranking::start(alloc)?;
         let parts = Parts {
             handles: Handles::start(),
@@ -200,7 +201,7 @@ impl Parts {
             ended: 0,
             chains: Chains::start(),
             shown: ArrayVec::new(),
-            columns: Columns::start(),
+            columns,
             ranking,
             device: DeviceValues::start(),
             marks: [None; MARKS],

@@ -107,6 +107,7 @@ impl PlainCore {
     /// for the frame that `NextFrame` shows; it stays where none is.
     /// The reply is the machine's to an allowed entry: it gives a handle exactly where a creation succeeds, and
     /// `OutOfMemory` comes only to a new path text that would else be interned, and to suggestions that would else be taken.
+    #[inline(always)]
     pub fn apply(&mut self, who: Actor, call: &Call<'_>, text: &mut [u8], shown: &mut Shown) -> Step
         requires calls { self.old.core.locked < 2 ^ 44 }
         requires may { MayMake self.old.core who (request_of call.now) (length text.old) }

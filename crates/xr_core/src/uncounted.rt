@@ -15,6 +15,7 @@ ghost use Rattle.xr_model.specs.machine.Rule.{is_by};
 ghost use Rattle.xr_model.specs.machine.State.{with_apps, opening_core};
 ghost use Rattle.xr_core.specs.inside.Deciding.{DecidesAlong};
 
+use crate::bound::Draft;
 use crate::halt::{Halt, done, giving, refused};
 use crate::parts::Parts;
 use crate::showing::show;
@@ -29,6 +30,8 @@ use xr_types::{Actor, Call, Code, Frame, Gives, Image, MOST_LAYERS, NoMemory, Re
 #[derive(Drop)]
 pub(crate) struct Uncounted {
     pub(crate) parts: Box<Parts>,
+    /// What the bindings of a call come to. Contracts see nothing of it.
+    draft: Draft,
     pub(crate) held: ArrayVec<Image, MOST_LAYERS>,
 }
 
@@ -62,8 +65,10 @@ impl Uncounted {
         ensures { IfOk result (λ core. core ≡ record { kept = opening_core (with_apps apps); held = [] }) }
     {
         let parts = Parts::start(alloc, apps)?;
+        let draft = Draft::start(alloc)?;
         Ok(Uncounted {
             parts,
+            draft,
             held: ArrayVec::new(),
         })
     }
@@ -169,7 +174,9 @@ impl Uncounted {
         match call {
             Call::NextFrame => self.next_frame(cells, shown),
             Call::ImageDone => self.image_done(cells),
-            _ => self.parts.decide(alloc, cells, who, call, text),
+            _ => self
+                .parts
+                .decide(alloc, &mut self.draft, cells, who, call, text),
         }
     }
 }

@@ -32,6 +32,16 @@ pub record Reading : Type 0 where
   pub ended : Bool
   pub source : SourceState
 
+abbrev pub reading_of : ℕ → ℕ → ℕ → List ℕ → Bool → SourceState → Reading
+reading_of number given used held ended source = record {
+  number = number;
+  given = given;
+  used = used;
+  held = held;
+  ended = ended;
+  source = source;
+}
+
 -- what is still to come of a text
 abbrev pub told : Reading → Option DeviceStream
 told r = told_at r.number r.used r.held (left_of r.source)

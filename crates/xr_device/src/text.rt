@@ -4,7 +4,7 @@ ghost use Rattle.xr_io.specs.Outside.{left_of, Rose};
 ghost use Rattle.xr_model.specs.device_text.DeviceText.{told_in};
 ghost use Rattle.xr_device.specs.Answers.{IsTold, OnEvent};
 ghost use Rattle.xr_device.specs.inside.Steps.{OnGoing, OnAnswer, OnStepFailed, Steps, UnlessStepFailed, given_behind, StaysOnTime, StaysInLines, FailsBehindLines};
-ghost use Rattle.xr_device.specs.Texts.{told, KeepsTold, IsFrontLine, IsUndecided, UsedLines, SameText, steps_left};
+ghost use Rattle.xr_device.specs.Texts.{told, reading_of, KeepsTold, IsFrontLine, IsUndecided, UsedLines, SameText, steps_left};
 
 use crate::Next;
 use crate::held::{Held, ROOM};
@@ -34,40 +34,19 @@ pub(crate) struct Text<S: Source> {
 }
 
 impl<S: Source> Model for Text<S> {
-    ghost use Rattle.xr_device.specs.Texts.{Reading, IsInLimits};
+    ghost use Rattle.xr_device.specs.Texts.{Reading, reading_of, IsInLimits};
 
     ghost Value = { Reading };
 
-    ghost view = { λ t. record {
-      number = t.number;
-      given = t.given;
-      used = t.used;
-      held = t.held;
-      ended = t.ended;
-      source = S.state t.source;
-    } };
+    ghost view = { λ t. reading_of t.number t.given t.used t.held t.ended (S.state t.source) };
 
-    ghost invariant = { λ t. IsInLimits (record {
-      number = t.number;
-      given = t.given;
-      used = t.used;
-      held = t.held;
-      ended = t.ended;
-      source = S.state t.source;
-    }) };
+    ghost invariant = { λ t. IsInLimits (reading_of t.number t.given t.used t.held t.ended (S.state t.source)) };
 }
 
 impl<S: Source> Text<S> {
     /// Nothing was read of the source yet.
     pub(crate) fn new(source: S) -> Text<S>
-        ensures new { result ≡ record {
-          number = 1;
-          given = 0;
-          used = 0;
-          held = [];
-          ended = false;
-          source = S.state source;
-        } }
+        ensures new { result ≡ reading_of 1 0 0 [] false (S.state source) }
         ensures told { told result ≡ option_map told_in (left_of (S.state source)) }
         ensures lines { UsedLines result }
     {

@@ -1,25 +1,62 @@
--- How a run beside a device's file answers, by any way to run.
-use Rattle.std.proofs.Common.{◌≡◌, ◌≢◌, ◌<◌, ◌+◌, inl, ℕ, true, false, true≢false, List, Some, sym, subst, ◌∙◌, arith}
+-- How a run beside a device's file, or beside none, answers, by any way to run.
+use Rattle.std.proofs.Common.{◌≡◌, ◌≢◌, ◌<◌, ◌+◌, inl, ℕ, true, false, true≢false, List, [], Some, None, sym, subst, ◌∙◌, arith}
 use Rattle.std.specs.List.{list_any}
 use Rattle.xr_io.specs.Outside.{Rose, Files}
 use Rattle.xr_io.specs.declared.Which.{Which}
 use Rattle.xr_io.specs.declared.Which.TheVariants as which
+use Rattle.xr_types.specs.declared.device.DeviceEvent.{DeviceEvent}
 use Rattle.xr_types.specs.declared.made.Lists.{Lists}
 use Rattle.xr_types.specs.declared.scenario.Scenario.{Scenario}
 use Rattle.xr_model.specs.report.RunEnding.{is_fault}
+use Rattle.xr_model.specs.device_text.DeviceText.{ends}
 use Rattle.xr_device.specs.Prospect.{Prospect}
-use Rattle.xr_device.specs.Kinds.{TextReading, of_text}
+use Rattle.xr_device.specs.Kinds.{Stored, of_list, TextReading, of_text}
 use Rattle.xr_device.specs.Answers.{ReadsOn}
 use Rattle.xr_serial.specs.Ran.{FailsBehind}
 use Rattle.xr_drive.specs.Run.{HowRan}
 use Rattle.xr_drive.specs.Top.{SameCounts, IsWithin, NoneLeftOpen, SameBytes}
-use Rattle.xr_drive.specs.Files.{FilesUnrun, FilesRan, ReadBeside, DeviceClosed}
+use Rattle.xr_drive.specs.Files.{FilesUnrun, FilesRan, ReadAlone, ReadBeside, DeviceClosed}
 use Rattle.xr_drive.specs.declared.faults.RunFault.TheVariants as run_fault
 use Rattle.xr_drive.proofs.DeviceRead.{closed_which, ends_within, runs_so}
 
 -- what a run says of how lists came beside a device that was so before it and is so behind it
 abbrev pub CameSo : HowRan → Scenario → Prospect → Prospect → Lists → Type 0
 CameSo How scenario start now lists = (count : ℕ) × (now.given ≡ start.given + count) × How scenario start.remaining count lists
+
+-- ---- beside no device's file
+
+none_rose : Rose 0 0 → ⊥
+none_rose rose = omega (arith, rose)
+
+-- the lists were made beside a device of no events
+pub alone_ran : (How : HowRan) (file : List ℕ) (old new : Files) (scenario : Scenario) → ReadAlone file old new scenario → (first last : Stored) → first.events ≡ [] → (lists : Lists) → CameSo How scenario (of_list first) (of_list last) lists
+    → (list_any is_fault lists.events ≡ true → Rose (of_list first).faults (of_list last).faults) → FilesRan How file None old new lists
+alone_ran How file old new scenario read first last empty lists ran fault = record {
+  means = record {
+    text = read.is.text;
+    is_all = read.is.is_all;
+    scenario = scenario;
+    reads = read.is.reads;
+    runs = record {
+      count = ran.0;
+      ran = subst (λ (es : List DeviceEvent). How scenario (Some (record { events = es; ending = ends })) ran.0 lists) empty ran.2;
+      fails = λ h. tt;
+    };
+  };
+  cause = λ h. absurd (none_rose (fault h));
+  opens = read.opens;
+  scenario = read.sound;
+  unfailed = λ h. read.device.reads;
+  asked = read.asked;
+  device_asked = read.none;
+  alone = read.device;
+  within = read.within;
+  device_within = λ named. absurd (true≢false (sym named));
+  closed = read.closed;
+  same = read.same;
+}
+
+-- ---- beside the device's file
 
 scenario_is_not : which.Scenario ≢ which.Device
 scenario_is_not e = cc

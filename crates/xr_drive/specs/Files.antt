@@ -79,10 +79,14 @@ pub record FilesRan (How : HowRan) (file : List ℕ) (device : Option (List ℕ)
   pub closed : NoneLeftOpen old new
   pub same : SameBytes old new
 
--- what was done with the files of a run's options, by what came of it
+-- what was done with the scenario's file and a device's, by what came of them
+abbrev pub FilesEnded : HowRan → List ℕ → Option (List ℕ) → Files → Files → Result Lists RunFault → Type 0
+FilesEnded How file device old new (Ok lists) = FilesRan How file device old new lists
+FilesEnded How file device old new (Err fault) = FilesUnrun file device old new fault
+
+-- the same of the files of a run's options
 abbrev pub FilesAnswer : HowRan → RunOptions → Files → Files → Result Lists RunFault → Type 0
-FilesAnswer How options old new (Ok lists) = FilesRan How options.file options.device old new lists
-FilesAnswer How options old new (Err fault) = FilesUnrun options.file options.device old new fault
+FilesAnswer How options = FilesEnded How options.file options.device
 
 -- ---- files that were read
 

@@ -19,7 +19,8 @@ pub(crate) enum Stop {
     NoMemory,
 }
 
-/// Reads at most so many bytes and appends them. 0 is the end.
+/// Reads at most so many bytes and appends them. 0 is the end. The piece has left the stack before what was read is used.
+#[inline(never)]
 fn read_piece<S: Source>(source: &mut S, text: &mut Vec<u8>, room: usize) -> Result<usize, Stop>
     requires { 0 < room }
     ensures len { IfOk result (λ n. (vec_len text.new ≡ vec_len text.old + n) × (n ≤ room)) }

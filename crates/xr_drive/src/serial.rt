@@ -1,5 +1,5 @@
 // The top call of one thread.
-ghost use Rattle.std.specs.Prelude.{◌≡◌, ◌≤◌, length, map, IfOk, IfSome, Some, string_bytes};
+ghost use Rattle.std.specs.Prelude.{◌≡◌, ◌≤◌, length, map, IfOk, IfSome, Some, None, string_bytes};
 ghost use Rattle.xr_types.specs.declared.limits.TheConstants.{MOST_LOAD, MOST_FILE_NAME};
 ghost use Rattle.xr_io.specs.Outside.{Files, AreUnasked};
 ghost use Rattle.xr_model.specs.command_line.Words.{run, load, form_of};
@@ -8,7 +8,7 @@ ghost use Rattle.xr_command.specs.Reads.{shown, shown_form, FitsLimits};
 ghost use Rattle.xr_serial.specs.Ran.{Ran};
 ghost use Rattle.xr_drive.specs.Run.{RunOf};
 ghost use Rattle.xr_drive.specs.Top.{outside, IsAnswer};
-ghost use Rattle.xr_drive.specs.Files.{FilesAnswer};
+ghost use Rattle.xr_drive.specs.Files.{FilesAnswer, FilesEnded};
 ghost use Rattle.xr_drive.specs.inside.CallParts.{RunLoad};
 
 use crate::faults::RunFault;
@@ -64,8 +64,48 @@ fn answer_load<K: Sink>(alloc: Global, frames: u32, sink: &mut K) -> Status
     }
 }
 
-/// Opens the files of a run and runs the scenario by the round robin, beside the device where one is named. Every source that
-/// was opened is closed.
+/// Opens the scenario under a file and runs it by the round robin, beside a device without events. Its source is closed.
+#[inline(never)]
+fn run_alone<O: Opener>(alloc: Global, file: &str, opener: &mut O) -> Result<Lists, RunFault>
+    requires fresh { AreUnasked (O.files opener.old) }
+    requires short { length file.now ≤ MOST_FILE_NAME }
+    ensures { FilesEnded Ran file.now None (O.files opener.old) (O.files opener.new) result }
+{
+    let scenario = open_alone(alloc, opener, file)?;
+    let mut none = ListDevice::new(Vec::new(alloc));
+    match xr_serial::run(alloc, &scenario, &mut none) {
+        Ok(lists) => Ok(lists),
+        Err(_) => Err(RunFault::NoMemory),
+    }
+}
+
+/// Opens the scenario under a file and the device's file under a name, and runs the scenario by the round robin beside the device.
+/// Every source that was opened is closed. The kilobytes of the device's text stand here, where no other run has them on its stack.
+#[inline(never)]
+fn run_beside<O: Opener>(
+    alloc: Global,
+    file: &str,
+    name: &str,
+    opener: &mut O,
+) -> Result<Lists, RunFault>
+    requires fresh { AreUnasked (O.files opener.old) }
+    requires short { length file.now ≤ MOST_FILE_NAME }
+    requires short_device { length name.now ≤ MOST_FILE_NAME }
+    ensures { FilesEnded Ran file.now (Some name.now) (O.files opener.old) (O.files opener.new) result }
+{
+    let Beside {
+        scenario,
+        mut device,
+    } = open_beside(alloc, opener, file, name)?;
+    let lists = xr_serial::run(alloc, &scenario, &mut device);
+    close_device(opener, device);
+    match lists {
+        Ok(lists) => Ok(lists),
+        Err(_) => Err(RunFault::NoMemory),
+    }
+}
+
+/// Runs the files of a run by the round robin, beside the device where one is named. Every source that was opened is closed.
 fn run_files<O: Opener>(
     alloc: Global,
     options: &RunOptions<'_>,
@@ -76,23 +116,9 @@ fn run_files<O: Opener>(
     requires short_device { IfSome options.now.device (λ name. length name.now ≤ MOST_FILE_NAME) }
     ensures { FilesAnswer Ran (shown options.now) (O.files opener.old) (O.files opener.new) result }
 {
-    let Some(name) = options.device else {
-        let scenario = open_alone(alloc, opener, options.file)?;
-        let mut none = ListDevice::new(Vec::new(alloc));
-        return match xr_serial::run(alloc, &scenario, &mut none) {
-            Ok(lists) => Ok(lists),
-            Err(_) => Err(RunFault::NoMemory),
-        };
-    };
-    let Beside {
-        scenario,
-        mut device,
-    } = open_beside(alloc, opener, options.file, name)?;
-    let lists = xr_serial::run(alloc, &scenario, &mut device);
-    close_device(opener, device);
-    match lists {
-        Ok(lists) => Ok(lists),
-        Err(_) => Err(RunFault::NoMemory),
+    match options.device {
+        Some(name) => run_beside(alloc, options.file, name, opener),
+        None => run_alone(alloc, options.file, opener),
     }
 }
 

@@ -1,5 +1,5 @@
 -- What comes of files that are run on threads.
-use Rattle.std.proofs.Common.{◌≡◌, inl, ℕ, Bool, true, false, true≢false, List, [], Some, None, Result, Ok, Err, IfOk, refl, sym, subst, arith}
+use Rattle.std.proofs.Common.{◌≡◌, inl, ℕ, Bool, true, false, true≢false, List, [], Some, None, Result, Ok, Err, IfOk, refl, sym}
 use Rattle.std.specs.List.{list_any}
 use Rattle.xr_io.specs.Outside.{Rose, Files}
 use Rattle.xr_types.specs.declared.calls.NoMemory.{NoMemory}
@@ -8,8 +8,6 @@ use Rattle.xr_types.specs.declared.scenario.Scenario.{Scenario}
 use Rattle.xr_model.specs.command_line.Words.{RunOptions}
 use Rattle.xr_model.specs.report.RunEnding.{is_fault}
 use Rattle.xr_device.specs.Answers.{ReadsOn}
-use Rattle.xr_types.specs.declared.device.DeviceEvent.{DeviceEvent}
-use Rattle.xr_model.specs.device_text.DeviceText.{ends}
 use Rattle.xr_device.specs.Kinds.{Stored, of_list, TextReading, of_text}
 use Rattle.xr_device.specs.Prospect.{Prospect}
 use Rattle.xr_runtime.specs.declared.close.Closed.{Closed}
@@ -17,10 +15,9 @@ use Rattle.xr_runtime.specs.Closing.{history_of}
 use Rattle.xr_serial.specs.Ran.{FailsBehind}
 use Rattle.xr_threads.specs.declared.threads.Ended.{Ended}
 use Rattle.xr_threads.specs.Threads.{RanOnThreads}
-use Rattle.xr_drive.specs.Files.{FilesUnrun, FilesRan, FilesAnswer, ReadAlone, ReadBeside, DeviceClosed}
-use Rattle.xr_drive.specs.Run.{HowRan}
+use Rattle.xr_drive.specs.Files.{FilesUnrun, FilesAnswer, ReadAlone, ReadBeside, DeviceClosed}
 use Rattle.xr_drive.specs.declared.faults.RunFault.TheVariants as run_fault
-use Rattle.xr_drive.proofs.FilesRan.{CameSo, beside_ran, beside_short}
+use Rattle.xr_drive.proofs.FilesRan.{CameSo, alone_ran, beside_ran, beside_short}
 use Rattle.xr_drive_threads.specs.Top.{RanClosed}
 use Rattle.xr_drive_threads.specs.inside.Runs.{lists_or_fault, files_run}
 
@@ -29,37 +26,6 @@ abbrev CameFrom : Closed → Scenario → Prospect → Prospect → Lists → Ty
 CameFrom c = CameSo (RanOnThreads (history_of c))
 
 -- ---- beside no device's file
-
-none_rose : Rose 0 0 → ⊥
-none_rose rose = omega (arith, rose)
-
--- the lists were made beside a device of no events
-alone_ran : (How : HowRan) (file : List ℕ) (old new : Files) (scenario : Scenario) → ReadAlone file old new scenario → (first last : Stored) → first.events ≡ [] → (lists : Lists) → CameSo How scenario (of_list first) (of_list last) lists
-    → (list_any is_fault lists.events ≡ true → Rose (of_list first).faults (of_list last).faults) → FilesRan How file None old new lists
-alone_ran How file old new scenario read first last empty lists ran fault = record {
-  means = record {
-    text = read.is.text;
-    is_all = read.is.is_all;
-    scenario = scenario;
-    reads = read.is.reads;
-    runs = record {
-      count = ran.0;
-      ran = subst (λ (es : List DeviceEvent). How scenario (Some (record { events = es; ending = ends })) ran.0 lists) empty ran.2;
-      fails = λ h. tt;
-    };
-  };
-  cause = λ h. absurd (none_rose (fault h));
-  opens = read.opens;
-  scenario = read.sound;
-  unfailed = λ h. read.device.reads;
-  asked = read.asked;
-  device_asked = read.none;
-  alone = read.device;
-  within = read.within;
-  device_within = λ named. absurd (true≢false (sym named));
-  closed = read.closed;
-  same = read.same;
-}
 
 -- memory was short in the run
 alone_short : (file : List ℕ) (old new : Files) (scenario : Scenario) → ReadAlone file old new scenario → FilesUnrun file None old new run_fault.NoMemory

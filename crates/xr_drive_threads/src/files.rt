@@ -56,6 +56,7 @@ impl FilesRun {
 
 /// Opens the files of a run and runs the scenario on threads, beside the device where one is named. Every source that was opened is
 /// closed.
+#[inline(never)]
 pub(crate) fn run_files<R: Threads + Wait + Sync, O: Opener, G: Gate + Sync>(
     rt: &R,
     alloc: Global,

@@ -1,4 +1,5 @@
 pub mod Keeping
+pub mod Leaves
 pub mod Numbers
 pub mod Parents
 pub mod Places

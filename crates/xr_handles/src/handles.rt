@@ -211,12 +211,17 @@ impl Handles {
         Answer::numbered(handle)
     }
 
-    /// Destroys a handle and all below it, and lists them: a level behind the one above it.
+    /// Destroys a handle and all below it, and lists them: a level behind the one above it. Below an action nothing stands.
     pub fn destroy(&mut self, handle: u64, destroyed: &mut ArrayVec<u64, MOST_HANDLES>)
         requires { destroyed.old.items ≡ [] }
         ensures kept { self.new ≡ without self.old handle }
         ensures destroyed { destroyed.new.items ≡ model.destroyed_by self.old handle }
     {
+        if self.is_live(Kind::Action, handle) {
+            row::clear(&mut self.actions, handle);
+            destroyed.push(handle);
+            return;
+        }
         row::sweep(&mut self.instances, handle, &[], destroyed);
         let above = row::copied(destroyed);
         row::sweep(&mut self.sessions, handle, above.as_slice(), destroyed);

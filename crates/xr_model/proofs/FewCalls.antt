@@ -7,7 +7,8 @@ use native.Mathlib.Decide.{ℕ_discrete}
 use Rattle.xr_types.specs.declared.calls.Actor.{Actor}
 use Rattle.xr_types.specs.declared.calls.Actor.TheVariants.{Compositor}
 use Rattle.xr_types.specs.declared.code.Code.TheVariants.{CallOrderInvalid}
-use Rattle.xr_types.specs.Frames.{PendingFrame, ShownFrame}
+use Rattle.xr_types.specs.Frames.{PendingFrame}
+use Rattle.xr_types.specs.declared.frames.Shown.{Shown}
 use Rattle.xr_model.specs.machine.CoreCalls.{asked}
 use Rattle.xr_model.specs.machine.Frames.{is_empty}
 use Rattle.xr_model.specs.machine.Refusals.{when, first_of}
@@ -236,10 +237,10 @@ shown_are_taken s who (e ∷ es) = by (is_actor who e.actor) (step s e).1.shown 
     rest : List Exchange
     rest = calls_from (step s e).0 who es
 
-    x : Option ShownFrame → Exchange
+    x : Option Shown → Exchange
     x f = record { request = e.request; outcome = record (step s e).1 { shown = f } }
 
-    by : (b : Bool) (f : Option ShownFrame) → how_many shows rest ≤ length (shown_from (step s e).0 es) → how_many shows (added b (x f) rest) ≤ length (shown_if f ++ shown_from (step s e).0 es)
+    by : (b : Bool) (f : Option Shown) → how_many shows rest ≤ length (shown_from (step s e).0 es) → how_many shows (added b (x f) rest) ≤ length (shown_if f ++ shown_from (step s e).0 es)
     by true None few = few
     by true (Some f) few = omega (arith, few)
     by false None few = few

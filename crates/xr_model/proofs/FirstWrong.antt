@@ -10,16 +10,16 @@ use Rattle.xr_types.specs.declared.names.CallName.{CallName}
 use Rattle.xr_types.specs.declared.names.CallName.TheVariants as call
 use Rattle.xr_types.specs.declared.status.What.{What}
 use Rattle.xr_types.specs.declared.status.What.TheVariants as what
-use Rattle.xr_types.specs.Field.{keys_of}
 use Rattle.xr_types.specs.declared.scenario.Op.{Op}
 use Rattle.xr_types.specs.declared.scenario.Op.TheVariants as op
 use Rattle.xr_types.specs.Op.{call_name}
 use Rattle.xr_model.specs.scenario.Names.{NamedOp}
-use Rattle.xr_model.specs.scenario.Fields.{and_then, only_keys, only}
-use Rattle.xr_model.specs.scenario.OpReading.{op_named, named_by, op_of, op_in, only_op_in, read_op_of}
+use Rattle.xr_model.specs.scenario.Fields.{and_then, only_keys}
+use Rattle.xr_model.specs.scenario.OpReading.{op_named, named_by, op_of, op_in, keys_of, only, only_op_in, read_op_of}
+use Rattle.xr_model.specs.scenario.OpRows.{row_of}
 use Rattle.xr_model.specs.scenario.ReadOp.{ReadOp}
 use Rattle.xr_model.specs.laws.ReadingLaws.{AreAlike, IsAmong, NamesNoOp, IsFirstWrongKey, HasOtherKeys, FirstWrongPlaceIsTold}
-use Rattle.xr_model.proofs.RowOrder.{Told, InOrder, field_first, optional_first, name_first, all_read, all_differ, not_before, earlier, alike_back, alike_itself}
+use Rattle.xr_model.proofs.RowOrder.{Told, InOrder, field_first, optional_first, name_first, all_read, all_differ, behind_first, rows_differ, not_before, earlier, alike_back, alike_itself}
 
 -- ---- ops
 
@@ -46,12 +46,8 @@ no_op names d _ none = absurd (true≢false none)
 
 -- ---- the row of each
 
-abbrev behind_first : List FieldName → List FieldName
-behind_first [] = []
-behind_first (k ∷ keys) = keys
-
 abbrev pub fields_of : CallName → List FieldName
-fields_of c = behind_first (keys_of VERSION c)
+fields_of c = behind_first (row_of c).keys
 
 row_begins : (c : CallName) → is_op c ≡ true → keys_of VERSION c ≡ key.Op ∷ fields_of c
 row_begins call.Leave op = absurd (true≢false (sym op))
@@ -60,53 +56,14 @@ row_begins call.NextFrame op = absurd (true≢false (sym op))
 row_begins call.ImageDone op = absurd (true≢false (sym op))
 row_begins _ op = refl
 
-rows_differ : (c : CallName) → all_differ (keys_of VERSION c) ≡ true
-rows_differ call.CreateInstance = refl
-rows_differ _ = refl
-
 module _ (names : List NamedOp) where
   pub reads_row : (c : CallName) → is_op c ≡ true → InOrder (fields_of c) (λ d. op_in names d c)
-  reads_row call.CreateInstance op = field_first (λ major. field_first (λ minor. name_first (λ name. all_read)))
-  reads_row call.DestroyInstance op = field_first (λ instance. all_read)
-  reads_row call.PollEvent op = field_first (λ instance. all_read)
-  reads_row call.GetSystem op = field_first (λ instance. field_first (λ form. name_first (λ name. all_read)))
-  reads_row call.StringToPath op = field_first (λ instance. field_first (λ text. name_first (λ name. all_read)))
-  reads_row call.PathToString op = field_first (λ instance. field_first (λ path. field_first (λ capacity. all_read)))
-  reads_row call.CreateSession op = field_first (λ instance. field_first (λ system. name_first (λ name. all_read)))
-  reads_row call.DestroySession op = field_first (λ session. all_read)
-  reads_row call.EndSession op = field_first (λ session. all_read)
-  reads_row call.RequestExitSession op = field_first (λ session. all_read)
-  reads_row call.BeginFrame op = field_first (λ session. all_read)
-  reads_row call.BeginSession op = field_first (λ session. field_first (λ view. all_read))
-  reads_row call.CreateReferenceSpace op = field_first (λ session. field_first (λ kind. field_first (λ offset. name_first (λ name. all_read))))
-  reads_row call.CreateActionSpace op = field_first (λ session. field_first (λ action. field_first (λ sub. field_first (λ offset. name_first (λ name. all_read)))))
-  reads_row call.DestroySpace op = field_first (λ space. all_read)
-  reads_row call.LocateSpace op = field_first (λ space. field_first (λ base. field_first (λ time. all_read)))
-  reads_row call.CreateActionSet op = field_first (λ instance. field_first (λ called. field_first (λ localized. field_first (λ priority. name_first (λ name. all_read)))))
-  reads_row call.DestroyActionSet op = field_first (λ set. all_read)
-  reads_row call.CreateAction op = field_first (λ set. field_first (λ called. field_first (λ kind. field_first (λ subactions. field_first (λ localized. name_first (λ name. all_read))))))
-  reads_row call.DestroyAction op = field_first (λ action. all_read)
-  reads_row call.SuggestBindings op = field_first (λ instance. field_first (λ profile. field_first (λ bindings. all_read)))
-  reads_row call.AttachSets op = field_first (λ session. field_first (λ sets. all_read))
-  reads_row call.SyncActions op = field_first (λ session. field_first (λ active. all_read))
-  reads_row call.GetBoolean op = field_first (λ session. field_first (λ action. field_first (λ sub. all_read)))
-  reads_row call.GetFloat op = field_first (λ session. field_first (λ action. field_first (λ sub. all_read)))
-  reads_row call.GetVector op = field_first (λ session. field_first (λ action. field_first (λ sub. all_read)))
-  reads_row call.GetPoseActive op = field_first (λ session. field_first (λ action. field_first (λ sub. all_read)))
-  reads_row call.CreateSwapchain op = field_first (λ session. field_first (λ format. field_first (λ width. field_first (λ height. field_first (λ fixed. name_first (λ name. all_read))))))
-  reads_row call.DestroySwapchain op = field_first (λ chain. all_read)
-  reads_row call.AcquireImage op = field_first (λ chain. all_read)
-  reads_row call.ReleaseImage op = field_first (λ chain. all_read)
-  reads_row call.WaitImage op = field_first (λ chain. field_first (λ timeout. all_read))
-  reads_row call.Paint op = field_first (λ chain. field_first (λ stamp. all_read))
-  reads_row call.WaitFrame op = field_first (λ session. name_first (λ name. all_read))
-  reads_row call.EndFrame op = field_first (λ session. field_first (λ time. field_first (λ blend. field_first (λ layers. all_read))))
-  reads_row call.Mark op = field_first (λ mark. optional_first _ _ (λ value. all_read))
-  reads_row call.Await op = field_first (λ mark. name_first (λ name. all_read))
   reads_row call.Leave op = absurd (true≢false (sym op))
   reads_row call.Device op = absurd (true≢false (sym op))
   reads_row call.NextFrame op = absurd (true≢false (sym op))
   reads_row call.ImageDone op = absurd (true≢false (sym op))
+  reads_row call.Mark op = field_first (λ mark. optional_first _ _ (λ value. all_read))
+  reads_row _ op = search (field_first, name_first, all_read) depth 12
 
 -- ---- what is told
 

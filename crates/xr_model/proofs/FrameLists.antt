@@ -5,7 +5,8 @@ use Rattle.std.proofs.lemmas.Bool.Decides.{nat_tests}
 use Rattle.xr_types.specs.Code.{is_success}
 use Rattle.xr_types.specs.declared.device.DeviceEvent.{DeviceEvent}
 use Rattle.xr_types.specs.declared.device.DeviceEvent.TheVariants as event
-use Rattle.xr_types.specs.Frames.{PendingFrame, ShownFrame}
+use Rattle.xr_types.specs.Frames.{PendingFrame}
+use Rattle.xr_types.specs.declared.frames.Shown.{Shown}
 use Rattle.xr_model.specs.machine.Request.{Entry, Request, create_session, begin_session, end_session, wait_frame, begin_frame, end_frame, next_frame, device}
 use Rattle.xr_model.specs.machine.Frames.{Frames, one_if, is_frame_held_back, reset_loop}
 use Rattle.xr_model.specs.machine.SessionRule.{loss_of}
@@ -64,7 +65,7 @@ frame_if true s (end_frame session time blend layers) = new_frame s time layers 
 frame_if _ s _ = []
 
 -- the frames that a call takes where it shows one: the oldest of these
-abbrev pub taken_if : Option ShownFrame → List PendingFrame → List PendingFrame
+abbrev pub taken_if : Option Shown → List PendingFrame → List PendingFrame
 taken_if None frames = []
 taken_if (Some f) frames = take 1 frames
 
@@ -120,7 +121,7 @@ moves s reads e = by e.request
 
 -- ---- frames are numbered
 
-numbered_by : (n : ℕ) (s : State) (b : Bool) (r : Request) → n ≡ s.core.ended + 1 → (rest : List ShownFrame) → AreNumbered (n + length (frame_if b s.core r)) rest → AreNumbered n (submitted_if b s r ++ rest)
+numbered_by : (n : ℕ) (s : State) (b : Bool) (r : Request) → n ≡ s.core.ended + 1 → (rest : List Shown) → AreNumbered (n + length (frame_if b s.core r)) rest → AreNumbered n (submitted_if b s r ++ rest)
 numbered_by n s false r is rest more = subst (λ (k : ℕ). AreNumbered k rest) (omega arith) more
 numbered_by n s true (end_frame session time blend layers) is rest more = (sym is, more)
 numbered_by n s true _ is rest more = subst (λ (k : ℕ). AreNumbered k rest) (omega arith) more

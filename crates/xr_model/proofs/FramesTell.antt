@@ -7,7 +7,7 @@ use Rattle.std.proofs.lemmas.Fmt.{decimal_injective}
 use Rattle.xr_types.specs.declared.calls.Reply.{Reply}
 use Rattle.xr_types.specs.declared.frames.ShownLayer.{ShownLayer}
 use Rattle.xr_types.specs.declared.frames.ShownLayer.TheVariants as layer
-use Rattle.xr_types.specs.Frames.{ShownFrame}
+use Rattle.xr_types.specs.declared.frames.Shown.{Shown}
 use Rattle.xr_model.specs.scenario.InRange.{Each}
 use Rattle.xr_model.specs.report.ReportLines.{layer_text, layers_text}
 use Rattle.xr_model.specs.laws.ReportLaws.{IsLayerPrintable, FrameLinesTellTheFrame}
@@ -76,22 +76,22 @@ frame_spread : (a n b t c count layers place : List ℕ) → (((((((a ++ n) ++ b
 frame_spread a n b t c count layers place = simp append_assoc refl
 
 -- a frame's words
-abbrev frame_list : ShownFrame → Reply → List (List ℕ)
+abbrev frame_list : Shown → Reply → List (List ℕ)
 frame_list f r =
     codes "frame" ∷ decimal f.number ∷ codes "time" ∷ signed_decimal f.time ∷ codes "layers" ∷ decimal (length f.layers)
     ∷ (map layer_word f.layers ++ (64 ∷ decimal r.place) ∷ [])
 
-frame_free : (f : ShownFrame) (r : Reply) → AllFree (frame_list f r)
+frame_free : (f : Shown) (r : Reply) → AllFree (frame_list f r)
 frame_free f r =
     (refl, (number_word f.number, (refl, (signed_word f.time, (refl, (number_word (length f.layers), words_free f.layers (64 ∷ decimal r.place) (number_word r.place)))))))
 
 -- a frame's line without its line feed
-abbrev frame_body : ShownFrame → Reply → List ℕ
+abbrev frame_body : Shown → Reply → List ℕ
 frame_body f r =
     codes "frame " ++ decimal f.number ++ codes " time " ++ signed_decimal f.time ++ codes " layers " ++ decimal (length f.layers)
     ++ layers_text f.layers ++ (codes " @" ++ decimal r.place)
 
-body_follow : (f : ShownFrame) (r : Reply) → frame_body f r ++ 32 ∷ [] ≡ follow (frame_list f r)
+body_follow : (f : Shown) (r : Reply) → frame_body f r ++ 32 ∷ [] ≡ follow (frame_list f r)
 body_follow f r =
     frame_spread (codes "frame ") (decimal f.number) (codes " time ") (signed_decimal f.time) (codes " layers ") (decimal (length f.layers))
     (layers_text f.layers) (codes " @" ++ decimal r.place)

@@ -9,11 +9,11 @@ use Rattle.xr_types.specs.declared.names.CallName.{CallName}
 use Rattle.xr_types.specs.declared.names.CallName.TheVariants as call
 use Rattle.xr_types.specs.declared.status.What.{What}
 use Rattle.xr_types.specs.declared.status.What.TheVariants as what
-use Rattle.xr_types.specs.Field.{name_of_field, keys_of}
+use Rattle.xr_types.specs.Field.{name_of_field}
 use Rattle.xr_types.specs.Op.{call_name}
 use Rattle.xr_model.specs.scenario.Names.{NamedOp}
-use Rattle.xr_model.specs.scenario.Fields.{and_then, is_key, are_keys, only_keys, only}
-use Rattle.xr_model.specs.scenario.OpReading.{named_by, op_of, op_in, only_op_in, read_op_of}
+use Rattle.xr_model.specs.scenario.Fields.{and_then, is_key, are_keys, only_keys}
+use Rattle.xr_model.specs.scenario.OpReading.{named_by, op_of, op_in, keys_of, only, only_op_in, read_op_of}
 use Rattle.xr_model.specs.scenario.ReadOp.{ReadOp}
 use Rattle.xr_model.specs.laws.ReadingLaws.{OpsAreWhatTheyAreCalled, IsNameAmong, IsKeyIn, HasOnly, HasAnother, KeysAreTheRows}
 use Rattle.xr_model.proofs.Rows.{both_of, neither_of}

@@ -7,10 +7,13 @@ use Rattle.serde_json.specs.Data.{Data}
 use Rattle.serde_json.specs.Find.{get}
 use Rattle.xr_types.specs.declared.fields.FieldName.{FieldName}
 use Rattle.xr_types.specs.declared.fields.FieldName.TheVariants.{As}
+use Rattle.xr_types.specs.declared.names.CallName.{CallName}
+use Rattle.xr_types.specs.declared.names.CallName.TheVariants as call
 use Rattle.xr_types.specs.declared.status.What.{What}
 use Rattle.xr_types.specs.declared.status.What.TheVariants.{Field}
 use Rattle.xr_types.specs.Field.{name_of_field}
 use Rattle.xr_model.specs.scenario.Fields.{and_then, at, field, optional_by, optional, name_by, name_at, is_key}
+use Rattle.xr_model.specs.scenario.OpRows.{row_of}
 use Rattle.xr_model.specs.scenario.ReadOp.{ReadOp}
 use Rattle.xr_model.specs.laws.ReadingLaws.{AreAlike, IsAmong}
 use Rattle.xr_model.proofs.Rows.{both_of, not_true, or_true}
@@ -96,9 +99,18 @@ all_read {l = l} = record { tells = λ d wrong is. absurd (never wrong is) }
 
 -- ---- rows of different keys
 
+abbrev pub behind_first : List FieldName → List FieldName
+behind_first [] = []
+behind_first (k ∷ keys) = keys
+
 abbrev pub all_differ : List FieldName → Bool
 all_differ [] = true
 all_differ (key ∷ keys) = not (is_key keys (name_of_field key)) && all_differ keys
+
+-- those of each op do
+pub rows_differ : (c : CallName) → all_differ (row_of c).keys ≡ true
+rows_differ call.CreateInstance = refl
+rows_differ _ = refl
 
 among_is_key : (keys : List FieldName) (key : FieldName) → IsAmong keys key → is_key keys (name_of_field key) ≡ true
 among_is_key [] key among = absurd among

@@ -12,7 +12,8 @@ use Rattle.xr_types.specs.declared.frames.Image.{Image}
 use Rattle.xr_types.specs.declared.frames.Layer.{Layer}
 use Rattle.xr_types.specs.declared.frames.ShownLayer.{ShownLayer}
 use Rattle.xr_types.specs.Code.{is_success}
-use Rattle.xr_types.specs.Frames.{PendingFrame, ShownFrame}
+use Rattle.xr_types.specs.Frames.{PendingFrame}
+use Rattle.xr_types.specs.declared.frames.Shown.{Shown}
 use Rattle.xr_model.specs.machine.Frames.{one_if}
 use Rattle.xr_model.specs.machine.Images.{Stamped, is_image, slot_of, times_in, uses_of, first_images, images_of_layer, stamp_in, stamps_at, with_stamps, unstamped, stamp_among, shown_layer, shown_with}
 use Rattle.xr_model.specs.machine.Chains.{Chain, is_chain, chain_at, place_of_chain, first_place, oldest_image, oldest_index, oldest_of, has_place, has_free_place, is_format, is_size, no_place, is_paint_wrong}
@@ -189,14 +190,14 @@ frames_by s e = frame_if (is_success (step s e).1.reply.code) s.core e.request
 step_alike : (s : State) (e : Entry) → Untouched s.core.frames.pending (did_at s e).stamped → FramesAmong s.core.frames.pending
     → shown_now s s.core.frames.pending ++ shown_now s (frames_by s e) ≡ shown_if (step s e).1.shown ++ shown_now (step s e).0 (step s e).0.core.frames.pending
 step_alike s e aside among =
-    let show : PendingFrame → ShownFrame = shown_with (stamp_in s.cells.stamps) in
+    let show : PendingFrame → Shown = shown_with (stamp_in s.cells.stamps) in
     let t = (step s e).0 in
     let taken = taken_if (step s e).1.shown s.core.frames.pending in
     sym (map-append show s.core.frames.pending (frames_by s e))
     ∙ ap (λ (fs : List PendingFrame). map show fs) (moves s.core (reads_of s e.request) e).pending
     ∙ map-append show taken t.core.frames.pending
-    ∙ ap (λ (shown : List ShownFrame). shown ++ map show t.core.frames.pending) (taken_alike s e among)
-    ∙ ap (λ (more : List ShownFrame). shown_if (step s e).1.shown ++ more) (pending_alike s e aside among)
+    ∙ ap (λ (shown : List Shown). shown ++ map show t.core.frames.pending) (taken_alike s e among)
+    ∙ ap (λ (more : List Shown). shown_if (step s e).1.shown ++ more) (pending_alike s e aside among)
 
 -- ---- what gets a stamp
 
@@ -259,14 +260,14 @@ as_submitted : (s : State) (clocks : List ℤ) (es : List Entry) → IsLegalFrom
 as_submitted s clocks [] legal sound = sym (append-nil (shown_now s s.core.frames.pending))
 as_submitted s clocks (e ∷ es) legal sound =
     let t = (step s e).0 in
-    let now : List ShownFrame = shown_if (step s e).1.shown in
+    let now : List Shown = shown_if (step s e).1.shown in
     let rest = as_submitted t (clocks_after clocks e t) es legal.3 (sound_step s e legal.0 legal.2 sound) in
     append_assoc now (shown_from t es) (shown_now (after t es) (after t es).core.frames.pending)
-    ∙ ap (λ (l : List ShownFrame). now ++ l) rest
+    ∙ ap (λ (l : List Shown). now ++ l) rest
     ∙ sym (append_assoc now (shown_now t t.core.frames.pending) (submitted_from t es))
-    ∙ ap (λ (l : List ShownFrame). l ++ submitted_from t es) (sym (step_alike s e (stamps_aside s e sound) (frames_among s.core.frames.pending sound.frames)))
+    ∙ ap (λ (l : List Shown). l ++ submitted_from t es) (sym (step_alike s e (stamps_aside s e sound) (frames_among s.core.frames.pending sound.frames)))
     ∙ append_assoc (shown_now s s.core.frames.pending) (shown_now s (frames_by s e)) (submitted_from t es)
-    ∙ ap (λ (l : List ShownFrame). shown_now s s.core.frames.pending ++ (l ++ submitted_from t es)) (sym (as_asked s (is_success (step s e).1.reply.code) e.request))
+    ∙ ap (λ (l : List Shown). shown_now s s.core.frames.pending ++ (l ++ submitted_from t es)) (sym (as_asked s (is_success (step s e).1.reply.code) e.request))
 
 pub frames_as_submitted : FramesAsSubmitted
 frames_as_submitted settings es legal = as_submitted (opening settings) (opening_clocks settings) es legal (sound_opening settings)

@@ -1,9 +1,10 @@
--- Which texts are scenarios: names, fields, lists, the ops by groups, scripts, and the whole; and the scenario of a load.
+-- Which texts are scenarios: names, fields, lists, the rows of ops, scripts, and the whole; and the scenario of a load.
 pub mod Names
 pub mod Fields
 pub mod ListItems
 pub mod ReadOp
-pub mod Ops
+pub mod Row
+pub mod OpRows
 pub mod OpReading
 pub mod InRange
 pub mod ScriptForm

@@ -83,7 +83,7 @@ pub(crate) fn push_frame_line(
     push_text(out, " time ")?;
     push_signed(out, frame.time)?;
     push_text(out, " layers ")?;
-    push_number(out, frame.layers.len() as u64)?;
+    push_number(out, frame.layers.as_slice().len() as u64)?;
     push_layers(out, frame.layers.as_slice())?;
     push_place_at(out, places, replies, index)?;
     push_text(out, "\n")

@@ -69,7 +69,7 @@ impl Runtime {
         }
     }
 
-    // Makes the call, once it is ready.
+    // Makes the call, once it is ready: where it isn't, it lets others go first.
     pub(crate) fn make<R: Wait>(
         &self,
         rt: &R,
@@ -85,10 +85,13 @@ impl Runtime {
         ensures called { Called seat.old.me (request_of call.now) result.reply (record { text = text.old; frame = shown.old }) (record { text = text.new; frame = shown.new }) seat.new.me }
         ensures reads { Reads seat.new.me.0.know result.clock result.images }
     {
+        let mut tries = 0u32;
         for _ in rt.forever() {
             if let Some(answered) = self.make_once(rt, seat, who, call, text, shown) {
                 return answered;
             }
+            Lock { table: &self.table }.pause(rt, tries);
+            tries = tries.saturating_add(1);
         }
         unreachable!()
     }

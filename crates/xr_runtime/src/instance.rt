@@ -1,6 +1,6 @@
 //! The calls of instances, paths and events.
 ghost use Rattle.std.specs.Prelude.{length};
-ghost use Rattle.xr_types.specs.Frames.{ShownFrame};
+ghost use Rattle.xr_types.specs.declared.frames.Shown.{Shown};
 ghost use Rattle.xr_model.specs.machine.Request as request;
 ghost use Rattle.xr_runtime.specs.Passes.{table_of, MayCall, AppCalls, AppAnswers};
 
@@ -79,7 +79,7 @@ impl Runtime {
         out: &mut [u8],
     ) -> Reply
         requires may { MayCall (table_of self.now) pass.old }
-        ensures called { (before : ShownFrame) × (after : ShownFrame) × AppCalls (table_of self.now) pass.old (request.path_to_string instance path (length out.old)) (record { text = out.old; frame = before }) (record { text = out.new; frame = after }) result pass.new }
+        ensures called { (before : Shown) × (after : Shown) × AppCalls (table_of self.now) pass.old (request.path_to_string instance path (length out.old)) (record { text = out.old; frame = before }) (record { text = out.new; frame = after }) result pass.new }
     {
         let mut shown = Shown::default();
         let capacity = out.len() as u64;

@@ -7,3 +7,4 @@ pub mod ScriptForm
 pub mod LoadCounts
 pub mod LoadFrames
 pub mod LoadForm
+pub mod FullRows

@@ -1,13 +1,14 @@
 -- Ops and scripts read so far, and those that follow.
-use Rattle.std.proofs.Common.{◌≡◌, ℕ, zero, suc, ◌+◌, ◌<◌, ◌≤◌, List, [], ◌∷◌, ◌++◌, length, drop, get_or, Result, Ok, Err, refl, sym, ap, ◌∙◌, append_assoc, add-one, drop-cons, arith}
+use Rattle.std.proofs.Common.{◌≡◌, ℕ, zero, suc, ◌+◌, ◌<◌, ◌≤◌, List, [], ◌∷◌, ◌++◌, length, drop, get_or, Option, Some, None, Result, Ok, Err, refl, sym, ap, ◌∙◌, append_assoc, add-one, drop-cons, arith}
 use Rattle.serde_json.specs.Data.{Data, null, boolean, number, string, array, object, item}
 use Rattle.serde_json.specs.View.{view, items_view}
 use Rattle.serde_json.specs.declared.value.Value.{Value}
 use Rattle.xr_types.specs.declared.scenario.Op.{Op}
+use Rattle.xr_types.specs.declared.scenario.Sort.{Sort}
 use Rattle.xr_types.specs.declared.status.Refusal.{Refusal}
 use Rattle.xr_model.specs.scenario.Names.{NamedOp}
 use Rattle.xr_model.specs.scenario.ReadOp.{ReadOp}
-use Rattle.xr_model.specs.scenario.OpReading.{read_op_of, with_name}
+use Rattle.xr_model.specs.scenario.OpReading.{read_op_of, with_name, with_name_of}
 use Rattle.xr_model.specs.scenario.Scenario.{and_first, after_op, ops_from, script_of, after_script, scripts_from}
 use Rattle.xr_scenario_fields.proofs.Items.{count_items-view}
 use Rattle.xr_scenario.specs.Size.{size, items_size}
@@ -52,6 +53,11 @@ scripts_more version script vs i d scripts ops h e =
     ap (prepend scripts) (scripts_step version script vs i d h ∙ ap (λ r. after_script r (scripts_from version (script + 1) (items_view (drop (i + 1) vs)))) e) ∙ prepend_first scripts ops _
 
 pub ruleset script_steps = (prepend_first, prepend_none, scripts_step)
+
+-- an op that gives no name leaves the names as they are, whatever a name of it would stand for
+pub no_name : (place : ℕ) (sort : Option Sort) (names : List NamedOp) → names ≡ with_name_of place sort None names
+no_name place None names = refl
+no_name place (Some sort) names = refl
 
 -- ---- counts and sizes
 

@@ -3,10 +3,12 @@
 #![tactic(auto)]
 
 mod fault;
+mod keys;
 mod laws;
 mod load;
 mod read_op;
 mod reader;
+mod row_keys;
 
 pub use fault::ScenarioFault;
 pub use laws::{few_ops, holds_less, loads_can_be_run, loads_have_so_many_ops};

@@ -10,9 +10,10 @@ ghost use Rattle.xr_model.specs.scenario.ScriptForm.{IsKnownPlace};
 ghost use Rattle.xr_model.specs.scenario.OpReading.{op_named, op_of, op_name, op_in, read_op_of};
 ghost use Rattle.xr_scenario.specs.inside.OpNames.{HasAllOfSize};
 
+use crate::keys::only_its_keys;
 use serde_json::Value;
 use std::alloc::Global;
-use xr_scenario_fields::{Fault, NamedOps, ReadOp, only_keys};
+use xr_scenario_fields::{Fault, NamedOps, ReadOp, last_value};
 use xr_scenario_frame::{
     acquire_image, begin_frame, create_action_space, create_reference_space, create_swapchain,
     destroy_space, destroy_swapchain, end_frame, locate_space, paint, release_image, wait_frame,
@@ -106,9 +107,7 @@ fn op_named(text: &str) -> Option<CallName>
 fn op_of(value: &Value) -> Option<CallName>
     ensures { result ≡ op_of (view value.now) }
 {
-    let Some(found) = value.get(FieldName::Op.name()) else {
-        return None;
-    };
+    let found = last_value(value, FieldName::Op)?;
     let Some(text) = found.as_str() else {
         return None;
     };
@@ -189,8 +188,9 @@ pub(crate) fn read_op<'v>(
     ensures formed { IfOk result (λ l. IsFormed (IsKnownPlace named_ops.now) l.op) }
 {
     let row = op_name(value)?;
+    let only = only_its_keys(row, version, value);
     let read = op_in(alloc, named_ops, value, row)?;
-    if only_keys(row.keys(version), value) {
+    if only {
         Ok(read)
     } else {
         Err(Fault::Wrong(What::Extra))

@@ -1,9 +1,11 @@
 // The reader: a text, its JSON value, the scenario's object, its scripts, and each script's ops.
-ghost use Rattle.std.specs.Prelude.{◌≡◌, ◌≤◌, ◌<◌, ◌^◌, ◌+◌, [], ◌∷◌, ◌++◌, length, IfOk, IfErr, OnOk, Some, None, Err, option_map};
+ghost use Rattle.std.specs.Prelude.{◌≡◌, ℕ, List, ◌≤◌, ◌<◌, ◌^◌, ◌+◌, [], ◌∷◌, ◌++◌, length, IfOk, IfErr, OnOk, Some, None, Err, option_map};
 ghost use Rattle.std.specs.List.{sum_by};
 ghost use Rattle.serde_json.specs.View.{view, items_view};
 ghost use Rattle.serde_json.specs.Find.{as_array};
+ghost use Rattle.xr_types.specs.Op.{sort_of};
 ghost use Rattle.xr_types.specs.declared.status.Refusal.TheVariants.{BadShape};
+ghost use Rattle.xr_model.specs.scenario.Names.{NamedOp};
 ghost use Rattle.xr_model.specs.scenario.ScriptForm.{IsInForm, AllInForm};
 ghost use Rattle.xr_model.specs.scenario.OpReading.{with_name_of};
 ghost use Rattle.xr_model.specs.scenario.Scenario.{ops_from, script_of, scripts_from, scripts_by, version_of, scenario_in, json_of, scenario_of};
@@ -20,6 +22,18 @@ use xr_types::{
     FieldName, MOST_SCENARIO, MOST_SCRIPTS, Op, Refusal, Scenario, Script, Several, Sort, VERSION,
     What,
 };
+
+/// What the name stands for that an op gives, if it gives one.
+#[tactic(auto, using(crate::proofs::OpReading::no_name))]
+fn sort_named(op: &Op, name: Option<&str>) -> Option<Sort>
+    ensures { (place : ℕ) (names : List NamedOp) → with_name_of place result (option_map (λ n. n.now) name.entry) names
+        ≡ with_name_of place (sort_of op.now) (option_map (λ n. n.now) name.entry) names }
+{
+    match name {
+        Some(_) => op.sort(),
+        None => None,
+    }
+}
 
 /// Keeps the name that an op gives, if it gives one.
 fn keep<'v>(
@@ -92,8 +106,9 @@ fn read_ops(
             }
             Err(Fault::NoMemory) => return Err(ScenarioFault::NoMemory),
         };
-        keep(&mut named_ops, place, read.op.sort(), read.name)?;
+        let sort = sort_named(&read.op, read.name);
         add(&mut ops, read.op)?;
+        keep(&mut named_ops, place, sort, read.name)?;
     }
     Ok(Several::new(ops))
 }

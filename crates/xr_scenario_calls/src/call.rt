@@ -286,6 +286,7 @@ fn frame_call<'a>(op: &'a Op, names: &Names, scratch: &'a mut Scratch) -> Call<'
 
 /// The call that an op asks for, where the ops before it gave these names. Its lists stand in `scratch`,
 /// its texts in the op. The start of a `WaitImage` is 0: it isn't the script's to tell.
+#[inline(always)]
 pub fn call_of<'a>(op: &'a Op, names: &Names, scratch: &'a mut Scratch) -> Call<'a>
     requires { IsInRange op.now }
     ensures { request_of result ≡ request_for names.now op.now }

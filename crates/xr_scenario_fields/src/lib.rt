@@ -15,7 +15,7 @@ mod uses;
 mod words;
 
 pub use fault::Fault;
-pub use keys::only_keys;
+pub use keys::{last_value, only_keys};
 pub use lists::{ListItem, list};
 pub use named_ops::NamedOps;
 pub use names::name;

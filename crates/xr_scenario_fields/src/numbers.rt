@@ -7,6 +7,7 @@ ghost use Rattle.xr_model.specs.scenario.Fields.{field, most_u32, number_in, int
 ghost use Rattle.xr_model.specs.scenario.InRange.{IsMark, IsTimeout};
 
 use crate::fault::{Fault, at, found};
+use crate::keys::first_value;
 use serde_json::Value;
 use xr_types::{FieldName, MOST_MARK};
 
@@ -64,7 +65,9 @@ pub fn mark_number(value: &Value, key: FieldName) -> Result<u8, Fault>
     ensures formed { IfOk result IsMark }
     ensures only_wrong { IfErr result IsWrong }
 {
-    let found = found(value, key)?;
+    let Some(found) = first_value(value, key) else {
+        return at(key, None);
+    };
     at(key, mark_in(found))
 }
 

@@ -8,6 +8,7 @@ ghost use Rattle.xr_model.specs.scenario.ScriptForm.{IsKnownPlace};
 ghost use Rattle.xr_types.specs.declared.scenario.Use.TheVariants.{Number};
 
 use crate::fault::{Fault, at, found};
+use crate::keys::last_value;
 use crate::named_ops::{NamedOps, known_place};
 use crate::numbers::integer_in;
 use serde_json::Value;
@@ -100,7 +101,7 @@ pub fn mark_value(
     ensures formed { IfOk result (λ u. IsValue (IsKnownPlace named_ops.now) mark u) }
     ensures only_wrong { IfErr result IsWrong }
 {
-    let Some(found) = value.get(key.name()) else {
+    let Some(found) = last_value(value, key) else {
         return Ok(Use::Number(0));
     };
     if mark <= MOST_HANDLE_MARK {

@@ -1,13 +1,15 @@
 //! Reading the ops on spaces, swapchains and frames (OpenXR 1.0 chapters 7 and 10).
 //! Each reader tells what an op's object says, or the first place of it that is wrong.
+//! None is inlined, so that each writes its op straight to its caller.
 #![tactic(auto)]
 
 ghost use Rattle.std.specs.Prelude.{IfErr, IfOk};
 ghost use Rattle.serde_json.specs.View.{view};
+ghost use Rattle.xr_types.specs.declared.names.CallName.TheVariants as call;
 ghost use Rattle.xr_scenario_fields.specs.Reads.{IsWrong, ReadsOp};
 ghost use Rattle.xr_model.specs.scenario.InRange.{IsFormed};
 ghost use Rattle.xr_model.specs.scenario.ScriptForm.{IsKnownPlace};
-ghost use Rattle.xr_model.specs.scenario.Ops.Frames.{begin_frame, create_reference_space, create_action_space, destroy_space, locate_space, create_swapchain, destroy_swapchain, acquire_image, release_image, wait_image, paint, wait_frame, end_frame};
+ghost use Rattle.xr_model.specs.scenario.OpReading.{op_in};
 
 use serde_json::Value;
 use std::alloc::Global;
@@ -18,8 +20,9 @@ use xr_scenario_fields::{
 use xr_types::{FieldName, MOST_LISTED, Op};
 
 /// Reads `begin_frame`: `session`.
+#[inline(never)]
 pub fn begin_frame<'v>(named_ops: &NamedOps<'_>, value: &'v Value) -> Result<ReadOp<'v>, Fault>
-    ensures reads { ReadsOp result (begin_frame named_ops.now (view value.now)) }
+    ensures reads { ReadsOp result (op_in named_ops.now (view value.now) call.BeginFrame) }
     ensures formed { IfOk result (λ l. IsFormed (IsKnownPlace named_ops.now) l.op) }
     ensures only_wrong { IfErr result IsWrong }
 {
@@ -29,11 +32,12 @@ pub fn begin_frame<'v>(named_ops: &NamedOps<'_>, value: &'v Value) -> Result<Rea
 }
 
 /// Reads `create_reference_space`: `session`, `kind`, `offset`, `as`?.
+#[inline(never)]
 pub fn create_reference_space<'v>(
     named_ops: &NamedOps<'_>,
     value: &'v Value,
 ) -> Result<ReadOp<'v>, Fault>
-    ensures reads { ReadsOp result (create_reference_space named_ops.now (view value.now)) }
+    ensures reads { ReadsOp result (op_in named_ops.now (view value.now) call.CreateReferenceSpace) }
     ensures formed { IfOk result (λ l. IsFormed (IsKnownPlace named_ops.now) l.op) }
     ensures only_wrong { IfErr result IsWrong }
 {
@@ -50,11 +54,12 @@ pub fn create_reference_space<'v>(
 }
 
 /// Reads `create_action_space`: `session`, `action`, `sub`, `offset`, `as`?.
+#[inline(never)]
 pub fn create_action_space<'v>(
     named_ops: &NamedOps<'_>,
     value: &'v Value,
 ) -> Result<ReadOp<'v>, Fault>
-    ensures reads { ReadsOp result (create_action_space named_ops.now (view value.now)) }
+    ensures reads { ReadsOp result (op_in named_ops.now (view value.now) call.CreateActionSpace) }
     ensures formed { IfOk result (λ l. IsFormed (IsKnownPlace named_ops.now) l.op) }
     ensures only_wrong { IfErr result IsWrong }
 {
@@ -73,8 +78,9 @@ pub fn create_action_space<'v>(
 }
 
 /// Reads `destroy_space`: `space`.
+#[inline(never)]
 pub fn destroy_space<'v>(named_ops: &NamedOps<'_>, value: &'v Value) -> Result<ReadOp<'v>, Fault>
-    ensures reads { ReadsOp result (destroy_space named_ops.now (view value.now)) }
+    ensures reads { ReadsOp result (op_in named_ops.now (view value.now) call.DestroySpace) }
     ensures formed { IfOk result (λ l. IsFormed (IsKnownPlace named_ops.now) l.op) }
     ensures only_wrong { IfErr result IsWrong }
 {
@@ -84,8 +90,9 @@ pub fn destroy_space<'v>(named_ops: &NamedOps<'_>, value: &'v Value) -> Result<R
 }
 
 /// Reads `locate_space`: `space`, `base`, `time`.
+#[inline(never)]
 pub fn locate_space<'v>(named_ops: &NamedOps<'_>, value: &'v Value) -> Result<ReadOp<'v>, Fault>
-    ensures reads { ReadsOp result (locate_space named_ops.now (view value.now)) }
+    ensures reads { ReadsOp result (op_in named_ops.now (view value.now) call.LocateSpace) }
     ensures formed { IfOk result (λ l. IsFormed (IsKnownPlace named_ops.now) l.op) }
     ensures only_wrong { IfErr result IsWrong }
 {
@@ -97,8 +104,9 @@ pub fn locate_space<'v>(named_ops: &NamedOps<'_>, value: &'v Value) -> Result<Re
 }
 
 /// Reads `create_swapchain`: `session`, `format`, `width`, `height`, `static`, `as`?.
+#[inline(never)]
 pub fn create_swapchain<'v>(named_ops: &NamedOps<'_>, value: &'v Value) -> Result<ReadOp<'v>, Fault>
-    ensures reads { ReadsOp result (create_swapchain named_ops.now (view value.now)) }
+    ensures reads { ReadsOp result (op_in named_ops.now (view value.now) call.CreateSwapchain) }
     ensures formed { IfOk result (λ l. IsFormed (IsKnownPlace named_ops.now) l.op) }
     ensures only_wrong { IfErr result IsWrong }
 {
@@ -119,11 +127,12 @@ pub fn create_swapchain<'v>(named_ops: &NamedOps<'_>, value: &'v Value) -> Resul
 }
 
 /// Reads `destroy_swapchain`: `chain`.
+#[inline(never)]
 pub fn destroy_swapchain<'v>(
     named_ops: &NamedOps<'_>,
     value: &'v Value,
 ) -> Result<ReadOp<'v>, Fault>
-    ensures reads { ReadsOp result (destroy_swapchain named_ops.now (view value.now)) }
+    ensures reads { ReadsOp result (op_in named_ops.now (view value.now) call.DestroySwapchain) }
     ensures formed { IfOk result (λ l. IsFormed (IsKnownPlace named_ops.now) l.op) }
     ensures only_wrong { IfErr result IsWrong }
 {
@@ -133,8 +142,9 @@ pub fn destroy_swapchain<'v>(
 }
 
 /// Reads `acquire_image`: `chain`.
+#[inline(never)]
 pub fn acquire_image<'v>(named_ops: &NamedOps<'_>, value: &'v Value) -> Result<ReadOp<'v>, Fault>
-    ensures reads { ReadsOp result (acquire_image named_ops.now (view value.now)) }
+    ensures reads { ReadsOp result (op_in named_ops.now (view value.now) call.AcquireImage) }
     ensures formed { IfOk result (λ l. IsFormed (IsKnownPlace named_ops.now) l.op) }
     ensures only_wrong { IfErr result IsWrong }
 {
@@ -144,8 +154,9 @@ pub fn acquire_image<'v>(named_ops: &NamedOps<'_>, value: &'v Value) -> Result<R
 }
 
 /// Reads `release_image`: `chain`.
+#[inline(never)]
 pub fn release_image<'v>(named_ops: &NamedOps<'_>, value: &'v Value) -> Result<ReadOp<'v>, Fault>
-    ensures reads { ReadsOp result (release_image named_ops.now (view value.now)) }
+    ensures reads { ReadsOp result (op_in named_ops.now (view value.now) call.ReleaseImage) }
     ensures formed { IfOk result (λ l. IsFormed (IsKnownPlace named_ops.now) l.op) }
     ensures only_wrong { IfErr result IsWrong }
 {
@@ -155,8 +166,9 @@ pub fn release_image<'v>(named_ops: &NamedOps<'_>, value: &'v Value) -> Result<R
 }
 
 /// Reads `wait_image`: `chain`, `timeout`.
+#[inline(never)]
 pub fn wait_image<'v>(named_ops: &NamedOps<'_>, value: &'v Value) -> Result<ReadOp<'v>, Fault>
-    ensures reads { ReadsOp result (wait_image named_ops.now (view value.now)) }
+    ensures reads { ReadsOp result (op_in named_ops.now (view value.now) call.WaitImage) }
     ensures formed { IfOk result (λ l. IsFormed (IsKnownPlace named_ops.now) l.op) }
     ensures only_wrong { IfErr result IsWrong }
 {
@@ -167,8 +179,9 @@ pub fn wait_image<'v>(named_ops: &NamedOps<'_>, value: &'v Value) -> Result<Read
 }
 
 /// Reads `paint`: `chain`, `stamp`.
+#[inline(never)]
 pub fn paint<'v>(named_ops: &NamedOps<'_>, value: &'v Value) -> Result<ReadOp<'v>, Fault>
-    ensures reads { ReadsOp result (paint named_ops.now (view value.now)) }
+    ensures reads { ReadsOp result (op_in named_ops.now (view value.now) call.Paint) }
     ensures formed { IfOk result (λ l. IsFormed (IsKnownPlace named_ops.now) l.op) }
     ensures only_wrong { IfErr result IsWrong }
 {
@@ -179,8 +192,9 @@ pub fn paint<'v>(named_ops: &NamedOps<'_>, value: &'v Value) -> Result<ReadOp<'v
 }
 
 /// Reads `wait_frame`: `session`, `as`?.
+#[inline(never)]
 pub fn wait_frame<'v>(named_ops: &NamedOps<'_>, value: &'v Value) -> Result<ReadOp<'v>, Fault>
-    ensures reads { ReadsOp result (wait_frame named_ops.now (view value.now)) }
+    ensures reads { ReadsOp result (op_in named_ops.now (view value.now) call.WaitFrame) }
     ensures formed { IfOk result (λ l. IsFormed (IsKnownPlace named_ops.now) l.op) }
     ensures only_wrong { IfErr result IsWrong }
 {
@@ -191,12 +205,13 @@ pub fn wait_frame<'v>(named_ops: &NamedOps<'_>, value: &'v Value) -> Result<Read
 }
 
 /// Reads `end_frame`: `session`, `time`, `blend`, `layers`.
+#[inline(never)]
 pub fn end_frame<'v>(
     alloc: Global,
     named_ops: &NamedOps<'_>,
     value: &'v Value,
 ) -> Result<ReadOp<'v>, Fault>
-    ensures reads { ReadsOp result (end_frame named_ops.now (view value.now)) }
+    ensures reads { ReadsOp result (op_in named_ops.now (view value.now) call.EndFrame) }
     ensures formed { IfOk result (λ l. IsFormed (IsKnownPlace named_ops.now) l.op) }
 {
     let session = handle(named_ops, value, FieldName::Session)?;

@@ -1,13 +1,15 @@
 //! Reading the ops on action sets, actions, bindings and their states (OpenXR 1.0 chapter 11).
 //! Each reader tells what an op's object says, or the first place of it that is wrong.
+//! None is inlined, so that each writes its op straight to its caller.
 #![tactic(auto)]
 
 ghost use Rattle.std.specs.Prelude.{IfErr, IfOk};
 ghost use Rattle.serde_json.specs.View.{view};
+ghost use Rattle.xr_types.specs.declared.names.CallName.TheVariants as call;
 ghost use Rattle.xr_scenario_fields.specs.Reads.{IsWrong, ReadsOp};
 ghost use Rattle.xr_model.specs.scenario.InRange.{IsFormed};
 ghost use Rattle.xr_model.specs.scenario.ScriptForm.{IsKnownPlace};
-ghost use Rattle.xr_model.specs.scenario.Ops.Input.{create_action_set, destroy_action_set, create_action, destroy_action, suggest_bindings, attach_sets, sync_actions, get_boolean, get_float, get_vector, get_pose_active};
+ghost use Rattle.xr_model.specs.scenario.OpReading.{op_in};
 
 use serde_json::Value;
 use std::alloc::Global;
@@ -15,12 +17,13 @@ use xr_scenario_fields::{Fault, NamedOps, ReadOp, atom, handle, list, name, smal
 use xr_types::{FieldName, MOST_ACTIVE, MOST_ATTACHED, MOST_BINDINGS, MOST_SUBACTIONS, Op};
 
 /// Reads `create_action_set`: `instance`, `name`, `localized`, `priority`, `as`?.
+#[inline(never)]
 pub fn create_action_set<'v>(
     alloc: Global,
     named_ops: &NamedOps<'_>,
     value: &'v Value,
 ) -> Result<ReadOp<'v>, Fault>
-    ensures reads { ReadsOp result (create_action_set named_ops.now (view value.now)) }
+    ensures reads { ReadsOp result (op_in named_ops.now (view value.now) call.CreateActionSet) }
     ensures formed { IfOk result (λ l. IsFormed (IsKnownPlace named_ops.now) l.op) }
 {
     let instance = handle(named_ops, value, FieldName::Instance)?;
@@ -38,11 +41,12 @@ pub fn create_action_set<'v>(
 }
 
 /// Reads `destroy_action_set`: `set`.
+#[inline(never)]
 pub fn destroy_action_set<'v>(
     named_ops: &NamedOps<'_>,
     value: &'v Value,
 ) -> Result<ReadOp<'v>, Fault>
-    ensures reads { ReadsOp result (destroy_action_set named_ops.now (view value.now)) }
+    ensures reads { ReadsOp result (op_in named_ops.now (view value.now) call.DestroyActionSet) }
     ensures formed { IfOk result (λ l. IsFormed (IsKnownPlace named_ops.now) l.op) }
     ensures only_wrong { IfErr result IsWrong }
 {
@@ -52,12 +56,13 @@ pub fn destroy_action_set<'v>(
 }
 
 /// Reads `create_action`: `set`, `name`, `type`, `subactions`, `localized`, `as`?.
+#[inline(never)]
 pub fn create_action<'v>(
     alloc: Global,
     named_ops: &NamedOps<'_>,
     value: &'v Value,
 ) -> Result<ReadOp<'v>, Fault>
-    ensures reads { ReadsOp result (create_action named_ops.now (view value.now)) }
+    ensures reads { ReadsOp result (op_in named_ops.now (view value.now) call.CreateAction) }
     ensures formed { IfOk result (λ l. IsFormed (IsKnownPlace named_ops.now) l.op) }
 {
     let set = handle(named_ops, value, FieldName::Set)?;
@@ -83,8 +88,9 @@ pub fn create_action<'v>(
 }
 
 /// Reads `destroy_action`: `action`.
+#[inline(never)]
 pub fn destroy_action<'v>(named_ops: &NamedOps<'_>, value: &'v Value) -> Result<ReadOp<'v>, Fault>
-    ensures reads { ReadsOp result (destroy_action named_ops.now (view value.now)) }
+    ensures reads { ReadsOp result (op_in named_ops.now (view value.now) call.DestroyAction) }
     ensures formed { IfOk result (λ l. IsFormed (IsKnownPlace named_ops.now) l.op) }
     ensures only_wrong { IfErr result IsWrong }
 {
@@ -94,12 +100,13 @@ pub fn destroy_action<'v>(named_ops: &NamedOps<'_>, value: &'v Value) -> Result<
 }
 
 /// Reads `suggest_bindings`: `instance`, `profile`, `bindings`.
+#[inline(never)]
 pub fn suggest_bindings<'v>(
     alloc: Global,
     named_ops: &NamedOps<'_>,
     value: &'v Value,
 ) -> Result<ReadOp<'v>, Fault>
-    ensures reads { ReadsOp result (suggest_bindings named_ops.now (view value.now)) }
+    ensures reads { ReadsOp result (op_in named_ops.now (view value.now) call.SuggestBindings) }
     ensures formed { IfOk result (λ l. IsFormed (IsKnownPlace named_ops.now) l.op) }
 {
     let instance = handle(named_ops, value, FieldName::Instance)?;
@@ -114,12 +121,13 @@ pub fn suggest_bindings<'v>(
 }
 
 /// Reads `attach_sets`: `session`, `sets`.
+#[inline(never)]
 pub fn attach_sets<'v>(
     alloc: Global,
     named_ops: &NamedOps<'_>,
     value: &'v Value,
 ) -> Result<ReadOp<'v>, Fault>
-    ensures reads { ReadsOp result (attach_sets named_ops.now (view value.now)) }
+    ensures reads { ReadsOp result (op_in named_ops.now (view value.now) call.AttachSets) }
     ensures formed { IfOk result (λ l. IsFormed (IsKnownPlace named_ops.now) l.op) }
 {
     let session = handle(named_ops, value, FieldName::Session)?;
@@ -129,12 +137,13 @@ pub fn attach_sets<'v>(
 }
 
 /// Reads `sync_actions`: `session`, `active`.
+#[inline(never)]
 pub fn sync_actions<'v>(
     alloc: Global,
     named_ops: &NamedOps<'_>,
     value: &'v Value,
 ) -> Result<ReadOp<'v>, Fault>
-    ensures reads { ReadsOp result (sync_actions named_ops.now (view value.now)) }
+    ensures reads { ReadsOp result (op_in named_ops.now (view value.now) call.SyncActions) }
     ensures formed { IfOk result (λ l. IsFormed (IsKnownPlace named_ops.now) l.op) }
 {
     let session = handle(named_ops, value, FieldName::Session)?;
@@ -144,8 +153,9 @@ pub fn sync_actions<'v>(
 }
 
 /// Reads `get_boolean`: `session`, `action`, `sub`.
+#[inline(never)]
 pub fn get_boolean<'v>(named_ops: &NamedOps<'_>, value: &'v Value) -> Result<ReadOp<'v>, Fault>
-    ensures reads { ReadsOp result (get_boolean named_ops.now (view value.now)) }
+    ensures reads { ReadsOp result (op_in named_ops.now (view value.now) call.GetBoolean) }
     ensures formed { IfOk result (λ l. IsFormed (IsKnownPlace named_ops.now) l.op) }
     ensures only_wrong { IfErr result IsWrong }
 {
@@ -161,8 +171,9 @@ pub fn get_boolean<'v>(named_ops: &NamedOps<'_>, value: &'v Value) -> Result<Rea
 }
 
 /// Reads `get_float`: `session`, `action`, `sub`.
+#[inline(never)]
 pub fn get_float<'v>(named_ops: &NamedOps<'_>, value: &'v Value) -> Result<ReadOp<'v>, Fault>
-    ensures reads { ReadsOp result (get_float named_ops.now (view value.now)) }
+    ensures reads { ReadsOp result (op_in named_ops.now (view value.now) call.GetFloat) }
     ensures formed { IfOk result (λ l. IsFormed (IsKnownPlace named_ops.now) l.op) }
     ensures only_wrong { IfErr result IsWrong }
 {
@@ -178,8 +189,9 @@ pub fn get_float<'v>(named_ops: &NamedOps<'_>, value: &'v Value) -> Result<ReadO
 }
 
 /// Reads `get_vector`: `session`, `action`, `sub`.
+#[inline(never)]
 pub fn get_vector<'v>(named_ops: &NamedOps<'_>, value: &'v Value) -> Result<ReadOp<'v>, Fault>
-    ensures reads { ReadsOp result (get_vector named_ops.now (view value.now)) }
+    ensures reads { ReadsOp result (op_in named_ops.now (view value.now) call.GetVector) }
     ensures formed { IfOk result (λ l. IsFormed (IsKnownPlace named_ops.now) l.op) }
     ensures only_wrong { IfErr result IsWrong }
 {
@@ -195,8 +207,9 @@ pub fn get_vector<'v>(named_ops: &NamedOps<'_>, value: &'v Value) -> Result<Read
 }
 
 /// Reads `get_pose_active`: `session`, `action`, `sub`.
+#[inline(never)]
 pub fn get_pose_active<'v>(named_ops: &NamedOps<'_>, value: &'v Value) -> Result<ReadOp<'v>, Fault>
-    ensures reads { ReadsOp result (get_pose_active named_ops.now (view value.now)) }
+    ensures reads { ReadsOp result (op_in named_ops.now (view value.now) call.GetPoseActive) }
     ensures formed { IfOk result (λ l. IsFormed (IsKnownPlace named_ops.now) l.op) }
     ensures only_wrong { IfErr result IsWrong }
 {

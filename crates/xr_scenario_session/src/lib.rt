@@ -1,14 +1,16 @@
 //! Reading the ops on instances, paths, events and sessions (OpenXR 1.0 chapters 2, 4, 6 and 9), and on marks.
 //! Each reader tells what an op's object says, or the first place of it that is wrong.
+//! None is inlined, so that each writes its op straight to its caller.
 #![tactic(auto)]
 
 ghost use Rattle.std.specs.Prelude.{IfErr, IfOk, List};
 ghost use Rattle.serde_json.specs.View.{view};
+ghost use Rattle.xr_types.specs.declared.names.CallName.TheVariants as call;
 ghost use Rattle.xr_scenario_fields.specs.Reads.{IsWrong, ReadsOp};
 ghost use Rattle.xr_model.specs.scenario.InRange.{IsFormed};
 ghost use Rattle.xr_model.specs.scenario.ScriptForm.{IsKnownPlace};
 ghost use Rattle.xr_model.specs.scenario.Names.{NamedOp};
-ghost use Rattle.xr_model.specs.scenario.Ops.Session.{create_instance, destroy_instance, poll_event, get_system, string_to_path, path_to_string, create_session, destroy_session, end_session, request_exit_session, begin_session, mark, await};
+ghost use Rattle.xr_model.specs.scenario.OpReading.{op_in};
 
 use serde_json::Value;
 use std::alloc::Global;
@@ -19,8 +21,9 @@ use xr_scenario_fields::{
 use xr_types::{FieldName, MOST_CAPACITY, Op};
 
 /// Reads `create_instance`: `major`, `minor`, `as`?.
+#[inline(never)]
 pub fn create_instance<'v>(value: &'v Value) -> Result<ReadOp<'v>, Fault>
-    ensures reads { ReadsOp result (create_instance (view value.now)) }
+    ensures reads { (names : List NamedOp) → ReadsOp result (op_in names (view value.now) call.CreateInstance) }
     ensures formed { IfOk result (λ l. (names : List NamedOp) → IsFormed (IsKnownPlace names) l.op) }
     ensures only_wrong { IfErr result IsWrong }
 {
@@ -32,8 +35,9 @@ pub fn create_instance<'v>(value: &'v Value) -> Result<ReadOp<'v>, Fault>
 }
 
 /// Reads `destroy_instance`: `instance`.
+#[inline(never)]
 pub fn destroy_instance<'v>(named_ops: &NamedOps<'_>, value: &'v Value) -> Result<ReadOp<'v>, Fault>
-    ensures reads { ReadsOp result (destroy_instance named_ops.now (view value.now)) }
+    ensures reads { ReadsOp result (op_in named_ops.now (view value.now) call.DestroyInstance) }
     ensures formed { IfOk result (λ l. IsFormed (IsKnownPlace named_ops.now) l.op) }
     ensures only_wrong { IfErr result IsWrong }
 {
@@ -43,8 +47,9 @@ pub fn destroy_instance<'v>(named_ops: &NamedOps<'_>, value: &'v Value) -> Resul
 }
 
 /// Reads `poll_event`: `instance`.
+#[inline(never)]
 pub fn poll_event<'v>(named_ops: &NamedOps<'_>, value: &'v Value) -> Result<ReadOp<'v>, Fault>
-    ensures reads { ReadsOp result (poll_event named_ops.now (view value.now)) }
+    ensures reads { ReadsOp result (op_in named_ops.now (view value.now) call.PollEvent) }
     ensures formed { IfOk result (λ l. IsFormed (IsKnownPlace named_ops.now) l.op) }
     ensures only_wrong { IfErr result IsWrong }
 {
@@ -54,8 +59,9 @@ pub fn poll_event<'v>(named_ops: &NamedOps<'_>, value: &'v Value) -> Result<Read
 }
 
 /// Reads `get_system`: `instance`, `form`, `as`?.
+#[inline(never)]
 pub fn get_system<'v>(named_ops: &NamedOps<'_>, value: &'v Value) -> Result<ReadOp<'v>, Fault>
-    ensures reads { ReadsOp result (get_system named_ops.now (view value.now)) }
+    ensures reads { ReadsOp result (op_in named_ops.now (view value.now) call.GetSystem) }
     ensures formed { IfOk result (λ l. IsFormed (IsKnownPlace named_ops.now) l.op) }
     ensures only_wrong { IfErr result IsWrong }
 {
@@ -67,12 +73,13 @@ pub fn get_system<'v>(named_ops: &NamedOps<'_>, value: &'v Value) -> Result<Read
 }
 
 /// Reads `string_to_path`: `instance`, `text`, `as`?.
+#[inline(never)]
 pub fn string_to_path<'v>(
     alloc: Global,
     named_ops: &NamedOps<'_>,
     value: &'v Value,
 ) -> Result<ReadOp<'v>, Fault>
-    ensures reads { ReadsOp result (string_to_path named_ops.now (view value.now)) }
+    ensures reads { ReadsOp result (op_in named_ops.now (view value.now) call.StringToPath) }
     ensures formed { IfOk result (λ l. IsFormed (IsKnownPlace named_ops.now) l.op) }
 {
     let instance = handle(named_ops, value, FieldName::Instance)?;
@@ -83,8 +90,9 @@ pub fn string_to_path<'v>(
 }
 
 /// Reads `path_to_string`: `instance`, `path`, `capacity`.
+#[inline(never)]
 pub fn path_to_string<'v>(named_ops: &NamedOps<'_>, value: &'v Value) -> Result<ReadOp<'v>, Fault>
-    ensures reads { ReadsOp result (path_to_string named_ops.now (view value.now)) }
+    ensures reads { ReadsOp result (op_in named_ops.now (view value.now) call.PathToString) }
     ensures formed { IfOk result (λ l. IsFormed (IsKnownPlace named_ops.now) l.op) }
     ensures only_wrong { IfErr result IsWrong }
 {
@@ -100,8 +108,9 @@ pub fn path_to_string<'v>(named_ops: &NamedOps<'_>, value: &'v Value) -> Result<
 }
 
 /// Reads `create_session`: `instance`, `system`, `as`?.
+#[inline(never)]
 pub fn create_session<'v>(named_ops: &NamedOps<'_>, value: &'v Value) -> Result<ReadOp<'v>, Fault>
-    ensures reads { ReadsOp result (create_session named_ops.now (view value.now)) }
+    ensures reads { ReadsOp result (op_in named_ops.now (view value.now) call.CreateSession) }
     ensures formed { IfOk result (λ l. IsFormed (IsKnownPlace named_ops.now) l.op) }
     ensures only_wrong { IfErr result IsWrong }
 {
@@ -113,8 +122,9 @@ pub fn create_session<'v>(named_ops: &NamedOps<'_>, value: &'v Value) -> Result<
 }
 
 /// Reads `destroy_session`: `session`.
+#[inline(never)]
 pub fn destroy_session<'v>(named_ops: &NamedOps<'_>, value: &'v Value) -> Result<ReadOp<'v>, Fault>
-    ensures reads { ReadsOp result (destroy_session named_ops.now (view value.now)) }
+    ensures reads { ReadsOp result (op_in named_ops.now (view value.now) call.DestroySession) }
     ensures formed { IfOk result (λ l. IsFormed (IsKnownPlace named_ops.now) l.op) }
     ensures only_wrong { IfErr result IsWrong }
 {
@@ -124,8 +134,9 @@ pub fn destroy_session<'v>(named_ops: &NamedOps<'_>, value: &'v Value) -> Result
 }
 
 /// Reads `end_session`: `session`.
+#[inline(never)]
 pub fn end_session<'v>(named_ops: &NamedOps<'_>, value: &'v Value) -> Result<ReadOp<'v>, Fault>
-    ensures reads { ReadsOp result (end_session named_ops.now (view value.now)) }
+    ensures reads { ReadsOp result (op_in named_ops.now (view value.now) call.EndSession) }
     ensures formed { IfOk result (λ l. IsFormed (IsKnownPlace named_ops.now) l.op) }
     ensures only_wrong { IfErr result IsWrong }
 {
@@ -135,11 +146,12 @@ pub fn end_session<'v>(named_ops: &NamedOps<'_>, value: &'v Value) -> Result<Rea
 }
 
 /// Reads `request_exit_session`: `session`.
+#[inline(never)]
 pub fn request_exit_session<'v>(
     named_ops: &NamedOps<'_>,
     value: &'v Value,
 ) -> Result<ReadOp<'v>, Fault>
-    ensures reads { ReadsOp result (request_exit_session named_ops.now (view value.now)) }
+    ensures reads { ReadsOp result (op_in named_ops.now (view value.now) call.RequestExitSession) }
     ensures formed { IfOk result (λ l. IsFormed (IsKnownPlace named_ops.now) l.op) }
     ensures only_wrong { IfErr result IsWrong }
 {
@@ -149,8 +161,9 @@ pub fn request_exit_session<'v>(
 }
 
 /// Reads `begin_session`: `session`, `view`.
+#[inline(never)]
 pub fn begin_session<'v>(named_ops: &NamedOps<'_>, value: &'v Value) -> Result<ReadOp<'v>, Fault>
-    ensures reads { ReadsOp result (begin_session named_ops.now (view value.now)) }
+    ensures reads { ReadsOp result (op_in named_ops.now (view value.now) call.BeginSession) }
     ensures formed { IfOk result (λ l. IsFormed (IsKnownPlace named_ops.now) l.op) }
     ensures only_wrong { IfErr result IsWrong }
 {
@@ -161,8 +174,9 @@ pub fn begin_session<'v>(named_ops: &NamedOps<'_>, value: &'v Value) -> Result<R
 }
 
 /// Reads `mark`: `mark`, `value`?.
+#[inline(never)]
 pub fn mark<'v>(named_ops: &NamedOps<'_>, value: &'v Value) -> Result<ReadOp<'v>, Fault>
-    ensures reads { ReadsOp result (mark named_ops.now (view value.now)) }
+    ensures reads { ReadsOp result (op_in named_ops.now (view value.now) call.Mark) }
     ensures formed { IfOk result (λ l. IsFormed (IsKnownPlace named_ops.now) l.op) }
     ensures only_wrong { IfErr result IsWrong }
 {
@@ -176,8 +190,9 @@ pub fn mark<'v>(named_ops: &NamedOps<'_>, value: &'v Value) -> Result<ReadOp<'v>
 }
 
 /// Reads `await`: `mark`, `as`?.
+#[inline(never)]
 pub fn await_mark<'v>(value: &'v Value) -> Result<ReadOp<'v>, Fault>
-    ensures reads { ReadsOp result (await (view value.now)) }
+    ensures reads { (names : List NamedOp) → ReadsOp result (op_in names (view value.now) call.Await) }
     ensures formed { IfOk result (λ l. (names : List NamedOp) → IsFormed (IsKnownPlace names) l.op) }
     ensures only_wrong { IfErr result IsWrong }
 {

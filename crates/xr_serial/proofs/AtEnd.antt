@@ -20,7 +20,7 @@ use Rattle.xr_model.specs.machine.History.{shown_if, calls_from, calls_of}
 use Rattle.xr_model.specs.runs.Scripts.{FollowsSoFar}
 use Rattle.xr_model.specs.runs.Robin.{Agenda, script, events, compositor, actor_of, next_call, NextMove, next_move, IsCallOf, agendas_behind, is_ended, device_calls, first_agendas, IsRobinFrom, agendas_left, in_round}
 use Rattle.xr_types.specs.declared.calls.Gives.TheVariants.{Ended}
-use Rattle.xr_types.specs.Frames.{ShownFrame}
+use Rattle.xr_types.specs.declared.frames.Shown.{Shown}
 use Rattle.xr_model.specs.laws.FrameLaws.{shown_from}
 use Rattle.xr_model.specs.machine.Machine.{step}
 use Rattle.xr_serial.specs.inside.Made.{exchange_of}
@@ -88,7 +88,7 @@ robin_shows : (s : State) (agendas : List Agenda) (es : List Entry) → IsRobinF
 robin_shows s agendas [] robin = refl
 robin_shows s agendas (e ∷ es) robin = by (next_move s [] agendas) robin.0 (robin_shows (step s e).0 (agendas_behind (next_move s [] agendas) (step s e).0 (step s e).1) es robin.1)
   where
-    rest : List ShownFrame
+    rest : List Shown
     rest = shown_from (step s e).0 es
 
     -- a call of another is hidden
@@ -96,7 +96,7 @@ robin_shows s agendas (e ∷ es) robin = by (next_move s [] agendas) robin.0 (ro
     hidden other still more = rw (other, shows_none s e still) more
 
     own : is_actor Compositor e.actor ≡ true → frames_in (calls_from (step s e).0 Compositor es) ≡ rest → frames_in (calls_from s Compositor (e ∷ es)) ≡ shown_from s (e ∷ es)
-    own mine more = rw mine (ap (λ (l : List ShownFrame). shown_if (step s e).1.shown ++ l) more)
+    own mine more = rw mine (ap (λ (l : List Shown). shown_if (step s e).1.shown ++ l) more)
 
     by : (m : Option NextMove) → IsCallOf m e → frames_in (calls_from (step s e).0 Compositor es) ≡ rest → frames_in (calls_from s Compositor (e ∷ es)) ≡ shown_from s (e ∷ es)
     by None is more = absurd is

@@ -8,7 +8,8 @@ use Rattle.xr_types.specs.declared.calls.Gives.TheVariants.{Ended, Nothing, Show
 use Rattle.xr_types.specs.declared.code.Code.TheVariants.{Success}
 use Rattle.xr_types.specs.declared.calls.Reply.{Reply}
 use Rattle.xr_types.specs.declared.scenario.Scenario.{Scenario}
-use Rattle.xr_types.specs.Frames.{PendingFrame, ShownFrame}
+use Rattle.xr_types.specs.Frames.{PendingFrame}
+use Rattle.xr_types.specs.declared.frames.Shown as frames
 use Rattle.xr_model.specs.machine.Request as request
 use Rattle.xr_model.specs.machine.Request.{Outcome, next_frame, image_done}
 use Rattle.xr_model.specs.machine.CoreCalls.{entry_of}
@@ -42,7 +43,7 @@ whole k stamps held = record { core = k; cells = record { stamps = stamps; held 
 
 -- It was shown the oldest frame, of which it holds the images from now on, or was told the end where none is pending.
 pub data Told (s after : State) (o : Outcome) : Type 0 where
-  shows : (frame : ShownFrame) → o.shown ≡ Some frame → o.reply.gives ≡ Shown → shown_work after + 1 ≡ shown_work s → Told s after o
+  shows : (frame : frames.Shown) → o.shown ≡ Some frame → o.reply.gives ≡ Shown → shown_work after + 1 ≡ shown_work s → Told s after o
   ends : o.shown ≡ None → o.reply.gives ≡ Ended → shown_work after ≡ shown_work s → Told s after o
 
 -- where no image is held its call isn't refused
@@ -112,7 +113,7 @@ none_held (i ∷ held) none = absurd (true≢false none)
 
 pub frames_snoc : (calls : List request.Exchange) (t : request.Exchange) → frames_in (calls ++ t ∷ []) ≡ frames_in calls ++ shown_if t.outcome.shown
 frames_snoc [] t = append-nil (shown_if t.outcome.shown)
-frames_snoc (u ∷ calls) t = ap (λ (l : List ShownFrame). shown_if u.outcome.shown ++ l) (frames_snoc calls t) ∙ sym (append_assoc (shown_if u.outcome.shown) (frames_in calls) (shown_if t.outcome.shown))
+frames_snoc (u ∷ calls) t = ap (λ (l : List frames.Shown). shown_if u.outcome.shown ++ l) (frames_snoc calls t) ∙ sym (append_assoc (shown_if u.outcome.shown) (frames_in calls) (shown_if t.outcome.shown))
 
 replies_snoc : (calls : List request.Exchange) (t : request.Exchange) → replies_in (calls ++ t ∷ []) ≡ replies_in calls ++ reply_if_shown t.outcome.shown t.outcome.reply
 replies_snoc [] t = append-nil (reply_if_shown t.outcome.shown t.outcome.reply)
@@ -140,17 +141,17 @@ module _ (c : CompositorState) (calls : List request.Exchange) (o : Outcome) (un
 
   -- no frame is shown by it
   frames_same : (t : request.Exchange) → t.outcome.shown ≡ None → c.frames ≡ frames_in (calls ++ t ∷ [])
-  frames_same t shown = sym (frames_snoc calls t ∙ ap (λ (x : Option ShownFrame). frames_in calls ++ shown_if x) shown ∙ append-nil (frames_in calls) ∙ sym kept.frames_are)
+  frames_same t shown = sym (frames_snoc calls t ∙ ap (λ (x : Option frames.Shown). frames_in calls ++ shown_if x) shown ∙ append-nil (frames_in calls) ∙ sym kept.frames_are)
 
   replies_same : (t : request.Exchange) → t.outcome.shown ≡ None → c.replies ≡ replies_in (calls ++ t ∷ [])
-  replies_same t shown = sym (replies_snoc calls t ∙ ap (λ (x : Option ShownFrame). replies_in calls ++ reply_if_shown x t.outcome.reply) shown ∙ append-nil (replies_in calls) ∙ sym kept.replies_are)
+  replies_same t shown = sym (replies_snoc calls t ∙ ap (λ (x : Option frames.Shown). replies_in calls ++ reply_if_shown x t.outcome.reply) shown ∙ append-nil (replies_in calls) ∙ sym kept.replies_are)
 
-  with_frame : (frame : ShownFrame) → o.shown ≡ Some frame → o.reply.gives ≡ Shown → CompositorKept (compositor_with c o.reply (Some frame)) (calls ++ exchange_of next_frame o ∷ [])
+  with_frame : (frame : frames.Shown) → o.shown ≡ Some frame → o.reply.gives ≡ Shown → CompositorKept (compositor_with c o.reply (Some frame)) (calls ++ exchange_of next_frame o ∷ [])
   with_frame frame shown gives =
       let t : request.Exchange = exchange_of next_frame o in
       record {
-        frames_are = sym (frames_snoc calls t ∙ ap (λ (x : Option ShownFrame). frames_in calls ++ shown_if x) shown ∙ ap (λ (l : List ShownFrame). l ++ frame ∷ []) (sym kept.frames_are));
-        replies_are = sym (replies_snoc calls t ∙ ap (λ (x : Option ShownFrame). replies_in calls ++ reply_if_shown x o.reply) shown ∙ ap (λ (l : List Reply). l ++ o.reply ∷ []) (sym kept.replies_are));
+        frames_are = sym (frames_snoc calls t ∙ ap (λ (x : Option frames.Shown). frames_in calls ++ shown_if x) shown ∙ ap (λ (l : List frames.Shown). l ++ frame ∷ []) (sym kept.frames_are));
+        replies_are = sym (replies_snoc calls t ∙ ap (λ (x : Option frames.Shown). replies_in calls ++ reply_if_shown x o.reply) shown ∙ ap (λ (l : List Reply). l ++ o.reply ∷ []) (sym kept.replies_are));
         end = end_more t (a_frame refl gives);
       }
 
@@ -162,8 +163,8 @@ module _ (c : CompositorState) (calls : List request.Exchange) (o : Outcome) (un
   }
 
   kept_more : (s after : State) → Told s after o → CompositorKept (compositor_with c o.reply o.shown) (calls ++ exchange_of next_frame o ∷ [])
-  kept_more s after (shows frame shown gives fewer) = subst (λ (x : Option ShownFrame). CompositorKept (compositor_with c o.reply x) (calls ++ exchange_of next_frame o ∷ [])) (sym shown) (with_frame frame shown gives)
-  kept_more s after (ends shown gives same) = subst (λ (x : Option ShownFrame). CompositorKept (compositor_with c o.reply x) (calls ++ exchange_of next_frame o ∷ [])) (sym shown) (with_end shown gives)
+  kept_more s after (shows frame shown gives fewer) = subst (λ (x : Option frames.Shown). CompositorKept (compositor_with c o.reply x) (calls ++ exchange_of next_frame o ∷ [])) (sym shown) (with_frame frame shown gives)
+  kept_more s after (ends shown gives same) = subst (λ (x : Option frames.Shown). CompositorKept (compositor_with c o.reply x) (calls ++ exchange_of next_frame o ∷ [])) (sym shown) (with_end shown gives)
 
   with_image : (done : List ℕ) → o.shown ≡ None → o.reply.code ≡ Success → o.reply.gives ≡ Nothing → CompositorKept (record c { done = done }) (calls ++ exchange_of image_done o ∷ [])
   with_image done shown good gives = record {
@@ -173,7 +174,7 @@ module _ (c : CompositorState) (calls : List request.Exchange) (o : Outcome) (un
   }
 
 -- a frame, or the end, is no image given back
-same_done : (c : CompositorState) (reply : Reply) (shown : Option ShownFrame) → (compositor_with c reply shown).done ≡ c.done
+same_done : (c : CompositorState) (reply : Reply) (shown : Option frames.Shown) → (compositor_with c reply shown).done ≡ c.done
 same_done c reply None = refl
 same_done c reply (Some frame) = refl
 

@@ -35,10 +35,11 @@ use Rattle.xr_model.specs.machine.State.{CoreState, State}
 use Rattle.xr_model.specs.machine.SessionRule.{Loss}
 use Rattle.xr_model.specs.machine.Rule.{Rule, Effect, refusals, or_short, refusal, told_on, unless_refused, carried_out}
 use Rattle.xr_model.specs.machine.CoreCalls.{Lent, AnswersBy, written_over, shown_over}
-use Rattle.xr_types.specs.Frames.{PendingFrame, ShownFrame}
+use Rattle.xr_types.specs.Frames.{PendingFrame}
+use Rattle.xr_types.specs.declared.frames.Shown.{Shown}
 use Rattle.xr_model.specs.machine.Rules.Frames.{look_of, told_frame, oldest_shown, next_frame_rule}
 use Rattle.xr_model.specs.machine.Machine.{reads_of, step, rule, ready, IsAllowed}
-use Rattle.xr_serial.specs.inside.Lent.{lent_size, written_size}
+use Rattle.xr_scenario_calls.specs.Lent.{lent_size, written_size}
 use Rattle.xr_serial.specs.inside.Made.{IsAnswered, frame_told, frame_shown}
 
 -- a refusal that holds gives nothing that fits the buffer
@@ -197,9 +198,13 @@ pub ready_any : (s : State) (who : Actor) (what : Request) (g h : ℕ) (a b : Bo
 ready_any s who (create_instance major minor) g h a b = refl
 ready_any s who _ g h a b = refl
 
+-- the front of bytes with others behind them
+pub front_of : (bytes rest : List ℕ) (n : ℕ) → length bytes ≡ n → take n (bytes ++ rest) ≡ bytes
+front_of bytes rest n e = subst (λ (m : ℕ). take m (bytes ++ rest) ≡ bytes) e (grind (arith, common_steps))
+
 -- the front of a buffer that was written over
 pub front_of-written : (bytes buffer : List ℕ) (n : ℕ) → length bytes ≡ n → take n (written_over bytes buffer) ≡ bytes
-front_of-written bytes buffer n e = subst (λ (m : ℕ). take m (bytes ++ drop (length bytes) buffer) ≡ bytes) e (grind (arith, common_steps))
+front_of-written bytes buffer n e = front_of bytes (drop (length bytes) buffer) n e
 
 -- ---- the frame that a call shows
 
@@ -227,18 +232,18 @@ shows_none s e hidden = refused_shows s.core (refusal e.short (rule_for e.reques
     by _ hidden = refl
 
 -- which shows the oldest that is pending
-oldest : (frame : ShownFrame) (stamps : List ℕ) (fs : List PendingFrame) → frame_told (told_frame fs) (shown_over (oldest_shown fs stamps) frame) ≡ oldest_shown fs stamps
+oldest : (frame : Shown) (stamps : List ℕ) (fs : List PendingFrame) → frame_told (told_frame fs) (shown_over (oldest_shown fs stamps) frame) ≡ oldest_shown fs stamps
 oldest frame stamps [] = refl
 oldest frame stamps (f ∷ fs) = refl
 
 -- or is refused, and shows none
-next_left : (s : CoreState) (short : Bool) (frame : ShownFrame) (unused : Bool) (stamps : List ℕ) (held : List Image)
+next_left : (s : CoreState) (short : Bool) (frame : Shown) (unused : Bool) (stamps : List ℕ) (held : List Image)
     → let x = carried_out s short (next_frame_rule s (record { unused = unused; stamps = stamps; held = held })) in frame_told x.gives (shown_over x.shown frame) ≡ x.shown
 next_left s short frame unused stamps [] = oldest frame stamps s.frames.pending
 next_left s short frame unused stamps (i ∷ held) = refl
 
 -- what is left in the place of a frame is what was shown
-pub frame_left : (s : State) (e : Entry) (frame : ShownFrame) → frame_shown e.request (step s e).1.reply.gives (shown_over (step s e).1.shown frame) ≡ (step s e).1.shown
+pub frame_left : (s : State) (e : Entry) (frame : Shown) → frame_shown e.request (step s e).1.reply.gives (shown_over (step s e).1.shown frame) ≡ (step s e).1.shown
 frame_left s e frame = by e.request
   where
     entry : Request → Entry
@@ -251,7 +256,7 @@ frame_left s e frame = by e.request
 
 -- ---- what the core answered
 
-same_outcome : (o : Outcome) (answer : Reply) (bytes : List ℕ) (shown : Option ShownFrame) → answer ≡ o.reply → bytes ≡ o.text → shown ≡ o.shown → o ≡ record { reply = answer; text = bytes; shown = shown }
+same_outcome : (o : Outcome) (answer : Reply) (bytes : List ℕ) (shown : Option Shown) → answer ≡ o.reply → bytes ≡ o.text → shown ≡ o.shown → o ≡ record { reply = answer; text = bytes; shown = shown }
 same_outcome o answer bytes shown e f g = rw (e, f, g) refl
 
 -- It is a call that was made, with the bytes at the front of its buffer and the frame in its place.

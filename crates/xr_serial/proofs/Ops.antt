@@ -9,23 +9,24 @@ use Rattle.xr_types.specs.Device.{is_mark}
 use Rattle.xr_types.specs.Op.{call_name}
 use Rattle.xr_model.specs.scenario.InRange.{IsMark}
 use Rattle.xr_model.specs.scenario.ScriptForm.{IsInRange}
-use Rattle.xr_model.specs.runs.Lists.{name_of_request, mark_of, start_of, done_at}
+use Rattle.xr_model.specs.runs.Lists.{name_of_request, mark_of, start_of, made_at, done_at}
 use Rattle.xr_types.specs.declared.code.Code.TheVariants.{CallOrderInvalid}
 use Rattle.xr_model.specs.machine.Machine.{ready}
 use Rattle.xr_model.specs.machine.CoreCalls.{MayAsk}
 use Rattle.xr_model.specs.machine.Rules.Frames.{is_frame_awaited}
 use Rattle.xr_model.specs.runs.Scripts.{request_for, unstarted}
-use Rattle.xr_model.specs.machine.Request.{Request, wait_image, next_frame, is_locked}
+use Rattle.xr_model.specs.machine.Request.{Request, wait_image, next_frame, is_locked, Outcome}
 use Rattle.xr_model.specs.runs.Robin.{with_start}
 use Rattle.xr_model.specs.machine.State.{State}
 use Rattle.xr_model.specs.machine.History.{StartsAt}
 use Rattle.xr_model.specs.machine.Frames.{is_empty}
 use Rattle.xr_serial.proofs.Lending.{IsHidden}
-use Rattle.xr_serial.specs.inside.Made.{asked}
+use Rattle.xr_serial.specs.inside.Made.{asked, exchange_of, made_with}
 use Rattle.xr_types.specs.declared.calls.Actor.TheVariants.{App, Compositor}
-use Rattle.xr_serial.specs.inside.Lent.{lent_size}
+use Rattle.xr_scenario_calls.specs.Lent.{lent_size}
 use Rattle.xr_serial.specs.inside.RunInvariant.{is_getter_name}
-use Rattle.xr_serial.specs.inside.Sides.{op_mark, op_start}
+use Rattle.xr_scenario_calls.specs.Listed.{op_mark, op_start}
+use Rattle.xr_serial.specs.inside.Sides.{listed_op}
 
 pub here_at : (ops : List Op) (i : ℕ) (o : Op) → i < length ops → o ≡ get_or ops i o → drop i ops ≡ o ∷ drop (i + 1) ops
 here_at ops i o h here = rw (add-one, drop-cons ops i o h, ← here) refl
@@ -66,6 +67,10 @@ mark_is clock values _ = refl
 pub start_is : (clock : ℤ) (values : List ℕ) (o : Op) → start_of (with_start clock (request_for values o)) ≡ op_start clock o
 start_is clock values (op.WaitImage chain timeout) = refl
 start_is clock values _ = refl
+
+-- so it stands in its list as what the list says of its op
+pub made_op_at : (clock : ℤ) (values : List ℕ) (o : Op) (place : ℕ) (outcome : Outcome) → made_at place (exchange_of (with_start clock (request_for values o)) outcome) ≡ made_with (listed_op place clock o) outcome
+made_op_at clock values o place outcome = rw (name_is clock values o, mark_is clock values o, start_is clock values o) refl
 
 pub same_request : (clock : ℤ) (values : List ℕ) (o : Op) → unstarted (with_start clock (request_for values o)) ≡ request_for values o
 same_request clock values (op.CreateInstance major minor) = refl

@@ -1,5 +1,4 @@
 -- What only proofs and private functions need.
-pub mod Lent
 pub mod Made
 pub mod RunState
 pub mod Turns

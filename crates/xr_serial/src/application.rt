@@ -6,10 +6,10 @@ ghost use Rattle.xr_model.specs.machine.Machine.{IsPresent};
 ghost use Rattle.xr_model.specs.machine.Request.{is_locked};
 ghost use Rattle.xr_model.specs.runs.Robin.{clock_behind};
 ghost use Rattle.xr_model.specs.runs.Scripts.{request_for};
-ghost use Rattle.xr_serial.specs.inside.Sides.{op_mark, op_start, new_app, OpTurn, Leaves};
+ghost use Rattle.xr_serial.specs.inside.Sides.{new_app, OpTurn, Leaves};
 
-use crate::calls::add;
-use crate::machine::Machine;
+use crate::calls::Listed;
+use crate::machine::{Machine, OpPlace};
 use std::alloc::Global;
 use std::marker::Model;
 use xr_scenario_calls::Names;
@@ -35,26 +35,6 @@ impl Model for Application {
     ghost view = { λ app. record { made = app.made; names = app.names; calls = app.calls.items; clock = app.clock; has_left = app.has_left } };
 
     ghost invariant = { λ app. (app.made < 2 ^ 22) × (pos 0 ≤ℤ app.clock) };
-}
-
-/// The mark that an op awaits, else 0.
-fn op_mark(op: &Op) -> u8
-    ensures { result ≡ op_mark op.now }
-{
-    match op {
-        Op::Await { mark } => *mark,
-        _ => 0,
-    }
-}
-
-/// When a wait begins, else 0.
-fn op_start(clock: i64, op: &Op) -> i64
-    ensures { result ≡ op_start clock op.now }
-{
-    match op {
-        Op::WaitImage { .. } => clock,
-        _ => 0,
-    }
 }
 
 /// Whether the call of an op is a locked one. Getters are not.
@@ -119,20 +99,17 @@ impl Application {
         ensures { IfOk result (λ went. OpTurn number ops.now self.old self.new machine.old machine.new went) }
     {
         let op = &ops[self.made];
-        let Some(answered) = machine.make_op(alloc, number, op, &self.names, self.clock)? else {
-            return Ok(false);
-        };
         let place = self.made as u32 + 1;
-        self.names.learn(place, op, &answered.reply);
-        let start = op_start(self.clock, op);
-        add(
-            &mut self.calls,
-            place,
-            op.name(),
-            op_mark(op),
-            start,
-            answered,
-        )?;
+        let at = OpPlace {
+            app: number,
+            op: place,
+            clock: self.clock,
+        };
+        let count = self.calls.len();
+        if !machine.make_op(alloc, at, op, &self.names, &mut self.calls)? {
+            return Ok(false);
+        }
+        self.names.learn(place, op, &self.calls[count].reply);
         self.clock = clock_behind(&self.clock, op, machine);
         self.made += 1;
         Ok(true)
@@ -149,12 +126,19 @@ impl Application {
         requires present { IsPresent machine.old.core (App number) }
         ensures { OnOk result (Leaves number self.old self.new machine.old machine.new) }
     {
-        let answered = match machine.make(alloc, Actor::App(number), &Call::Leave)? {
-            Some(answered) => answered,
-            None => unreachable!(),
+        let listed = Listed {
+            op: self.made as u32 + 1,
+            name: CallName::Leave,
+            mark: 0,
+            start: 0,
         };
-        let place = self.made as u32 + 1;
-        add(&mut self.calls, place, CallName::Leave, 0, 0, answered)?;
+        let who = Actor::App(number);
+        if !machine
+            .lender
+            .make(alloc, who, &Call::Leave, listed, &mut self.calls)?
+        {
+            unreachable!()
+        }
         self.clock = machine.clock();
         self.has_left = true;
         Ok(())

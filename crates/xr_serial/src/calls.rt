@@ -1,80 +1,150 @@
-// A call of an actor, and what it came to.
-ghost use Rattle.std.specs.Prelude.{◌≡◌, ◌≤◌, ◌<◌, ◌^◌, ◌++◌, ◌∷◌, [], true, IfOk, OnOk, length};
-ghost use Rattle.xr_model.specs.machine.Request.{request_of};
+// Calls on the core, with what they are lent. A call that is made is kept at once in the list of its actor, where it stays.
+ghost use Rattle.std.specs.Prelude.{◌≡◌, ◌≤◌, ◌<◌, ◌^◌, IfOk, length, take};
+ghost use Rattle.xr_types.specs.declared.limits.TheConstants.{MOST_CAPACITY};
+ghost use Rattle.xr_types.specs.declared.calls.Actor.TheVariants.{Compositor};
+ghost use Rattle.xr_types.specs.declared.frames.Shown.{Shown};
+ghost use Rattle.xr_model.specs.machine.Request.{request_of, next_frame, image_done};
 ghost use Rattle.xr_model.specs.machine.Machine.{IsPresent};
-ghost use Rattle.xr_model.specs.machine.CoreCalls.{MayAsk};
-ghost use Rattle.xr_serial.specs.inside.Made.{AnsweredOrWaits};
-ghost use Rattle.xr_serial.specs.inside.Lent.{lent_size, written_size};
+ghost use Rattle.xr_model.specs.machine.CoreCalls.{MayAsk, Applies};
+ghost use Rattle.xr_serial.specs.inside.Made.{CallTurn, ComposedOrWaits};
+ghost use Rattle.xr_scenario_calls.specs.Lent.{lent_size};
 
 use std::alloc::Global;
+use std::marker::Model;
 use xr_core::PlainCore;
-use xr_types::{Actor, Bytes, Call, CallName, Gives, Made, NoMemory, Reply, Shown, Step};
+use xr_scenario_calls::{lent_size, written_size};
+use xr_types::{Actor, Bytes, Call, CallName, MOST_CAPACITY, Made, NoMemory, Reply, Shown, Step};
 
-/// A reply, and the bytes put into the lent buffer.
+/// How many bytes a call of a script is lent at most: the largest `capacity` of the format.
+const MOST_LENT: usize = MOST_CAPACITY as usize;
+
+/// What the list of an actor says of a call beside what it came to: the place of its op from 1, its name, the mark that it awaits
+/// (else 0), and when its wait began, in ns of device time (else 0).
+#[derive(Clone, Copy)]
+pub(crate) struct Listed {
+    pub(crate) op: u32,
+    pub(crate) name: CallName,
+    pub(crate) mark: u8,
+    pub(crate) start: i64,
+}
+
+/// The core, with the buffer and the place of a frame that its calls are lent, so that a call that waits costs little. Contracts
+/// see it as the machine's state.
 #[derive(Drop)]
-pub(crate) struct Answered {
-    pub(crate) reply: Reply,
-    pub(crate) text: Bytes,
+pub(crate) struct Lender {
+    pub(crate) core: PlainCore,
+    buffer: [u8; MOST_LENT],
+    shown: Shown,
 }
 
-/// How many bytes of a lent buffer were written.
-fn written_size(gives: Gives, size: u64) -> u64
-    ensures written { result ≡ written_size gives size }
-    ensures within { result ≤ size }
-{
-    match gives {
-        Gives::Size(written) => { if written <= size { written } else { 0 } }
-        _ => 0,
-    }
+impl Model for Lender {
+    ghost use Rattle.xr_model.specs.machine.State.{State};
+
+    ghost Value = { State };
+
+    ghost view = { λ l. l.core };
 }
 
-/// Makes a call, which is lent a buffer of the size that it asks for and the place of a frame, or says by nothing that it has
-/// to wait.
-pub(crate) fn make(
-    alloc: Global,
+/// Makes a call, which is lent the front of a buffer, or says that it has to wait.
+fn ask(
     core: &mut PlainCore,
     who: Actor,
     call: &Call<'_>,
     buffer: &mut [u8],
     shown: &mut Shown,
-) -> Result<Option<Answered>, NoMemory>
+) -> Step
     requires calls { core.old.core.locked < 2 ^ 44 }
     requires asks { MayAsk who (request_of call.now) (lent_size (request_of call.now)) }
     requires present { IsPresent core.old.core who }
-    requires size { length buffer.old ≡ lent_size (request_of call.now) }
-    ensures { IfOk result (λ answered. AnsweredOrWaits core.old core.new who (request_of call.now) shown.new answered) }
+    requires few { lent_size (request_of call.now) ≤ length buffer.old }
+    ensures applies { Applies core.old core.new who call.now (record { text = take (lent_size (request_of call.now)) buffer.old; frame = shown.old }) (record { text = take (lent_size (request_of call.now)) buffer.new; frame = shown.new }) result }
+    ensures size { length buffer.new ≡ length buffer.old }
 {
-    let Step::Done(reply) = core.apply(who, call, buffer, shown) else {
-        return Ok(None);
-    };
-    let written = written_size(reply.gives, buffer.len() as u64) as usize;
-    match Bytes::from_slice(alloc, &buffer[..written]) {
-        Ok(text) => Ok(Some(Answered { reply, text })),
-        Err(_) => Err(NoMemory),
+    let lent = &mut buffer[..lent_size(call) as usize];
+    core.apply(who, call, lent, shown)
+}
+
+/// Makes a call of the compositor, which is lent no buffer, or says by nothing that it has to wait. The frame that it shows is left in
+/// `frame`.
+fn compose(core: &mut PlainCore, call: &Call<'_>, frame: &mut Shown) -> Option<Reply>
+    requires calls { core.old.core.locked < 2 ^ 44 }
+    requires asks { MayAsk Compositor (request_of call.now) 0 }
+    requires unlent { lent_size (request_of call.now) ≡ 0 }
+    ensures { ComposedOrWaits core.old core.new (request_of call.now) frame.new result }
+{
+    match core.apply(Actor::Compositor, call, &mut [], frame) {
+        Step::Done(reply) => Some(reply),
+        Step::NotReady => None,
     }
 }
 
-/// Keeps a call that was made, at its place, with the mark that it awaits and the time at which its wait began.
-pub(crate) fn add(
-    list: &mut Vec<Made>,
-    op: u32,
-    name: CallName,
-    mark: u8,
-    start: i64,
-    answered: Answered,
-) -> Result<(), NoMemory>
-    ensures { OnOk result (list.new.items ≡ list.old.items ++ record { op = op; name = name; mark = mark; start = start; reply = answered.reply; text = answered.text } ∷ []) }
-{
-    let next = Made {
-        op,
-        name,
-        mark,
-        start,
-        reply: answered.reply,
-        text: answered.text,
-    };
-    match list.push(next) {
-        Ok(()) => Ok(()),
-        Err(_) => Err(NoMemory),
+impl Lender {
+    /// This core, and a buffer and a place of a frame in which nothing stands yet.
+    pub(crate) fn new(core: PlainCore) -> Lender
+        ensures { result ≡ core }
+    {
+        Lender {
+            core,
+            buffer: [0; MOST_LENT],
+            shown: Shown::default(),
+        }
+    }
+
+    /// Makes a call, which is lent as many bytes as it asks for, and keeps it with what it came to at the end of its actor's list,
+    /// or leaves all as it was, where it has to wait; whether it was made. Refused only by want of memory.
+    pub(crate) fn make(
+        &mut self,
+        alloc: Global,
+        who: Actor,
+        call: &Call<'_>,
+        listed: Listed,
+        list: &mut Vec<Made>,
+    ) -> Result<bool, NoMemory>
+        requires calls { self.old.core.locked < 2 ^ 44 }
+        requires asks { MayAsk who (request_of call.now) (lent_size (request_of call.now)) }
+        requires present { IsPresent self.old.core who }
+        requires few { lent_size (request_of call.now) ≤ MOST_CAPACITY }
+        ensures { IfOk result (λ went. CallTurn self.old self.new who (request_of call.now) listed list.old.items list.new.items went) }
+    {
+        let Lender {
+            core,
+            buffer,
+            shown,
+        } = self;
+        let Step::Done(reply) = ask(core, who, call, buffer, shown) else {
+            return Ok(false);
+        };
+        let written = written_size(reply.gives, lent_size(call)) as usize;
+        let Ok(text) = Bytes::from_slice(alloc, &buffer[..written]) else {
+            return Err(NoMemory);
+        };
+        let made = Made {
+            op: listed.op,
+            name: listed.name,
+            mark: listed.mark,
+            start: listed.start,
+            reply,
+            text,
+        };
+        let Ok(()) = list.push(made) else {
+            return Err(NoMemory);
+        };
+        Ok(true)
+    }
+
+    /// Makes the compositor's call for a frame, or says by nothing that it has to wait. The frame that it shows is left in `frame`.
+    pub(crate) fn next_frame(&mut self, frame: &mut Shown) -> Option<Reply>
+        requires calls { self.old.core.locked < 2 ^ 44 }
+        ensures { ComposedOrWaits self.old self.new next_frame frame.new result }
+    {
+        compose(&mut self.core, &Call::NextFrame, frame)
+    }
+
+    /// Gives back the image that the compositor has held longest, or says by nothing that this has to wait.
+    pub(crate) fn give_back(&mut self) -> Option<Reply>
+        requires calls { self.old.core.locked < 2 ^ 44 }
+        ensures { (frame : Shown) × ComposedOrWaits self.old self.new image_done frame result }
+    {
+        compose(&mut self.core, &Call::ImageDone, &mut self.shown)
     }
 }

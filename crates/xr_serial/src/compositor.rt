@@ -59,15 +59,14 @@ impl CompositorSide {
     }
 
     /// Gives back one of the images that it holds.
-    pub(crate) fn give_back(&mut self, alloc: Global, machine: &mut Machine) -> Result<(), NoMemory>
+    pub(crate) fn give_back(&mut self, machine: &mut Machine) -> Result<(), NoMemory>
         requires calls { machine.old.core.locked < 2 ^ 44 }
         requires holds { is_empty machine.old.cells.held ≡ false }
         ensures { OnOk result (ImageReturned self.old self.new machine.old machine.new) }
     {
         let before = machine.calls();
-        match machine.give_back(alloc)? {
-            Some(_) => {}
-            None => unreachable!(),
+        if machine.lender.give_back().is_none() {
+            unreachable!()
         }
         let Ok(()) = self.done.push(before) else {
             return Err(NoMemory);
@@ -76,7 +75,7 @@ impl CompositorSide {
     }
 
     /// Asks for a frame, where it holds no image, unless that has to wait: it is shown one, or told the end; whether it was.
-    pub(crate) fn take(&mut self, alloc: Global, machine: &mut Machine) -> Result<bool, NoMemory>
+    pub(crate) fn take(&mut self, machine: &mut Machine) -> Result<bool, NoMemory>
         requires calls { machine.old.core.locked < 2 ^ 44 }
         requires unheld { machine.old.cells.held ≡ [] }
         ensures { IfOk result (λ went. FrameTurn self.old self.new machine.old machine.new went) }
@@ -85,10 +84,10 @@ impl CompositorSide {
             return Ok(false);
         }
         let mut shown = Shown::default();
-        let Some(answered) = machine.next_frame(alloc, &mut shown)? else {
+        let Some(reply) = machine.lender.next_frame(&mut shown) else {
             return Ok(false);
         };
-        self.keep(answered.reply, shown)?;
+        self.keep(reply, shown)?;
         Ok(true)
     }
 }

@@ -1,37 +1,30 @@
-// The core, and what its calls are lent.
+// The core, and the calls of its actors in their turns.
 ghost use Rattle.std.specs.Prelude.{◌≡◌, ◌<◌, ◌≤◌, ◌≤ℤ◌, ◌^◌, ℕ, ℤ, pos, List, true, false, IfOk, length, not};
 ghost use Rattle.xr_types.specs.declared.limits.TheConstants.{MOST_SCRIPTS};
 ghost use Rattle.xr_types.specs.declared.calls.Actor.TheVariants.{App, Compositor};
-ghost use Rattle.xr_types.specs.Frames.{ShownFrame};
 ghost use Rattle.xr_model.specs.machine.Machine.{IsPresent, ready};
-ghost use Rattle.xr_model.specs.machine.CoreCalls.{MayAsk};
-ghost use Rattle.xr_model.specs.machine.Request.{request_of, next_frame, image_done};
+ghost use Rattle.xr_model.specs.machine.Request.{request_of, next_frame};
 ghost use Rattle.xr_model.specs.machine.State.{with_apps, opening};
 ghost use Rattle.xr_model.specs.scenario.ScriptForm.{IsInRange};
 ghost use Rattle.xr_model.specs.machine.Frames.{is_empty};
 ghost use Rattle.xr_model.specs.runs.Robin.{with_start};
 ghost use Rattle.xr_model.specs.runs.Scripts.{request_for};
-ghost use Rattle.xr_serial.specs.inside.Made.{AnsweredOrWaits, asked};
-ghost use Rattle.xr_serial.specs.inside.Lent.{lent_size};
+ghost use Rattle.xr_serial.specs.inside.Made.{CallTurn, asked};
+ghost use Rattle.xr_serial.specs.inside.Sides.{listed_op};
 
-use crate::calls::{Answered, make};
+use crate::calls::{Lender, Listed};
 use std::alloc::Global;
 use std::marker::Model;
 use xr_core::PlainCore;
-use xr_scenario_calls::{Names, Scratch, call_of};
-use xr_types::{Actor, Call, MOST_CAPACITY, NoMemory, Op, Shown};
+use xr_scenario_calls::{Names, Scratch, call_of, op_mark, op_start};
+use xr_types::{Actor, Call, Made, NoMemory, Op};
 
-/// How many bytes a call of a script is lent at most: the largest `capacity` of the format.
-const MOST_LENT: usize = MOST_CAPACITY as usize;
-
-/// The core, with the room where the lists of a call stand while it is made, and the buffer and the place of a frame that it is
-/// lent, so that a turn that waits costs little. Contracts see it as the machine's state.
+/// The core with what its calls are lent, and the room where the lists of a call stand while it is made. Contracts see it as the
+/// machine's state.
 #[derive(Drop)]
 pub(crate) struct Machine {
-    core: PlainCore,
+    pub(crate) lender: Lender,
     scratch: Box<Scratch>,
-    buffer: [u8; MOST_LENT],
-    shown: Shown,
 }
 
 impl Model for Machine {
@@ -39,59 +32,37 @@ impl Model for Machine {
 
     ghost Value = { State };
 
-    ghost view = { λ m. m.core };
+    ghost view = { λ m. m.lender };
 }
 
-/// How many bytes the call of an op is lent.
-fn lent_size(op: &Op) -> u64
-    ensures { (clock : ℤ) (values : List ℕ) → result ≡ lent_size (with_start clock (request_for values op.now)) }
+/// Where an op is made: the number of its application, its place in the script from 1, and the clock at which a wait begins, in
+/// ns of device time.
+#[derive(Clone, Copy)]
+pub(crate) struct OpPlace {
+    pub(crate) app: u8,
+    pub(crate) op: u32,
+    pub(crate) clock: i64,
+}
+
+/// Has a call that waits for an image begin its wait at this clock, in ns of device time. Other calls stay.
+fn begin_wait(call: &mut Call<'_>, clock: &i64)
+    ensures { request_of call.new ≡ with_start clock.now (request_of call.old) }
 {
-    match op {
-        Op::PathToString {
-            instance: _,
-            path: _,
-            capacity,
-        } => *capacity,
-        _ => 0,
+    if let Call::WaitImage { start, .. } = call {
+        *start = *clock;
     }
 }
 
-/// The call, where a wait begins at this clock.
-fn with_start<'a>(clock: &i64, call: Call<'a>) -> Call<'a>
-    ensures { request_of result ≡ with_start clock.now (request_of call.entry) }
+/// What the list of an application says of the call of an op.
+fn listed(at: OpPlace, op: &Op) -> Listed
+    ensures { result ≡ listed_op at.op at.clock op.now }
 {
-    match call {
-        Call::WaitImage { chain, timeout, .. } => Call::WaitImage {
-            chain,
-            timeout,
-            start: *clock,
-        },
-        _ => call,
+    Listed {
+        op: at.op,
+        name: op.name(),
+        mark: op_mark(op),
+        start: op_start(at.clock, op),
     }
-}
-
-/// Makes the call of an op, or says by nothing that it has to wait.
-fn ask(
-    alloc: Global,
-    core: &mut PlainCore,
-    number: u8,
-    op: &Op,
-    names: &Names,
-    clock: i64,
-    scratch: &mut Scratch,
-    buffer: &mut [u8],
-    shown: &mut Shown,
-) -> Result<Option<Answered>, NoMemory>
-    requires calls { core.old.core.locked < 2 ^ 44 }
-    requires present { IsPresent core.old.core (App number) }
-    requires ranged { IsInRange op.now }
-    requires begun { pos 0 ≤ℤ clock }
-    requires size { MOST_LENT ≤ length buffer.old }
-    ensures { IfOk result (λ answered. AnsweredOrWaits core.old core.new (App number) (with_start clock (request_for names.now op.now)) shown.new answered) }
-{
-    let lent = &mut buffer[..lent_size(op) as usize];
-    let call = with_start(&clock, call_of(op, names, scratch));
-    make(alloc, core, Actor::App(number), &call, lent, shown)
 }
 
 /// Whether the call of an op has to wait, where that is seen at once: it awaits a mark that isn't set, or waits for a frame and
@@ -117,27 +88,9 @@ impl Machine {
         let core = PlainCore::start(alloc, apps)?;
         let scratch = Box::new(alloc, Scratch::new()).map_err(|_| NoMemory)?;
         Ok(Machine {
-            core,
+            lender: Lender::new(core),
             scratch,
-            buffer: [0; MOST_LENT],
-            shown: Shown::default(),
         })
-    }
-
-    /// Makes a call that is lent no buffer and shows no frame, or says by nothing that it has to wait.
-    pub(crate) fn make(
-        &mut self,
-        alloc: Global,
-        who: Actor,
-        call: &Call<'_>,
-    ) -> Result<Option<Answered>, NoMemory>
-        requires calls { self.old.core.locked < 2 ^ 44 }
-        requires asks { MayAsk who (request_of call.now) (lent_size (request_of call.now)) }
-        requires present { IsPresent self.old.core who }
-        requires size { lent_size (request_of call.now) ≡ 0 }
-        ensures { (shown : ShownFrame) × IfOk result (λ answered. AnsweredOrWaits self.old self.new who (request_of call.now) shown answered) }
-    {
-        make(alloc, &mut self.core, who, call, &mut [], &mut self.shown)
     }
 
     /// The device's clock, in ns of device time, never negative.
@@ -145,55 +98,21 @@ impl Machine {
         ensures clock { result ≡ self.now.core.device.clock }
         ensures begun { pos 0 ≤ℤ result }
     {
-        self.core.clock()
+        self.lender.core.clock()
     }
 
     /// How many locked calls were answered.
     pub(crate) fn calls(&self) -> u64
         ensures { result ≡ self.now.core.locked }
     {
-        self.core.calls()
+        self.lender.core.calls()
     }
 
     /// Whether the compositor holds images, which it gives back before it asks for a frame.
     pub(crate) fn holds_images(&self) -> bool
         ensures { result ≡ not (is_empty self.now.cells.held) }
     {
-        self.core.held() > 0
-    }
-
-    /// Gives back the image that the compositor has held longest.
-    pub(crate) fn give_back(&mut self, alloc: Global) -> Result<Option<Answered>, NoMemory>
-        requires calls { self.old.core.locked < 2 ^ 44 }
-        ensures { (shown : ShownFrame) × IfOk result (λ answered. AnsweredOrWaits self.old self.new Compositor image_done shown answered) }
-    {
-        make(
-            alloc,
-            &mut self.core,
-            Actor::Compositor,
-            &Call::ImageDone,
-            &mut [],
-            &mut self.shown,
-        )
-    }
-
-    /// Makes the compositor's call, or says by nothing that it has to wait. The frame that it shows is left in `shown`.
-    pub(crate) fn next_frame(
-        &mut self,
-        alloc: Global,
-        shown: &mut Shown,
-    ) -> Result<Option<Answered>, NoMemory>
-        requires calls { self.old.core.locked < 2 ^ 44 }
-        ensures { IfOk result (λ answered. AnsweredOrWaits self.old self.new Compositor next_frame shown.new answered) }
-    {
-        make(
-            alloc,
-            &mut self.core,
-            Actor::Compositor,
-            &Call::NextFrame,
-            &mut [],
-            shown,
-        )
+        self.lender.core.held() > 0
     }
 
     /// Whether the compositor's next call has to wait.
@@ -201,36 +120,33 @@ impl Machine {
     pub(crate) fn next_frame_waits(&self) -> bool
         ensures { result ≡ true → ready self.now (asked Compositor next_frame) ≡ false }
     {
-        self.core.next_frame_waits()
+        self.lender.core.next_frame_waits()
     }
 
-    /// Makes the call of an application's op, of which a wait begins at this clock, or says by nothing that it has to wait. A mark that isn't set and a frame that is
-    /// held back are seen before the call is made up, since a script may wait for many rounds.
+    /// Makes the call of an application's op and keeps it at the end of the application's list, or leaves all as it was, where it has to
+    /// wait; whether it was made. A mark that isn't set and a frame that is held back are seen before the call is made up, since a
+    /// script may wait for many rounds.
     pub(crate) fn make_op(
         &mut self,
         alloc: Global,
-        number: u8,
+        at: OpPlace,
         op: &Op,
         names: &Names,
-        clock: i64,
-    ) -> Result<Option<Answered>, NoMemory>
+        list: &mut Vec<Made>,
+    ) -> Result<bool, NoMemory>
         requires calls { self.old.core.locked < 2 ^ 44 }
-        requires present { IsPresent self.old.core (App number) }
+        requires present { IsPresent self.old.core (App at.app) }
         requires ranged { IsInRange op.now }
-        requires begun { pos 0 ≤ℤ clock }
-        ensures { (shown : ShownFrame) × IfOk result (λ answered. AnsweredOrWaits self.old self.new (App number) (with_start clock (request_for names.now op.now)) shown answered) }
+        requires begun { pos 0 ≤ℤ at.clock }
+        ensures { IfOk result (λ went. CallTurn self.old self.new (App at.app) (with_start at.clock (request_for names.now op.now)) (listed_op at.op at.clock op.now) list.old.items list.new.items went) }
     {
-        let Machine {
-            core,
-            scratch,
-            buffer,
-            shown,
-        } = self;
-        if waits(core, op, names) {
-            return Ok(None);
+        let Machine { lender, scratch } = self;
+        if waits(&lender.core, op, names) {
+            return Ok(false);
         }
-        ask(
-            alloc, core, number, op, names, clock, scratch, buffer, shown,
-        )
+        let mut call = call_of(op, names, scratch);
+        begin_wait(&mut call, &at.clock);
+        let who = Actor::App(at.app);
+        lender.make(alloc, who, &call, listed(at, op), list)
     }
 }

@@ -125,7 +125,6 @@ fn device_turn<D: Device>(
 
 /// The compositor's turn, in which it gives back an image or asks for a frame; whether it made a call.
 fn compositor_turn(
-    alloc: Global,
     machine: &mut Machine,
     scenario: &Scenario,
     run: &mut Run,
@@ -141,10 +140,10 @@ fn compositor_turn(
         return Ok(false);
     }
     if machine.holds_images() {
-        run.compositor.give_back(alloc, machine)?;
+        run.compositor.give_back(machine)?;
         return Ok(true);
     }
-    let went = run.compositor.take(alloc, machine)?;
+    let went = run.compositor.take(machine)?;
     Ok(went)
 }
 
@@ -175,7 +174,7 @@ fn one_turn<D: Device>(
     if turn == apps {
         return device_turn(alloc, machine, scenario, device, run);
     }
-    let went = compositor_turn(alloc, machine, scenario, run)?;
+    let went = compositor_turn(machine, scenario, run)?;
     Ok(went)
 }
 

@@ -8,7 +8,7 @@ ghost use Rattle.xr_device.specs.Answers.{ReadsOn};
 ghost use Rattle.xr_serial.specs.inside.Sides.{IsDone, Fetched, EventTurn, side_asked};
 ghost use Rattle.xr_serial.specs.inside.RunInvariant.{RunInvariant};
 
-use crate::calls::add;
+use crate::calls::Listed;
 use crate::machine::Machine;
 use std::alloc::Global;
 use std::marker::Model;
@@ -100,11 +100,19 @@ impl DeviceSide {
         requires few { length self.old.calls < 2 ^ 31 }
         ensures { IfOk result (λ went. EventTurn event self.old self.new machine.old machine.new went) }
     {
-        let Some(answered) = machine.make(alloc, Actor::Device, &Call::Device(event))? else {
-            return Ok(false);
+        let listed = Listed {
+            op: self.calls.len() as u32 + 1,
+            name: CallName::Device,
+            mark: 0,
+            start: 0,
         };
-        let place = self.calls.len() as u32 + 1;
-        add(&mut self.calls, place, CallName::Device, 0, 0, answered)?;
+        let call = Call::Device(event);
+        if !machine
+            .lender
+            .make(alloc, Actor::Device, &call, listed, &mut self.calls)?
+        {
+            return Ok(false);
+        }
         let Ok(()) = self.events.push(event) else {
             return Err(NoMemory);
         };

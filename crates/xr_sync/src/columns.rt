@@ -1,16 +1,17 @@
 // The columns of a core, which syncs change in place.
-ghost use Rattle.std.specs.Prelude.{◌≡◌, true, false, slice_get, slice_index_or, option_and_then, All};
+ghost use Rattle.std.specs.Prelude.{◌≡◌, true, false, slice_get, slice_index_or, option_and_then, All, IfOk};
 ghost use Rattle.std.specs.Option.{option_copied};
 ghost use Rattle.xr_model.specs.machine.Sync.{no_columns, columns_after, left_columns};
 ghost use Rattle.xr_types.specs.Device.{is_time};
 ghost use Rattle.xr_sync.specs.Ranks.{IsPlaced};
-ghost use Rattle.xr_sync.specs.Tables.{AreTimed};
+ghost use Rattle.xr_sync.specs.Tables.{no_table, AreTimed};
 
 use crate::after::INACTIVE;
 use crate::found::{ACTIONS, COLUMNS, NOTHING};
 use crate::settle::{clear, leave, sync_tidy};
+use std::alloc::Global;
 use std::marker::Model;
-use xr_types::{Column, Found, Heard, Inputs, Ranked, States};
+use xr_types::{Column, Found, Heard, Inputs, NoMemory, Ranked, States};
 
 /// Every column is inactive.
 const NO_STATES: States = States {
@@ -18,12 +19,13 @@ const NO_STATES: States = States {
 };
 
 /// What the actions show: a row for each of 64 places of actions, whose column 0 is that of all user paths, and the others those
-/// of the five user paths in their order. Beside it stands the table that a sync works with. Contracts see the columns.
+/// of the five user paths in their order. Beside it stands the table that a sync works with. Both are 9 KB, which nobody moves.
+/// Contracts see the columns.
 #[derive(Drop)]
 pub struct Columns {
-    states: States,
+    states: Box<States>,
     /// What the columns have found: nothing between two syncs.
-    found: [[Found; COLUMNS]; ACTIONS],
+    found: Box<[[Found; COLUMNS]; ACTIONS]>,
     /// The place from which on each column is inactive, so that none is looked at.
     reach: usize,
 }
@@ -36,21 +38,39 @@ impl Model for Columns {
 
     ghost Value = { List (List input.Column) };
 
-    ghost view = { λ c. c.states.columns };
+    ghost view = { λ c. c.states.value.columns };
 
-    ghost invariant = { λ c. (c.found ≡ no_table) × All IsTidy c.states.columns × AreTimed c.states.columns × AreBeyond c.reach inactive_row c.states.columns };
+    ghost invariant = { λ c. (c.found.value ≡ no_table) × All IsTidy c.states.value.columns × AreTimed c.states.value.columns × AreBeyond c.reach inactive_row c.states.value.columns };
+}
+
+/// Columns that are inactive, where they stay.
+#[inline(never)]
+fn no_states(alloc: Global) -> Result<Box<States>, NoMemory>
+    ensures { IfOk result (λ states. states.value.columns ≡ no_columns) }
+{
+    Box::new(alloc, NO_STATES).map_err(|_| NoMemory)
+}
+
+/// A table in which nothing was found, where it stays.
+#[inline(never)]
+fn no_table(alloc: Global) -> Result<Box<[[Found; COLUMNS]; ACTIONS]>, NoMemory>
+    ensures { IfOk result (λ found. found.value ≡ no_table) }
+{
+    Box::new(alloc, [[NOTHING; COLUMNS]; ACTIONS]).map_err(|_| NoMemory)
 }
 
 impl Columns {
-    /// Every column is inactive.
-    pub fn start() -> Columns
-        ensures { result ≡ no_columns }
+    /// Every column is inactive. Takes all memory that these columns ever take.
+    pub fn start(alloc: Global) -> Result<Columns, NoMemory>
+        ensures { IfOk result (λ columns. columns ≡ no_columns) }
     {
-        Columns {
-            states: NO_STATES,
-            found: [[NOTHING; COLUMNS]; ACTIONS],
+        let states = no_states(alloc)?;
+        let found = no_table(alloc)?;
+        Ok(Columns {
+            states,
+            found,
             reach: 0,
-        }
+        })
     }
 
     /// Syncs: the sets that are heard, the suggestions for the controllers that are connected, in the order of the user paths and

@@ -1,5 +1,6 @@
-//! Tests of what no case of files shows, by subject: parts that no run reaches yet (`parts`), lines of a report that no run
-//! gives yet (`reports`), files and outputs that fail (`faults`), and loads, which no word runs yet (`loads`). It has nothing else.
+//! Tests of what no case of files shows, by subject: parts of the machine alone, beside results that are written out (`parts`),
+//! lines of a report (`reports`), files and outputs that fail (`faults`), and a load beside the text that says the same (`loads`).
+//! It has nothing else.
 #![tactic(auto)]
 
 #[cfg(test)]

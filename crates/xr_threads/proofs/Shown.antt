@@ -2,7 +2,7 @@
 use Rattle.std.proofs.Common.{◌≡◌, Bool, true, false, true≢false, List, [], ◌∷◌, ◌++◌, refl, sym, ap}
 use Rattle.xr_types.specs.declared.calls.Actor.{Actor}
 use Rattle.xr_types.specs.declared.calls.Actor.TheVariants.{App, Compositor, Device}
-use Rattle.xr_types.specs.Frames.{ShownFrame}
+use Rattle.xr_types.specs.declared.frames.Shown.{Shown}
 use Rattle.xr_model.specs.laws.FrameLaws.{shown_from}
 use Rattle.xr_model.specs.machine.CoreCalls.{asked}
 use Rattle.xr_model.specs.machine.History.{shown_if, calls_from}
@@ -30,5 +30,5 @@ all_shown s (e ∷ es) own =
   where
     by : (b : Bool) → is_actor Compositor e.actor ≡ b → is_by (asked e.actor e.request).caller e.actor ≡ true → frames_in (calls_from (step s e).0 Compositor es) ≡ shown_from (step s e).0 es
         → frames_in (calls_from s Compositor (e ∷ es)) ≡ shown_from s (e ∷ es)
-    by true mine caller more = rw mine (ap (λ (l : List ShownFrame). shown_if (step s e).1.shown ++ l) more)
+    by true mine caller more = rw mine (ap (λ (l : List Shown). shown_if (step s e).1.shown ++ l) more)
     by false other caller more = rw (other, shows_none s e (hidden e.request e.actor caller other)) more

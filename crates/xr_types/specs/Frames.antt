@@ -2,7 +2,6 @@
 use Rattle.std.specs.Prelude.{ℕ, ℤ, List}
 use Rattle.xr_types.specs.declared.frames.FrameLayer.{FrameLayer}
 use Rattle.xr_types.specs.declared.frames.Image.{Image}
-use Rattle.xr_types.specs.declared.frames.ShownLayer.{ShownLayer}
 
 -- a frame that was ended: its number from 1, its time, its layers, and the distinct images that they use
 pub record PendingFrame : Type 0 where
@@ -10,9 +9,3 @@ pub record PendingFrame : Type 0 where
   pub time : ℤ
   pub layers : List FrameLayer
   pub images : List Image
-
--- A frame that the compositor shows: its number from 1, its time in ns of device time, and its layers.
-pub record ShownFrame : Type 0 where
-  pub number : ℕ
-  pub time : ℤ
-  pub layers : List ShownLayer

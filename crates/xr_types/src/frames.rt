@@ -1,5 +1,6 @@
 // Frames, layers and images (OpenXR 1.0 chapter 10, "Rendering"). An image's content is one number, its stamp.
-ghost use Rattle.std.specs.Prelude.{◌≡◌, refl};
+ghost use Rattle.std.specs.Prelude.{◌≡◌, ◌<◌, ◌++◌, [], ◌∷◌, length, refl};
+ghost use Rattle.xr_types.specs.declared.frames.TheConstants.{MOST_LAYERS};
 ghost use Rattle.xr_types.specs.Printed.{blend_name, all_blends};
 
 use crate::Word;
@@ -86,31 +87,65 @@ impl Default for ShownLayer {
     }
 }
 
-/// A frame that the compositor shows: its number from 1, its predicted time in ns of device time, and
-/// its layers, which contracts see as a list.
+/// The layers of a frame that is shown, at most 16, which stand in the value itself. Contracts see the list of them.
 #[derive(Drop)]
+pub struct ShownLayers {
+    kept: ArrayVec<ShownLayer, MOST_LAYERS>,
+}
+
+impl Model for ShownLayers {
+    ghost use Rattle.std.specs.Prelude.{List};
+    ghost use Rattle.xr_types.specs.declared.frames.ShownLayer.{ShownLayer};
+
+    ghost Value = { List ShownLayer };
+
+    ghost view = { λ l. l.kept.items };
+}
+
+impl ShownLayers {
+    /// No layer.
+    pub fn new() -> ShownLayers
+        ensures { result ≡ [] }
+    {
+        ShownLayers {
+            kept: ArrayVec::new(),
+        }
+    }
+
+    pub fn as_slice(&self) -> &[ShownLayer]
+        ensures { result.now ≡ self.now }
+    {
+        self.kept.as_slice()
+    }
+
+    /// No layer from now on.
+    pub fn clear(&mut self)
+        ensures { self.new ≡ [] }
+    {
+        self.kept.clear();
+    }
+
+    /// One more layer behind them.
+    pub fn push(&mut self, layer: ShownLayer)
+        requires { length self.old < MOST_LAYERS }
+        ensures { self.new ≡ self.old ++ layer ∷ [] }
+    {
+        self.kept.push(layer);
+    }
+}
+
+impl Default for ShownLayers {
+    fn default() -> ShownLayers {
+        ShownLayers::new()
+    }
+}
+
+/// A frame that the compositor shows: its number from 1, its predicted time in ns of device time, and its layers.
+#[derive(Default, Drop)]
 pub struct Shown {
     pub number: u64,
     pub time: i64,
-    pub layers: ArrayVec<ShownLayer, MOST_LAYERS>,
-}
-
-impl Model for Shown {
-    ghost use Rattle.xr_types.specs.Frames.{ShownFrame};
-
-    ghost Value = { ShownFrame };
-
-    ghost view = { λ f. record { number = f.number; time = f.time; layers = f.layers.items } };
-}
-
-impl Default for Shown {
-    fn default() -> Shown {
-        Shown {
-            number: 0,
-            time: 0,
-            layers: ArrayVec::new(),
-        }
-    }
+    pub layers: ShownLayers,
 }
 
 /// An image, by its chain's place from 0 and its index in the chain.

@@ -44,6 +44,7 @@ pub use frames::Layer;
 pub use frames::MOST_LAYERS;
 pub use frames::Shown;
 pub use frames::ShownLayer;
+pub use frames::ShownLayers;
 pub use frames::SubImage;
 pub use handles::ACTION_SETS;
 pub use handles::ACTIONS;

@@ -8,7 +8,7 @@ use Rattle.xr_types.specs.declared.calls.Call.TheVariants as call
 use Rattle.xr_types.specs.declared.calls.Gives.{Gives}
 use Rattle.xr_types.specs.declared.calls.Gives.TheVariants.{Size}
 use Rattle.xr_types.specs.declared.calls.Reply.{Reply}
-use Rattle.xr_types.specs.Frames.{ShownFrame}
+use Rattle.xr_types.specs.declared.frames.Shown.{Shown}
 use Rattle.xr_model.specs.laws.Moments.{Moment, exchange_at}
 use Rattle.xr_types.specs.declared.calls.Actor.TheVariants.{App}
 use Rattle.xr_types.specs.declared.scenario.Op.{Op}
@@ -26,7 +26,7 @@ use Rattle.xr_runtime.specs.Calling.{Called, behind, entry_by}
 use Rattle.xr_runtime.specs.Passes.{MayCall, AppCalls, AppAnswers}
 use Rattle.xr_runtime.specs.declared.passes.AppPass.{AppPass}
 use Rattle.xr_runtime.proofs.Passing.{seat_is}
-use Rattle.xr_serial.specs.inside.Lent.{lent_size, written_size}
+use Rattle.xr_scenario_calls.specs.Lent.{lent_size, written_size}
 use Rattle.xr_serial.proofs.Lending.{text_fits}
 use Rattle.xr_workers.specs.inside.Groups.{IsTextCall}
 use Rattle.xr_workers.specs.inside.Made.{AnswersText, CallMade, AskedBy}

@@ -7,7 +7,7 @@ use Rattle.xr_types.specs.declared.calls.Gives.{Gives}
 use Rattle.xr_types.specs.declared.calls.Gives.TheVariants as gives
 use Rattle.xr_types.specs.declared.calls.NoMemory.{NoMemory}
 use Rattle.xr_types.specs.declared.calls.Reply.{Reply}
-use Rattle.xr_types.specs.Frames.{ShownFrame}
+use Rattle.xr_types.specs.declared.frames.Shown.{Shown}
 use Rattle.xr_model.specs.laws.FewCalls.{is_end}
 use Rattle.xr_model.specs.laws.ImageLaws.{is_next_frame}
 use Rattle.xr_model.specs.laws.Laws.{count_locked}
@@ -103,7 +103,7 @@ returns_go (t ∷ ts) all = (an_image all.0.asks all.0.succeeds all.0.gives_noth
 
 frames_added : (ts us : List Exchange) → frames_in (ts ++ us) ≡ frames_in ts ++ frames_in us
 frames_added [] us = refl
-frames_added (t ∷ ts) us = ap (λ (l : List ShownFrame). shown_if t.outcome.shown ++ l) (frames_added ts us) ∙ sym (append_assoc (shown_if t.outcome.shown) (frames_in ts) (frames_in us))
+frames_added (t ∷ ts) us = ap (λ (l : List Shown). shown_if t.outcome.shown ++ l) (frames_added ts us) ∙ sym (append_assoc (shown_if t.outcome.shown) (frames_in ts) (frames_in us))
 
 replies_added : (ts us : List Exchange) → replies_in (ts ++ us) ≡ replies_in ts ++ replies_in us
 replies_added [] us = refl
@@ -112,8 +112,8 @@ replies_added (t ∷ ts) us = ap (λ (l : List Reply). reply_if_shown t.outcome.
 no_frames : (ts : List Exchange) → AreReturns ts → (frames_in ts ≡ []) × (replies_in ts ≡ [])
 no_frames [] all = (refl, refl)
 no_frames (t ∷ ts) all = let rest = no_frames ts all.1 in (
-  ap (λ (o : Option ShownFrame). shown_if o ++ frames_in ts) all.0.shows_none ∙ rest.0,
-  ap (λ (o : Option ShownFrame). reply_if_shown o t.outcome.reply ++ replies_in ts) all.0.shows_none ∙ rest.1,
+  ap (λ (o : Option Shown). shown_if o ++ frames_in ts) all.0.shows_none ∙ rest.0,
+  ap (λ (o : Option Shown). reply_if_shown o t.outcome.reply ++ replies_in ts) all.0.shows_none ∙ rest.1,
 )
 
 ends_none : (ts : List Exchange) (t : Exchange) → AllGoOn ts → t.outcome.reply.gives ≡ gives.Ended → end_of (ts ++ t ∷ []) ≡ Some t.outcome.reply
@@ -178,7 +178,7 @@ module _ (table : TableId) (turns : ℕ) (first old new : CompositorPass) (kept 
   unfolding exchange_at
   asked_frame frame a = ap (λ (t : Exchange). t.request) a.is ∙ a.asks
 
-  pub one_composed : (before after : ShownFrame) (reply : Reply) (next : Option Frames) → Turns table old before after (turned.Shown reply) new → KeepsFrame kept after reply next → Composes table (turns + 1) first new next
+  pub one_composed : (before after : Shown) (reply : Reply) (next : Option Frames) → Turns table old before after (turned.Shown reply) new → KeepsFrame kept after reply next → Composes table (turns + 1) first new next
   one_composed before after reply next t keeps =
       let asks : t.frame.request ≡ next_frame = asked_frame t.frame t.asks in
       let shown : t.frame.outcome.reply.gives ≡ gives.Shown = ap (λ (r : Reply). r.gives) (sym t.told.0) ∙ t.told.1 in
@@ -207,15 +207,15 @@ module _ (table : TableId) (turns : ℕ) (first old new : CompositorPass) (kept 
       by None (Some n) h so = absurd h
       by (Some k) (Some n) h so =
           let rest = no_frames t.images t.returns in
-          let one_frame : frames_in (t.frame ∷ t.images) ≡ after ∷ [] = ap (λ (o : Option ShownFrame). shown_if o ++ frames_in t.images) t.told.2 ∙ ap (λ (l : List ShownFrame). after ∷ l) rest.0 in
+          let one_frame : frames_in (t.frame ∷ t.images) ≡ after ∷ [] = ap (λ (o : Option Shown). shown_if o ++ frames_in t.images) t.told.2 ∙ ap (λ (l : List Shown). after ∷ l) rest.0 in
           let one_reply : replies_in (t.frame ∷ t.images) ≡ reply ∷ [] =
-          ap (λ (o : Option ShownFrame). reply_if_shown o t.frame.outcome.reply ++ replies_in t.images) t.told.2 ∙ (ap (λ (l : List Reply). t.frame.outcome.reply ∷ l) rest.1 ∙ ap (λ (r : Reply). r ∷ []) (sym t.told.0)) in (
-            h.0 ∙ (ap (λ (l : List ShownFrame). l ++ after ∷ []) so.0 ∙ (ap (λ (l : List ShownFrame). frames_in c.calls ++ l) (sym one_frame) ∙ sym (frames_added c.calls (t.frame ∷ t.images)))),
+          ap (λ (o : Option Shown). reply_if_shown o t.frame.outcome.reply ++ replies_in t.images) t.told.2 ∙ (ap (λ (l : List Reply). t.frame.outcome.reply ∷ l) rest.1 ∙ ap (λ (r : Reply). r ∷ []) (sym t.told.0)) in (
+            h.0 ∙ (ap (λ (l : List Shown). l ++ after ∷ []) so.0 ∙ (ap (λ (l : List Shown). frames_in c.calls ++ l) (sym one_frame) ∙ sym (frames_added c.calls (t.frame ∷ t.images)))),
             h.1 ∙ (ap (λ (l : List Reply). l ++ reply ∷ []) so.1 ∙ (ap (λ (l : List Reply). replies_in c.calls ++ l) (sym one_reply) ∙ sym (replies_added c.calls (t.frame ∷ t.images)))),
           )
 
   -- the last turn, in which the end was told
-  module _ (before after : ShownFrame) (reply : Reply) (t : Turns table old before after (turned.Ended reply) new) where
+  module _ (before after : Shown) (reply : Reply) (t : Turns table old before after (turned.Ended reply) new) where
     asks_last : t.frame.request ≡ next_frame
     asks_last = asked_frame t.frame t.asks
 
@@ -242,9 +242,9 @@ module _ (table : TableId) (turns : ℕ) (first old new : CompositorPass) (kept 
     pub lists_all : (k : Frames) (list : Composed) → kept ≡ Some k → list ≡ record { frames = k.frames.items; replies = k.replies.items; ended = reply } → ListsFramesIf (c.calls ++ t.frame ∷ []) (Ok list)
     lists_all k list some is =
         let so = subst (λ (o : Option Frames). IfSome o (λ f. (f.frames.items ≡ frames_in c.calls) × (f.replies.items ≡ replies_in c.calls))) some c.keeps in
-        let none_shown : frames_in (t.frame ∷ []) ≡ [] = ap (λ (o : Option ShownFrame). shown_if o ++ []) t.told.2 in
-        let no_reply : replies_in (t.frame ∷ []) ≡ [] = ap (λ (o : Option ShownFrame). reply_if_shown o t.frame.outcome.reply ++ []) t.told.2 in record {
-          frames = ap (λ (l : Composed). l.frames) is ∙ (so.0 ∙ (sym (append-nil (frames_in c.calls)) ∙ (ap (λ (l : List ShownFrame). frames_in c.calls ++ l) (sym none_shown) ∙ sym (frames_added c.calls (t.frame ∷ [])))));
+        let none_shown : frames_in (t.frame ∷ []) ≡ [] = ap (λ (o : Option Shown). shown_if o ++ []) t.told.2 in
+        let no_reply : replies_in (t.frame ∷ []) ≡ [] = ap (λ (o : Option Shown). reply_if_shown o t.frame.outcome.reply ++ []) t.told.2 in record {
+          frames = ap (λ (l : Composed). l.frames) is ∙ (so.0 ∙ (sym (append-nil (frames_in c.calls)) ∙ (ap (λ (l : List Shown). frames_in c.calls ++ l) (sym none_shown) ∙ sym (frames_added c.calls (t.frame ∷ [])))));
           replies = ap (λ (l : Composed). l.replies) is ∙ (so.1 ∙ (sym (append-nil (replies_in c.calls)) ∙ (ap (λ (l : List Reply). replies_in c.calls ++ l) (sym no_reply) ∙ sym (replies_added c.calls (t.frame ∷ [])))));
           ended = ends_none c.calls t.frame c.goes told_last ∙ ap Some (sym t.told.0 ∙ ap (λ (l : Composed). l.ended) (sym is));
         }

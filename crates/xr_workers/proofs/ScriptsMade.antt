@@ -20,8 +20,8 @@ use Rattle.xr_model.specs.runs.Scripts.{request_for, unstarted, FollowsFrom}
 use Rattle.xr_rule.specs.View.{calls_in}
 use Rattle.xr_runtime.specs.Passes.{IsApp, MayCall}
 use Rattle.xr_runtime.specs.declared.passes.AppPass.{AppPass}
-use Rattle.xr_serial.specs.inside.Lent.{written_size, lent_size}
-use Rattle.xr_serial.specs.inside.Sides.{op_mark, op_start}
+use Rattle.xr_scenario_calls.specs.Lent.{written_size, lent_size}
+use Rattle.xr_scenario_calls.specs.Listed.{op_mark, op_start}
 use Rattle.xr_serial.proofs.KeptApplications.{made_snoc}
 use Rattle.xr_serial.proofs.Ops.{name_is, mark_is, start_is, same_request}
 use Rattle.xr_workers.specs.declared.script.Asked.{Asked}

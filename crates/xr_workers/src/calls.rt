@@ -5,7 +5,7 @@ ghost use Rattle.xr_model.specs.machine.CoreCalls.{MayAsk};
 ghost use Rattle.xr_model.specs.machine.Request.{request_of};
 ghost use Rattle.xr_model.specs.runs.Robin.{with_start};
 ghost use Rattle.xr_runtime.specs.Passes.{table_of, MayCall, AppAnswers};
-ghost use Rattle.xr_serial.specs.inside.Lent.{lent_size};
+ghost use Rattle.xr_scenario_calls.specs.Lent.{lent_size};
 ghost use Rattle.xr_workers.specs.inside.Groups.{IsInstanceCall, IsSessionCall, IsSpaceCall, IsActionCall, IsStateCall, IsImageCall, IsFrameCall, IsMarkCall, IsOpCall, IsTextCall};
 ghost use Rattle.xr_workers.specs.inside.Made.{AnswersText, CallMade};
 

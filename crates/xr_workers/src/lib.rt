@@ -3,7 +3,6 @@
 #![tactic(auto)]
 
 mod app;
-mod buffer;
 mod calls;
 mod compositor;
 mod device;

@@ -10,13 +10,12 @@ ghost use Rattle.xr_workers.specs.Workers.{IsGated};
 ghost use Rattle.xr_workers.specs.inside.Made.{AskedBy};
 ghost use Rattle.xr_workers.specs.inside.Script.{MadeOp, MadeSome};
 
-use crate::buffer::{lent_size, op_mark, op_start, written_size};
 use crate::calls::make_call;
 use crate::gate::Gate;
 use std::alloc::Global;
 use std::sync::Wait;
 use xr_runtime::{AppPass, Runtime};
-use xr_scenario_calls::{Names, Scratch, call_of};
+use xr_scenario_calls::{Names, Scratch, call_of, lent_size, op_mark, op_start, written_size};
 use xr_types::{Actor, Bytes, MOST_CAPACITY, Made, NoMemory, Op, Reply};
 
 /// How many bytes a call of a script is lent at most: the largest `capacity` of the format.
@@ -115,8 +114,8 @@ fn ask<R: Wait, G: Gate>(
     ensures gated { IsGated (G.came gate.now) (G.went gate.now) (App app) pass.old.calls (pass.old.calls + 1) }
 {
     let number = pass.calls() + 1;
-    let lent = &mut buffer[..lent_size(op) as usize];
     let call = call_of(op, names, scratch);
+    let lent = &mut buffer[..lent_size(&call) as usize];
     gate.before(Actor::App(app), number);
     let reply = make_call(rt, runtime, pass, &call, lent);
     gate.after(Actor::App(app), number);

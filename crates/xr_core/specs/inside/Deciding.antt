@@ -9,7 +9,7 @@ use Rattle.xr_types.specs.declared.calls.Step.{Step}
 use Rattle.xr_types.specs.declared.calls.Step.TheVariants.{Done}
 use Rattle.xr_types.specs.declared.calls.Step.TheVariants as step
 use Rattle.xr_types.specs.declared.frames.Image.{Image}
-use Rattle.xr_types.specs.Frames.{ShownFrame}
+use Rattle.xr_types.specs.declared.frames.Shown.{Shown}
 use Rattle.xr_model.specs.machine.CellCalls.{CellCall, MayCall, Leads}
 use Rattle.xr_model.specs.machine.CoreCalls.{Lent, left_in, given_by}
 use Rattle.xr_model.specs.machine.Machine.{rule_of, cell_calls, held_after, IsGiven}
@@ -61,7 +61,7 @@ Decides old what new result = (who : Actor) → DecidesBy who old what new resul
 -- of a call that writes into a buffer alone
 abbrev pub DecidesWriting : Actor → CoreState → Request → CoreState → Result Reply Halt → List ℕ → List ℕ → Type 0
 DecidesWriting who old what new result before after =
-    (frame : ShownFrame) → DecidesOver who old what new result (record { text = before; frame = frame }) (record { text = after; frame = frame })
+    (frame : Shown) → DecidesOver who old what new result (record { text = before; frame = frame }) (record { text = after; frame = frame })
 
 -- ---- over cells
 

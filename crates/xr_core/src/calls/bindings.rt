@@ -9,17 +9,19 @@ ghost use Rattle.xr_model.specs.machine.Request.{suggest_bindings};
 ghost use Rattle.xr_model.specs.machine.Sync.{is_source};
 ghost use Rattle.xr_core.specs.inside.Deciding.{Decides};
 
+use crate::bound::Draft;
 use crate::halt::{Halt, done, refused};
 use crate::parts::Parts;
 use std::alloc::Global;
 use xr_types::{Binding, Bound, Code, Kind, MOST_SUGGESTED, Profile, Reply};
 
 impl Parts {
-    /// Stays a function of its own: what its bindings come to takes kilobytes on the stack, which no other call should pay for.
+    /// What the bindings come to stands in the draft until it is suggested.
     #[inline(never)]
     pub(crate) fn suggest_bindings(
         &mut self,
         alloc: Global,
+        draft: &mut Draft,
         instance: u64,
         profile: u64,
         list: &[Binding],
@@ -34,8 +36,8 @@ impl Parts {
         if list.len() > MOST_SUGGESTED {
             return refused(Code::LimitReached);
         }
-        let bound = self.bound_by(profile, list)?;
-        let code = self.suggest(alloc, profile, bound.as_slice());
+        self.bound_by(profile, list, draft)?;
+        let code = self.suggest(alloc, profile, draft.as_slice());
         if code != Code::Success {
             return refused(code);
         }

@@ -4,7 +4,8 @@ use Rattle.std.specs.Prelude.{◌≡◌, ◌≤◌, ◌<◌, ◌+◌, ◌*◌, �
 use Rattle.xr_types.specs.Code.{is_success}
 use Rattle.xr_types.specs.declared.frames.Layer.{Layer}
 use Rattle.xr_types.specs.declared.frames.ShownLayer.{ShownLayer}
-use Rattle.xr_types.specs.Frames.{PendingFrame, ShownFrame}
+use Rattle.xr_types.specs.Frames.{PendingFrame}
+use Rattle.xr_types.specs.declared.frames.Shown.{Shown}
 use Rattle.xr_model.specs.machine.Request.{Request, begin_frame, end_frame, Entry}
 use Rattle.xr_model.specs.machine.Frames.{predicted_time, most_time}
 use Rattle.xr_model.specs.machine.Images.{stamp_in, shown_layer, shown_with}
@@ -25,21 +26,21 @@ abbrev pub asked_layer : State → Layer → ShownLayer
 asked_layer s l = shown_layer (stamp_in s.cells.stamps) (layer_of (look_of s.core) l)
 
 -- the frame that a call submits where it succeeds, if it does
-abbrev pub submitted_if : Bool → State → Request → List ShownFrame
+abbrev pub submitted_if : Bool → State → Request → List Shown
 submitted_if true s (end_frame session time blend layers) = record { number = s.core.ended + 1; time = time; layers = map (asked_layer s) layers } ∷ []
 submitted_if _ s _ = []
 
 -- all frames that a history submits, in order, each with the stamps that its images have then
-abbrev pub submitted_from : State → List Entry → List ShownFrame
+abbrev pub submitted_from : State → List Entry → List Shown
 submitted_from s [] = []
 submitted_from s (e ∷ es) = submitted_if (is_success (step s e).1.reply.code) s e.request ++ submitted_from (step s e).0 es
 
 -- frames as they would be shown with the stamps that images have now
-abbrev pub shown_now : State → List PendingFrame → List ShownFrame
+abbrev pub shown_now : State → List PendingFrame → List Shown
 shown_now s frames = map (shown_with (stamp_in s.cells.stamps)) frames
 
 -- the frames that a history shows
-abbrev pub shown_from : State → List Entry → List ShownFrame
+abbrev pub shown_from : State → List Entry → List Shown
 shown_from s [] = []
 shown_from s (e ∷ es) = shown_if (step s e).1.shown ++ shown_from (step s e).0 es
 
@@ -52,7 +53,7 @@ FramesAsSubmitted =
     ≡ submitted_from (opening settings) es
 
 -- these frames have the numbers from this one on
-abbrev pub AreNumbered : ℕ → List ShownFrame → Type 0
+abbrev pub AreNumbered : ℕ → List Shown → Type 0
 AreNumbered n [] = Unit {0}
 AreNumbered n (f ∷ frames) = (f.number ≡ n) × AreNumbered (n + 1) frames
 

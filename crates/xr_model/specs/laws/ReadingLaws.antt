@@ -8,11 +8,11 @@ use Rattle.xr_types.specs.declared.names.CallName.{CallName}
 use Rattle.xr_types.specs.declared.scenario.Op.{Op}
 use Rattle.xr_types.specs.declared.status.What.{What}
 use Rattle.xr_types.specs.declared.status.What.TheVariants as what
-use Rattle.xr_types.specs.Field.{name_of_field, keys_of}
+use Rattle.xr_types.specs.Field.{name_of_field}
 use Rattle.xr_types.specs.Op.{call_name}
 use Rattle.xr_model.specs.scenario.Names.{NamedOp}
 use Rattle.xr_model.specs.scenario.Fields.{only_keys}
-use Rattle.xr_model.specs.scenario.OpReading.{op_of, op_in, read_op_of}
+use Rattle.xr_model.specs.scenario.OpReading.{op_of, op_in, keys_of, read_op_of}
 use Rattle.xr_model.specs.scenario.ReadOp.{ReadOp}
 
 -- ---- the first wrong place

@@ -11,7 +11,7 @@ use Rattle.xr_types.specs.Device.{checks}
 use Rattle.xr_model.specs.laws.DeviceLaws.{is_of_line}
 use Rattle.xr_types.specs.declared.frames.ShownLayer.{ShownLayer}
 use Rattle.xr_types.specs.declared.frames.ShownLayer.TheVariants as layer
-use Rattle.xr_types.specs.Frames.{ShownFrame}
+use Rattle.xr_types.specs.declared.frames.Shown.{Shown}
 use Rattle.xr_types.specs.declared.limits.TheConstants.{MOST_HANDLE_MARK}
 use Rattle.xr_types.specs.declared.made.Lists.{Lists}
 use Rattle.xr_types.specs.declared.made.Made.{Made}
@@ -140,7 +140,7 @@ IsLayerPrintable (layer.Projection left right) = (left < 2 ^ 64) × (right < 2 ^
 IsLayerPrintable (layer.Quad stamp) = stamp < 2 ^ 64
 
 -- a frame whose numbers have 64 bits
-pub record IsFramePrintable (f : ShownFrame) : Type 0 where
+pub record IsFramePrintable (f : Shown) : Type 0 where
   pub number : f.number < 2 ^ 64
   pub time : FitsSigned w64 f.time
   pub count : length f.layers < 2 ^ 64
@@ -149,7 +149,7 @@ pub record IsFramePrintable (f : ShownFrame) : Type 0 where
 -- The line of a frame with its place tells the whole frame, and the place of the reply that gave it.
 abbrev pub FrameLinesTellTheFrame : Type 0
 FrameLinesTellTheFrame =
-    (f g : ShownFrame) (r q : Reply) → IsFramePrintable f → IsFramePrintable g → r.place < 2 ^ 64 → q.place < 2 ^ 64
+    (f g : Shown) (r q : Reply) → IsFramePrintable f → IsFramePrintable g → r.place < 2 ^ 64 → q.place < 2 ^ 64
     → frame_line true f (Some r) ≡ frame_line true g (Some q) → (f ≡ g) × (r.place ≡ q.place)
 
 -- ---- what the line of an event tells

@@ -8,7 +8,7 @@ use Rattle.xr_types.specs.Code.{is_out_of_memory}
 use Rattle.xr_types.specs.declared.calls.Call.{Call}
 use Rattle.xr_types.specs.declared.calls.Step.{Step}
 use Rattle.xr_types.specs.declared.calls.Step.TheVariants.{Done, NotReady}
-use Rattle.xr_types.specs.Frames.{ShownFrame}
+use Rattle.xr_types.specs.declared.frames.Shown.{Shown}
 use Rattle.xr_model.specs.machine.Rule.{Rule, is_by}
 use Rattle.xr_model.specs.machine.Request.{Request, Entry, Outcome, request_of}
 use Rattle.xr_model.specs.machine.State.{CoreState, State, CellReads, with_apps, opening_core}
@@ -23,15 +23,15 @@ written_over bytes buffer = bytes ++ drop (length bytes) buffer
 -- What a call is lent: a buffer for a text, and a place for a frame that is shown.
 pub record Lent : Type 0 where
   pub text : List ℕ
-  pub frame : ShownFrame
+  pub frame : Shown
 
 -- the place of a frame once this one is shown, or none
-abbrev pub shown_over : Option ShownFrame → ShownFrame → ShownFrame
+abbrev pub shown_over : Option Shown → Shown → Shown
 shown_over None before = before
 shown_over (Some frame) before = frame
 
 -- what was lent, once a call has written these bytes and shown this frame, or none
-abbrev pub left_in : List ℕ → Option ShownFrame → Lent → Lent
+abbrev pub left_in : List ℕ → Option Shown → Lent → Lent
 left_in bytes shown lent = record { text = written_over bytes lent.text; frame = shown_over shown lent.frame }
 
 -- the handle that a reply gives, or 0

@@ -2,7 +2,7 @@
 use Rattle.std.specs.Prelude.{◌≡◌, ◌-◌, ℤ, pos, IsTrue, List, [], ◌∷◌, Option, Some, None, replicate, slice_get, slice_set, unwrap_or, if◌then◌else◌}
 use Rattle.xr_types.specs.declared.calls.Actor.{Actor}
 use Rattle.xr_types.specs.declared.calls.Actor.TheVariants.{App, Compositor, Device}
-use Rattle.xr_types.specs.Frames.{ShownFrame}
+use Rattle.xr_types.specs.declared.frames.Shown.{Shown}
 use Rattle.xr_model.specs.machine.Request.{Request, wait_image, Entry, Exchange, is_actor, is_locked}
 use Rattle.xr_model.specs.machine.State.{Settings, State, opening}
 use Rattle.xr_model.specs.machine.Machine.{IsAllowed, ready, step}
@@ -49,7 +49,7 @@ IsLegal settings history = IsLegalFrom (opening settings) (opening_clocks settin
 -- ---- what was answered
 
 -- the frame that a call shows, if it shows one
-abbrev pub shown_if : Option ShownFrame → List ShownFrame
+abbrev pub shown_if : Option Shown → List Shown
 shown_if None = []
 shown_if (Some f) = f ∷ []
 

@@ -6,7 +6,8 @@ use Rattle.xr_types.specs.declared.frames.FrameLayer.TheVariants as layer
 use Rattle.xr_types.specs.declared.frames.Image.{Image}
 use Rattle.xr_types.specs.declared.frames.ShownLayer.{ShownLayer}
 use Rattle.xr_types.specs.declared.frames.ShownLayer.TheVariants as shown
-use Rattle.xr_types.specs.Frames.{PendingFrame, ShownFrame}
+use Rattle.xr_types.specs.Frames.{PendingFrame}
+use Rattle.xr_types.specs.declared.frames.Shown.{Shown}
 use Rattle.xr_model.specs.machine.Frames.{one_if}
 
 -- it is this image
@@ -93,9 +94,9 @@ shown_layer stamp_of (layer.Projection left right) = shown.Projection (stamp_of 
 shown_layer stamp_of (layer.Quad i) = shown.Quad (stamp_of i)
 
 -- a frame as it is shown where images have these stamps
-abbrev pub shown_with : (Image → ℕ) → PendingFrame → ShownFrame
+abbrev pub shown_with : (Image → ℕ) → PendingFrame → Shown
 shown_with stamp_of f = record { number = f.number; time = f.time; layers = map (shown_layer stamp_of) f.layers }
 
 -- a frame as it is shown, told the stamps of its images in their order
-abbrev pub shown_of : PendingFrame → List ℕ → ShownFrame
+abbrev pub shown_of : PendingFrame → List ℕ → Shown
 shown_of f stamps = shown_with (stamp_among f.images stamps) f

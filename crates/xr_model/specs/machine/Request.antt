@@ -14,7 +14,7 @@ use Rattle.xr_types.specs.declared.input.Binding.{Binding}
 use Rattle.xr_types.specs.declared.session.Form.{Form}
 use Rattle.xr_types.specs.declared.session.ViewConfig.{ViewConfig}
 use Rattle.xr_types.specs.declared.spaces.RefKind.{RefKind}
-use Rattle.xr_types.specs.Frames.{ShownFrame}
+use Rattle.xr_types.specs.declared.frames.Shown.{Shown}
 
 pub data Request : Type 0 where
   create_instance : ℕ → ℕ → Request  -- major, minor
@@ -121,7 +121,7 @@ is_actor _ _ = false
 pub record Outcome : Type 0 where
   pub reply : Reply
   pub text : List ℕ
-  pub shown : Option ShownFrame
+  pub shown : Option Shown
 
 -- a call and what it came to
 pub record Exchange : Type 0 where

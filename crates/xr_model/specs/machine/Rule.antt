@@ -8,7 +8,7 @@ use Rattle.xr_types.specs.declared.calls.Gives.{Gives}
 use Rattle.xr_types.specs.declared.calls.Gives.TheVariants.{Nothing}
 use Rattle.xr_types.specs.declared.frames.Image.{Image}
 use Rattle.xr_types.specs.declared.handles.Kind.{Kind}
-use Rattle.xr_types.specs.Frames.{ShownFrame}
+use Rattle.xr_types.specs.declared.frames.Shown.{Shown}
 use Rattle.xr_model.specs.machine.Images.{Stamped}
 use Rattle.xr_model.specs.machine.Request.{Request, Outcome, is_locked, is_getter}
 use Rattle.xr_model.specs.machine.Publishing.{publishes}
@@ -40,7 +40,7 @@ pub record Effect : Type 0 where
   pub code : Code
   pub gives : Gives
   pub text : List ℕ
-  pub shown : Option ShownFrame
+  pub shown : Option Shown
   pub did : Did
 
 -- a success that gives a value and writes no text

@@ -2,7 +2,7 @@
 use Rattle.std.specs.Prelude.{ℕ, ◌+◌, Bool, List, [], ◌∷◌, ◌++◌, slice_get, codes, decimal, Option}
 use Rattle.xr_types.specs.declared.calls.Reply.{Reply}
 use Rattle.xr_types.specs.declared.device.DeviceEvent.{DeviceEvent}
-use Rattle.xr_types.specs.Frames.{ShownFrame}
+use Rattle.xr_types.specs.declared.frames.Shown.{Shown}
 use Rattle.xr_types.specs.declared.made.Lists.{Lists}
 use Rattle.xr_types.specs.declared.made.Made.{Made}
 use Rattle.xr_types.specs.declared.made.Waiting.{Waiting}
@@ -19,11 +19,11 @@ threads_from places number [] = []
 threads_from places number (ms ∷ rest) = codes "thread " ++ decimal number ++ codes "\n" ++ lines_of places ms ++ threads_from places (number + 1) rest
 
 -- a line for each frame, from an index on; its reply is the one at the same index
-abbrev pub frames_from : Bool → List Reply → ℕ → List ShownFrame → List ℕ
+abbrev pub frames_from : Bool → List Reply → ℕ → List Shown → List ℕ
 frames_from places replies index [] = []
 frames_from places replies index (f ∷ fs) = frame_line places f (slice_get replies index) ++ frames_from places replies (index + 1) fs
 
-abbrev pub compositor_block : Bool → List ShownFrame → List Reply → Option Reply → List ℕ
+abbrev pub compositor_block : Bool → List Shown → List Reply → Option Reply → List ℕ
 compositor_block places frames replies ended = codes "compositor\n" ++ frames_from places replies 0 frames ++ ended_line places ended
 
 -- a line for each event with its call, from a number on

@@ -6,7 +6,7 @@ use Rattle.xr_types.specs.declared.calls.Actor.TheVariants as actor
 use Rattle.xr_types.specs.declared.calls.Reply.{Reply}
 use Rattle.xr_types.specs.declared.device.DeviceEvent.{DeviceEvent}
 use Rattle.xr_types.specs.declared.device.DeviceEvent.TheVariants as event
-use Rattle.xr_types.specs.Frames.{ShownFrame}
+use Rattle.xr_types.specs.declared.frames.Shown.{Shown}
 use Rattle.xr_types.specs.declared.frames.ShownLayer.{ShownLayer}
 use Rattle.xr_types.specs.declared.frames.ShownLayer.TheVariants as layer
 use Rattle.xr_types.specs.declared.made.Made.{Made}
@@ -41,7 +41,7 @@ frame_place places None = []
 frame_place places (Some reply) = place_behind places reply
 
 -- a frame that the compositor has taken: its number, its time, and its layers with their count
-abbrev pub frame_line : Bool → ShownFrame → Option Reply → List ℕ
+abbrev pub frame_line : Bool → Shown → Option Reply → List ℕ
 frame_line places f reply =
     codes "frame " ++ decimal f.number ++ codes " time " ++ signed_decimal f.time ++ codes " layers " ++ decimal (length f.layers)
     ++ layers_text f.layers ++ frame_place places reply ++ codes "\n"

@@ -2,7 +2,7 @@
 use Rattle.std.specs.Prelude.{ℕ, ℤ, pos, ◌+◌, ◌-◌, ◌%◌, ◌^◌, ◌==◌, List, [], ◌∷◌, ◌++◌, length, slice_get, unwrap_or, option_map, codes, decimal, if◌then◌else◌}
 use Rattle.std.specs.Fmt.{signed_decimal}
 use Rattle.xr_types.specs.Code.{name_of_code, number_of_code, every_code}
-use Rattle.xr_types.specs.Frames.{ShownFrame}
+use Rattle.xr_types.specs.declared.frames.Shown.{Shown}
 use Rattle.xr_types.specs.declared.code.Code.{Code}
 use Rattle.xr_types.specs.declared.frames.ShownLayer.{ShownLayer}
 use Rattle.xr_types.specs.declared.frames.ShownLayer.TheVariants as layer
@@ -47,16 +47,16 @@ layers_stamps [] = 0
 layers_stamps (l ∷ ls) = layer_stamps l + layers_stamps ls
 
 -- the sum of the stamps of all layers of all frames
-abbrev pub stamps_of : List ShownFrame → ℕ
+abbrev pub stamps_of : List Shown → ℕ
 stamps_of [] = 0
 stamps_of (f ∷ fs) = layers_stamps f.layers + stamps_of fs
 
 -- the time of the last frame, 0 where there is none
-abbrev pub last_time : List ShownFrame → ℤ
+abbrev pub last_time : List Shown → ℤ
 last_time frames = unwrap_or (option_map (λ f. f.time) (slice_get frames (length frames - 1))) (pos 0)
 
 -- how many frames the compositor has taken, the sum of their stamps modulo 2^64, and the last one's time
-abbrev pub frame_lines : List ShownFrame → List ℕ
+abbrev pub frame_lines : List Shown → List ℕ
 frame_lines frames =
     number_line (codes "frames") (length frames)
     ++ number_line (codes "stamps") (stamps_of frames % 2 ^ 64)

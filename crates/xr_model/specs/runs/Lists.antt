@@ -10,7 +10,7 @@ use Rattle.xr_types.specs.declared.device.DeviceEvent.TheVariants as event
 use Rattle.xr_types.specs.declared.names.CallName.{CallName}
 use Rattle.xr_types.specs.declared.names.CallName.TheVariants as call
 use Rattle.xr_model.specs.machine.Request.{Request, create_instance, destroy_instance, get_system, string_to_path, path_to_string, poll_event, create_session, destroy_session, begin_session, end_session, request_exit_session, create_reference_space, create_action_space, destroy_space, locate_space, create_action_set, destroy_action_set, create_action, destroy_action, suggest_bindings, attach_sets, sync_actions, get_boolean, get_float, get_vector, get_pose_active, create_swapchain, destroy_swapchain, acquire_image, wait_image, paint, release_image, wait_frame, begin_frame, end_frame, mark, await_mark, leave, device, next_frame, image_done, Entry, Exchange}
-use Rattle.xr_types.specs.Frames.{ShownFrame}
+use Rattle.xr_types.specs.declared.frames.Shown.{Shown}
 use Rattle.xr_model.specs.machine.State.{Settings, State, opening}
 use Rattle.xr_model.specs.machine.Machine.{step}
 use Rattle.xr_model.specs.machine.History.{shown_if, calls_of}
@@ -89,11 +89,11 @@ end_of [] = None
 end_of (t ∷ ts) = if is_ended t.outcome.reply.gives then Some t.outcome.reply else end_of ts
 
 -- the frames that the compositor's calls show, and the replies of these calls
-abbrev pub frames_in : List Exchange → List ShownFrame
+abbrev pub frames_in : List Exchange → List Shown
 frames_in [] = []
 frames_in (t ∷ ts) = shown_if t.outcome.shown ++ frames_in ts
 
-abbrev pub reply_if_shown : Option ShownFrame → Reply → List Reply
+abbrev pub reply_if_shown : Option Shown → Reply → List Reply
 reply_if_shown None reply = []
 reply_if_shown (Some frame) reply = reply ∷ []
 

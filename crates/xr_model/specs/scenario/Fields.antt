@@ -4,18 +4,17 @@ use Rattle.std.specs.List.{list_all, list_any}
 use Rattle.std.specs.Str.{bytes_eq}
 use Rattle.serde_json.specs.Data.{Data, Members, no_members, member}
 use Rattle.serde_json.specs.Find.{get, as_str, as_number, as_u64, as_i64, as_object}
-use Rattle.xr_types.specs.Field.{name_of_field, keys_of}
+use Rattle.xr_types.specs.Field.{name_of_field}
 use Rattle.xr_types.specs.Words.{named}
 use Rattle.xr_types.specs.declared.fields.FieldName.{FieldName}
 use Rattle.xr_types.specs.declared.fields.FieldName.TheVariants.{As}
 use Rattle.xr_types.specs.declared.limits.TheConstants.{MOST_TEXT, MOST_GIVEN, MOST_MARK, MOST_HANDLE_MARK}
-use Rattle.xr_types.specs.declared.names.CallName.{CallName}
 use Rattle.xr_types.specs.declared.scenario.Sort.{Sort}
 use Rattle.xr_types.specs.declared.scenario.Sort.TheVariants as sort
 use Rattle.xr_types.specs.declared.scenario.Use.{Use}
 use Rattle.xr_types.specs.declared.scenario.Use.TheVariants.{Number, Of}
 use Rattle.xr_types.specs.declared.status.What.{What}
-use Rattle.xr_types.specs.declared.status.What.TheVariants.{Field, Extra}
+use Rattle.xr_types.specs.declared.status.What.TheVariants.{Field}
 use Rattle.xr_model.specs.scenario.Names.{NamedOp, place_named}
 
 -- first this, and then with its value the rest; what is wrong first is what is told
@@ -153,7 +152,3 @@ only_keys_by keys (Some ms) = are_keys keys ms
 -- an object with no other key than these
 abbrev pub only_keys : List FieldName → Data → Bool
 only_keys keys d = only_keys_by keys (as_object d)
-
--- the value, where the op has no other key than those of its row
-abbrev pub only : {T : Type 0} → ℕ → CallName → Data → T → Result T What
-only version row d x = if only_keys (keys_of version row) d then Ok x else Err Extra

@@ -3,7 +3,7 @@ use Rattle.std.specs.Prelude.{ℕ, ℤ, Bool, List, Option}
 use Rattle.xr_types.specs.declared.calls.Reply.{Reply}
 use Rattle.xr_types.specs.declared.device.DeviceEvent.{DeviceEvent}
 use Rattle.xr_types.specs.declared.made.Made.{Made}
-use Rattle.xr_types.specs.Frames.{ShownFrame}
+use Rattle.xr_types.specs.declared.frames.Shown.{Shown}
 
 -- An application: how many ops of its script were made, what its names stand for, its calls, the clock after its last locked one, and
 -- whether it has left.
@@ -25,7 +25,7 @@ pub record SideState : Type 0 where
 -- The compositor: the frames that it was shown with the replies of these calls, for each image that it gave back how many locked
 -- calls came before, and the reply that told it the end.
 pub record CompositorState : Type 0 where
-  pub frames : List ShownFrame
+  pub frames : List Shown
   pub replies : List Reply
   pub done : List ℕ
   pub ended : Option Reply

@@ -9,7 +9,7 @@ use Rattle.xr_device.specs.Prospect.{Prospect}
 use Rattle.xr_device.specs.Answers.{Tells, IsTold, GaveItsLines}
 use Rattle.xr_device.specs.declared.Next.TheVariants as next
 use Rattle.xr_types.specs.declared.calls.Reply.{Reply}
-use Rattle.xr_types.specs.Frames.{ShownFrame}
+use Rattle.xr_types.specs.declared.frames.Shown.{Shown}
 use Rattle.xr_types.specs.declared.scenario.Op.{Op}
 use Rattle.xr_types.specs.declared.scenario.Op.TheVariants as op
 use Rattle.xr_model.specs.machine.Request.{Request, leave, device, next_frame, image_done, Outcome, Exchange}
@@ -21,19 +21,17 @@ use Rattle.xr_model.specs.machine.Machine.{ready}
 use Rattle.xr_model.specs.runs.NameValues.{with_name_value, no_values}
 use Rattle.xr_model.specs.runs.Scripts.{request_for}
 use Rattle.xr_model.specs.runs.Lists.{made_at}
+use Rattle.xr_types.specs.Op.{call_name}
+use Rattle.xr_scenario_calls.specs.Listed.{op_mark, op_start}
+use Rattle.xr_serial.specs.declared.calls.Listed.{Listed}
 use Rattle.xr_serial.specs.inside.Made.{IsAnswered, asked, exchange_of}
 use Rattle.xr_serial.specs.inside.RunState.{AppState, SideState, CompositorState}
 
 -- ---- an application
 
-abbrev pub op_mark : Op → ℕ
-op_mark (op.Await number) = number
-op_mark _ = 0
-
--- when a wait begins, and 0 for other ops
-abbrev pub op_start : ℤ → Op → ℤ
-op_start clock (op.WaitImage chain timeout) = clock
-op_start clock _ = pos 0
+-- what its list says of an op's call, at this place and with this clock
+abbrev pub listed_op : ℕ → ℤ → Op → Listed
+listed_op place clock o = record { op = place; name = call_name o; mark = op_mark o; start = op_start clock o }
 
 -- an application before its first call
 abbrev pub new_app : List Op → AppState
@@ -125,7 +123,7 @@ EventTurn event old new s after false = EventWaits event old new s after
 -- ---- the compositor
 
 -- once its call was answered so: it was shown a frame, or told the end
-abbrev pub compositor_with : CompositorState → Reply → Option ShownFrame → CompositorState
+abbrev pub compositor_with : CompositorState → Reply → Option Shown → CompositorState
 compositor_with c reply None = record c { ended = Some reply }
 compositor_with c reply (Some frame) = record c { frames = c.frames ++ frame ∷ []; replies = c.replies ++ reply ∷ [] }
 

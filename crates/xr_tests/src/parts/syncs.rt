@@ -77,7 +77,7 @@ const DOWN: [(User, u8, i32); 1] = [(User::Left, 1, 1)];
 
 #[test]
 fn nothing_is_active_without_bindings_or_heard_ones(rt: HostRuntime) -> Result<(), Fail> {
-    let mut columns = Columns::start();
+    let mut columns = Columns::start(rt.alloc())?;
     columns.sync(&[all_of(1)], &[], &inputs(&DOWN), 5);
     let without = shown(&columns, 0, 0) == NONE;
     columns.sync(&[], &[left_click()], &inputs(&DOWN), 5);
@@ -107,7 +107,7 @@ fn sets_are_heard_for_all_or_one_user_path(rt: HostRuntime) -> Result<(), Fail> 
         ([right, right], false),
         ([right, all_of(1)], true),
     ] {
-        let mut columns = Columns::start();
+        let mut columns = Columns::start(rt.alloc())?;
         columns.sync(&heard, &[left_click()], &inputs(&DOWN), 5);
         let first = shown(&columns, 0, 0);
         let own = shown(&columns, 0, 1);
@@ -152,7 +152,7 @@ fn the_largest_heard_priority_of_a_source_is_live(rt: HostRuntime) -> Result<(),
         ([1, 2, 4], [false, true, false, true]),
         ([5, 4, 4], [false, false, false, true]),
     ] {
-        let mut columns = Columns::start();
+        let mut columns = Columns::start(rt.alloc())?;
         let sets = [all_of(heard[0]), all_of(heard[1]), all_of(heard[2])];
         columns.sync(&sets, &list, &values, 5);
         for place in 0..4 {
@@ -177,7 +177,7 @@ fn another_part_of_an_input_is_its_source_and_another_hand_is_none(
         touched,
         trigger(2, 1, 0, User::Right),
     ];
-    let mut columns = Columns::start();
+    let mut columns = Columns::start(rt.alloc())?;
     columns.sync(&[all_of(1), all_of(2)], &list, &inputs(&[]), 5);
     let live = [
         shown(&columns, 0, 0).4,
@@ -207,7 +207,7 @@ fn booleans_are_pressed_and_floats_whole(rt: HostRuntime) -> Result<(), Fail> {
         (User::Left, 14, 20479),
         (User::Left, 1, 1),
     ]);
-    let mut columns = Columns::start();
+    let mut columns = Columns::start(rt.alloc())?;
     columns.sync(&[all_of(1)], &three_sorts(), &values, 5);
     let pressed = shown(&columns, 0, 0) == (1, 0, true, 5, true);
     let whole = shown(&columns, 1, 0) == (32768, 0, true, 5, true);
@@ -225,7 +225,7 @@ fn a_part_of_another_sort_is_active_and_zero(rt: HostRuntime) -> Result<(), Fail
         ActionType::Vibration,
     ] {
         let list = [bind(3, kind, User::Left, 7, Part::Pose(41))];
-        let mut columns = Columns::start();
+        let mut columns = Columns::start(rt.alloc())?;
         columns.sync(&[all_of(1)], &list, &inputs(&DOWN), 5);
         assert!(rt;
             shown(&columns, 3, 0) == (0, 0, false, 0, true),
@@ -258,7 +258,7 @@ fn of_equal_sizes_the_first_is_taken(rt: HostRuntime) -> Result<(), Fail> {
             (User::Right, 18, right.0),
             (User::Right, 19, right.1),
         ]);
-        let mut columns = Columns::start();
+        let mut columns = Columns::start(rt.alloc())?;
         columns.sync(&[all_of(1)], &list, &values, 5);
         let float = shown(&columns, 0, 0);
         let vector = shown(&columns, 1, 0);
@@ -278,7 +278,7 @@ fn poses_are_the_first_and_never_change(rt: HostRuntime) -> Result<(), Fail> {
         bind(0, ActionType::Pose, User::Right, 8, Part::Pose(42)),
         bind(0, ActionType::Pose, User::Left, 7, Part::Pose(41)),
     ];
-    let mut columns = Columns::start();
+    let mut columns = Columns::start(rt.alloc())?;
     columns.sync(&[all_of(1)], &list, &inputs(&[]), 5);
     let origin = |column| columns.column(0, column).and_then(|it| it.origin);
     let all = matches!(origin(0), Some(Origin::Aim(User::Right)));
@@ -302,7 +302,7 @@ fn each_user_path_has_its_column_where_it_is_declared(rt: HostRuntime) -> Result
                 declared: [declares; USERS],
                 ..bind(63, ActionType::Float, *user, 29, Part::Analogue(39))
             };
-            let mut columns = Columns::start();
+            let mut columns = Columns::start(rt.alloc())?;
             columns.sync(&[all_of(1)], &[one], &inputs(&[(*user, 39, 9)]), 5);
             for column in 0..6 {
                 let active = column == 0 || (declares && column == place + 1);
@@ -331,7 +331,7 @@ fn time(clock: i64) -> i64
 #[test]
 fn changes_have_the_time_of_their_sync(rt: HostRuntime) -> Result<(), Fail> {
     let list = [trigger(0, 1, 0, User::Left)];
-    let mut columns = Columns::start();
+    let mut columns = Columns::start(rt.alloc())?;
     for (heard, value, clock, wanted) in [
         (1, 0, 10, (0, 0, false, 0, true)),
         (1, 7, 20, (7, 0, true, 20, true)),
@@ -400,7 +400,7 @@ fn other_states_stay_and_none_is_left(rt: HostRuntime) -> Result<(), Fail> {
 #[test]
 fn an_action_has_as_many_bindings_as_there_may_be(rt: HostRuntime) -> Result<(), Fail> {
     let list = [trigger(5, 1, u32::MAX, User::Left); 512];
-    let mut columns = Columns::start();
+    let mut columns = Columns::start(rt.alloc())?;
     columns.sync(
         &[all_of(1)],
         &list,

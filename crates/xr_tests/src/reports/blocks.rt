@@ -3,7 +3,8 @@ use super::lists::{Row, device, is_report, lists_of, made, no_scripts, reply};
 use std::alloc::{AllocError, Global};
 use std::test::Fail;
 use xr_types::{
-    Actor, CallName, Code, DeviceEvent, Gives, Lists, MadeList, Several, Shown, ShownLayer, Waiting,
+    Actor, CallName, Code, DeviceEvent, Gives, Lists, MOST_LAYERS, MadeList, Several, Shown,
+    ShownLayer, ShownLayers, Waiting,
 };
 
 const LEAVE: Row = (CallName::Leave, 0, Code::Success, Gives::Nothing, b"");
@@ -15,10 +16,12 @@ pub(crate) fn shown(number: u64, time: i64, layers: &[ShownLayer]) -> Shown {
     let mut frame = Shown {
         number,
         time,
-        layers: Default::default(),
+        layers: ShownLayers::new(),
     };
     for layer in layers {
-        let _ = frame.layers.try_push(*layer);
+        if frame.layers.as_slice().len() < MOST_LAYERS {
+            frame.layers.push(*layer);
+        }
     }
     frame
 }

@@ -3,7 +3,7 @@ use Rattle.std.specs.Prelude.{◌≡◌, ◌<◌, ◌≤◌, ◌+◌, ◌*◌, �
 use Rattle.atomic_table.specs.Seated.{TableId}
 use Rattle.xr_types.specs.declared.calls.NoMemory.{NoMemory}
 use Rattle.xr_types.specs.declared.calls.Reply.{Reply}
-use Rattle.xr_types.specs.Frames.{ShownFrame}
+use Rattle.xr_types.specs.declared.frames.Shown.{Shown}
 use Rattle.xr_model.specs.machine.Request.{Exchange}
 use Rattle.xr_model.specs.runs.Lists.{frames_in, replies_in}
 use Rattle.xr_runtime.specs.declared.passes.CompositorPass.{CompositorPass}
@@ -14,7 +14,7 @@ use Rattle.xr_workers.specs.declared.compositor.Frames.{Frames}
 use Rattle.xr_workers.specs.Workers.{Adds, turns_in}
 
 -- the frames with this one more, or nothing
-abbrev pub KeepsFrame : Option Frames → ShownFrame → Reply → Option Frames → Type 0
+abbrev pub KeepsFrame : Option Frames → Shown → Reply → Option Frames → Type 0
 KeepsFrame old shown reply None = ⊤
 KeepsFrame None shown reply (Some new) = ⊥
 KeepsFrame (Some old) shown reply (Some new) = (new.frames.items ≡ old.frames.items ++ shown ∷ []) × (new.replies.items ≡ old.replies.items ++ reply ∷ [])

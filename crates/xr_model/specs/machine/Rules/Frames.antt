@@ -10,7 +10,8 @@ use Rattle.xr_types.specs.declared.frames.Layer.{Layer}
 use Rattle.xr_types.specs.declared.handles.Kind.TheVariants.{Session, Space, Swapchain}
 use Rattle.xr_types.specs.declared.session.FrameState.{FrameState}
 use Rattle.xr_types.specs.declared.session.SessionState.TheVariants.{Visible, Focused}
-use Rattle.xr_types.specs.Frames.{PendingFrame, ShownFrame}
+use Rattle.xr_types.specs.Frames.{PendingFrame}
+use Rattle.xr_types.specs.declared.frames.Shown.{Shown}
 use Rattle.xr_model.specs.machine.Chains.{Chain, info_at, is_place_used, left_in_places}
 use Rattle.xr_model.specs.machine.Frames.{waited_loop, begun_loop, begun_code, ended_loop, predicted_time, is_frame_held_back, is_empty}
 use Rattle.xr_model.specs.machine.Handles.{Handles, is_live, no_handle}
@@ -101,7 +102,7 @@ told_frame [] = gives.Ended
 told_frame (f ∷ fs) = gives.Shown
 
 -- the oldest of these frames as it is shown, told the stamps of its images
-abbrev pub oldest_shown : List PendingFrame → List ℕ → Option ShownFrame
+abbrev pub oldest_shown : List PendingFrame → List ℕ → Option Shown
 oldest_shown [] stamps = None
 oldest_shown (f ∷ fs) stamps = Some (shown_of f stamps)
 

@@ -2,7 +2,7 @@ use Rattle.std.proofs.Common.{rules, ◌≡◌, ◌∙◌, length, sym}
 use Rattle.xr_model.specs.machine.Request.{request_of}
 use Rattle.xr_runtime.specs.Passes.{table_of}
 use Rattle.xr_model.specs.runs.Robin.{with_start}
-use Rattle.xr_serial.specs.inside.Lent.{lent_size}
+use Rattle.xr_scenario_calls.specs.Lent.{lent_size}
 use Rattle.xr_workers.proofs.CallsMade.{same_lent, plain_made, text_made}
 use Rattle.xr_workers.proofs.calls.make_call.Goals as goal
 

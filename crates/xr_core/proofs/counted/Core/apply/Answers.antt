@@ -1,7 +1,7 @@
 use Rattle.std.proofs.Common.{ℕ, List, sym, ap, subst, ◌∙◌, arith}
 use Rattle.std.specs.Prelude.{Result, Ok, Err}
 use Rattle.xr_types.specs.declared.calls.Reply.{Reply}
-use Rattle.xr_types.specs.Frames.{ShownFrame}
+use Rattle.xr_types.specs.declared.frames.Shown.{Shown}
 use Rattle.xr_model.specs.machine.OverCells.{World, MayApply}
 use Rattle.xr_model.specs.machine.Request.{request_of, is_locked}
 use Rattle.xr_model.specs.machine.Machine.{IsPresent}
@@ -14,7 +14,7 @@ use Rattle.xr_core.proofs.counted.Core.apply.Goals.{in-Ok, in-Err-Refused}
 use Rattle.xr_core.proofs.counted.Core.apply.Given.{Over}
 use Rattle.xr_core.proofs.counted.Core.apply.Goals as goal
 
-abbrev world : {C : Type 0} → WholeCore → C → List ℕ → ShownFrame → World C
+abbrev world : {C : Type 0} → WholeCore → C → List ℕ → Shown → World C
 world core cells text frame = record { core = core; cells = cells; lent = record { text = text; frame = frame } }
 
 -- what the inside decided comes to the reply that is answered

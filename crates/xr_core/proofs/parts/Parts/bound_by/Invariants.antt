@@ -7,5 +7,5 @@ use Rattle.xr_core.proofs.parts.Parts.bound_by.Given as goal
 abbrev pub invariant-loop-binding : goal.invariant-loop-binding
 invariant-loop-binding l =
     (or_refused (first_of (flat_map (binding_checks l.self l.profile) l.list)) (filter_map (bound_of l.self l.profile) l.list)
-    ≡ or_refused (first_of (flat_map (binding_checks l.self l.profile) (drop l.binding-index l.list))) (l.bound.items ++ filter_map (bound_of l.self l.profile) (drop l.binding-index l.list)))
-    × (length l.bound.items ≡ l.binding-index)
+    ≡ or_refused (first_of (flat_map (binding_checks l.self l.profile) (drop l.binding-index l.list))) (l.draft ++ filter_map (bound_of l.self l.profile) (drop l.binding-index l.list)))
+    × (length l.draft ≡ l.binding-index)

@@ -15,16 +15,16 @@ returns-in_err-profile c =
     rw is (err_decides c.args.self.now (suggest_bindings c.args.instance c.args.profile c.args.list.now) (suggest_bindings_rule c.args.self.now c.args.instance c.args.profile c.args.list.now) _ refl (λ who reads. refl) (c.in_err-profile.field-0.0)
     (refused_by_profile c.args.self.now c.args.instance c.args.profile c.args.list.now (sym c.in_ok-live.ensures) (c.in_err-profile.field-0.0) (profile_err c.args.self.now.atoms c.args.profile (c.in_err-profile.field-0.0) c.in_err-profile.ensures)))
 
-pub returns-in_err-bound : goal.returns-in_err-bound
-returns-in_err-bound c =
-    let is : c.from_residual-in_err-bound.result ≡ Err (Refused (c.in_err-bound.field-0.0)) = search rules in
+pub returns-in_err-bound_by : goal.returns-in_err-bound_by
+returns-in_err-bound_by c =
+    let is : c.from_residual-in_err-bound_by.result ≡ Err (Refused (c.in_err-bound_by.field-0.0)) = search rules in
     let found = profile_found c.args.self.now.atoms c.args.profile c.in_ok-profile.profile c.in_ok-profile.ensures in
     let some : (length c.args.list.now == 0) ≡ false = search rules in
     let few : nat_le (length c.args.list.now) MOST_SUGGESTED ≡ true = search rules in
-    rw is (err_decides c.args.self.now (suggest_bindings c.args.instance c.args.profile c.args.list.now) (suggest_bindings_rule c.args.self.now c.args.instance c.args.profile c.args.list.now) _ refl (λ who reads. refl) (c.in_err-bound.field-0.0)
-    (refused_by_binding c.args.self.now c.args.instance c.args.profile c.args.list.now (sym c.in_ok-live.ensures) c.in_ok-profile.profile found.0 found.1 (number_none c.args.list.now some few) (filter_map (bound_of c.args.self.now c.in_ok-profile.profile) c.args.list.now) (c.in_err-bound.field-0.0) c.in_err-bound.ensures.bound))
+    rw is (err_decides c.args.self.now (suggest_bindings c.args.instance c.args.profile c.args.list.now) (suggest_bindings_rule c.args.self.now c.args.instance c.args.profile c.args.list.now) _ refl (λ who reads. refl) (c.in_err-bound_by.field-0.0)
+    (refused_by_binding c.args.self.now c.args.instance c.args.profile c.args.list.now (sym c.in_ok-live.ensures) c.in_ok-profile.profile found.0 found.1 (number_none c.args.list.now some few) (filter_map (bound_of c.args.self.now c.in_ok-profile.profile) c.args.list.now) (c.in_err-bound_by.field-0.0) c.in_err-bound_by.ensures.bound))
 
 pub suggest-code-requires : goal.suggest-code-requires
 suggest-code-requires c =
-    let all : c.in_ok-bound.bound.items ≡ filter_map (bound_of c.args.self.now c.in_ok-profile.profile) c.args.list.now = (all_bound (first_of (flat_map (binding_checks c.args.self.now c.in_ok-profile.profile) c.args.list.now)) (filter_map (bound_of c.args.self.now c.in_ok-profile.profile) c.args.list.now) c.in_ok-bound.bound.items (search rules)).1 in
-    record { sources = rw (c.as_slice.ensures.value, all) (sources_bound c.args.self.now c.in_ok-profile.profile c.args.list.now) }
+    let all : c.bound_by.new.draft ≡ filter_map (bound_of c.args.self.now c.in_ok-profile.profile) c.args.list.now = (all_bound (first_of (flat_map (binding_checks c.args.self.now c.in_ok-profile.profile) c.args.list.now)) (filter_map (bound_of c.args.self.now c.in_ok-profile.profile) c.args.list.now) c.bound_by.new.draft (search rules)).1 in
+    record { sources = rw (c.as_slice.ensures, all) (sources_bound c.args.self.now c.in_ok-profile.profile c.args.list.now) }

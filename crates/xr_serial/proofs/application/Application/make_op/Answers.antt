@@ -1,57 +1,61 @@
-use Rattle.std.proofs.Common.{rules, ◌≡◌, ◌<◌, ◌+◌, ◌∙◌, ℤ, w64, to_z, of_z, length, Option, None, refl, sym, subst}
+use Rattle.std.proofs.Common.{rules, ◌≡◌, ◌<◌, ◌+◌, ◌∙◌, ◌∷◌, [], ℕ, ℤ, List, Bool, true, false, w64, to_z, of_z, length, get_or, refl, sym, ap, subst}
+use Rattle.std.proofs.Math.Seq.{get_or-append_seam}
 use Rattle.xr_types.specs.declared.calls.Actor.TheVariants.{App}
-use Rattle.xr_types.specs.Op.{call_name}
+use Rattle.xr_types.specs.declared.made.Made.{Made}
+use Rattle.xr_types.specs.declared.calls.Reply.{Reply}
 use Rattle.xr_model.specs.scenario.ScriptForm.{IsInRange}
 use Rattle.xr_model.specs.runs.Lists.{made_at}
+use Rattle.xr_model.specs.runs.NameValues.{with_name_value}
 use Rattle.xr_model.specs.machine.Request.{Request}
 use Rattle.xr_model.specs.runs.Robin.{with_start}
 use Rattle.xr_model.specs.runs.Scripts.{request_for}
 use Rattle.xr_model.proofs.ScriptForm.{in_range-item}
-use Rattle.xr_serial.specs.inside.Made.{AnsweredOrWaits, outcome_with, exchange_of}
+use Rattle.xr_serial.specs.inside.Made.{CallTurn, CallMade, CallWaits, made_with, exchange_of}
 use Rattle.xr_serial.specs.inside.RunState.{AppState}
-use Rattle.xr_serial.specs.inside.Sides.{op_mark, op_start}
-use Rattle.xr_serial.specs.declared.calls.Answered.{Answered}
+use Rattle.xr_serial.specs.inside.Sides.{listed_op}
 use Rattle.xr_serial.proofs.KeptApplications.{same_app}
-use Rattle.xr_serial.proofs.Ops.{here_at, name_is, mark_is, start_is}
+use Rattle.xr_serial.proofs.Ops.{here_at, made_op_at}
 use Rattle.xr_serial.proofs.application.Application.make_op.Goals as goal
 
 pub make_op-requires-clause-ranged : goal.make_op-requires-clause-ranged
 make_op-requires-clause-ranged c = subst IsInRange (sym c.index-ops-self.is) (in_range-item c.args.ops.now c.self.inside.made c.index-ops-self.result c.requires.formed (subst (λ (a : AppState). a.made < length c.args.ops.now) (sym c.self.view_is) c.requires.within))
+
+pub returns-then-not-branch : goal.returns-then-not-branch
+returns-then-not-branch c =
+    let within : c.self.inside.made < length c.args.ops.now = subst (λ (a : AppState). a.made < length c.args.ops.now) (sym c.self.view_is) c.requires.within in
+    let o = c.index-ops-self.result in
+    let names = c.self.inside.names in
+    let clock = c.self.inside.clock in
+    let read : to_z w64 (of_z w64 clock) ≡ clock = search rules in
+    let none : c.in_ok-make_op.field-0 ≡ false = search rules in
+    let told = subst (λ (z : ℤ). CallTurn c.args.machine.now c.make_op.new.self (App c.args.number) (with_start z (request_for names o)) (listed_op (c.self.inside.made + 1) z o) c.self.inside.calls.items c.make_op.new.list.items c.in_ok-make_op.field-0) read c.in_ok-make_op.ensures in
+    let waits : CallWaits c.args.machine.now c.make_op.new.self (App c.args.number) (with_start clock (request_for names o)) c.self.inside.calls.items c.make_op.new.list.items =
+    subst (λ (b : Bool). CallTurn c.args.machine.now c.make_op.new.self (App c.args.number) (with_start clock (request_for names o)) (listed_op (c.self.inside.made + 1) clock o) c.self.inside.calls.items c.make_op.new.list.items b) none told in
+    rw (← c.self.view_is) (record { op = o; here = here_at c.args.ops.now c.self.inside.made o within c.index-ops-self.is; waits = waits.waits; same = waits.same; app = same_app refl refl waits.kept refl refl })
 
 pub returns : goal.returns
 returns c =
     let within : c.self.inside.made < length c.args.ops.now = subst (λ (a : AppState). a.made < length c.args.ops.now) (sym c.self.view_is) c.requires.within in
     let o = c.index-ops-self.result in
     let names = c.self.inside.names in
-    let frame = c.in_ok-answered.ensures.0 in
     let clock = c.self.inside.clock in
+    let place = c.self.inside.made + 1 in
     let what : Request = with_start clock (request_for names o) in
-    let outcome = outcome_with what c.in-Some.answered frame in
     let read : to_z w64 (of_z w64 clock) ≡ clock = search rules in
-    let told = subst (λ (z : ℤ). AnsweredOrWaits c.args.machine.now c.make_op.new.self (App c.args.number) (with_start z (request_for names o)) frame c.in_ok-answered.field-0) read c.in_ok-answered.ensures.1 in
-    let comes = subst (λ (a : Option Answered). AnsweredOrWaits c.args.machine.now c.make_op.new.self (App c.args.number) what frame a) c.in-Some.is told in
-    let begun : to_z w64 (of_z w64 c.op_start-start.result) ≡ c.op_start-start.result = search rules in
+    let went : c.in_ok-make_op.field-0 ≡ true = search rules in
+    let told = subst (λ (z : ℤ). CallTurn c.args.machine.now c.make_op.new.self (App c.args.number) (with_start z (request_for names o)) (listed_op place z o) c.self.inside.calls.items c.make_op.new.list.items c.in_ok-make_op.field-0) read c.in_ok-make_op.ensures in
+    let call : CallMade c.args.machine.now c.make_op.new.self (App c.args.number) what (listed_op place clock o) c.self.inside.calls.items c.make_op.new.list.items =
+    subst (λ (b : Bool). CallTurn c.args.machine.now c.make_op.new.self (App c.args.number) what (listed_op place clock o) c.self.inside.calls.items c.make_op.new.list.items b) went told in
+    let outcome = call.outcome in
+    let made : Made = made_with (listed_op place clock o) outcome in
+    let counted : c.len-count.result ≡ length c.self.inside.calls.items = search rules in
+    let last : c.index.result.now ≡ made = c.index.ensures ∙ ap (λ (n : ℕ). get_or c.make_op.new.list.items n c.index.result.now) counted ∙ ap (λ (l : List Made). get_or l (length c.self.inside.calls.items) c.index.result.now) call.kept ∙ get_or-append_seam c.self.inside.calls.items made [] c.index.result.now in
     let shown : to_z w64 (of_z w64 c.clock_behind-self-inside.result) ≡ c.clock_behind-self-inside.result = search rules in
-    let kept : made_at (c.self.inside.made + 1) (exchange_of what outcome) ≡ record { op = c.self.inside.made + 1; name = call_name o; mark = op_mark o; start = op_start clock o; reply = outcome.reply; text = outcome.text } =
-    rw (name_is clock names o, mark_is clock names o, start_is clock names o) refl in
     rw (← c.self.view_is) (record {
       op = o;
       outcome = outcome;
       here = here_at c.args.ops.now c.self.inside.made o within c.index-ops-self.is;
       ranged = rw c.index-ops-self.is (in_range-item c.args.ops.now c.self.inside.made o c.requires.formed within);
-      call = comes;
-      app = same_app refl c.learn.ensures (rw (c.in_ok-add.ensures, c.name.ensures, c.op_mark.ensures, begun, c.op_start-start.ensures, read, kept) refl) (shown ∙ c.clock_behind-self-inside.ensures.clock names) refl;
+      call = call.call;
+      app = same_app refl (c.learn.ensures ∙ ap (λ (m : Made). with_name_value names place o m.reply) last) (call.kept ∙ rw (made_op_at clock names o place outcome) refl) (shown ∙ c.clock_behind-self-inside.ensures.clock names) refl;
     })
-
-pub returns-in_default : goal.returns-in_default
-returns-in_default c =
-    let within : c.self.inside.made < length c.args.ops.now = subst (λ (a : AppState). a.made < length c.args.ops.now) (sym c.self.view_is) c.requires.within in
-    let o = c.index-ops-self.result in
-    let names = c.self.inside.names in
-    let clock = c.self.inside.clock in
-    let frame = c.in_ok-answered.ensures.0 in
-    let none : c.in_ok-answered.field-0 ≡ None = search rules in
-    let read : to_z w64 (of_z w64 clock) ≡ clock = search rules in
-    let told = subst (λ (z : ℤ). AnsweredOrWaits c.args.machine.now c.make_op.new.self (App c.args.number) (with_start z (request_for names o)) frame c.in_ok-answered.field-0) read c.in_ok-answered.ensures.1 in
-    let waits = subst (λ (a : Option Answered). AnsweredOrWaits c.args.machine.now c.make_op.new.self (App c.args.number) (with_start clock (request_for names o)) frame a) none told in
-    rw (← c.self.view_is) (record { op = o; here = here_at c.args.ops.now c.self.inside.made o within c.index-ops-self.is; waits = waits.1; same = waits.0; app = refl })

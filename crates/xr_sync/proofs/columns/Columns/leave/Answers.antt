@@ -7,6 +7,6 @@ pub invariant_of-self : goal.invariant_of-self
 invariant_of-self c = (
   c.self.invariant.0,
   c.leave.ensures.tidy,
-  rw c.leave.ensures.left (left_timed (λ place. slice_index_or c.args.there.now place false) c.self.inside.states.columns c.self.invariant.2),
+  rw (c.leave.ensures.left, c.deref_mut.ensures.value) (left_timed (λ place. slice_index_or c.args.there.now place false) c.self.inside.states.value.columns c.self.invariant.2),
   c.leave.ensures.beyond,
 )

@@ -6,6 +6,6 @@ pub invariant_of-self : goal.invariant_of-self
 invariant_of-self c = (
   c.sync_tidy-self-inside.ensures.clean,
   c.sync_tidy-self-inside.ensures.tidy,
-  rw (c.sync_tidy-self-inside.ensures.after, to_z-of_z c.ranges.clock) (synced_timed c.args.active.now c.args.bindings.now c.args.inputs.now c.args.clock c.self.inside.states.columns c.requires.time c.self.invariant.2),
+  rw (c.sync_tidy-self-inside.ensures.after, c.deref_mut.ensures.value, to_z-of_z c.ranges.clock) (synced_timed c.args.active.now c.args.bindings.now c.args.inputs.now c.args.clock c.self.inside.states.value.columns c.requires.time c.self.invariant.2),
   c.sync_tidy-self-inside.ensures.beyond,
 )

@@ -2,7 +2,7 @@ use Rattle.std.proofs.Common.{rules, ◌≡◌, ◌∙◌, ℤ, w64, to_z, of_z,
 use Rattle.xr_types.specs.Op.{call_name}
 use Rattle.xr_types.specs.declared.made.Made.{Made}
 use Rattle.xr_runtime.specs.Passes.{table_of}
-use Rattle.xr_serial.specs.inside.Sides.{op_start}
+use Rattle.xr_scenario_calls.specs.Listed.{op_start}
 use Rattle.xr_model.specs.runs.Lists.{made_at}
 use Rattle.xr_workers.proofs.ScriptsMade.{op_made, op_listed}
 use Rattle.xr_workers.proofs.script.Script.make_op.Goals as goal
