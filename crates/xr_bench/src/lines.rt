@@ -16,14 +16,17 @@ pub(crate) fn text_of_lines(alloc: Global) -> Result<Vec<u8>, AllocError> {
 }
 
 /// How many events a device tells of the text.
-pub(crate) fn read_lines(text: &[u8]) -> u64 {
-    let mut device = LineDevice::new(MemorySource::new(Which::Device, text, &[]));
+pub(crate) fn read_lines(alloc: Global, text: &[u8]) -> Result<u64, AllocError> {
+    let source = MemorySource::new(Which::Device, text, &[]);
+    let Ok(mut device) = LineDevice::start(alloc, source) else {
+        return Err(AllocError);
+    };
     let mut count: u64 = 0;
     for _ in 0..text.len() {
         match device.next() {
             Next::Event(_) => count = count.saturating_add(1),
-            _ => return count,
+            _ => return Ok(count),
         }
     }
-    count
+    Ok(count)
 }

@@ -1,13 +1,15 @@
-//! `xr_bench` measures texts and runs: how many ops a second `serde_json` reads of a round of calls as a scenario, how many
-//! lines a second a device text is read, how many calls and turns a second a run of eight scripts makes, and how long three
-//! scenarios take to be read. A measure and no test. It touches the clock and standard output.
+//! `xr_bench` measures calls, texts and runs: calls on a core of one application, how many ops a second `serde_json` reads of a
+//! round of calls as a scenario, how many lines a second a device text is read, how many calls and turns a second a run of eight
+//! scripts makes, and how long three scenarios take to be read. A measure and no test. It touches the clock and standard output.
 #![tactic(auto)]
 
+mod calls;
 mod lines;
 mod reading;
 mod runs;
 mod texts;
 
+use calls::measure_each;
 use lines::{read_lines, text_of_lines};
 use reading::{CALLS, read_rounds};
 use runs::{TURNS, text_of_frame_waits, text_of_passes, text_of_waits, time_runs};
@@ -20,13 +22,21 @@ use texts::{text_of_marks, text_of_names, text_of_polls, time_readings};
 
 const HELP: &str = "\
 xr_bench ROUNDS
-Reads the calls of a round as a scenario with serde_json, a tenth as often as there are ROUNDS, 1 to
-100000000, and at most 100000 times, and prints how many ops a second are read; and then a device text of
-16777208 bytes, and prints how many lines a second are read. It runs eight scripts that pass marks round, 20
-times, and prints how many calls a second these make; and seven scripts that wait for an eighth, once for a
-mark and once for a frame, and prints how many turns a second there are. It reads three scenarios of 16001
-ops, 10 times each, and prints how long that took, beside how long their JSON alone took to be read: of
-polls, of marks, and of names that differ at their ends alone.
+Makes ROUNDS rounds of calls, 1 to 100000000, on a core of one application, and prints how many calls a
+second it answers. It locates a head in a room as often as there are rounds. It sends as many frames round,
+each waited for, begun, ended and taken, beside asking for the system five times. It paints as many images,
+each acquired, waited for, painted and released, beside asking for the system six times; shows as many
+frames of two images, and as many that are painted anew; and waits as often in vain for an image, and for a
+mark. It suggests as many bindings, 512 at once. It syncs one action with one binding as often, and 64 actions
+with 512 bindings a 64th as often. It does the same by calls on a core, each followed by a getter, and reads
+an action alone as often as there are rounds. Of each it prints how many a second there are.
+It reads the calls of a round as a scenario with serde_json, a tenth as often as there are ROUNDS, at most
+100000 times, and prints how many ops a second are read; and then a device text of 16777208 bytes, and prints
+how many lines a second are read. It runs eight scripts that pass marks round, 20 times, and prints how many
+calls a second these make; and seven scripts that wait for an eighth, once for a mark and once for a frame,
+and prints how many turns a second there are. It reads three scenarios of 16001 ops, 10 times each, and
+prints how long that took, beside how long their JSON alone took to be read: of polls, of marks, and of
+names that differ at their ends alone.
 ";
 
 /// So many things in so many microseconds, a second.
@@ -56,7 +66,9 @@ fn measure_lines<R: Clock + Print>(rt: &R, alloc: Global) -> io::Result<bool> {
         return Ok(false);
     };
     let start = Instant::now(rt)?;
-    let lines = read_lines(text.as_slice());
+    let Ok(lines) = read_lines(alloc, text.as_slice()) else {
+        return Ok(false);
+    };
     let spent = start.elapsed(rt)?.as_micros();
     println!(rt;
         "device: {lines} lines in {spent} microseconds, {} a second",
@@ -143,13 +155,14 @@ fn measure_texts<R: Clock + Print>(rt: &R, alloc: Global) -> io::Result<bool> {
 
 /// Measures all of these; whether memory was found.
 fn measure<R: Clock + Print>(rt: &R, alloc: Global, rounds: u64) -> io::Result<bool> {
+    let calls = measure_each(rt, alloc, rounds)?;
     let readings = (rounds / 10).min(100_000);
     let reading = measure_reading(rt, alloc, readings)?;
     let lines = measure_lines(rt, alloc)?;
     let runs = measure_runs(rt, alloc)?;
     let waits = measure_frame_waits(rt, alloc)?;
     let texts = measure_texts(rt, alloc)?;
-    Ok(reading && lines && runs && waits && texts)
+    Ok(calls && reading && lines && runs && waits && texts)
 }
 
 /// The rounds that the words ask for.

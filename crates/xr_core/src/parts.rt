@@ -174,7 +174,7 @@ pub(crate) fn give(handles: &mut Handles, kind: Kind, parent: u64) -> u64
 }
 
 impl Parts {
-    /// The parts of a core of 1 to 8 applications before any call, where they stay: they are some 70 KB, which nobody moves.
+    /// The parts of a core of 1 to 8 applications before any call, where they stay: they are some 9 KB, which nobody moves.
     /// Takes all memory but that of new path texts and of suggestions.
     #[tactic(auto, using(crate::proofs::Start::none_left))]
     pub(crate) fn start(alloc: Global, apps: u8) -> Result<Box<Parts>, NoMemory>
@@ -184,6 +184,7 @@ impl Parts {
     {
         let paths = Paths::start(alloc)?;
         let events = Events::start(alloc)?;
+        let sets = Sets::start(alloc)?;
         let spaces = Spaces::start(alloc)?;
         let columns = Columns::start(alloc)?;
         let ranking = Ranking::start(alloc)?;
@@ -194,7 +195,7 @@ impl Parts {
             events,
             sessions: ArrayVec::new(),
             created: 0,
-            sets: Sets::start(),
+            sets,
             bindings: Bindings::start(),
             spaces,
             frames: Frames::start(),

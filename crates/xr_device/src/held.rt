@@ -2,17 +2,19 @@
 ghost use Rattle.std.specs.Prelude.{◌≡◌, ◌≤◌, ◌<◌, ◌+◌, [], length, drop, IfOk};
 ghost use Rattle.xr_device.specs.inside.Steps.{HasReadInto};
 
+use std::alloc::Global;
 use std::marker::Model;
 use xr_io::Source;
-use xr_types::Failed;
+use xr_types::{Failed, NoMemory};
 
 /// How many bytes are held at most.
 pub(crate) const ROOM: usize = 4096;
 
-/// The held bytes, seen by contracts as their list. They stand in the value itself, so that nothing takes memory.
+/// The held bytes, seen by contracts as their list. They stand in a room of their own, which is taken once, so that nobody moves
+/// them and no stack has them.
 #[derive(Drop)]
 pub(crate) struct Held {
-    bytes: [u8; ROOM],
+    bytes: Box<[u8; ROOM]>,
     start: usize,
     end: usize,
 }
@@ -22,21 +24,23 @@ impl Model for Held {
 
     ghost Value = { List ℕ };
 
-    ghost view = { λ h. slice_range h.bytes h.start h.end };
+    ghost view = { λ h. slice_range h.bytes.value h.start h.end };
 
     ghost invariant = { λ h. (h.start ≤ h.end) × (h.end ≤ 4096) };
 }
 
 impl Held {
-    /// No byte is held.
-    pub(crate) fn new() -> Held
-        ensures { result ≡ [] }
+    /// No byte is held. Takes all memory that these bytes ever take.
+    #[inline(never)]
+    pub(crate) fn start(alloc: Global) -> Result<Held, NoMemory>
+        ensures { IfOk result (λ held. held ≡ []) }
     {
-        Held {
-            bytes: [0; ROOM],
+        let bytes = Box::new(alloc, [0; ROOM]).map_err(|_| NoMemory)?;
+        Ok(Held {
+            bytes,
             start: 0,
             end: 0,
-        }
+        })
     }
 
     pub(crate) fn as_slice(&self) -> &[u8]

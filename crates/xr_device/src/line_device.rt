@@ -1,5 +1,5 @@
 // The device that reads a text.
-ghost use Rattle.std.specs.Prelude.{◌≡◌, ◌≤◌, ◌+◌, false, [], option_map};
+ghost use Rattle.std.specs.Prelude.{◌≡◌, ◌≤◌, ◌+◌, false, [], option_map, IfOk, IfErr};
 ghost use Rattle.xr_types.specs.declared.limits.TheConstants.{MOST_DEVICE};
 ghost use Rattle.xr_io.specs.Outside.{left_of};
 ghost use Rattle.xr_model.specs.device_text.DeviceText.{told_in};
@@ -7,13 +7,15 @@ ghost use Rattle.xr_device.specs.Answers.{NextOf, OnFailed};
 ghost use Rattle.xr_device.specs.Kinds.{taken_by, of_text};
 ghost use Rattle.xr_device.specs.Texts.{KeepsTold, IsUndecided};
 
+use crate::held::Held;
 use crate::text::{Step, Text};
 use crate::{Device, Next};
+use std::alloc::Global;
 use std::marker::Model;
 use xr_io::Source;
 
-/// A device that gives the events of a text, line by line. It reads at most 16,777,217 bytes, keeps what it holds in
-/// itself, and takes no memory. A step looks at no more than 256 held bytes, and a read moves no more than 255.
+/// A device that gives the events of a text, line by line. It reads at most 16,777,217 bytes and holds at most 4,096 of them, for
+/// which memory is taken once. A step looks at no more than 256 held bytes, and a read moves no more than 255.
 #[derive(Drop)]
 pub struct LineDevice<S: Source> {
     text: Text<S>,
@@ -42,10 +44,11 @@ impl<S: Source> Model for LineDevice<S> {
 }
 
 impl<S: Source> LineDevice<S> {
-    /// A device over a source, of which nothing was read yet.
-    pub fn new(source: S) -> LineDevice<S>
-        ensures remaining { (of_text result).remaining ≡ option_map told_in (left_of (S.state source)) }
-        ensures new { result ≡ record {
+    /// A device over a source, of which nothing was read yet. Takes all memory that the device ever takes; where memory is short
+    /// the source is given back.
+    pub fn start(alloc: Global, source: S) -> Result<LineDevice<S>, S>
+        ensures remaining { IfOk result (λ device. (of_text device).remaining ≡ option_map told_in (left_of (S.state source))) }
+        ensures start { IfOk result (λ device. device ≡ record {
           text = option_map told_in (left_of (S.state source));
           over = false;
           given = 0;
@@ -53,12 +56,16 @@ impl<S: Source> LineDevice<S> {
           used = 0;
           ended = false;
           source = S.state source;
-        } }
+        }) }
+        ensures back { IfErr result (λ given. S.state given ≡ S.state source) }
     {
-        LineDevice {
-            text: Text::new(source),
+        let Ok(held) = Held::start(alloc) else {
+            return Err(source);
+        };
+        Ok(LineDevice {
+            text: Text::new(source, held),
             over: false,
-        }
+        })
     }
 
     /// Gives the source back, of which no more than 16,777,217 bytes were taken.

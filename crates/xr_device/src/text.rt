@@ -44,15 +44,16 @@ impl<S: Source> Model for Text<S> {
 }
 
 impl<S: Source> Text<S> {
-    /// Nothing was read of the source yet.
-    pub(crate) fn new(source: S) -> Text<S>
+    /// Nothing was read of the source yet, and no byte is held.
+    pub(crate) fn new(source: S, held: Held) -> Text<S>
+        requires { held ≡ [] }
         ensures new { result ≡ reading_of 1 0 0 [] false (S.state source) }
         ensures told { told result ≡ option_map told_in (left_of (S.state source)) }
         ensures lines { UsedLines result }
     {
         Text {
             source,
-            held: Held::new(),
+            held,
             ended: false,
             number: 1,
             given: 0,

@@ -119,14 +119,18 @@ pub fn open_beside<O: Opener>(
         opener.close(source);
         return Err(RunFault::OpenFault);
     };
-    match read_scenario(alloc, opener, source) {
-        Ok(scenario) => Ok(Beside {
-            scenario,
-            device: LineDevice::new(events),
-        }),
+    let scenario = match read_scenario(alloc, opener, source) {
+        Ok(scenario) => scenario,
         Err(fault) => {
             opener.close(events);
-            Err(fault)
+            return Err(fault);
+        }
+    };
+    match LineDevice::start(alloc, events) {
+        Ok(device) => Ok(Beside { scenario, device }),
+        Err(events) => {
+            opener.close(events);
+            Err(RunFault::NoMemory)
         }
     }
 }

@@ -80,7 +80,7 @@ fn run_alone<O: Opener>(alloc: Global, file: &str, opener: &mut O) -> Result<Lis
 }
 
 /// Opens the scenario under a file and the device's file under a name, and runs the scenario by the round robin beside the device.
-/// Every source that was opened is closed. The kilobytes of the device's text stand here, where no other run has them on its stack.
+/// Every source that was opened is closed.
 #[inline(never)]
 fn run_beside<O: Opener>(
     alloc: Global,

@@ -17,6 +17,7 @@ use xr_workers::OpenGate;
 
 /// Runs the words as `run_threads` does, through a gate that holds nobody, and ends with the status that it answers: its line on the
 /// output for errors, and its number as the exit status.
+#[inline(never)]
 pub fn run_threads_program<R: Threads + Wait + Sync, O: Opener, K: Sink, E: Sink>(
     rt: &R,
     alloc: Global,

@@ -1,5 +1,5 @@
 // The action sets with their actions, and the calls on them.
-ghost use Rattle.std.specs.Prelude.{◌≡◌, ◌≤◌, ◌<◌, ◌==◌, ◌&&◌, None, length};
+ghost use Rattle.std.specs.Prelude.{◌≡◌, ◌≤◌, ◌<◌, ◌==◌, ◌&&◌, None, length, IfOk};
 ghost use Rattle.std.specs.List.{list_any};
 ghost use Rattle.std.specs.Option.{option_copied};
 ghost use Rattle.xr_model.specs.machine.PartAnswers.{code_by};
@@ -10,8 +10,9 @@ use crate::action::Action;
 use crate::set::{Set, named_among, seal_sets};
 use crate::texts::{check_new_label, check_new_name, copied};
 use arrayvec::ArrayVec;
+use std::alloc::Global;
 use std::marker::Model;
-use xr_types::{ACTION_SETS, ACTIONS, ActionType, Code, USERS, User};
+use xr_types::{ACTION_SETS, ACTIONS, ActionType, Code, NoMemory, USERS, User};
 
 /// An action that is to be created: its handle and that of its set, its name and its localized name, its type, and for
 /// each user path, at its `user_place`, whether it declares it.
@@ -25,32 +26,39 @@ pub struct NewAction<'a> {
     pub declared: [bool; USERS],
 }
 
-/// The action sets and the actions in the order of their creation. All of it stands in the value itself. Contracts see the
-/// machine's sets.
+/// The action sets and the actions in the order of their creation, in room for as many as there may be, which is taken once.
+/// Contracts see the machine's sets.
 #[derive(Drop)]
 pub struct Sets {
-    sets: ArrayVec<Set, ACTION_SETS>,
-    actions: ArrayVec<Action, ACTIONS>,
+    sets: Vec<Set>,
+    actions: Vec<Action>,
 }
 
 impl Model for Sets {
+    ghost use Rattle.std.specs.Prelude.{◌≡◌, vec_capacity};
+    ghost use Rattle.xr_types.specs.declared.handles.TheConstants.{ACTION_SETS, ACTIONS};
     ghost use Rattle.xr_model.specs.machine.Sets as model;
 
     ghost Value = { model.Sets };
 
     ghost view = { λ s. record { sets = s.sets.items; actions = s.actions.items } };
+
+    ghost invariant = { λ s. (vec_capacity s.sets ≡ ACTION_SETS) × (vec_capacity s.actions ≡ ACTIONS) };
 }
 
 impl Sets {
-    /// No set and no action yet. The sets and the actions stand in the value itself, so that
-    /// nothing later takes memory, and neither does this.
-    pub fn start() -> Sets
-        ensures { result ≡ no_sets }
+    /// No set and no action yet. Takes the room of 16 sets and 64 actions, and nothing later takes memory. `NoMemory` comes where
+    /// there isn't as much.
+    pub fn start(alloc: Global) -> Result<Sets, NoMemory>
+        ensures { IfOk result (λ sets. sets ≡ no_sets) }
     {
-        Sets {
-            sets: ArrayVec::new(),
-            actions: ArrayVec::new(),
-        }
+        let (Ok(sets), Ok(actions)) = (
+            Vec::with_capacity(alloc, ACTION_SETS),
+            Vec::with_capacity(alloc, ACTIONS),
+        ) else {
+            return Err(NoMemory);
+        };
+        Ok(Sets { sets, actions })
     }
 
     /// Checks the names of a set that is asked for, which differ among the sets. Refused are, in this order, a name that
@@ -75,7 +83,7 @@ impl Sets {
         requires checked { first_of (set_checks self.old name.now localized.now) ≡ None }
         ensures { self.new ≡ with_set self.old handle name.now localized.now priority }
     {
-        self.sets.push(Set {
+        self.sets.push_reserved(Set {
             handle,
             name: copied(name),
             localized: copied(localized),
@@ -121,7 +129,7 @@ impl Sets {
           declared = action.entry.declared;
         }) }
     {
-        self.actions.push(Action {
+        self.actions.push_reserved(Action {
             handle: action.handle,
             set: action.set,
             name: copied(action.name),

@@ -19,7 +19,7 @@ const NO_STATES: States = States {
 };
 
 /// What the actions show: a row for each of 64 places of actions, whose column 0 is that of all user paths, and the others those
-/// of the five user paths in their order. Beside it stands the table that a sync works with. Both are 9 KB, which nobody moves.
+/// of the five user paths in their order. Beside it stands the table that a sync works with. They are 9 and 5 KB, which nobody moves.
 /// Contracts see the columns.
 #[derive(Drop)]
 pub struct Columns {

@@ -1,4 +1,4 @@
--- Cells that may always be called; and cells that are lent: what was called on a loan was called on the cells that it lends.
+-- Cells that are lent: what was called on a loan was called on the cells that it lends.
 use Rattle.std.proofs.Common.{◌≡◌, List, [], ◌∷◌, refl, ap, ◌∙◌}
 use Rattle.xr_types.specs.declared.calls.Actor.{Actor}
 use Rattle.xr_types.specs.declared.calls.Call.{Call}
@@ -8,10 +8,6 @@ use Rattle.xr_model.specs.machine.CoreCalls.{Lent}
 use Rattle.xr_model.specs.machine.OverCells.{World, AppliesOver}
 use Rattle.xr_model.specs.machine.PlainImages.{PlainImages, PlainMay, PlainDoes}
 use Rattle.xr_model.specs.machine.State.{WholeCore}
-
-pub may_each : {C : Type 0} (may : C → CellCall → Type 0) (does : C → CellCall → C → Type 0) → ((c : C) (x : CellCall) → may c x) → (calls : List CellCall) (c : C) → MayCall may does c calls
-may_each may does always [] c = tt
-may_each may does always (x ∷ calls) c = (always c x, λ d h. may_each may does always calls d)
 
 -- a loan by what it lends, and the name by which that is known afterwards
 module _ {C N : Type 0} (now : C → PlainImages) (name : C → N) where

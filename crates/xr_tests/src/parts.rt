@@ -1,19 +1,10 @@
-// What no run shows of parts: handles of kinds that no call makes, numbers of inputs, syncs, swapchains over cells that are lent, a
-// core over such cells and one that another thread has for a while, spaces of actions, what sets, actions and suggestions are kept as,
-// what paths pick, texts that are no UTF-8, words that no run looks up, a device that is a list, and lists that give their `Vec`
-// back.
-mod acts;
-mod bindings;
+// What no run shows of parts: a core over cells that are lent, the words of what getters answer from, numbers of inputs at both sides
+// of each threshold, what paths pick, texts that are no UTF-8, a device that is a list, a device's text of the most bytes, and lists that
+// give their `Vec` back.
 mod cells;
 mod cores;
 mod devices;
-mod handles;
 mod lists;
 mod names;
 mod numbers;
 mod profiles;
-mod sets;
-mod spaces;
-mod swapchains;
-mod syncs;
-mod words;

@@ -1,7 +1,4 @@
-// The reports and summaries that no run gives yet: the lines of calls, values, frames and events that aren't built, and counts beyond a load's.
-mod blocks;
-mod events;
+// What no run gives of reports and summaries: each name with each code, and counts beyond a load's.
 mod lists;
 mod names;
 mod summaries;
-mod values;

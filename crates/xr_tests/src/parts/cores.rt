@@ -1,4 +1,4 @@
-// A core over cells that are lent, beside one over cells of its own, and a core that another thread has for a while.
+// A core over cells that are lent, beside one over cells of its own, and the words of what getters answer from.
 ghost use Rattle.std.specs.Prelude.{◌<◌, ◌^◌, IsTrue, length};
 ghost use Rattle.xr_types.specs.declared.calls.Actor.TheVariants.{App, Compositor, Device};
 ghost use Rattle.xr_model.specs.machine.Request.{request_of};
@@ -8,12 +8,11 @@ ghost use Rattle.xr_model.specs.machine.PlainImages.{PlainDoes};
 
 use super::cells::Lent;
 use std::test::Fail;
-use std::thread::{Threads, join};
 use xr_chains::PlainCells;
 use xr_core::{Core, PlainCore};
 use xr_types::{
-    ActionType, Actor, Blend, Call, Code, DeviceEvent, Gives, Layer, RefKind, Shown, ShownLayer,
-    Step, SubImage, View, ViewConfig, Wish,
+    ActionType, Actor, Blend, Call, Code, DeviceEvent, Gives, Layer, RefKind, Shown, Step,
+    SubImage, View, ViewConfig, Wish,
 };
 
 /// Makes a call of a core over a loan of its cells, which ends. They have had what the machine's step calls on them.
@@ -48,7 +47,6 @@ fn is_own(call: &Call<'_>) -> bool
             | Call::AttachSets { .. }
             | Call::CreateReferenceSpace { .. }
             | Call::CreateSwapchain { .. }
-            | Call::DestroySession { .. }
             | Call::AcquireImage { .. }
             | Call::WaitImage {
                 timeout: 0 | 10,
@@ -244,16 +242,6 @@ fn submit<M: Machine>(machine: &mut M, scene: Scene) -> Option<Code> {
     )
 }
 
-/// The compositor asks for a frame; the stamp of its one quad.
-fn shown_stamp<M: Machine>(machine: &mut M) -> Option<u64> {
-    let mut shown = Shown::default();
-    let _ = machine.make(&Call::NextFrame, &mut shown);
-    match shown.layers.as_slice() {
-        [ShownLayer::Quad(stamp)] => Some(*stamp),
-        _ => None,
-    }
-}
-
 const DONE: Option<Code> = Some(Code::Success);
 
 const WRONG: Option<Code> = Some(Code::CallOrderInvalid);
@@ -395,27 +383,5 @@ fn a_core_shows_an_action_that_is_attached(rt: HostRuntime) -> Result<(), Fail> 
     assert!(rt;
         words.get(8..) == Some([action, 26, 0, 0, 0, 0, 0, 0, 0, 0, 0, 0, 0, 0].as_slice())
     );
-    Ok(())
-}
-
-#[test]
-fn a_core_goes_to_another_thread_and_back(rt: HostRuntime) -> Result<(), Fail> {
-    let mut core = PlainCore::start(rt.alloc(), 1).ok().ok_or("memory")?;
-    let scene = set_out(&mut core);
-    let chain = scene.chain;
-    let (back, ()) = join(
-        &rt,
-        move || {
-            let painted = paint(&mut core, chain, 5);
-            (core, painted)
-        },
-        || {},
-    );
-    let (mut core, painted) = back;
-    assert_eq!(rt; painted, [DONE, DONE, DONE, DONE]);
-    assert_eq!(rt; submit(&mut core, scene), DONE);
-    assert_eq!(rt; shown_stamp(&mut core), Some(5));
-    assert_eq!(rt; core.held(), 1);
-    assert_eq!(rt; core.clock(), 0);
     Ok(())
 }

@@ -38,19 +38,25 @@ fn comments(alloc: Global) -> Result<Vec<u8>, AllocError> {
 }
 
 /// The first two answers of a device with this text.
-fn two_answers(text: &[u8]) -> (Next, Next) {
-    let mut device = LineDevice::new(MemorySource::new(Which::Device, text, &[]));
+fn two_answers(alloc: Global, text: &[u8]) -> Result<(Next, Next), AllocError> {
+    let source = MemorySource::new(Which::Device, text, &[]);
+    let Ok(mut device) = LineDevice::start(alloc, source) else {
+        return Err(AllocError);
+    };
     let first = device.next();
-    (first, device.next())
+    Ok((first, device.next()))
 }
 
 #[test]
 fn a_text_has_at_most_16777216_bytes(rt: HostRuntime) -> Result<(), Fail> {
     let mut text = comments(rt.alloc())?;
-    let whole = matches!(two_answers(text.as_slice()), (Next::End, Next::End));
+    let whole = matches!(
+        two_answers(rt.alloc(), text.as_slice())?,
+        (Next::End, Next::End)
+    );
     text.push(b'\n')?;
     let longer = matches!(
-        two_answers(text.as_slice()),
+        two_answers(rt.alloc(), text.as_slice())?,
         (Next::Garbled(65537), Next::End)
     );
     assert!(rt; whole && longer);

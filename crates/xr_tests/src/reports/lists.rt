@@ -6,7 +6,7 @@ use xr_types::{
 };
 
 /// A reply. Its place is 1234.
-pub(crate) fn reply(code: Code, gives: Gives) -> Reply {
+fn reply(code: Code, gives: Gives) -> Reply {
     Reply {
         code,
         gives,
@@ -38,7 +38,7 @@ pub(crate) fn lists_of(
 pub(crate) type Row = (CallName, u8, Code, Gives, &'static [u8]);
 
 /// Calls that were made, at places from 1.
-pub(crate) fn made(alloc: Global, rows: &[Row]) -> Result<MadeList, AllocError> {
+fn made(alloc: Global, rows: &[Row]) -> Result<MadeList, AllocError> {
     let mut calls = Vec::new(alloc);
     let mut op = 0_u32;
     for (name, mark, code, gives, text) in rows {
@@ -58,11 +58,6 @@ pub(crate) fn made(alloc: Global, rows: &[Row]) -> Result<MadeList, AllocError> 
 /// One script with these calls.
 pub(crate) fn script(alloc: Global, rows: &[Row]) -> Result<Several<MadeList>, AllocError> {
     Ok(Several::new(vec![in alloc; made(alloc, rows)?]?))
-}
-
-/// No script.
-pub(crate) fn no_scripts(alloc: Global) -> Several<MadeList> {
-    Several::new(Vec::new(alloc))
 }
 
 /// As many calls of a device.

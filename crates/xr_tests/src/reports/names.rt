@@ -4,98 +4,20 @@ use std::alloc::{AllocError, Global};
 use std::test::Fail;
 use xr_types::{CallName, Code, Gives, Several};
 
-const NAMES: &[CallName] = &[
-    CallName::CreateInstance,
-    CallName::DestroyInstance,
-    CallName::PollEvent,
-    CallName::GetSystem,
-    CallName::StringToPath,
-    CallName::PathToString,
-    CallName::CreateSession,
-    CallName::DestroySession,
-    CallName::EndSession,
-    CallName::RequestExitSession,
-    CallName::BeginFrame,
-    CallName::BeginSession,
-    CallName::CreateReferenceSpace,
-    CallName::CreateActionSpace,
-    CallName::DestroySpace,
-    CallName::LocateSpace,
-    CallName::CreateActionSet,
-    CallName::DestroyActionSet,
-    CallName::CreateAction,
-    CallName::DestroyAction,
-    CallName::SuggestBindings,
-    CallName::AttachSets,
-    CallName::SyncActions,
-    CallName::GetBoolean,
-    CallName::GetFloat,
-    CallName::GetVector,
-    CallName::GetPoseActive,
-    CallName::CreateSwapchain,
-    CallName::DestroySwapchain,
-    CallName::AcquireImage,
-    CallName::ReleaseImage,
-    CallName::WaitImage,
-    CallName::Paint,
-    CallName::WaitFrame,
-    CallName::EndFrame,
-    CallName::Mark,
-    CallName::Await,
-    CallName::Leave,
-];
+/// A call of a name with a code.
+fn row(name: CallName, code: Code) -> Row {
+    (name, 0, code, Gives::Nothing, b"")
+}
 
-const CODES: &[Code] = &[
-    Code::Success,
-    Code::TimeoutExpired,
-    Code::SessionLossPending,
-    Code::EventUnavailable,
-    Code::SessionNotFocused,
-    Code::FrameDiscarded,
-    Code::ValidationFailure,
-    Code::OutOfMemory,
-    Code::ApiVersionUnsupported,
-    Code::LimitReached,
-    Code::SizeInsufficient,
-    Code::HandleInvalid,
-    Code::SessionRunning,
-    Code::SessionNotRunning,
-    Code::SessionLost,
-    Code::SystemInvalid,
-    Code::PathInvalid,
-    Code::PathCountExceeded,
-    Code::PathFormatInvalid,
-    Code::PathUnsupported,
-    Code::LayerInvalid,
-    Code::LayerLimitExceeded,
-    Code::SwapchainRectInvalid,
-    Code::SwapchainFormatUnsupported,
-    Code::ActionTypeMismatch,
-    Code::SessionNotReady,
-    Code::SessionNotStopping,
-    Code::TimeInvalid,
-    Code::ReferenceSpaceUnsupported,
-    Code::FormFactorUnsupported,
-    Code::CallOrderInvalid,
-    Code::PoseInvalid,
-    Code::ViewConfigurationTypeUnsupported,
-    Code::EnvironmentBlendModeUnsupported,
-    Code::NameDuplicated,
-    Code::NameInvalid,
-    Code::ActionsetNotAttached,
-    Code::ActionsetsAlreadyAttached,
-    Code::LocalizedNameDuplicated,
-    Code::LocalizedNameInvalid,
-];
-
-/// A call of each name, and one with each code.
+/// A call of each name that a script's list has, and one with each code.
 fn rows(alloc: Global) -> Result<Vec<Row>, AllocError> {
     let mut rows = Vec::new(alloc);
-    for name in NAMES {
-        rows.push((*name, 0, Code::Success, Gives::Nothing, b"".as_slice()))?;
+    for name in CallName::ops() {
+        rows.push(row(*name, Code::Success))?;
     }
-    for code in CODES {
-        rows.push((CallName::Paint, 0, *code, Gives::Nothing, b"".as_slice()))?;
+    rows.push(row(CallName::Leave, Code::Success))?;
+    for code in Code::ALL {
+        rows.push(row(CallName::Paint, code))?;
     }
     Ok(rows)
 }

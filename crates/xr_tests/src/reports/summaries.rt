@@ -1,10 +1,12 @@
 // Summaries of what no run of a load makes: no frames, stamps beyond the greatest, other results, a stuck run.
-use super::blocks::shown;
 use super::lists::{Row, device, lists_of, script};
 use std::alloc::{AllocError, Global};
 use std::test::Fail;
 use xr_report::summary;
-use xr_types::{Actor, CallName, Code, Gives, Lists, Several, Shown, ShownLayer, Waiting};
+use xr_types::{
+    Actor, CallName, Code, Gives, Lists, MOST_LAYERS, Several, Shown, ShownLayer, ShownLayers,
+    Waiting,
+};
 
 /// Calls with the last result, one of the first, and the first, not in their order.
 const CALLS: &[Row] = &[
@@ -37,6 +39,21 @@ const NEXT: [Waiting; 1] = [Waiting {
     op: 0,
     name: CallName::NextFrame,
 }];
+
+/// A frame with these layers.
+fn shown(number: u64, time: i64, layers: &[ShownLayer]) -> Shown {
+    let mut frame = Shown {
+        number,
+        time,
+        layers: ShownLayers::new(),
+    };
+    for layer in layers {
+        if frame.layers.as_slice().len() < MOST_LAYERS {
+            frame.layers.push(*layer);
+        }
+    }
+    frame
+}
 
 /// A run that is stuck, with these frames.
 fn stuck_run(alloc: Global, frames: Vec<Shown>) -> Result<Lists, AllocError> {

@@ -1,5 +1,0 @@
-use Rattle.xr_bench_calls.proofs.Placed.{all_same}
-use Rattle.xr_bench_calls.proofs.syncs.all_bindings.Goals as goal
-
-pub loop-number-init : goal.loop-number-init
-loop-number-init c = all_same 512 c.binding-list.result c.binding-list.ensures
