@@ -21,9 +21,9 @@ pub(crate) struct Ended {
 }
 
 /// Runs words over an opener's files.
-pub(crate) fn run<O: Opener>(
+pub(crate) fn run<'n, O: Opener<'n>>(
     alloc: Global,
-    words: &[String],
+    words: &'n [String],
     opener: &mut O,
 ) -> Result<Ended, AllocError>
     requires fresh { AreUnasked (O.files opener.old) }

@@ -11,7 +11,7 @@ use xr_types::{Failed, NoMemory};
 pub(crate) const ROOM: usize = 4096;
 
 /// The held bytes, seen by contracts as their list. They stand in a room of their own, which is taken once, so that nobody moves
-/// them and no stack has them.
+/// them and no run has them on its stack.
 #[derive(Drop)]
 pub(crate) struct Held {
     bytes: Box<[u8; ROOM]>,

@@ -5,7 +5,7 @@ ghost use Rattle.xr_drive.specs.Files.{status_of_fault};
 
 use crate::input::Stop;
 use xr_scenario::ScenarioFault;
-use xr_types::{Refusal, Status};
+use xr_types::{NoMemory, Refusal, Status};
 
 /// Why the files of a run give no lists.
 #[derive(Clone, Copy)]
@@ -25,6 +25,16 @@ pub enum RunFault {
 pub(crate) enum Unwritten {
     Failed,
     NoMemory,
+}
+
+impl From<NoMemory> for RunFault {
+    ghost use Rattle.xr_drive.specs.declared.faults.RunFault.TheVariants.{NoMemory as OutOfMemory};
+
+    ghost from_gives = { λ _ fault. fault ≡ OutOfMemory };
+
+    fn from(_: NoMemory) -> RunFault {
+        RunFault::NoMemory
+    }
 }
 
 impl RunFault {

@@ -1,6 +1,6 @@
 // The files of a run: they are opened and read before it, and its report is written behind it.
-ghost use Rattle.std.specs.Prelude.{◌≡◌, ◌≤◌, ◌+◌, true, false, take, IfOk, IfErr, IfSome, Some, None, length, IsErr};
-ghost use Rattle.xr_types.specs.declared.limits.TheConstants.{MOST_SCENARIO, MOST_FILE_NAME};
+ghost use Rattle.std.specs.Prelude.{◌≡◌, ◌+◌, true, false, take, IfOk, IfErr, IfSome, Some, None, IsErr};
+ghost use Rattle.xr_types.specs.declared.limits.TheConstants.{MOST_SCENARIO};
 ghost use Rattle.xr_io.specs.Outside.{AreUnasked};
 ghost use Rattle.xr_io.specs.declared.Which.{Which};
 ghost use Rattle.xr_command.specs.Reads.{shown};
@@ -30,7 +30,11 @@ pub struct Beside<S: Source> {
 }
 
 /// The bytes of the scenario's opened file, or why there are none. The source is closed.
-fn read_text<O: Opener>(alloc: Global, opener: &mut O, source: O::S) -> Result<Vec<u8>, Stop>
+fn read_text<'n, O: Opener<'n>>(
+    alloc: Global,
+    opener: &mut O,
+    source: O::S,
+) -> Result<Vec<u8>, Stop>
     requires fresh { IsJustOpened Which.Scenario (O.S.state source) }
     ensures bytes { IfOk result (λ text. IfSome (O.S.state source).bytes (λ bytes. text.items ≡ take (MOST_SCENARIO + 1) bytes)) }
     ensures cause { IfErr result (RoseIfStopped ((O.files opener.old).read_faults Which.Scenario) ((O.files opener.new).read_faults Which.Scenario)) }
@@ -58,7 +62,7 @@ fn read_text<O: Opener>(alloc: Global, opener: &mut O, source: O::S) -> Result<V
 }
 
 /// The scenario of its opened file, or why there is none. The source is closed.
-fn read_scenario<O: Opener>(
+fn read_scenario<'n, O: Opener<'n>>(
     alloc: Global,
     opener: &mut O,
     source: O::S,
@@ -81,13 +85,12 @@ fn read_scenario<O: Opener>(
 
 /// Opens the scenario under a file, reads it and closes it. The scenario that it gives can be run. No device's file is
 /// opened.
-pub fn open_alone<O: Opener>(
+pub fn open_alone<'n, O: Opener<'n>>(
     alloc: Global,
     opener: &mut O,
-    file: &str,
+    file: &'n str,
 ) -> Result<Scenario, RunFault>
     requires fresh { AreUnasked (O.files opener.old) }
-    requires short { length file.now ≤ MOST_FILE_NAME }
     ensures ready { IfOk result (ReadAlone file.now (O.files opener.old) (O.files opener.new)) }
     ensures unrun { IfErr result (FilesUnrun file.now None (O.files opener.old) (O.files opener.new)) }
 {
@@ -100,15 +103,13 @@ pub fn open_alone<O: Opener>(
 
 /// Opens the scenario under a file and the device's file under a name, reads the scenario and closes its file. The scenario that
 /// it gives can be run, and of the device nothing was read yet. Where there is no scenario the device's file is closed too.
-pub fn open_beside<O: Opener>(
+pub fn open_beside<'n, O: Opener<'n>>(
     alloc: Global,
     opener: &mut O,
-    file: &str,
-    name: &str,
+    file: &'n str,
+    name: &'n str,
 ) -> Result<Beside<O::S>, RunFault>
     requires fresh { AreUnasked (O.files opener.old) }
-    requires short { length file.now ≤ MOST_FILE_NAME }
-    requires short_device { length name.now ≤ MOST_FILE_NAME }
     ensures ready { IfOk result (λ beside. ReadBeside file.now name.now (O.files opener.old) (O.files opener.new) beside.scenario beside.device) }
     ensures unrun { IfErr result (FilesUnrun file.now (Some name.now) (O.files opener.old) (O.files opener.new)) }
 {
@@ -136,7 +137,7 @@ pub fn open_beside<O: Opener>(
 }
 
 /// Closes the file of a device behind its run.
-pub fn close_device<O: Opener>(opener: &mut O, device: LineDevice<O::S>)
+pub fn close_device<'n, O: Opener<'n>>(opener: &mut O, device: LineDevice<O::S>)
     ensures { DeviceClosed device (O.files opener.old) (O.files opener.new) }
 {
     opener.close(device.into_source());

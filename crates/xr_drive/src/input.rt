@@ -11,7 +11,7 @@ use xr_types::MOST_SCENARIO;
 /// How many bytes are read at most: one more than a scenario may have.
 const LIMIT: usize = MOST_SCENARIO + 1;
 
-const CHUNK: usize = 16_384;
+const CHUNK: usize = 4_096;
 
 /// Why a reading stops before the end.
 pub(crate) enum Stop {

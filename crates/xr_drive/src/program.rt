@@ -40,9 +40,9 @@ pub fn end_with<E: Sink>(errors: &mut E, status: Status) -> ExitCode
 
 /// Runs the words as `run_serial` does, and ends with the status that it answers: its line on the output for errors, and
 /// its number as the exit status.
-pub fn run_program<O: Opener, K: Sink, E: Sink>(
+pub fn run_program<'n, O: Opener<'n>, K: Sink, E: Sink>(
     alloc: Global,
-    words: &[String],
+    words: &'n [String],
     opener: &mut O,
     sink: &mut K,
     errors: &mut E,

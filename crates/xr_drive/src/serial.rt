@@ -1,6 +1,6 @@
 // The top call of one thread.
-ghost use Rattle.std.specs.Prelude.{◌≡◌, ◌≤◌, length, map, IfOk, IfSome, Some, None, string_bytes};
-ghost use Rattle.xr_types.specs.declared.limits.TheConstants.{MOST_LOAD, MOST_FILE_NAME};
+ghost use Rattle.std.specs.Prelude.{◌≡◌, ◌≤◌, map, IfOk, Some, None, string_bytes};
+ghost use Rattle.xr_types.specs.declared.limits.TheConstants.{MOST_LOAD};
 ghost use Rattle.xr_io.specs.Outside.{Files, AreUnasked};
 ghost use Rattle.xr_model.specs.command_line.Words.{run, load, form_of};
 ghost use Rattle.xr_model.specs.scenario.LoadScenario.{load_device};
@@ -66,54 +66,49 @@ fn answer_load<K: Sink>(alloc: Global, frames: u32, sink: &mut K) -> Status
 
 /// Opens the scenario under a file and runs it by the round robin, beside a device without events. Its source is closed.
 #[inline(never)]
-fn run_alone<O: Opener>(alloc: Global, file: &str, opener: &mut O) -> Result<Lists, RunFault>
+fn run_alone<'n, O: Opener<'n>>(
+    alloc: Global,
+    file: &'n str,
+    opener: &mut O,
+) -> Result<Lists, RunFault>
     requires fresh { AreUnasked (O.files opener.old) }
-    requires short { length file.now ≤ MOST_FILE_NAME }
     ensures { FilesEnded Ran file.now None (O.files opener.old) (O.files opener.new) result }
 {
     let scenario = open_alone(alloc, opener, file)?;
     let mut none = ListDevice::new(Vec::new(alloc));
-    match xr_serial::run(alloc, &scenario, &mut none) {
-        Ok(lists) => Ok(lists),
-        Err(_) => Err(RunFault::NoMemory),
-    }
+    let lists = xr_serial::run(alloc, &scenario, &mut none)?;
+    Ok(lists)
 }
 
 /// Opens the scenario under a file and the device's file under a name, and runs the scenario by the round robin beside the device.
 /// Every source that was opened is closed.
 #[inline(never)]
-fn run_beside<O: Opener>(
+fn run_beside<'n, O: Opener<'n>>(
     alloc: Global,
-    file: &str,
-    name: &str,
+    file: &'n str,
+    name: &'n str,
     opener: &mut O,
 ) -> Result<Lists, RunFault>
     requires fresh { AreUnasked (O.files opener.old) }
-    requires short { length file.now ≤ MOST_FILE_NAME }
-    requires short_device { length name.now ≤ MOST_FILE_NAME }
     ensures { FilesEnded Ran file.now (Some name.now) (O.files opener.old) (O.files opener.new) result }
 {
     let Beside {
         scenario,
         mut device,
     } = open_beside(alloc, opener, file, name)?;
-    let lists = xr_serial::run(alloc, &scenario, &mut device);
+    let ran = xr_serial::run(alloc, &scenario, &mut device);
     close_device(opener, device);
-    match lists {
-        Ok(lists) => Ok(lists),
-        Err(_) => Err(RunFault::NoMemory),
-    }
+    let lists = ran?;
+    Ok(lists)
 }
 
 /// Runs the files of a run by the round robin, beside the device where one is named. Every source that was opened is closed.
-fn run_files<O: Opener>(
+fn run_files<'n, O: Opener<'n>>(
     alloc: Global,
-    options: &RunOptions<'_>,
+    options: &RunOptions<'n>,
     opener: &mut O,
 ) -> Result<Lists, RunFault>
     requires fresh { AreUnasked (O.files opener.old) }
-    requires short { length options.now.file.now ≤ MOST_FILE_NAME }
-    requires short_device { IfSome options.now.device (λ name. length name.now ≤ MOST_FILE_NAME) }
     ensures { FilesAnswer Ran (shown options.now) (O.files opener.old) (O.files opener.new) result }
 {
     match options.device {
@@ -123,15 +118,13 @@ fn run_files<O: Opener>(
 }
 
 /// Runs the files of a run and writes the report, and says how that ended.
-fn answer_run<O: Opener, K: Sink>(
+fn answer_run<'n, O: Opener<'n>, K: Sink>(
     alloc: Global,
-    options: &RunOptions<'_>,
+    options: &RunOptions<'n>,
     opener: &mut O,
     sink: &mut K,
 ) -> Status
     requires fresh { AreUnasked (O.files opener.old) }
-    requires short { length options.now.file.now ≤ MOST_FILE_NAME }
-    requires short_device { IfSome options.now.device (λ name. length name.now ≤ MOST_FILE_NAME) }
     ensures { IsAnswer RunOf (Some (run (shown options.now))) (outside (O.files opener.old) (K.output sink.old)) (outside (O.files opener.new) (K.output sink.new)) result }
 {
     let lists = run_files(alloc, options, opener);
@@ -139,9 +132,9 @@ fn answer_run<O: Opener, K: Sink>(
 }
 
 /// Runs what a form asks for and writes what it made, and says how that ended.
-fn answer<O: Opener, K: Sink>(
+fn answer<'n, O: Opener<'n>, K: Sink>(
     alloc: Global,
-    form: &WordsForm<'_>,
+    form: &WordsForm<'n>,
     opener: &mut O,
     sink: &mut K,
 ) -> Status
@@ -169,9 +162,9 @@ fn answer<O: Opener, K: Sink>(
 /// count of faults rose; `ScenarioRefused` exactly where the text is no scenario, with the reason: `TooLong`, `Json`, or
 /// `BadShape` with the first wrong place. `NoMemory` is free. Under the others nothing is written, but under `WriteFault` a
 /// first part of the text.
-pub fn run_serial<O: Opener, K: Sink>(
+pub fn run_serial<'n, O: Opener<'n>, K: Sink>(
     alloc: Global,
-    words: &[String],
+    words: &'n [String],
     opener: &mut O,
     sink: &mut K,
 ) -> Status

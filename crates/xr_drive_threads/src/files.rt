@@ -1,6 +1,5 @@
 // The files of a run on threads.
-ghost use Rattle.std.specs.Prelude.{◌≡◌, ◌≤◌, length, IfSome, Err, None};
-ghost use Rattle.xr_types.specs.declared.limits.TheConstants.{MOST_FILE_NAME};
+ghost use Rattle.std.specs.Prelude.{◌≡◌, Err, None};
 ghost use Rattle.xr_io.specs.Outside.{AreUnasked};
 ghost use Rattle.xr_command.specs.Reads.{shown};
 ghost use Rattle.xr_drive.specs.Files.{FilesAnswer};
@@ -57,16 +56,14 @@ impl FilesRun {
 /// Opens the files of a run and runs the scenario on threads, beside the device where one is named. Every source that was opened is
 /// closed.
 #[inline(never)]
-pub(crate) fn run_files<R: Threads + Wait + Sync, O: Opener, G: Gate + Sync>(
+pub(crate) fn run_files<'n, R: Threads + Wait + Sync, O: Opener<'n>, G: Gate + Sync>(
     rt: &R,
     alloc: Global,
-    options: &RunOptions<'_>,
+    options: &RunOptions<'n>,
     opener: &mut O,
     gate: &G,
 ) -> FilesRun
     requires fresh { AreUnasked (O.files opener.old) }
-    requires short { length options.now.file.now ≤ MOST_FILE_NAME }
-    requires short_device { IfSome options.now.device (λ name. length name.now ≤ MOST_FILE_NAME) }
     ensures answer { FilesAnswer (RanClosed result.closed) (shown options.now) (O.files opener.old) (O.files opener.new) result.lists }
     ensures unrun { NoneIfUnrun result.lists result.closed }
 {

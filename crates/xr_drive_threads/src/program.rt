@@ -18,10 +18,10 @@ use xr_workers::OpenGate;
 /// Runs the words as `run_threads` does, through a gate that holds nobody, and ends with the status that it answers: its line on the
 /// output for errors, and its number as the exit status.
 #[inline(never)]
-pub fn run_threads_program<R: Threads + Wait + Sync, O: Opener, K: Sink, E: Sink>(
+pub fn run_threads_program<'n, R: Threads + Wait + Sync, O: Opener<'n>, K: Sink, E: Sink>(
     rt: &R,
     alloc: Global,
-    words: &[String],
+    words: &'n [String],
     opener: &mut O,
     sink: &mut K,
     errors: &mut E,

@@ -32,10 +32,10 @@ pub struct Ran {
 /// it; each comes where it comes of `run_serial`. `Stuck` never comes: where scripts, the device and the compositor wait for each other
 /// the run doesn't return. Under `Usage`, `OpenFault`, `ReadFault` and `ScenarioRefused` nothing was run and no runtime is closed.
 /// `NoMemory` is free.
-pub fn run_threads<R: Threads + Wait + Sync, O: Opener, K: Sink, G: Gate + Sync>(
+pub fn run_threads<'n, R: Threads + Wait + Sync, O: Opener<'n>, K: Sink, G: Gate + Sync>(
     rt: &R,
     alloc: Global,
-    words: &[String],
+    words: &'n [String],
     opener: &mut O,
     sink: &mut K,
     gate: &G,

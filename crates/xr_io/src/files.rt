@@ -1,7 +1,7 @@
 // Files and standard output behind the traits. These few lines are trusted to pass on what the
 // system does: they tell no bytes, and count each error. A count stops at the largest u64. A call that was
 // interrupted is made again, some times.
-ghost use Rattle.std.specs.Prelude.{◌≡◌, ◌≤◌, false, length, None, IfOk, is_err};
+ghost use Rattle.std.specs.Prelude.{◌≡◌, false, length, None, IfOk, is_err};
 ghost use Rattle.std.specs.Io.{ReadsAtMost, WritesAtMost};
 ghost use Rattle.xr_io.specs.declared.Which.{Which};
 ghost use Rattle.xr_io.specs.Outside.{none_taken, just_opened, WasRead, Opened, Closed, Wrote, raised_if};
@@ -14,7 +14,7 @@ use std::fs;
 use std::io::{ErrorKind, Print, Read};
 use std::marker::Model;
 use std::rt::Files;
-use xr_types::{Failed, MOST_FILE_NAME};
+use xr_types::Failed;
 
 /// How often a call is made at most, where a signal interrupts it each time.
 const MOST_TRIES: u32 = 100;
@@ -88,14 +88,14 @@ impl<F: Read> Source for FileSource<F> {
     }
 }
 
-/// Opens files by their names, and keeps what it was asked for. It tells no bytes.
+/// Opens files by their names, which outlive it, and keeps what it was asked for. It tells no bytes.
 #[derive(Drop)]
-pub struct FileOpener<'r, R: Files> {
+pub struct FileOpener<'r, 'n, R: Files> {
     files: &'r R,
-    requests: Requests,
+    requests: Requests<'n>,
 }
 
-impl<'r, R: Files> Model for FileOpener<'r, R> {
+impl<'r, 'n, R: Files> Model for FileOpener<'r, 'n, R> {
     ghost use Rattle.xr_io.specs.Requests.{BothRequests};
 
     ghost Value = { BothRequests };
@@ -103,9 +103,9 @@ impl<'r, R: Files> Model for FileOpener<'r, R> {
     ghost view = { λ opener. opener.requests };
 }
 
-impl<'r, R: Files> FileOpener<'r, R> {
+impl<'r, 'n, R: Files> FileOpener<'r, 'n, R> {
     /// An opener that was asked for nothing.
-    pub fn new(files: &'r R) -> FileOpener<'r, R>
+    pub fn new(files: &'r R) -> FileOpener<'r, 'n, R>
         ensures new { result ≡ no_requests }
         ensures asked { (w : Which) → asked_as result w ≡ None }
         ensures closed { (w : Which) → is_open_of result w ≡ false }
@@ -139,15 +139,14 @@ impl<'r, R: Files> FileOpener<'r, R> {
     }
 }
 
-impl<'r, R: Files> Opener for FileOpener<'r, R> {
+impl<'r, 'n, R: Files> Opener<'n> for FileOpener<'r, 'n, R> {
     type S = FileSource<R::File>;
 
     ghost files = { files_of (λ name. no_bytes) };
 
     /// `Failed` comes where the system opens no file of this name, and there alone the count rises.
-    fn open_file(&mut self, which: Which, name: &str) -> Result<FileSource<R::File>, Failed>
+    fn open_file(&mut self, which: Which, name: &'n str) -> Result<FileSource<R::File>, Failed>
         requires first { asked_as self.old which ≡ None }
-        requires short { length name.now ≤ MOST_FILE_NAME }
         ensures opened { Opened which name.now (files_of (λ name. no_bytes) self.old) (files_of (λ name. no_bytes) self.new) result }
 
         // Neither the opener nor the source tells bytes.

@@ -4,7 +4,7 @@
 //! and real files with standard output. Nothing here knows what the bytes mean.
 #![tactic(auto)]
 
-ghost use Rattle.std.specs.Prelude.{◌≡◌, ◌≤◌, length, None, IfOk};
+ghost use Rattle.std.specs.Prelude.{◌≡◌, None, IfOk};
 ghost use Rattle.xr_io.specs.Outside.{SourceState, just_opened, is_end, WasRead, Files, Opened, Closed, Output, Wrote};
 
 mod files;
@@ -13,7 +13,7 @@ mod requests;
 
 pub use files::{FileOpener, FileSource, StdSink};
 pub use memory::{Failing, MemoryFile, MemoryOpener, MemorySink, MemorySource};
-use xr_types::{Failed, MOST_FILE_NAME};
+use xr_types::Failed;
 
 /// The two files that a run reads.
 #[derive(Clone, Copy, Debug, PartialEq, Eq)]
@@ -65,8 +65,8 @@ pub trait Sink {
         ensures { Wrote piece.now (output self.old) (output self.new) result };
 }
 
-/// What opens files by name, each of the two at most once.
-pub trait Opener {
+/// What opens files by name, each of the two at most once. The names outlive it.
+pub trait Opener<'n> {
     /// What it opens.
     type S: Source;
 
@@ -76,9 +76,8 @@ pub trait Opener {
 
     /// Opens the file of a name as one of the two, which was not asked for before. The name counts
     /// as asked for also where the call failed. `Failed` comes only where `open_faults` rose, and else that count stays.
-    fn open_file(&mut self, which: Which, name: &str) -> Result<Self::S, Failed>
+    fn open_file(&mut self, which: Which, name: &'n str) -> Result<Self::S, Failed>
         requires first { (files self.old).asked which ≡ None }
-        requires short { length name.now ≤ MOST_FILE_NAME }
         ensures opened { Opened which name.now (files self.old) (files self.new) result }
 
         // The source is the file of this name, of which nothing was read.

@@ -1,6 +1,6 @@
 // Files and output in memory, whose calls fail where a list says so. Nothing here touches the
 // outside. Calls are numbered from 0, and a count stops at the largest u64.
-ghost use Rattle.std.specs.Prelude.{◌≡◌, ◌≤◌, ◌↔◌, [], false, length, Some, None, IsTrue, IsErr, IfOk, option_map};
+ghost use Rattle.std.specs.Prelude.{◌≡◌, ◌↔◌, [], false, length, Some, None, IsTrue, IsErr, IfOk, option_map};
 ghost use Rattle.xr_io.specs.declared.Which.{Which};
 ghost use Rattle.xr_io.specs.Outside.{none_taken, just_opened, WasRead, Opened, Closed, Wrote};
 ghost use Rattle.xr_io.specs.Requests.{asked_as, is_open_of, open_faults_of, read_faults_of, taken_of, files_of, no_requests, after_opening, after_closing};
@@ -11,7 +11,7 @@ use crate::requests::Requests;
 use crate::{Opener, Sink, Source, Taken, Which, is_end};
 use std::alloc::{AllocError, Global};
 use std::marker::Model;
-use xr_types::{Failed, MOST_FILE_NAME};
+use xr_types::Failed;
 
 /// Whether the call of this number is in the list.
 fn is_listed(calls: &[u64], next: u64) -> bool
@@ -265,14 +265,14 @@ fn bytes_under<'a>(files: &'a [MemoryFile<'a>], name: &str) -> Option<&'a [u8]>
 
 /// Opens files in memory. One file may be opened both as the scenario and as the device.
 #[derive(Drop)]
-pub struct MemoryOpener<'a> {
+pub struct MemoryOpener<'a, 'n> {
     files: &'a [MemoryFile<'a>],
     scenario_fails: Failing<'a>,
     device_fails: Failing<'a>,
-    requests: Requests,
+    requests: Requests<'n>,
 }
 
-impl<'a> Model for MemoryOpener<'a> {
+impl<'a, 'n> Model for MemoryOpener<'a, 'n> {
     ghost use Rattle.xr_io.specs.Memory.{Holding};
 
     ghost Value = { Holding };
@@ -287,14 +287,14 @@ impl<'a> Model for MemoryOpener<'a> {
     } };
 }
 
-impl<'a> MemoryOpener<'a> {
+impl<'a, 'n> MemoryOpener<'a, 'n> {
     /// An opener of these files that was asked for nothing. Where two files have one name, the
     /// first is opened.
     pub fn new(
         files: &'a [MemoryFile<'a>],
         scenario_fails: Failing<'a>,
         device_fails: Failing<'a>,
-    ) -> MemoryOpener<'a>
+    ) -> MemoryOpener<'a, 'n>
         ensures new { result ≡ record {
           files = held_files files.now;
           scenario_fails = failing_calls scenario_fails.entry;
@@ -335,16 +335,15 @@ impl<'a> MemoryOpener<'a> {
     }
 }
 
-impl<'a> Opener for MemoryOpener<'a> {
+impl<'a, 'n> Opener<'n> for MemoryOpener<'a, 'n> {
     type S = MemorySource<'a>;
 
     ghost files = { λ opener. files_of (bytes_under opener.files) opener.requests };
 
     /// `Failed` comes exactly where this one's opening is to fail or no file has the name, and
     /// there alone the count rises.
-    fn open_file(&mut self, which: Which, name: &str) -> Result<MemorySource<'a>, Failed>
+    fn open_file(&mut self, which: Which, name: &'n str) -> Result<MemorySource<'a>, Failed>
         requires first { asked_as self.old.requests which ≡ None }
-        requires short { length name.now ≤ MOST_FILE_NAME }
         ensures opened { Opened which name.now (files_of (bytes_under self.old.files) self.old.requests) (files_of (bytes_under self.new.files) self.new.requests) result }
         ensures source { IfOk result (λ source.
             seen_of source ≡ just_opened (bytes_under self.old.files name.now) which) }

@@ -1,31 +1,29 @@
 // What an opener was asked for, and how often that failed. It touches nothing outside.
-ghost use Rattle.std.specs.Prelude.{◌≡◌, ◌≤◌, length};
+ghost use Rattle.std.specs.Prelude.{◌≡◌, ◌≤◌};
 ghost use Rattle.xr_io.specs.declared.Which.{Which};
 ghost use Rattle.xr_io.specs.Requests.{open_faults_of, read_faults_of, taken_of, no_requests, after_opening, after_closing};
 
 use crate::{Taken, Which};
-use arrayvec::ArrayVec;
 use std::marker::Model;
-use xr_types::MOST_FILE_NAME;
 
 /// What was asked for as one of the two.
 #[derive(Drop)]
-struct Kept {
-    name: Option<ArrayVec<u8, MOST_FILE_NAME>>,
+struct Kept<'n> {
+    name: Option<&'n str>,
     is_open: bool,
     open_faults: u64,
     read_faults: u64,
     taken: Taken,
 }
 
-impl Model for Kept {
+impl<'n> Model for Kept<'n> {
     ghost use Rattle.std.specs.Prelude.{option_map};
     ghost use Rattle.xr_io.specs.Requests.{Request};
 
     ghost Value = { Request };
 
     ghost view = { λ kept. record {
-      name = option_map (λ name. name.items) kept.name;
+      name = option_map (λ name. name.now) kept.name;
       is_open = kept.is_open;
       open_faults = kept.open_faults;
       read_faults = kept.read_faults;
@@ -33,10 +31,10 @@ impl Model for Kept {
     } };
 }
 
-impl Kept {
+impl<'n> Kept<'n> {
     ghost use Rattle.xr_io.specs.Requests.{no_request, opened_request, closed_request};
 
-    fn new() -> Kept
+    fn new() -> Kept<'n>
         ensures { result ≡ no_request }
     {
         Kept {
@@ -51,8 +49,8 @@ impl Kept {
         }
     }
 
-    fn open(&mut self, name: ArrayVec<u8, MOST_FILE_NAME>, failed: bool)
-        ensures request { self.new ≡ opened_request self.old name.items failed }
+    fn open(&mut self, name: &'n str, failed: bool)
+        ensures request { self.new ≡ opened_request self.old name.now failed }
         ensures later { self.old.open_faults ≤ self.new.open_faults }
     {
         self.name = Some(name);
@@ -87,25 +85,14 @@ impl Kept {
     }
 }
 
-/// A copy of a name.
-fn copied(name: &str) -> ArrayVec<u8, MOST_FILE_NAME>
-    requires { length name.now ≤ MOST_FILE_NAME }
-    ensures { result.items ≡ name.now }
-{
-    let Ok(copy) = ArrayVec::<u8, MOST_FILE_NAME>::try_from(name.as_bytes()) else {
-        unreachable!();
-    };
-    copy
-}
-
 /// What was asked for as each of the two.
 #[derive(Drop)]
-pub(crate) struct Requests {
-    scenario: Kept,
-    device: Kept,
+pub(crate) struct Requests<'n> {
+    scenario: Kept<'n>,
+    device: Kept<'n>,
 }
 
-impl Model for Requests {
+impl<'n> Model for Requests<'n> {
     ghost use Rattle.xr_io.specs.Requests.{BothRequests};
 
     ghost Value = { BothRequests };
@@ -113,9 +100,9 @@ impl Model for Requests {
     ghost view = { λ requests. record { scenario = requests.scenario; device = requests.device } };
 }
 
-impl Requests {
+impl<'n> Requests<'n> {
     /// Nothing was asked for.
-    pub(crate) fn new() -> Requests
+    pub(crate) fn new() -> Requests<'n>
         ensures { result ≡ no_requests }
     {
         Requests {
@@ -125,15 +112,13 @@ impl Requests {
     }
 
     /// Keeps the name that is asked for, and counts where opening it failed.
-    pub(crate) fn open(&mut self, which: Which, name: &str, failed: bool)
-        requires { length name.now ≤ MOST_FILE_NAME }
+    pub(crate) fn open(&mut self, which: Which, name: &'n str, failed: bool)
         ensures requests { self.new ≡ after_opening self.old which name.now failed }
         ensures later { open_faults_of self.old which ≤ open_faults_of self.new which }
     {
-        let copy = copied(name);
         match which {
-            Which::Scenario => self.scenario.open(copy, failed),
-            Which::Device => self.device.open(copy, failed),
+            Which::Scenario => self.scenario.open(name, failed),
+            Which::Device => self.device.open(name, failed),
         }
     }
 

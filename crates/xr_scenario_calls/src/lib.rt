@@ -7,6 +7,7 @@ mod lent;
 mod listed;
 mod lists;
 mod names;
+mod room;
 mod scratch;
 
 pub use call::call_of;

@@ -5,7 +5,7 @@ ghost use Rattle.xr_model.specs.scenario.ScriptForm.{IsAnyPlace};
 ghost use Rattle.xr_model.specs.runs.NameValues.{value_of, binding_for, active_set_for, sub_image_for, sub_image_by, four, layer_for};
 
 use crate::Names;
-use arrayvec::ArrayVec;
+use crate::room::Room;
 use xr_types::{
     ActiveSet, ActiveSetUse, AtomUse, Binding, BindingUse, HandleUse, Layer, LayerUse, MOST_LISTED,
     SubImage, SubImageUse,
@@ -13,7 +13,7 @@ use xr_types::{
 
 /// An item of an op's list. `value` is what a call's list has for it.
 pub(crate) trait ListedUse {
-    type Value: Copy + Default + Drop;
+    type Value: Drop;
 
     ghost value: { List ℕ → Self → Self.Value };
 
@@ -70,7 +70,7 @@ impl ListedUse for ActiveSetUse {
 
 /// The values of a list's items.
 pub(crate) fn list_for<'a, U: ListedUse, const N: usize>(
-    room: &'a mut ArrayVec<U::Value, N>,
+    room: &'a mut Room<U::Value, N>,
     names: &Names,
     uses: &[U],
 ) -> &'a [U::Value]
@@ -140,7 +140,7 @@ fn layer(names: &Names, used: &LayerUse) -> Layer
 /// The layers of a frame.
 #[tactic(auto, using(crate::proofs::Each::each_item))]
 pub(crate) fn layers_for<'a>(
-    room: &'a mut ArrayVec<Layer, MOST_LISTED>,
+    room: &'a mut Room<Layer, MOST_LISTED>,
     names: &Names,
     uses: &[LayerUse],
 ) -> &'a [Layer]

@@ -24,7 +24,7 @@ use xr_types::{Actor, Call, Made, NoMemory, Op};
 #[derive(Drop)]
 pub(crate) struct Machine {
     pub(crate) lender: Lender,
-    scratch: Box<Scratch>,
+    scratch: Scratch,
 }
 
 impl Model for Machine {
@@ -86,7 +86,7 @@ impl Machine {
         ensures { IfOk result (λ machine. machine ≡ opening (with_apps apps)) }
     {
         let core = PlainCore::start(alloc, apps)?;
-        let scratch = Box::new(alloc, Scratch::new()).map_err(|_| NoMemory)?;
+        let scratch = Scratch::start(alloc)?;
         Ok(Machine {
             lender: Lender::new(core),
             scratch,

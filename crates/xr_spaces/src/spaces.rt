@@ -7,7 +7,6 @@ ghost use Rattle.xr_model.specs.machine.Spaces.{no_spaces, reference_checks, wit
 
 use crate::roots::origin_by;
 use crate::samples::{Samples, note, pose_in};
-use arrayvec::ArrayVec;
 use std::alloc::Global;
 use std::marker::Model;
 use xr_types::{ACTIONS, Code, Location, NoMemory, ORIGINS, Origin, RefKind, Root, SPACES, States};
@@ -31,20 +30,24 @@ impl Model for Space {
     ghost inverse = { λ s. record { handle = s.handle; root = s.root; offset = s.offset } };
 }
 
-/// The spaces in the order of their creation, and the newest 16 samples of each origin. Contracts see the machine's
-/// spaces.
+/// The spaces in the order of their creation, in room for as many as there may be, which is taken once, and the newest 16
+/// samples of each origin. Contracts see the machine's spaces.
 #[derive(Drop)]
 pub struct Spaces {
-    spaces: ArrayVec<Space, SPACES>,
+    spaces: Vec<Space>,
     samples: [Samples; ORIGINS],
 }
 
 impl Model for Spaces {
+    ghost use Rattle.std.specs.Prelude.{◌≡◌, vec_capacity};
+    ghost use Rattle.xr_types.specs.declared.handles.TheConstants.{SPACES};
     ghost use Rattle.xr_model.specs.machine.Spaces as model;
 
     ghost Value = { model.Spaces };
 
     ghost view = { λ s. record { spaces = s.spaces.items; samples = s.samples } };
+
+    ghost invariant = { λ s. vec_capacity s.spaces ≡ SPACES };
 }
 
 /// Checks a reference space that is asked for, told whether the device has a stage. Refused are, in this order, a
@@ -93,8 +96,8 @@ fn leave(spaces: &mut [Space], there: &[bool; ACTIONS])
 }
 
 impl Spaces {
-    /// No space and no sample yet. Takes the room of 16 samples for each of the 7 origins; the spaces stand in the value
-    /// itself, and nothing later takes memory. `NoMemory` comes where there isn't as much.
+    /// No space and no sample yet. Takes the room of 64 spaces, and of 16 samples for each of the 7 origins, and nothing
+    /// later takes memory. `NoMemory` comes where there isn't as much.
     pub fn start(alloc: Global) -> Result<Spaces, NoMemory>
         ensures { IfOk result (λ spaces. spaces ≡ no_spaces) }
     {
@@ -107,7 +110,7 @@ impl Spaces {
             Samples::start(alloc)?,
             Samples::start(alloc)?,
         ];
-        let spaces = ArrayVec::new();
+        let spaces = Vec::with_capacity(alloc, SPACES).map_err(|_| NoMemory)?;
         Ok(Spaces { spaces, samples })
     }
 
@@ -118,7 +121,7 @@ impl Spaces {
         requires { length self.old.spaces < 64 }
         ensures { self.new ≡ with_space self.old handle root offset }
     {
-        self.spaces.push(Space {
+        self.spaces.push_reserved(Space {
             handle,
             root: Some(root),
             offset,

@@ -25,7 +25,7 @@ const MOST_LENT: usize = MOST_CAPACITY as usize;
 #[derive(Drop)]
 pub(crate) struct Script {
     pub(crate) names: Names,
-    scratch: Box<Scratch>,
+    scratch: Scratch,
     buffer: [u8; MOST_LENT],
 }
 
@@ -42,7 +42,7 @@ impl Script {
         ensures { IfOk result (λ script. script.names ≡ no_values ops) }
     {
         let names = Names::start(alloc, ops)?;
-        let scratch = Box::new(alloc, Scratch::new()).map_err(|_| NoMemory)?;
+        let scratch = Scratch::start(alloc)?;
         Ok(Script {
             names,
             scratch,

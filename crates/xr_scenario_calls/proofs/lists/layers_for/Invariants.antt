@@ -4,6 +4,6 @@ use Rattle.xr_scenario_calls.proofs.lists.layers_for.Given as goal
 
 abbrev pub invariant-loop-used : goal.invariant-loop-used
 invariant-loop-used l = record {
-  count : length l.room.items ≡ l.used-index;
-  filled : map (layer_for l.names) l.uses ≡ l.room.items ++ map (layer_for l.names) (drop l.used-index l.uses);
+  count : length l.room ≡ l.used-index;
+  filled : map (layer_for l.names) l.uses ≡ l.room ++ map (layer_for l.names) (drop l.used-index l.uses);
 }

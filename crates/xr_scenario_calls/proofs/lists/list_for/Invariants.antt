@@ -3,6 +3,6 @@ use Rattle.xr_scenario_calls.proofs.lists.list_for.Given as goal
 
 abbrev pub invariant-loop-used : goal.invariant-loop-used
 invariant-loop-used g l = record {
-  count : length l.room.items ≡ l.used-index;
-  filled : map (g.U.ListedUse.value l.names) l.uses ≡ l.room.items ++ map (g.U.ListedUse.value l.names) (drop l.used-index l.uses);
+  count : length l.room ≡ l.used-index;
+  filled : map (g.U.ListedUse.value l.names) l.uses ≡ l.room ++ map (g.U.ListedUse.value l.names) (drop l.used-index l.uses);
 }
