@@ -1,5 +1,5 @@
 // A mutex of the standard library, and a plain ticket lock, for bench/lock: turns of threads at a counter, as
-// crates/xr_lock_tests has them.
+// crates/xr_bench has them.
 use std::cell::UnsafeCell;
 use std::env;
 use std::hint::spin_loop;

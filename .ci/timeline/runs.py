@@ -80,7 +80,7 @@ def _ends_empty(report: Report) -> bool:
 
 def cases(tally: Tally, program: str) -> list[tuple[bytes, bytes]]:
     """Each case that is one run: it is drawn, and the derived states are those that were polled."""
-    data = ROOT / "crates/xr_cases/data"
+    data = ROOT / "cases"
     drawn = []
     for folder in sorted(it for it in data.iterdir() if it.is_dir() and not (it / "rows").exists()):
         words = (folder / "args").read_text(encoding="utf-8").splitlines() if (folder / "args").exists() else []

@@ -1,13 +1,17 @@
 //! `xr_bench` measures calls, texts and runs: calls on a core of one application, how many ops a second `serde_json` reads of a
 //! round of calls as a scenario, how many lines a second a device text is read, how many calls and turns a second a run of eight
-//! scripts makes, and how long three scenarios take to be read. A measure and no test. It touches the clock and standard output.
+//! scripts makes, and how long three scenarios take to be read; or turns of threads at a counter under the lock. A measure and no
+//! test. It touches the clock, threads and standard output.
 #![tactic(auto)]
+
+ghost use Rattle.std.specs.Prelude.{◌≤◌, IfSome};
 
 mod calls;
 mod lines;
 mod reading;
 mod runs;
 mod texts;
+mod turns;
 
 use calls::measure_each;
 use lines::{read_lines, text_of_lines};
@@ -19,6 +23,7 @@ use std::process::ExitCode;
 use std::time::{Clock, Instant};
 use std::{env, io};
 use texts::{text_of_marks, text_of_names, text_of_polls, time_readings};
+use turns::{Work, measure_turns};
 
 const HELP: &str = "\
 xr_bench ROUNDS
@@ -37,6 +42,9 @@ calls a second these make; and seven scripts that wait for an eighth, once for a
 and prints how many turns a second there are. It reads three scenarios of 16001 ops, 10 times each, and
 prints how long that took, beside how long their JSON alone took to be read: of polls, of marks, and of
 names that differ at their ends alone.
+xr_bench turns THREADS TURNS ROUNDS
+Has 1 to 8 threads take TURNS turns together at a counter under the lock, each with ROUNDS rounds of work inside,
+and prints how long they took.
 ";
 
 /// So many things in so many microseconds, a second.
@@ -176,6 +184,29 @@ fn rounds_of(words: &[String]) -> Option<u64> {
     }
 }
 
+/// The number that a word is, and else 0.
+fn number(word: &String) -> u64 {
+    word.as_str().parse::<u64>().unwrap_or(0)
+}
+
+/// The turns that the words ask for.
+fn turns_of(words: &[String]) -> Option<Work>
+    ensures { IfSome result (λ work. (1 ≤ work.threads) × (work.threads ≤ 8)) }
+{
+    if words.len() != 4 || words[0].as_str() != "turns" {
+        return None;
+    }
+    let threads = number(&words[1]);
+    if threads < 1 || threads > 8 {
+        return None;
+    }
+    Some(Work {
+        threads: threads as u8,
+        turns: number(&words[2]),
+        inside: number(&words[3]),
+    })
+}
+
 fn main(rt: HostRuntime) -> ExitCode {
     let alloc = rt.alloc();
     let words = match env::args(&rt) {
@@ -185,9 +216,12 @@ fn main(rt: HostRuntime) -> ExitCode {
     let Ok(words) = words else {
         return ExitCode::from(9);
     };
-    let done = match rounds_of(words.as_slice()) {
-        Some(rounds) => measure(&rt, alloc, rounds),
-        None => print!(&rt; "{HELP}").map(|()| true),
+    let done = if let Some(work) = turns_of(words.as_slice()) {
+        measure_turns(&rt, alloc, work)
+    } else if let Some(rounds) = rounds_of(words.as_slice()) {
+        measure(&rt, alloc, rounds)
+    } else {
+        print!(&rt; "{HELP}").map(|()| true)
     };
     match done {
         Ok(true) => ExitCode::from(0),

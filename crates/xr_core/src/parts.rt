@@ -174,7 +174,7 @@ pub(crate) fn give(handles: &mut Handles, kind: Kind, parent: u64) -> u64
 }
 
 impl Parts {
-    /// The parts of a core of 1 to 8 applications before any call, where they stay: they are some 9 KB, which nobody moves.
+    /// The parts of a core of 1 to 8 applications before any call, where they stay: they are some 7 KB, which nobody moves.
     /// Takes all memory but that of new path texts and of suggestions.
     #[tactic(auto, using(crate::proofs::Start::none_left))]
     pub(crate) fn start(alloc: Global, apps: u8) -> Result<Box<Parts>, NoMemory>

@@ -1,1 +1,3 @@
 pub mod Loans
+pub mod Noting
+pub mod Resting

@@ -5,31 +5,31 @@ use xr_drive::{exit_of, explain, run_serial};
 use xr_io::{Failing, MemoryFile, MemoryOpener, MemorySink};
 use xr_types::{FieldName, Refusal, Status, What};
 
-/// What of a file fails.
-#[derive(Clone, Copy)]
-enum Fails {
-    Nothing,
-    Opening,
-    FirstRead,
-    SecondRead,
-}
+const NOTHING: Failing<'static> = Failing {
+    open: false,
+    reads: &[],
+};
 
-/// The same as the calls that fail.
-fn failing(fails: Fails) -> Failing<'static> {
-    let (open, reads): (bool, &[u64]) = match fails {
-        Fails::Nothing => (false, &[]),
-        Fails::Opening => (true, &[]),
-        Fails::FirstRead => (false, &[0]),
-        Fails::SecondRead => (false, &[1]),
-    };
-    Failing { open, reads }
-}
+const OPENING: Failing<'static> = Failing {
+    open: true,
+    reads: &[],
+};
+
+const FIRST_READ: Failing<'static> = Failing {
+    open: false,
+    reads: &[0],
+};
+
+const SECOND_READ: Failing<'static> = Failing {
+    open: false,
+    reads: &[1],
+};
 
 /// The number that a run of a script with no op ends with, where this of the scenario and of the device fails.
 fn ended(
     alloc: Global,
-    scenario: Fails,
-    device: Fails,
+    scenario: Failing<'_>,
+    device: Failing<'_>,
     text: &str,
     sink: &mut MemorySink<'_>,
 ) -> Result<u8, AllocError> {
@@ -49,14 +49,20 @@ fn ended(
         "--device".to_string(alloc)?,
         "device.txt".to_string(alloc)?,
     ]?;
-    let mut opener = MemoryOpener::new(&files, failing(scenario), failing(device));
+    let mut opener = MemoryOpener::new(&files, scenario, device);
     let status = run_serial(alloc, words.as_slice(), &mut opener, sink);
     Ok(exit_of(status))
 }
 
 /// What of the scenario and of the device fails, the device's text, the number of the status, and what stands in the
 /// report behind `LEFT`, where there is one.
-type Run = (Fails, Fails, &'static str, u8, &'static str);
+type Run = (
+    Failing<'static>,
+    Failing<'static>,
+    &'static str,
+    u8,
+    &'static str,
+);
 
 /// The report of a script with no op, up to the events of its device.
 const LEFT: &str = "xrsim report 1\nthread 1\n1 leave XR_SUCCESS\ncompositor\nended\ndevice\n";
@@ -72,53 +78,35 @@ const LONG_LINE: &str =
 /// Runs whose files fail. Whole lines of a device come before its fault, a part of a line is none, and a wrong line is
 /// told though the next read would fail.
 const RUNS: &[Run] = &[
-    (Fails::Opening, Fails::Nothing, "", 2, ""),
-    (Fails::FirstRead, Fails::Nothing, "", 3, ""),
-    (Fails::SecondRead, Fails::Nothing, "", 3, ""),
-    (Fails::Nothing, Fails::Opening, "", 2, ""),
-    (Fails::SecondRead, Fails::FirstRead, "", 3, ""),
+    (OPENING, NOTHING, "", 2, ""),
+    (FIRST_READ, NOTHING, "", 3, ""),
+    (SECOND_READ, NOTHING, "", 3, ""),
+    (NOTHING, OPENING, "", 2, ""),
+    (SECOND_READ, FIRST_READ, "", 3, ""),
+    (NOTHING, FIRST_READ, "loss\n", 5, "fault\nstatus 5\n"),
     (
-        Fails::Nothing,
-        Fails::FirstRead,
-        "loss\n",
-        5,
-        "fault\nstatus 5\n",
-    ),
-    (
-        Fails::Nothing,
-        Fails::SecondRead,
+        NOTHING,
+        SECOND_READ,
         "loss\n",
         5,
         "1 loss\nfault\nstatus 5\n",
     ),
     (
-        Fails::Nothing,
-        Fails::SecondRead,
+        NOTHING,
+        SECOND_READ,
         "clock 1\nmark 2\n\nlost\nmark 4\nmark 5",
         5,
         "1 clock 1\n2 mark 2\n3 lost\n4 mark 4\nfault\nstatus 5\n",
     ),
     (
-        Fails::Nothing,
-        Fails::SecondRead,
+        NOTHING,
+        SECOND_READ,
         "loss\nloss 1\nlost\n",
         6,
         "1 loss\ngarbled 2\nstatus 6\n",
     ),
-    (
-        Fails::Nothing,
-        Fails::SecondRead,
-        SHORT_LINE,
-        5,
-        "fault\nstatus 5\n",
-    ),
-    (
-        Fails::Nothing,
-        Fails::SecondRead,
-        LONG_LINE,
-        6,
-        "garbled 1\nstatus 6\n",
-    ),
+    (NOTHING, SECOND_READ, SHORT_LINE, 5, "fault\nstatus 5\n"),
+    (NOTHING, SECOND_READ, LONG_LINE, 6, "garbled 1\nstatus 6\n"),
 ];
 
 /// What is written behind `LEFT`, or all where that doesn't stand first.
@@ -145,7 +133,7 @@ fn a_fault_of_a_file_is_told_by_its_status_and_the_report(rt: HostRuntime) -> Re
 /// Whether a run over this output ends with a fault of writing, and these bytes are written.
 fn writes(alloc: Global, sink: MemorySink<'_>, written: &[u8]) -> Result<bool, AllocError> {
     let mut sink = sink;
-    let number = ended(alloc, Fails::Nothing, Fails::Nothing, "", &mut sink)?;
+    let number = ended(alloc, NOTHING, NOTHING, "", &mut sink)?;
     Ok(number == 8 && sink.bytes() == written)
 }
 

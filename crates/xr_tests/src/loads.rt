@@ -1,4 +1,4 @@
-// Loads: that the scenario that is made from a number is the one that its text gives, and what the summary of its run says.
+// Loads: that the scenario that is made from a number is the one that its text gives. What a summary says is shown by cases.
 ghost use Rattle.std.specs.Prelude.{◌≤◌};
 ghost use Rattle.xr_types.specs.declared.limits.TheConstants.{MOST_LOAD};
 
@@ -7,7 +7,7 @@ use std::test::Fail;
 use xr_device::ListDevice;
 use xr_drive::run_serial;
 use xr_io::{Failing, MemoryFile, MemoryOpener, MemorySink};
-use xr_report::{report, summary};
+use xr_report::report;
 use xr_scenario::generate;
 use xr_serial::run;
 use xr_types::{DeviceEvent, Lists, MOST_LOAD, NoMemory, Wish};
@@ -127,29 +127,5 @@ fn a_load_is_what_its_text_gives(rt: HostRuntime) -> Result<(), Fail> {
     for n in [1, 7, 10, 70] {
         assert!(rt; runs_as_its_text(rt.alloc(), n)?, "{n} frames");
     }
-    Ok(())
-}
-
-const SEVEN_FRAMES: &str = "\
-xrsim load 7
-calls 58
-XR_SUCCESS 57
-XR_ERROR_TIME_INVALID 1
-frames 7
-stamps 28
-last time 77777777
-status 0
-";
-
-#[test]
-fn the_summary_of_seven_frames(rt: HostRuntime) -> Result<(), Fail> {
-    let alloc = rt.alloc();
-    let Ok(lists) = run_load(alloc, 7) else {
-        return Err(AllocError)?;
-    };
-    let Ok(bytes) = summary(alloc, 7, &lists) else {
-        return Err(AllocError)?;
-    };
-    assert!(rt; bytes.as_slice() == SEVEN_FRAMES.as_bytes());
     Ok(())
 }

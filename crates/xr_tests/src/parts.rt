@@ -1,10 +1,8 @@
 // What no run shows of parts: a core over cells that are lent, the words of what getters answer from, numbers of inputs at both sides
-// of each threshold, what paths pick, texts that are no UTF-8, a device that is a list, a device's text of the most bytes, and lists that
-// give their `Vec` back.
+// of each threshold, what paths pick, texts that are no UTF-8, and a device that is a list.
 mod cells;
 mod cores;
 mod devices;
-mod lists;
 mod names;
 mod numbers;
 mod profiles;

@@ -1,15 +1,16 @@
 // Interaction profiles: what paths pick of a controller, and the profiles and user paths of texts. Which paths are accepted
 // is shown by cases.
+use std::alloc::{AllocError, Global};
 use std::test::Fail;
 use xr_profiles::{component, profile_of, user_of};
 use xr_types::{ActionType, Part, Pick, Profile, User, Word, input_name};
 
-/// Whether a path picks this at a user path: a sort of part, and the names of its rows.
-fn picks(pick: Option<Pick>, user: &str, sort: &str, first: &str, second: &str) -> bool {
-    let Some(pick) = pick else {
-        return false;
-    };
-    let (told, one, two) = match pick.part {
+/// What is picked of a controller: a sort of part, and the names of its rows.
+type Named = (&'static str, &'static str, &'static str);
+
+/// A part by names.
+fn named(part: Part) -> Named {
+    match part {
         Part::Digital(row) => ("digital", input_name(row), ""),
         Part::Analogue(row) => ("analogue", input_name(row), ""),
         Part::Both(x, y) => ("both", input_name(x), input_name(y)),
@@ -17,8 +18,29 @@ fn picks(pick: Option<Pick>, user: &str, sort: &str, first: &str, second: &str) 
         Part::Pose(42) => ("pose", "aim", ""),
         Part::Pose(_) => ("pose", "other", ""),
         Part::Output => ("output", "", ""),
-    };
-    pick.user.word() == user && told == sort && one == first && two == second
+    }
+}
+
+/// Whether a part has these names.
+fn is_named(part: Part, names: Named) -> bool {
+    let (sort, first, second) = named(part);
+    sort == names.0 && first == names.1 && second == names.2
+}
+
+/// Whether a path picks this at a user path.
+fn picks(pick: Option<Pick>, user: &str, names: Named) -> bool {
+    match pick {
+        Some(pick) => pick.user.word() == user && is_named(pick.part, names),
+        None => false,
+    }
+}
+
+/// The path below a user path.
+fn path_of(alloc: Global, user: &str, rest: &str) -> Result<Vec<u8>, AllocError> {
+    let mut path = Vec::new(alloc);
+    path.extend_from_slice(user.as_bytes())?;
+    path.extend_from_slice(rest.as_bytes())?;
+    Ok(path)
 }
 
 /// A profile, a type of action, a user path and what follows it, and what is picked.
@@ -239,17 +261,22 @@ const PICKED: [Row; 22] = [
     ),
 ];
 
+fn rows() -> &'static [Row] {
+    &PICKED
+}
+
+/// Whether a row holds.
+fn holds(alloc: Global, row: &Row) -> Result<bool, AllocError> {
+    let (profile, kind, user, rest, sort, first, second) = *row;
+    let path = path_of(alloc, user, rest)?;
+    let pick = component(profile, kind, path.as_slice());
+    Ok(picks(pick, user, (sort, first, second)))
+}
+
 #[test]
 fn paths_pick_inputs_axes_poses_and_outputs(rt: HostRuntime) -> Result<(), Fail> {
-    for (profile, kind, user, rest, sort, first, second) in PICKED {
-        let mut path = Vec::new(rt.alloc());
-        path.extend_from_slice(user.as_bytes())?;
-        path.extend_from_slice(rest.as_bytes())?;
-        let pick = component(profile, kind, path.as_slice());
-        assert!(rt;
-            picks(pick, user, sort, first, second),
-            "{profile} {user}{rest}"
-        );
+    for row in rows() {
+        assert!(rt; holds(rt.alloc(), row)?, "{}{}", row.2, row.3);
     }
     Ok(())
 }
