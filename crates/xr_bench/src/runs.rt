@@ -122,9 +122,7 @@ fn run_again(alloc: Global, scenario: &Scenario) -> Result<u64, NoMemory>
     let mut calls: u64 = 0;
     for _ in 0..TIMES {
         let mut events = Vec::new(alloc);
-        let Ok(()) = events.push(DeviceEvent::Wish(Wish::Ready)) else {
-            return Err(NoMemory);
-        };
+        events.push(DeviceEvent::Wish(Wish::Ready))?;
         let mut device = ListDevice::new(events);
         let lists = run(alloc, scenario, &mut device)?;
         calls = calls.saturating_add(calls_in(&lists));

@@ -1,5 +1,6 @@
 // One place, and the swapchain that stands in it.
 ghost use Rattle.std.specs.Prelude.{◌≡◌, ◌<◌, ◌==◌, ◌&&◌, not, [], ◌∷◌, false, Some, None, if◌then◌else◌};
+ghost use Rattle.xr_types.specs.declared.limits.TheConstants.{IMAGES};
 ghost use Rattle.xr_model.specs.machine.Chains.{free_place, kept_place, new_chain, is_chain, is_acquire_wrong, is_wait_wrong, is_paint_wrong, oldest_of, index_behind, unless_acquired, acquiring, waiting, releasing, info_of};
 ghost use Rattle.xr_model.specs.machine.PartAnswers.{answer_by};
 ghost use Rattle.xr_model.specs.machine.Refusals.{when, first_of, unless};
@@ -8,10 +9,7 @@ ghost use Rattle.xr_chains.specs.ChainsLeft.{left_one};
 use crate::standing::Standing;
 use arrayvec::ArrayVec;
 use std::marker::Model;
-use xr_types::{Answer, ChainInfo, Code, Image};
-
-/// How many images a swapchain has.
-const IMAGES: usize = 3;
+use xr_types::{Answer, ChainInfo, Code, IMAGES, Image};
 
 /// What a call is answered that comes out of order.
 pub(crate) const OUT_OF_ORDER: Answer = Answer {
@@ -39,6 +37,7 @@ pub(crate) struct Chain {
 
 impl Model for Chain {
     ghost use Rattle.std.specs.Prelude.{◌≡◌, ◌≤◌, ◌<◌, true, length, if◌then◌else◌};
+    ghost use Rattle.xr_types.specs.declared.limits.TheConstants.{IMAGES};
     ghost use Rattle.xr_model.specs.machine.Chains as machine;
     ghost use Rattle.xr_chains.specs.ChainsLeft.{IsFree};
 
@@ -56,15 +55,19 @@ impl Model for Chain {
       next = c.next;
     } };
 
-    ghost invariant = { λ c. (c.next < 3) × (length c.acquired.items ≤ (if c.is_static then c.next else 3)) × (c.is_clear ≡ true → IsFree (record { handle = c.handle; is_destroyed = c.is_destroyed; width = c.width; height = c.height; is_static = c.is_static; acquired = c.acquired.items; has_waited = c.has_waited; last = c.last; next = c.next })) };
+    ghost invariant = { λ c. (c.next < IMAGES) × (length c.acquired.items ≤ (if c.is_static then c.next else IMAGES)) × (c.is_clear ≡ true → IsFree (record { handle = c.handle; is_destroyed = c.is_destroyed; width = c.width; height = c.height; is_static = c.is_static; acquired = c.acquired.items; has_waited = c.has_waited; last = c.last; next = c.next })) };
 }
 
 /// The index behind this one: they come in turn. That of a static swapchain comes once.
 fn index_behind(is_static: bool, index: u8) -> u8
-    requires { index < 3 }
+    requires { index < IMAGES }
     ensures { result ≡ index_behind is_static index }
 {
-    if is_static { 1 } else { (index + 1) % 3 }
+    if is_static {
+        1
+    } else {
+        (index + 1) % IMAGES as u8
+    }
 }
 
 /// The last-released index once this one is acquired.

@@ -5,18 +5,18 @@ ghost use Rattle.xr_model.specs.machine.PlainImages.{no_images, count_at, with_h
 
 use std::marker::Model;
 use xr_model::Cells;
-use xr_types::{Image, SWAPCHAINS};
+use xr_types::{IMAGES, Image, SWAPCHAINS};
 
 /// How many images there are: three for each place of a swapchain.
-const IMAGES: usize = 3 * SWAPCHAINS;
+const SLOTS: usize = IMAGES * SWAPCHAINS;
 
 /// Cells of one thread, in the value itself: for each image how many frames use it, whether an application has it, and its
 /// stamp. Contracts see the machine's plain images.
 #[derive(Drop)]
 pub struct PlainCells {
-    counts: [u64; IMAGES],
-    holders: [bool; IMAGES],
-    stamps: [u64; IMAGES],
+    counts: [u64; SLOTS],
+    holders: [bool; SLOTS],
+    stamps: [u64; SLOTS],
 }
 
 impl Model for PlainCells {
@@ -40,9 +40,9 @@ impl PlainCells {
         ensures { result ≡ no_images }
     {
         PlainCells {
-            counts: [0; IMAGES],
-            holders: [false; IMAGES],
-            stamps: [0; IMAGES],
+            counts: [0; SLOTS],
+            holders: [false; SLOTS],
+            stamps: [0; SLOTS],
         }
     }
 
@@ -50,14 +50,14 @@ impl PlainCells {
     fn count_at(&self, slot: usize) -> u64
         ensures { result ≡ count_at self.now slot }
     {
-        if slot < IMAGES { self.counts[slot] } else { 0 }
+        if slot < SLOTS { self.counts[slot] } else { 0 }
     }
 
     /// An application has the image that stands there, or none has it.
     fn hold(&mut self, slot: usize, is_held: bool)
         ensures { self.new ≡ with_holder self.old slot is_held }
     {
-        if slot < IMAGES {
+        if slot < SLOTS {
             self.holders[slot] = is_held;
         }
     }
@@ -72,7 +72,7 @@ impl Cells for PlainCells {
 
     fn pin(&mut self, image: Image) {
         let slot = slot_of(image);
-        if slot < IMAGES {
+        if slot < SLOTS {
             self.counts[slot] = self.counts[slot].saturating_add(1);
         }
     }
@@ -92,19 +92,19 @@ impl Cells for PlainCells {
 
     fn stamp(&mut self, image: Image, value: u64) {
         let slot = slot_of(image);
-        if slot < IMAGES {
+        if slot < SLOTS {
             self.stamps[slot] = value;
         }
     }
 
     fn peek(&mut self, image: Image) -> u64 {
         let slot = slot_of(image);
-        if slot < IMAGES { self.stamps[slot] } else { 0 }
+        if slot < SLOTS { self.stamps[slot] } else { 0 }
     }
 
     fn give_back(&mut self, image: Image) {
         let slot = slot_of(image);
-        if slot < IMAGES {
+        if slot < SLOTS {
             self.counts[slot] = self.counts[slot].saturating_sub(1);
         }
     }

@@ -8,7 +8,7 @@ use Rattle.xr_model.specs.machine.Chains.{Chain, has_place}
 use Rattle.xr_model.specs.machine.Frames.{one_if}
 use Rattle.xr_model.specs.machine.History.{after, IsLegal}
 use Rattle.xr_model.specs.machine.Images.{slot_of, times_in}
-use Rattle.xr_model.specs.machine.Request.{Entry}
+use Rattle.xr_model.specs.machine.Calls.{Entry}
 use Rattle.xr_model.specs.machine.State.{Settings, State, opening}
 use Rattle.xr_model.specs.scenario.InRange.{Each}
 use Rattle.xr_model.proofs.CellCounts.{within}

@@ -11,7 +11,8 @@ use Rattle.xr_model.specs.laws.FewCalls.{is_end}
 use Rattle.xr_model.specs.laws.Moments.{Moment, opening_moment, exchange_at}
 use Rattle.xr_model.specs.machine.CoreCalls.{Lent, left_in, shown_over}
 use Rattle.xr_model.specs.machine.Machine.{step}
-use Rattle.xr_model.specs.machine.Request.{next_frame, image_done, Entry, Exchange}
+use Rattle.xr_model.specs.machine.Calls.{Entry, Exchange}
+use Rattle.xr_types.specs.declared.calls.Call.TheVariants as ask
 use Rattle.xr_model.specs.machine.State.{State, with_apps}
 use Rattle.xr_rule.specs.View.{Know, know_after}
 use Rattle.xr_runtime.specs.Calling.{behind, seen_by, entry_by}
@@ -27,48 +28,48 @@ use Rattle.xr_compositor.proofs.FewImages.{few_held}
 
 -- where some are held one is given back, and one less is held behind that
 returned_so : (s : State) (e : Entry) → 0 < length s.cells.held
-    → ((step s (record e { request = image_done })).1.reply.code ≡ Success) × ((step s (record e { request = image_done })).1.reply.gives ≡ gives.Nothing) × ((step s (record e { request = image_done })).1.shown ≡ None)
+    → ((step s (record e { call = ask.ImageDone })).1.reply.code ≡ Success) × ((step s (record e { call = ask.ImageDone })).1.reply.gives ≡ gives.Nothing) × ((step s (record e { call = ask.ImageDone })).1.shown ≡ None)
 returned_so s e = by s.cells.held
   where
     at : List Image → State
     at held = record s { cells = record s.cells { held = held } }
 
     by : (held : List Image) → 0 < length held
-        → ((step (at held) (record e { request = image_done })).1.reply.code ≡ Success) × ((step (at held) (record e { request = image_done })).1.reply.gives ≡ gives.Nothing) × ((step (at held) (record e { request = image_done })).1.shown ≡ None)
+        → ((step (at held) (record e { call = ask.ImageDone })).1.reply.code ≡ Success) × ((step (at held) (record e { call = ask.ImageDone })).1.reply.gives ≡ gives.Nothing) × ((step (at held) (record e { call = ask.ImageDone })).1.shown ≡ None)
     by [] some = absurd (omega arith)
     by (i ∷ held) some = (refl, refl, refl)
 
-one_less : (s : State) (e : Entry) → 0 < length s.cells.held → length (step s (record e { request = image_done })).0.cells.held + 1 ≡ length s.cells.held
+one_less : (s : State) (e : Entry) → 0 < length s.cells.held → length (step s (record e { call = ask.ImageDone })).0.cells.held + 1 ≡ length s.cells.held
 one_less s e = by s.cells.held
   where
     at : List Image → State
     at held = record s { cells = record s.cells { held = held } }
 
-    by : (held : List Image) → 0 < length held → length (step (at held) (record e { request = image_done })).0.cells.held + 1 ≡ length held
+    by : (held : List Image) → 0 < length held → length (step (at held) (record e { call = ask.ImageDone })).0.cells.held + 1 ≡ length held
     by [] some = absurd (omega arith)
     by (i ∷ held) some = omega arith
 
-is_return : (m : Moment) (e : Entry) → 0 < length m.state.cells.held → IsReturn (exchange_at m (record e { request = image_done }))
+is_return : (m : Moment) (e : Entry) → 0 < length m.state.cells.held → IsReturn (exchange_at m (record e { call = ask.ImageDone }))
 unfolding exchange_at
 is_return m e some = let so = returned_so m.state e some in record { asks = refl; succeeds = so.0; gives_nothing = so.1; shows_none = so.2 }
 
-pub gave_one : (table : TableId) (old new : CompositorPass) (reply : Reply) (before after : Lent) → IsCompositor table old → Composes table old image_done before after reply new
+pub gave_one : (table : TableId) (old new : CompositorPass) (reply : Reply) (before after : Lent) → IsCompositor table old → Composes table old ask.ImageDone before after reply new
     → 0 < old.held → GaveOneBack table old new
 gave_one table old new reply before after is c some_held =
     let k = know_of old in
-    let e : Entry = entry_by k image_done reply in
+    let e : Entry = entry_by k ask.ImageDone reply in
     let m : Moment = behind k c.called.look in
     let known = c.held_before in
     let some : 0 < length m.state.cells.held = omega (arith, some_held, known) in
     let so = returned_so m.state e some in
     let less = one_less m.state e some in
     let now : new.held ≡ length (step m.state e).0.cells.held =
-    c.is.held_is ∙ ap (λ (q : Know). length (seen_by q).state.cells.held) (knows_after old.seat.me new.seat.me image_done reply before after is.rests.between c.called)
+    c.is.held_is ∙ ap (λ (q : Know). length (seen_by q).state.cells.held) (knows_after old.seat.me new.seat.me ask.ImageDone reply before after is.rests.between c.called)
     ∙ ap (λ (z : Moment). length z.state.cells.held) (moments_in_turn (opening_moment k.apps) c.called.look (e ∷ [])) in record {
       is = c.is;
       unended = c.ended_is ∙ (ap (λ (r : Reply). is_end r.gives) (sym c.called.replies) ∙ ap is_end so.1);
       image = exchange_at m e;
-      made = (seat_is old.seat.me new.seat.me image_done reply before after is.rests.between c.called).calls;
+      made = (seat_is old.seat.me new.seat.me ask.ImageDone reply before after is.rests.between c.called).calls;
       returns = is_return m e some;
       held = omega (arith, now, less, known);
     }
@@ -103,49 +104,49 @@ calls_and_held table old new is b =
 -- ---- the frame
 
 -- where the end is told, none is held behind that
-ended_so : (s : State) (e : Entry) → (step s (record e { request = next_frame })).1.reply.gives ≡ gives.Ended → length (step s (record e { request = next_frame })).0.cells.held ≡ 0
+ended_so : (s : State) (e : Entry) → (step s (record e { call = ask.NextFrame })).1.reply.gives ≡ gives.Ended → length (step s (record e { call = ask.NextFrame })).0.cells.held ≡ 0
 ended_so s e = by s.cells.held s.core.frames.pending
   where
     at : List Image → List PendingFrame → State
     at held pending = record s { core = record s.core { frames = record s.core.frames { pending = pending } }; cells = record s.cells { held = held } }
 
-    by : (held : List Image) (pending : List PendingFrame) → (step (at held pending) (record e { request = next_frame })).1.reply.gives ≡ gives.Ended → length (step (at held pending) (record e { request = next_frame })).0.cells.held ≡ 0
+    by : (held : List Image) (pending : List PendingFrame) → (step (at held pending) (record e { call = ask.NextFrame })).1.reply.gives ≡ gives.Ended → length (step (at held pending) (record e { call = ask.NextFrame })).0.cells.held ≡ 0
     by [] [] told = refl
     by [] (f ∷ fs) told = absurd (cc told)
     by (i ∷ held) pending told = absurd (cc told)
 
 -- where a frame is told, it is shown, and else none is
-told_so : (s : State) (e : Entry) (before : Shown) → (step s (record e { request = next_frame })).1.reply.gives ≡ gives.Shown
-    → (step s (record e { request = next_frame })).1.shown ≡ Some (shown_over (step s (record e { request = next_frame })).1.shown before)
+told_so : (s : State) (e : Entry) (before : Shown) → (step s (record e { call = ask.NextFrame })).1.reply.gives ≡ gives.Shown
+    → (step s (record e { call = ask.NextFrame })).1.shown ≡ Some (shown_over (step s (record e { call = ask.NextFrame })).1.shown before)
 told_so s e before = by s.cells.held s.core.frames.pending
   where
     at : List Image → List PendingFrame → State
     at held pending = record s { core = record s.core { frames = record s.core.frames { pending = pending } }; cells = record s.cells { held = held } }
 
-    by : (held : List Image) (pending : List PendingFrame) → (step (at held pending) (record e { request = next_frame })).1.reply.gives ≡ gives.Shown
-        → (step (at held pending) (record e { request = next_frame })).1.shown ≡ Some (shown_over (step (at held pending) (record e { request = next_frame })).1.shown before)
+    by : (held : List Image) (pending : List PendingFrame) → (step (at held pending) (record e { call = ask.NextFrame })).1.reply.gives ≡ gives.Shown
+        → (step (at held pending) (record e { call = ask.NextFrame })).1.shown ≡ Some (shown_over (step (at held pending) (record e { call = ask.NextFrame })).1.shown before)
     by [] [] told = absurd (cc told)
     by [] (f ∷ fs) told = refl
     by (i ∷ held) pending told = absurd (cc told)
 
-none_so : (s : State) (e : Entry) → (step s (record e { request = next_frame })).1.reply.gives ≡ gives.Ended → (step s (record e { request = next_frame })).1.shown ≡ None
+none_so : (s : State) (e : Entry) → (step s (record e { call = ask.NextFrame })).1.reply.gives ≡ gives.Ended → (step s (record e { call = ask.NextFrame })).1.shown ≡ None
 none_so s e = by s.cells.held s.core.frames.pending
   where
     at : List Image → List PendingFrame → State
     at held pending = record s { core = record s.core { frames = record s.core.frames { pending = pending } }; cells = record s.cells { held = held } }
 
-    by : (held : List Image) (pending : List PendingFrame) → (step (at held pending) (record e { request = next_frame })).1.reply.gives ≡ gives.Ended → (step (at held pending) (record e { request = next_frame })).1.shown ≡ None
+    by : (held : List Image) (pending : List PendingFrame) → (step (at held pending) (record e { call = ask.NextFrame })).1.reply.gives ≡ gives.Ended → (step (at held pending) (record e { call = ask.NextFrame })).1.shown ≡ None
     by [] [] told = refl
     by [] (f ∷ fs) told = absurd (cc told)
     by (i ∷ held) pending told = absurd (cc told)
 
-shown_there : (m : Moment) (e : Entry) (before after : Lent) → after ≡ left_in (step m.state (record e { request = next_frame })).1.text (step m.state (record e { request = next_frame })).1.shown before
-    → (step m.state (record e { request = next_frame })).1.reply.gives ≡ gives.Shown → (exchange_at m (record e { request = next_frame })).outcome.shown ≡ Some after.frame
+shown_there : (m : Moment) (e : Entry) (before after : Lent) → after ≡ left_in (step m.state (record e { call = ask.NextFrame })).1.text (step m.state (record e { call = ask.NextFrame })).1.shown before
+    → (step m.state (record e { call = ask.NextFrame })).1.reply.gives ≡ gives.Shown → (exchange_at m (record e { call = ask.NextFrame })).outcome.shown ≡ Some after.frame
 unfolding exchange_at
 shown_there m e before after is told = told_so m.state e before.frame told ∙ ap (λ (l : Lent). Some l.frame) (sym is)
 
-none_there : (m : Moment) (e : Entry) (before after : Lent) → after ≡ left_in (step m.state (record e { request = next_frame })).1.text (step m.state (record e { request = next_frame })).1.shown before
-    → (step m.state (record e { request = next_frame })).1.reply.gives ≡ gives.Ended → ((exchange_at m (record e { request = next_frame })).outcome.shown ≡ None) × (after.frame ≡ before.frame)
+none_there : (m : Moment) (e : Entry) (before after : Lent) → after ≡ left_in (step m.state (record e { call = ask.NextFrame })).1.text (step m.state (record e { call = ask.NextFrame })).1.shown before
+    → (step m.state (record e { call = ask.NextFrame })).1.reply.gives ≡ gives.Ended → ((exchange_at m (record e { call = ask.NextFrame })).outcome.shown ≡ None) × (after.frame ≡ before.frame)
 unfolding exchange_at
 none_there m e before after is told = let none = none_so m.state e told in (none, ap (λ (l : Lent). l.frame) is ∙ ap (λ (o : Option Shown). shown_over o before.frame) none)
 
@@ -153,21 +154,21 @@ replies_so : (m : Moment) (e : Entry) (reply : Reply) → (step m.state e).1.rep
 unfolding exchange_at
 replies_so m e reply is = sym is
 
-module _ (table : TableId) (old new : CompositorPass) (reply : Reply) (before after : Lent) (is : IsCompositor table old) (c : Composes table old next_frame before after reply new) where
+module _ (table : TableId) (old new : CompositorPass) (reply : Reply) (before after : Lent) (is : IsCompositor table old) (c : Composes table old ask.NextFrame before after reply new) where
   abbrev k : Know
   k = know_of old
 
   abbrev e : Entry
-  e = entry_by k next_frame reply
+  e = entry_by k ask.NextFrame reply
 
   abbrev frame : Exchange
   frame = exchange_at (behind k c.called.look) e
 
   one_call : own_calls new ≡ own_calls old ++ frame ∷ []
-  one_call = (seat_is old.seat.me new.seat.me next_frame reply before after is.rests.between c.called).calls
+  one_call = (seat_is old.seat.me new.seat.me ask.NextFrame reply before after is.rests.between c.called).calls
 
   knows_now : know_of new ≡ know_after k c.called.look e
-  knows_now = knows_after old.seat.me new.seat.me next_frame reply before after is.rests.between c.called
+  knows_now = knows_after old.seat.me new.seat.me ask.NextFrame reply before after is.rests.between c.called
 
   abbrev asked_for : AsksForFrame old frame
   asked_for = record {
@@ -190,7 +191,7 @@ module _ (table : TableId) (old new : CompositorPass) (reply : Reply) (before af
 
   pub room_to_give_back : old.calls < 2 ^ 62 → new.calls + new.held < 2 ^ 63
   room_to_give_back few =
-      let more = calls_more old.seat.me new.seat.me next_frame reply before after is.rests.between c.called in
+      let more = calls_more old.seat.me new.seat.me ask.NextFrame reply before after is.rests.between c.called in
       let counts = is.counts in
       let now = c.is.counts in
       omega (arith, few, more, counts, now, few_now)

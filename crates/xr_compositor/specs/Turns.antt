@@ -4,7 +4,8 @@ use Rattle.atomic_table.specs.Seated.{TableId}
 use Rattle.xr_types.specs.declared.calls.Gives.TheVariants as gives
 use Rattle.xr_types.specs.declared.code.Code.TheVariants.{Success}
 use Rattle.xr_types.specs.declared.frames.Shown.{Shown}
-use Rattle.xr_model.specs.machine.Request.{next_frame, image_done, Entry, Outcome, Exchange}
+use Rattle.xr_model.specs.machine.Calls.{Entry, Outcome, Exchange}
+use Rattle.xr_types.specs.declared.calls.Call.TheVariants as ask
 use Rattle.xr_rule.specs.View.{Know, calls_in, know_after}
 use Rattle.xr_rule.specs.Plays.{Sees}
 use Rattle.xr_model.specs.laws.FewCalls.{is_end}
@@ -24,7 +25,7 @@ own_calls p = calls_in (know_of p).own
 
 -- an image was given back
 pub record IsReturn (t : Exchange) : Type 0 where
-  pub asks : t.request ≡ image_done
+  pub asks : t.call ≡ ask.ImageDone
   pub succeeds : t.outcome.reply.code ≡ Success
   pub gives_nothing : t.outcome.reply.gives ≡ gives.Nothing
   pub shows_none : t.outcome.shown ≡ None
@@ -70,7 +71,7 @@ pub record AsksForFrame (old : CompositorPass) (frame : Exchange) : Type 0 where
   pub entry : Entry
   pub saw : Sees (know_of old) look
   pub sees : Sees (know_after (know_of old) look entry) (look ++ entry ∷ [])
-  pub asks : entry.request ≡ next_frame
+  pub asks : entry.call ≡ ask.NextFrame
   pub is : frame ≡ exchange_at (behind (know_of old) look) entry
 
 -- where the end was told, no image was given back

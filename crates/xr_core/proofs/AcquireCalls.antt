@@ -7,7 +7,7 @@ use Rattle.xr_types.specs.declared.code.Code.{Code}
 use Rattle.xr_types.specs.declared.code.Code.TheVariants.{Success, CallOrderInvalid}
 use Rattle.xr_model.specs.machine.Chains.{chain_at, is_acquire_wrong, acquiring, next_index}
 use Rattle.xr_model.specs.machine.Refusals.{Refusal, when, first_of, unless}
-use Rattle.xr_model.specs.machine.Request.{acquire_image}
+use Rattle.xr_types.specs.declared.calls.Call.TheVariants as ask
 use Rattle.xr_model.specs.machine.Rule.{ahead, nothing_done}
 use Rattle.xr_model.specs.machine.SessionRule.{Loss, loss_of, code_on}
 use Rattle.xr_model.specs.machine.Rules.Session.{life_of}
@@ -35,23 +35,23 @@ module _ (s : CoreState) (chain : ℕ) where
   abbrev full : List Refusal
   full = order (is_acquire_wrong (chain_at s.chains chain))
 
-  pub acquire_refused : (code : Code) → or_refused (first_of front) success ≡ Err code → Decides s (acquire_image chain) s (Err (Refused code))
-  acquire_refused code told = err_decides s (acquire_image chain) (acquire_image_rule s chain) success refl (λ who reads. refl) code (then_err front full success success code told)
+  pub acquire_refused : (code : Code) → or_refused (first_of front) success ≡ Err code → Decides s (ask.AcquireImage chain) s (Err (Refused code))
+  acquire_refused code told = err_decides s (ask.AcquireImage chain) (acquire_image_rule s chain) success refl (λ who reads. refl) code (then_err front full success success code told)
 
   pub acquire_disordered : (a : Answer) → or_refused (first_of front) success ≡ Ok success → a ≡ answer_by (first_of full) (next_index (chain_at s.chains chain)) → (a.code ≡ Success → ⊥)
-      → Decides s (acquire_image chain) (unless (first_of full) s (with_changed_chain s chain acquiring)) (Err (Refused a.code))
+      → Decides s (ask.AcquireImage chain) (unless (first_of full) s (with_changed_chain s chain acquiring)) (Err (Refused a.code))
   acquire_disordered a passed is bad = by (is_acquire_wrong (chain_at s.chains chain)) refl is
     where
-      by : (b : Bool) → is_acquire_wrong (chain_at s.chains chain) ≡ b → a ≡ answer_by (first_of (order b)) (next_index (chain_at s.chains chain)) → Decides s (acquire_image chain) (unless (first_of (order b)) s (with_changed_chain s chain acquiring)) (Err (Refused a.code))
+      by : (b : Bool) → is_acquire_wrong (chain_at s.chains chain) ≡ b → a ≡ answer_by (first_of (order b)) (next_index (chain_at s.chains chain)) → Decides s (ask.AcquireImage chain) (unless (first_of (order b)) s (with_changed_chain s chain acquiring)) (Err (Refused a.code))
       by false e is = absurd (bad (rw is refl))
-      by true e is = rw is (err_decides s (acquire_image chain) (acquire_image_rule s chain) success refl (λ who reads. refl) CallOrderInvalid (then_ok front full success success success passed ∙ rw e refl))
+      by true e is = rw is (err_decides s (ask.AcquireImage chain) (acquire_image_rule s chain) success refl (λ who reads. refl) CallOrderInvalid (then_ok front full success success success passed ∙ rw e refl))
 
   pub acquire_done : (a : Answer) → or_refused (first_of front) success ≡ Ok success → a ≡ answer_by (first_of full) (next_index (chain_at s.chains chain)) → a.code ≡ Success
-      → Decides s (acquire_image chain) (unless (first_of full) s (with_changed_chain s chain acquiring)) (Ok (record { code = success; gives = Number a.number; place = 0 }))
+      → Decides s (ask.AcquireImage chain) (unless (first_of full) s (with_changed_chain s chain acquiring)) (Ok (record { code = success; gives = Number a.number; place = 0 }))
   acquire_done a passed is good = by (is_acquire_wrong (chain_at s.chains chain)) refl is
     where
-      by : (b : Bool) → is_acquire_wrong (chain_at s.chains chain) ≡ b → a ≡ answer_by (first_of (order b)) (next_index (chain_at s.chains chain)) → Decides s (acquire_image chain) (unless (first_of (order b)) s (with_changed_chain s chain acquiring)) (Ok (record { code = success; gives = Number a.number; place = 0 }))
+      by : (b : Bool) → is_acquire_wrong (chain_at s.chains chain) ≡ b → a ≡ answer_by (first_of (order b)) (next_index (chain_at s.chains chain)) → Decides s (ask.AcquireImage chain) (unless (first_of (order b)) s (with_changed_chain s chain acquiring)) (Ok (record { code = success; gives = Number a.number; place = 0 }))
       by true e is = let code : CallOrderInvalid ≡ Success = sym (ap (λ (x : Answer). x.code) is) ∙ good in cc
       by false e is =
-          rw is (effect_decides s (acquire_image chain) (λ given. acquire_image_rule s chain) (with_changed_chain s chain acquiring) success (Number (next_index (chain_at s.chains chain))) nothing_done
+          rw is (effect_decides s (ask.AcquireImage chain) (λ given. acquire_image_rule s chain) (with_changed_chain s chain acquiring) success (Number (next_index (chain_at s.chains chain))) nothing_done
           (λ who reads. refl) (ok_none (first_of (front ++ full)) success success (then_ok front full success success success passed ∙ rw e refl)).0 refl refl refl (success_found loss))

@@ -15,7 +15,9 @@ use Rattle.xr_model.specs.machine.CoreCalls.{Lent, entry_of, given_by}
 use Rattle.xr_model.specs.machine.OverCells.{World, entry_by, MayApply}
 use Rattle.xr_model.specs.machine.Machine.{effect, rule_of, cell_calls, as_unused, IsGiven}
 use Rattle.xr_model.specs.machine.Refusals.{Refusal, first_of}
-use Rattle.xr_model.specs.machine.Request.{Request, Entry, next_frame, image_done}
+use Rattle.xr_model.specs.machine.Calls.{Entry}
+use Rattle.xr_types.specs.declared.calls.Call.{Call}
+use Rattle.xr_types.specs.declared.calls.Call.TheVariants as ask
 use Rattle.xr_model.specs.machine.Rule.{Rule, Did, nothing_done, refusals, or_short, told_on, unless_refused, carried_out}
 use Rattle.xr_model.specs.machine.State.{CoreState, CellReads, WholeCore}
 use Rattle.xr_model.specs.machine.PartAnswers.{or_refused}
@@ -29,7 +31,7 @@ use Rattle.xr_core.proofs.Plain.{gives_size}
 
 -- ---- calls that touch no cells
 
-module _ {C : Type 0} (does : C → CellCall → C → Type 0) (s new : CoreState) (held : List Image) (c : C) (who : Actor) (what : Request) (lent left : Lent) (quiet : IsQuiet what) where
+module _ {C : Type 0} (does : C → CellCall → C → Type 0) (s new : CoreState) (held : List Image) (c : C) (who : Actor) (what : Call) (lent left : Lent) (quiet : IsQuiet what) where
   abbrev before : World C
   before = record { core = record { kept = s; held = held }; cells = c; lent = lent }
 
@@ -71,9 +73,9 @@ pub record IsOwn (did : Did) : Type 0 where
   pub taken : did.taken ≡ []
   pub returned : did.returned ≡ []
 
-module _ (s : CoreState) (what : Request) (f : ℕ → Rule) (same : (who : Actor) (reads : CellReads) (given : ℕ) → rule_of s reads who given what ≡ f given) where
+module _ (s : CoreState) (what : Call) (f : ℕ → Rule) (same : (who : Actor) (reads : CellReads) (given : ℕ) → rule_of s reads who given what ≡ f given) where
   abbrev entry : Actor → ℕ → Bool → Entry
-  entry who given short = record { actor = who; request = what; given = given; short = short }
+  entry who given short = record { actor = who; call = what; given = given; short = short }
 
   -- the calls on cells by what the rule does
   pub rule_calls : (who : Actor) (reads : CellReads) (given : ℕ) (short : Bool) (did : Did) → (carried_out s short (f given)).did ≡ did → IsOwn did → cell_calls s reads (entry who given short) ≡ calls_by did
@@ -120,22 +122,22 @@ module _ (s : CoreState) (what : Request) (f : ℕ → Rule) (same : (who : Acto
 
 -- ---- whoever makes the call, and whatever is held
 
-calls_aside : (s : CoreState) (reads : CellReads) (hs : List Image) (e : Entry) → IsAside e.request → cell_calls s (record reads { held = hs }) e ≡ cell_calls s reads e
-calls_aside s reads hs e = by e.request
+calls_aside : (s : CoreState) (reads : CellReads) (hs : List Image) (e : Entry) → IsAside e.call → cell_calls s (record reads { held = hs }) e ≡ cell_calls s reads e
+calls_aside s reads hs e = by e.call
   where
-    by : (r : Request) → IsAside r → cell_calls s (record reads { held = hs }) (record e { request = r }) ≡ cell_calls s reads (record e { request = r })
-    by next_frame aside = absurd aside
-    by image_done aside = absurd aside
+    by : (r : Call) → IsAside r → cell_calls s (record reads { held = hs }) (record e { call = r }) ≡ cell_calls s reads (record e { call = r })
+    by ask.NextFrame aside = absurd aside
+    by ask.ImageDone aside = absurd aside
     by _ aside = refl
 
 calls_of_any : (s : CoreState) (reads : CellReads) (who : Actor) (e : Entry) → cell_calls s reads (record e { actor = who }) ≡ cell_calls s reads e
-calls_of_any s reads who e = by e.request
+calls_of_any s reads who e = by e.call
   where
-    by : (r : Request) → cell_calls s reads (record { actor = who; request = r; given = e.given; short = e.short }) ≡ cell_calls s reads (record e { request = r })
-    by next_frame = refl
+    by : (r : Call) → cell_calls s reads (record { actor = who; call = r; given = e.given; short = e.short }) ≡ cell_calls s reads (record e { call = r })
+    by ask.NextFrame = refl
     by _ = refl
 
-pub may_touch : {C : Type 0} (may : C → CellCall → Type 0) (does : C → CellCall → C → Type 0) (core : WholeCore) (c : C) (who : Actor) (what : Request) → IsAside what → MayApply may does core c who what → MayTouch may does core.kept c what
+pub may_touch : {C : Type 0} (may : C → CellCall → Type 0) (does : C → CellCall → C → Type 0) (core : WholeCore) (c : C) (who : Actor) (what : Call) → IsAside what → MayApply may does core c who what → MayTouch may does core.kept c what
 may_touch may does core c who what aside apply = λ other reads given short.
-    let e : Entry = record { actor = who; request = what; given = given; short = short } in
+    let e : Entry = record { actor = who; call = what; given = given; short = short } in
     rw (calls_of_any core.kept reads other e, ← calls_aside core.kept reads core.held e aside) (apply (record reads { held = core.held }) given short refl)

@@ -17,7 +17,8 @@ use Rattle.xr_model.specs.machine.Handles.{no_handle, no_room, has_room, was_giv
 use Rattle.xr_model.specs.machine.Images.{unstamped}
 use Rattle.xr_model.specs.machine.Machine.{effect, rule_of, as_unused, held_after}
 use Rattle.xr_model.specs.machine.Refusals.{Refusal, when, first_of, unless}
-use Rattle.xr_model.specs.machine.Request.{Request, create_swapchain, wait_image, paint, release_image}
+use Rattle.xr_types.specs.declared.calls.Call.{Call}
+use Rattle.xr_types.specs.declared.calls.Call.TheVariants as ask
 use Rattle.xr_model.specs.machine.Rule.{Rule, Did, ahead, refusals, nothing_done, told_on}
 use Rattle.xr_model.specs.machine.SessionLife.{is_lost}
 use Rattle.xr_model.specs.machine.SessionRule.{Loss, loss_of, code_on}
@@ -77,63 +78,63 @@ module _ {C : Type 0} (does : C → CellCall → C → Type 0) (s : CoreState) (
   -- ---- painting
 
   module _ (value : ℕ) where
-    pub paint_refused : (code : Code) (c : C) → or_refused (first_of front) success ≡ Err code → DecidesCells does s (paint chain value) s (Err (Refused code)) c c
+    pub paint_refused : (code : Code) (c : C) → or_refused (first_of front) success ≡ Err code → DecidesCells does s (ask.Paint chain value) s (Err (Refused code)) c c
     paint_refused code c told =
-        refused_cells s (paint chain value) (λ given. paint_rule s chain value) (λ who reads given. refl) does success code c refl (then_err front (order (is_paint_wrong (chain_at s.chains chain))) success success code told)
+        refused_cells s (ask.Paint chain value) (λ given. paint_rule s chain value) (λ who reads given. refl) does success code c refl (then_err front (order (is_paint_wrong (chain_at s.chains chain))) success success code told)
 
-    pub paint_disordered : {T : Type 0} (x : T) (code : Code) (c : C) → or_refused (first_of front) success ≡ Ok success → or_refused (first_of (order (is_paint_wrong (chain_at s.chains chain)))) x ≡ Err code → DecidesCells does s (paint chain value) s (Err (Refused code)) c c
+    pub paint_disordered : {T : Type 0} (x : T) (code : Code) (c : C) → or_refused (first_of front) success ≡ Ok success → or_refused (first_of (order (is_paint_wrong (chain_at s.chains chain)))) x ≡ Err code → DecidesCells does s (ask.Paint chain value) s (Err (Refused code)) c c
     paint_disordered x code c passed told =
-        refused_cells s (paint chain value) (λ given. paint_rule s chain value) (λ who reads given. refl) does success code c refl (then_ok front (order (is_paint_wrong (chain_at s.chains chain))) success success success passed ∙ or_else (first_of (order (is_paint_wrong (chain_at s.chains chain)))) x success code told)
+        refused_cells s (ask.Paint chain value) (λ given. paint_rule s chain value) (λ who reads given. refl) does success code c refl (then_ok front (order (is_paint_wrong (chain_at s.chains chain))) success success success passed ∙ or_else (first_of (order (is_paint_wrong (chain_at s.chains chain)))) x success code told)
 
     pub paint_done : (c d : C) → or_refused (first_of front) success ≡ Ok success → is_paint_wrong (chain_at s.chains chain) ≡ false → does c (stamp (oldest_image s.chains chain) value) d
-        → DecidesCells does s (paint chain value) s (Ok (record { code = success; gives = Nothing; place = 0 })) c d
+        → DecidesCells does s (ask.Paint chain value) s (Ok (record { code = success; gives = Nothing; place = 0 })) c d
     paint_done c d passed right painted =
-        done_cells s (paint chain value) (λ given. paint_rule s chain value) (λ who reads given. refl) does s success Nothing (record nothing_done { stamped = record { image = oldest_image s.chains chain; stamp = value } ∷ [] }) c d
+        done_cells s (ask.Paint chain value) (λ given. paint_rule s chain value) (λ who reads given. refl) does s success Nothing (record nothing_done { stamped = record { image = oldest_image s.chains chain; stamp = value } ∷ [] }) c d
         (none_at (is_paint_wrong (chain_at s.chains chain)) passed right) refl refl refl (success_found loss) (record { claimed = refl; taken = refl; returned = refl }) (d, painted, refl)
 
-    pub may_paint : (may : C → CellCall → Type 0) (c : C) → MayTouch may does s c (paint chain value) → or_refused (first_of front) success ≡ Ok success → is_paint_wrong (chain_at s.chains chain) ≡ false → may c (stamp (oldest_image s.chains chain) value)
+    pub may_paint : (may : C → CellCall → Type 0) (c : C) → MayTouch may does s c (ask.Paint chain value) → or_refused (first_of front) success ≡ Ok success → is_paint_wrong (chain_at s.chains chain) ≡ false → may c (stamp (oldest_image s.chains chain) value)
     may_paint may c touch passed right =
-        (may_do s (paint chain value) (λ given. paint_rule s chain value) (λ who reads given. refl) does may c 0 (record nothing_done { stamped = record { image = oldest_image s.chains chain; stamp = value } ∷ [] }) touch
+        (may_do s (ask.Paint chain value) (λ given. paint_rule s chain value) (λ who reads given. refl) does may c 0 (record nothing_done { stamped = record { image = oldest_image s.chains chain; stamp = value } ∷ [] }) touch
         (none_at (is_paint_wrong (chain_at s.chains chain)) passed right) refl refl (record { claimed = refl; taken = refl; returned = refl })).0
 
   -- ---- releasing
 
-  pub release_refused : (code : Code) (c : C) → or_refused (first_of front) success ≡ Err code → DecidesCells does s (release_image chain) s (Err (Refused code)) c c
+  pub release_refused : (code : Code) (c : C) → or_refused (first_of front) success ≡ Err code → DecidesCells does s (ask.ReleaseImage chain) s (Err (Refused code)) c c
   release_refused code c told =
-      refused_cells s (release_image chain) (λ given. release_image_rule s chain) (λ who reads given. refl) does success code c refl (then_err front (order (is_paint_wrong (chain_at s.chains chain))) success success code told)
+      refused_cells s (ask.ReleaseImage chain) (λ given. release_image_rule s chain) (λ who reads given. refl) does success code c refl (then_err front (order (is_paint_wrong (chain_at s.chains chain))) success success code told)
 
   abbrev unordered : List Refusal
   unordered = order (is_paint_wrong (chain_at s.chains chain))
 
   -- where none was waited for nothing is released
   pub release_kept : (code : Code) (c d : C) → or_refused (first_of front) success ≡ Ok success → or_refused (first_of unordered) (tt {0}) ≡ Err code → Leads does c (free_calls (waited_images s.chains chain)) d
-      → DecidesCells does s (release_image chain) (unless (first_of unordered) s (with_changed_chain s chain releasing)) (Err (Refused code)) c d
+      → DecidesCells does s (ask.ReleaseImage chain) (unless (first_of unordered) s (with_changed_chain s chain releasing)) (Err (Refused code)) c d
   release_kept code c d passed told leads = by (is_paint_wrong (chain_at s.chains chain)) refl told leads
     where
       by : (b : Bool) → is_paint_wrong (chain_at s.chains chain) ≡ b → or_refused (first_of (order b)) (tt {0}) ≡ Err code → Leads does c (free_calls (if b then [] else oldest_image s.chains chain ∷ [])) d
-          → DecidesCells does s (release_image chain) (unless (first_of (order b)) s (with_changed_chain s chain releasing)) (Err (Refused code)) c d
+          → DecidesCells does s (ask.ReleaseImage chain) (unless (first_of (order b)) s (with_changed_chain s chain releasing)) (Err (Refused code)) c d
       by false e told leads = cc
       by true e told leads =
-          rw leads (refused_cells s (release_image chain) (λ given. release_image_rule s chain) (λ who reads given. refl) does success code c refl (then_ok front unordered success success success passed ∙ rw e (or_else (first_of (order true)) (tt {0}) success code told)))
+          rw leads (refused_cells s (ask.ReleaseImage chain) (λ given. release_image_rule s chain) (λ who reads given. refl) does success code c refl (then_ok front unordered success success success passed ∙ rw e (or_else (first_of (order true)) (tt {0}) success code told)))
 
   pub released : (c d : C) → or_refused (first_of front) success ≡ Ok success → or_refused (first_of unordered) (tt {0}) ≡ Ok (tt {0}) → Leads does c (free_calls (waited_images s.chains chain)) d
-      → DecidesCells does s (release_image chain) (unless (first_of unordered) s (with_changed_chain s chain releasing)) (Ok (record { code = success; gives = Nothing; place = 0 })) c d
+      → DecidesCells does s (ask.ReleaseImage chain) (unless (first_of unordered) s (with_changed_chain s chain releasing)) (Ok (record { code = success; gives = Nothing; place = 0 })) c d
   released c d passed told leads = by (is_paint_wrong (chain_at s.chains chain)) refl told leads
     where
       by : (b : Bool) → is_paint_wrong (chain_at s.chains chain) ≡ b → or_refused (first_of (order b)) (tt {0}) ≡ Ok (tt {0}) → Leads does c (free_calls (if b then [] else oldest_image s.chains chain ∷ [])) d
-          → DecidesCells does s (release_image chain) (unless (first_of (order b)) s (with_changed_chain s chain releasing)) (Ok (record { code = success; gives = Nothing; place = 0 })) c d
+          → DecidesCells does s (ask.ReleaseImage chain) (unless (first_of (order b)) s (with_changed_chain s chain releasing)) (Ok (record { code = success; gives = Nothing; place = 0 })) c d
       by true e told leads = cc
       by false e told leads =
-          done_cells s (release_image chain) (λ given. release_image_rule s chain) (λ who reads given. refl) does (with_changed_chain s chain releasing) success Nothing (record nothing_done { freed = oldest_image s.chains chain ∷ [] }) c d
+          done_cells s (ask.ReleaseImage chain) (λ given. release_image_rule s chain) (λ who reads given. refl) does (with_changed_chain s chain releasing) success Nothing (record nothing_done { freed = oldest_image s.chains chain ∷ [] }) c d
           (none_at (is_paint_wrong (chain_at s.chains chain)) passed e) refl refl refl (success_found loss) (record { claimed = refl; taken = refl; returned = refl }) leads
 
-  pub may_release : (may : C → CellCall → Type 0) (c : C) → MayTouch may does s c (release_image chain) → or_refused (first_of front) success ≡ Ok success → MayCall may does c (free_calls (waited_images s.chains chain))
+  pub may_release : (may : C → CellCall → Type 0) (c : C) → MayTouch may does s c (ask.ReleaseImage chain) → or_refused (first_of front) success ≡ Ok success → MayCall may does c (free_calls (waited_images s.chains chain))
   may_release may c touch passed = by (is_paint_wrong (chain_at s.chains chain)) refl
     where
       by : (b : Bool) → is_paint_wrong (chain_at s.chains chain) ≡ b → MayCall may does c (free_calls (if b then [] else oldest_image s.chains chain ∷ []))
       by true e = tt
       by false e =
-          may_do s (release_image chain) (λ given. release_image_rule s chain) (λ who reads given. refl) does may c 0 (record nothing_done { freed = oldest_image s.chains chain ∷ [] }) touch
+          may_do s (ask.ReleaseImage chain) (λ given. release_image_rule s chain) (λ who reads given. refl) does may c 0 (record nothing_done { freed = oldest_image s.chains chain ∷ [] }) touch
           (none_at (is_paint_wrong (chain_at s.chains chain)) passed e) refl refl (record { claimed = refl; taken = refl; returned = refl })
 
 -- ---- coming
@@ -142,14 +143,14 @@ module _ {C : Type 0} (does : C → CellCall → C → Type 0) (s : CoreState) (
   abbrev session_loss : Loss
   session_loss = loss_of (life_of s session)
 
-  pub create_refused : (code : Code) (c : C) → or_refused (first_of (refusals (create_swapchain_rule s 0 session format width height fixed))) (code_on session_loss Success) ≡ Err code → DecidesCells does s (create_swapchain session format width height fixed) s (Err (Refused code)) c c
+  pub create_refused : (code : Code) (c : C) → or_refused (first_of (refusals (create_swapchain_rule s 0 session format width height fixed))) (code_on session_loss Success) ≡ Err code → DecidesCells does s (ask.CreateSwapchain session format width height fixed) s (Err (Refused code)) c c
   create_refused code c told =
-      refused_cells s (create_swapchain session format width height fixed) (λ given. create_swapchain_rule s given session format width height fixed) (λ who reads given. refl) does (code_on session_loss Success) code c refl told
+      refused_cells s (ask.CreateSwapchain session format width height fixed) (λ given. create_swapchain_rule s given session format width height fixed) (λ who reads given. refl) does (code_on session_loss Success) code c refl told
 
   pub create_done : (handle : ℕ) (c d : C) → first_of (refusals (create_swapchain_rule s 0 session format width height fixed)) ≡ None → (handle ≡ 0 → ⊥) × (was_given s.handles handle ≡ false) → Leads does c (stamp_calls (unstamped (first_place s.chains))) d
-      → DecidesCells does s (create_swapchain session format width height fixed) (with_swapchain s session (new_chain handle width height fixed)) (Ok (record { code = code_on session_loss Success; gives = Handle handle; place = 0 })) c d
+      → DecidesCells does s (ask.CreateSwapchain session format width height fixed) (with_swapchain s session (new_chain handle width height fixed)) (Ok (record { code = code_on session_loss Success; gives = Handle handle; place = 0 })) c d
   create_done handle c d none fresh stamped =
-      done_cells s (create_swapchain session format width height fixed) (λ given. create_swapchain_rule s given session format width height fixed) (λ who reads given. refl) does (with_swapchain s session (new_chain handle width height fixed)) (code_on session_loss Success) (Handle handle) (record nothing_done { stamped = unstamped (first_place s.chains) }) c d
+      done_cells s (ask.CreateSwapchain session format width height fixed) (λ given. create_swapchain_rule s given session format width height fixed) (λ who reads given. refl) does (with_swapchain s session (new_chain handle width height fixed)) (code_on session_loss Success) (Handle handle) (record nothing_done { stamped = unstamped (first_place s.chains) }) c d
       none refl refl (rw (success_succeeds session_loss) fresh) (success_found session_loss) (record { claimed = refl; taken = refl; returned = refl }) stamped
 
   -- where nothing refuses it there are a handle's place and a place for the chain
@@ -163,9 +164,9 @@ module _ {C : Type 0} (does : C → CellCall → C → Type 0) (s : CoreState) (
       by true none = refl
       by false none = cc
 
-  pub may_create : (may : C → CellCall → Type 0) (c : C) → MayTouch may does s c (create_swapchain session format width height fixed) → first_of (refusals (create_swapchain_rule s 0 session format width height fixed)) ≡ None → MayCall may does c (stamp_calls (unstamped (first_place s.chains)))
+  pub may_create : (may : C → CellCall → Type 0) (c : C) → MayTouch may does s c (ask.CreateSwapchain session format width height fixed) → first_of (refusals (create_swapchain_rule s 0 session format width height fixed)) ≡ None → MayCall may does c (stamp_calls (unstamped (first_place s.chains)))
   may_create may c touch none =
-      may_do s (create_swapchain session format width height fixed) (λ given. create_swapchain_rule s given session format width height fixed) (λ who reads given. refl) does may c 0 (record nothing_done { stamped = unstamped (first_place s.chains) }) touch none refl refl (record { claimed = refl; taken = refl; returned = refl })
+      may_do s (ask.CreateSwapchain session format width height fixed) (λ given. create_swapchain_rule s given session format width height fixed) (λ who reads given. refl) does may c 0 (record nothing_done { stamped = unstamped (first_place s.chains) }) touch none refl refl (record { claimed = refl; taken = refl; returned = refl })
 
 -- ---- going
 
@@ -173,7 +174,7 @@ module _ {C : Type 0} (does : C → CellCall → C → Type 0) (s : CoreState) (
 abbrev gone : CoreState → ℕ → Did
 gone s handle = record nothing_done { destroyed = destroyed_by s.handles handle; freed = freed_by s handle }
 
-module _ {C : Type 0} (does : C → CellCall → C → Type 0) (s : CoreState) (handle : ℕ) (what : Request) (k : Kind) (f : Rule) (new : CoreState) (sized : gives_size what ≡ false)
+module _ {C : Type 0} (does : C → CellCall → C → Type 0) (s : CoreState) (handle : ℕ) (what : Call) (k : Kind) (f : Rule) (new : CoreState) (sized : gives_size what ≡ false)
     (same : (who : Actor) (reads : CellReads) (given : ℕ) → rule_of s reads who given what ≡ f) (checks : refusals f ≡ no_handle s.handles k handle ∷ when false CallOrderInvalid ∷ []) (waits : f.waits ≡ false) (creates : f.creates ≡ None) (memory : f.takes_memory ≡ false)
     (effect : told_on f.on f.effect ≡ record { state = new; code = Success; gives = Nothing; text = []; shown = None; did = gone s handle }) where
   abbrev named : List Refusal
@@ -202,8 +203,8 @@ module _ {C : Type 0} (does : C → CellCall → C → Type 0) (s : CoreState) (
   abbrev reads_as : Bool → List Image → CellReads
   reads_as unused held = record { unused = unused; stamps = []; held = held }
 
-  abbrev what : Request
-  what = wait_image chain timeout start
+  abbrev what : Call
+  what = ask.WaitImage chain timeout start
 
   abbrev wrong : Bool
   wrong = is_wait_wrong (chain_at s.chains chain)
@@ -258,7 +259,7 @@ module _ {C : Type 0} (does : C → CellCall → C → Type 0) (s : CoreState) (
     firsts reads = first_skips checks_ahead (when wrong CallOrderInvalid ∷ late reads.unused ∷ []) front_none ∙ rw right refl
 
     -- the claim is made whatever it tells
-    claims : (who : Actor) (reads : CellReads) (given : ℕ) (short : Bool) → (effect s (as_unused reads) (record { actor = who; request = what; given = given; short = short })).did.claimed ≡ oldest_image s.chains chain ∷ []
+    claims : (who : Actor) (reads : CellReads) (given : ℕ) (short : Bool) → (effect s (as_unused reads) (record { actor = who; call = what; given = given; short = short })).did.claimed ≡ oldest_image s.chains chain ∷ []
     claims who reads given short = rw (firsts (as_unused reads)) refl
 
     pub may_claim : (may : C → CellCall → Type 0) (c : C) → MayTouch may does s c what → (answer : Bool) → may c (claim (oldest_image s.chains chain) answer)
@@ -270,7 +271,7 @@ module _ {C : Type 0} (does : C → CellCall → C → Type 0) (s : CoreState) (
         let short = is_out_of_memory well in
         let calls = claims who reads 0 short in
         let found = success_found (loss_of (life_of s (session_above s.handles chain))) in
-        let did : (effect s reads (record { actor = who; request = what; given = 0; short = short })).did ≡ record nothing_done { claimed = oldest_image s.chains chain ∷ [] } = rw (firsts reads) refl in
+        let did : (effect s reads (record { actor = who; call = what; given = 0; short = short })).did ≡ record nothing_done { claimed = oldest_image s.chains chain ∷ [] } = rw (firsts reads) refl in
         record {
           reads = reads;
           own = refl;

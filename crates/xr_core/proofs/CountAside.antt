@@ -3,7 +3,10 @@ use Rattle.std.proofs.Common.{◌≡◌, ◌≤◌, ◌+◌, ℕ, Bool, List, �
 use Rattle.xr_types.specs.declared.calls.Actor.{Actor}
 use Rattle.xr_types.specs.declared.device.DeviceEvent.{DeviceEvent}
 use Rattle.xr_types.specs.declared.device.DeviceEvent.TheVariants as event
-use Rattle.xr_model.specs.machine.Request.{Request, create_instance, create_session, create_reference_space, create_action_set, create_action, create_swapchain, create_action_space, end_frame, device, is_locked, Entry}
+use Rattle.xr_types.specs.CallKinds.{is_locked}
+use Rattle.xr_model.specs.machine.Calls.{Entry}
+use Rattle.xr_types.specs.declared.calls.Call.{Call}
+use Rattle.xr_types.specs.declared.calls.Call.TheVariants as ask
 use Rattle.xr_model.specs.machine.Refusals.{Refusal}
 use Rattle.xr_model.specs.machine.State.{CoreState, CellReads}
 use Rattle.xr_model.specs.machine.Rule.{Rule, Effect, refusals, refusal, told_on, unless_refused, carried_out}
@@ -36,10 +39,10 @@ module _ (s : CoreState) (n p : ℕ) (short : Bool) (reads : CellReads) (who : A
   events (event.Clock time) = record { refusals_same = refl; waits = refl; creates = refl; memory = refl; effect = refl }
   events _ = record { refusals_same = refl; waits = refl; creates = refl; memory = refl; effect = refl }
 
-  pub same_rule : (what : Request) → SameRule s n p short (rule_of s reads who given what) (rule_of (counting s n p) reads who given what)
-  same_rule (device what) = events what
-  same_rule (create_instance major minor) =
-      let r = rule_of s reads who given (create_instance major minor) in
+  pub same_rule : (what : Call) → SameRule s n p short (rule_of s reads who given what) (rule_of (counting s n p) reads who given what)
+  same_rule (ask.Device what) = events what
+  same_rule (ask.CreateInstance major minor) =
+      let r = rule_of s reads who given (ask.CreateInstance major minor) in
       record { refusals_same = refl; waits = refl; creates = refl; memory = refl; effect = unless_same s n p (refusal short r) (told_on r.on r.effect) }
   same_rule what =
       let r = rule_of s reads who given what in
@@ -75,7 +78,7 @@ module _ (s : CoreState) (short : Bool) (reads : CellReads) (who : Actor) (given
   events_leave (event.Clock time) = record { apps = refl; given = no_less (length s.handles.given) 1; created = no_less s.created 1; ended = no_less s.ended 1 }
   events_leave _ = record { apps = refl; given = no_less (length s.handles.given) 1; created = no_less s.created 1; ended = no_less s.ended 1 }
 
-  creates : (what : Request) → (rule_of s reads who given what).effect.state.apps ≡ s.apps → (rule_of s reads who given what).effect.state.handles.given ≡ given ∷ s.handles.given → (rule_of s reads who given what).effect.state.created ≤ s.created + 1
+  creates : (what : Call) → (rule_of s reads who given what).effect.state.apps ≡ s.apps → (rule_of s reads who given what).effect.state.handles.given ≡ given ∷ s.handles.given → (rule_of s reads who given what).effect.state.created ≤ s.created + 1
       → (rule_of s reads who given what).effect.state.ended ≡ s.ended → Grows s (carried_out s short (rule_of s reads who given what)).state 1
   creates what apps gives created ended =
       let r = rule_of s reads who given what in
@@ -85,17 +88,17 @@ module _ (s : CoreState) (short : Bool) (reads : CellReads) (who : Actor) (given
       on None x grows = grows
       on (Some loss) x grows = grows
 
-  pub grows : (what : Request) → Grows s (carried_out s short (rule_of s reads who given what)).state (one_if (is_locked what))
-  grows (device what) = events_leave what
-  grows (create_instance major minor) = creates (create_instance major minor) refl refl (no_less s.created 1) refl
-  grows (create_session instance system) = creates (create_session instance system) refl refl (as_many s.created) refl
-  grows (create_reference_space session what offset) = creates (create_reference_space session what offset) refl refl (no_less s.created 1) refl
-  grows (create_action_space session action sub offset) = creates (create_action_space session action sub offset) refl refl (no_less s.created 1) refl
-  grows (create_swapchain session format width height fixed) = creates (create_swapchain session format width height fixed) refl refl (no_less s.created 1) refl
-  grows (create_action_set instance name localized priority) = creates (create_action_set instance name localized priority) refl refl (no_less s.created 1) refl
-  grows (create_action set name type subs localized) = creates (create_action set name type subs localized) refl refl (no_less s.created 1) refl
-  grows (end_frame session time blend layers) =
-      let r = rule_of s reads who given (end_frame session time blend layers) in
+  pub grows : (what : Call) → Grows s (carried_out s short (rule_of s reads who given what)).state (one_if (is_locked what))
+  grows (ask.Device what) = events_leave what
+  grows (ask.CreateInstance major minor) = creates (ask.CreateInstance major minor) refl refl (no_less s.created 1) refl
+  grows (ask.CreateSession instance system) = creates (ask.CreateSession instance system) refl refl (as_many s.created) refl
+  grows (ask.CreateReferenceSpace session what offset) = creates (ask.CreateReferenceSpace session what offset) refl refl (no_less s.created 1) refl
+  grows (ask.CreateActionSpace session action sub offset) = creates (ask.CreateActionSpace session action sub offset) refl refl (no_less s.created 1) refl
+  grows (ask.CreateSwapchain session format width height fixed) = creates (ask.CreateSwapchain session format width height fixed) refl refl (no_less s.created 1) refl
+  grows (ask.CreateActionSet instance name localized priority) = creates (ask.CreateActionSet instance name localized priority) refl refl (no_less s.created 1) refl
+  grows (ask.CreateAction set name type subs localized) = creates (ask.CreateAction set name type subs localized) refl refl (no_less s.created 1) refl
+  grows (ask.EndFrame session time blend layers) =
+      let r = rule_of s reads who given (ask.EndFrame session time blend layers) in
       unless_grows s 1 (refusal short r) (told_on r.on r.effect) (record { apps = refl; given = no_less (length s.handles.given) 1; created = no_less s.created 1; ended = as_many s.ended })
   grows what =
       let r = rule_of s reads who given what in
@@ -106,7 +109,7 @@ module _ (s : CoreState) (short : Bool) (reads : CellReads) (who : Actor) (given
 
 -- what was done is the same, whatever is counted
 pub counted_did : (s : CoreState) (n p : ℕ) (reads : CellReads) (e : Entry) → (effect (counting s n p) reads e).did ≡ (effect s reads e).did
-counted_did s n p reads e = ap (λ (x : Effect). x.did) (same_rule s n p e.short reads e.actor e.given e.request).effect
+counted_did s n p reads e = ap (λ (x : Effect). x.did) (same_rule s n p e.short reads e.actor e.given e.call).effect
 
 -- and so are the calls on cells
 pub counted_calls : (s : CoreState) (n p : ℕ) (reads : CellReads) (e : Entry) → cell_calls (counting s n p) reads e ≡ cell_calls s reads e

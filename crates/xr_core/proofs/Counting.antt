@@ -11,7 +11,8 @@ use Rattle.xr_types.specs.declared.code.Code.{Code}
 use Rattle.xr_types.specs.Code.{is_out_of_memory}
 use Rattle.xr_model.specs.machine.CellCalls.{CellCall}
 use Rattle.xr_model.specs.machine.Publishing.{publishes}
-use Rattle.xr_model.specs.machine.Request.{Request, Entry, request_of, is_locked, is_getter}
+use Rattle.xr_types.specs.CallKinds.{is_getter, is_locked}
+use Rattle.xr_model.specs.machine.Calls.{Entry}
 use Rattle.xr_model.specs.machine.Refusals.{first_of}
 use Rattle.xr_model.specs.machine.State.{CoreState, CellReads}
 use Rattle.xr_model.specs.machine.Rule.{carried_out}
@@ -35,7 +36,7 @@ IsAnsweredBy reads old e new answer before after = AnswersBy (CoreAllows old rea
 abbrev IsWaitedBy : CellReads → CoreState → Entry → CoreState → Lent → Lent → Type 0
 IsWaitedBy reads old e new before after = WaitsBy (core_ready old reads e) old new before after
 
-module _ (s new : CoreState) (n p : ℕ) (who : Actor) (what : Request) (before after : Lent) where
+module _ (s new : CoreState) (n p : ℕ) (who : Actor) (what : Call) (before after : Lent) where
   -- how many are counted behind a call, the place in its reply, and what was published last
   abbrev count : ℕ
   count = if is_locked what then n + 1 else n
@@ -75,7 +76,7 @@ module _ (s new : CoreState) (n p : ℕ) (who : Actor) (what : Request) (before 
 
   -- a call that has to wait
   pub waits_so : (reads : CellReads) → HasToWait s (λ given. rule_of s reads who given what) new before after → (given : ℕ) (short : Bool)
-      → IsWaitedBy reads (counting s n p) (record { actor = who; request = what; given = given; short = short }) (counting new n p) before after
+      → IsWaitedBy reads (counting s n p) (record { actor = who; call = what; given = given; short = short }) (counting new n p) before after
   waits_so reads wait given short =
       let same = same_rule s n p short reads who given what in
       record {
@@ -88,7 +89,7 @@ module _ (s new : CoreState) (n p : ℕ) (who : Actor) (what : Request) (before 
 
 module _ {C : Type 0} (does : C → CellCall → C → Type 0) where
   -- a refusal is answered by its code
-  pub as_reply : (old new : World C) (who : Actor) (what : Request) (code : Code) → DecidesAlong does old new who what (Err (Refused code)) → DecidesAlong does old new who what (Ok (record { code = code; gives = Nothing; place = 0 }))
+  pub as_reply : (old new : World C) (who : Actor) (what : Call) (code : Code) → DecidesAlong does old new who what (Err (Refused code)) → DecidesAlong does old new who what (Ok (record { code = code; gives = Nothing; place = 0 }))
   as_reply old new who what code x = record { reads = x.reads; own = x.own; each = x.each; cells = x.cells; decides = x.decides; holds = x.holds }
 
   -- so many calls were counted, and this was published last
@@ -96,11 +97,11 @@ module _ {C : Type 0} (does : C → CellCall → C → Type 0) where
   counted_in w n p = record w { core = record w.core { kept = counting w.core.kept n p } }
 
   module _ (old new : World C) (n p : ℕ) (who : Actor) (call : Call) where
-    pub made_over : (d : Reply) → IsPresent old.core.kept who → DecidesAlong does old new who (request_of call) (Ok d)
-        → AppliesOver does (counted_in old n p) (counted_in new (if is_locked (request_of call) then n + 1 else n) (if publishes (request_of call) d.code then n + 1 else p)) who call
-        (step.Done (record d { place = if is_locked (request_of call) then n + 1 else (if is_getter (request_of call) then p else 0) }))
+    pub made_over : (d : Reply) → IsPresent old.core.kept who → DecidesAlong does old new who call (Ok d)
+        → AppliesOver does (counted_in old n p) (counted_in new (if is_locked call then n + 1 else n) (if publishes call d.code then n + 1 else p)) who call
+        (step.Done (record d { place = if is_locked call then n + 1 else (if is_getter call then p else 0) }))
     made_over d present x =
-        let what : Request = request_of call in
+        let what : Call = call in
         let e = entry_of who what d in
         let same = counted_did old.core.kept n p x.reads e in
         record {
@@ -112,14 +113,14 @@ module _ {C : Type 0} (does : C → CellCall → C → Type 0) where
           holds = rw same x.holds;
         }
 
-    pub waits_over : DecidesAlong does old new who (request_of call) (Err NotReady) → AppliesOver does (counted_in old n p) (counted_in new n p) who call step.NotReady
+    pub waits_over : DecidesAlong does old new who call (Err NotReady) → AppliesOver does (counted_in old n p) (counted_in new n p) who call step.NotReady
     waits_over x =
-        let e = entry_by who (request_of call) step.NotReady in
+        let e = entry_by who call step.NotReady in
         record {
           reads = x.reads;
           own = x.own;
           each = x.each;
           cells = rw (counted_calls old.core.kept n p x.reads e) x.cells;
-          applies = λ given short. waits_so old.core.kept new.core.kept n p who (request_of call) old.lent new.lent x.reads x.decides given short;
+          applies = λ given short. waits_so old.core.kept new.core.kept n p who call old.lent new.lent x.reads x.decides given short;
           holds = x.holds;
         }

@@ -9,7 +9,7 @@ use Rattle.xr_types.specs.declared.code.Code.TheVariants.{Success, SessionLossPe
 use Rattle.xr_types.specs.declared.handles.Kind.{Kind}
 use Rattle.xr_types.specs.Code.{is_out_of_memory, is_success}
 use Rattle.xr_model.specs.machine.Handles.{Handles, has_room, no_room}
-use Rattle.xr_model.specs.machine.Request.{Request}
+use Rattle.xr_types.specs.declared.calls.Call.{Call}
 use Rattle.xr_model.specs.machine.Refusals.{Refusal, when, first_of}
 use Rattle.xr_model.specs.machine.SessionRule.{Loss, code_on}
 use Rattle.xr_model.specs.machine.PartAnswers.{code_by}
@@ -50,11 +50,11 @@ refused_comes s r x lent first plain = record {
 }
 
 -- a call that is refused so, whoever makes it and whatever the cells tell
-pub refused_decides : (s : CoreState) (what : Request) (x : Refusal) → ((who : Actor) (reads : CellReads) → first_of (refusals (rule_of s reads who 0 what)) ≡ Some x) → IsPlain x → Decides s what s (Err (Refused x.code))
+pub refused_decides : (s : CoreState) (what : Call) (x : Refusal) → ((who : Actor) (reads : CellReads) → first_of (refusals (rule_of s reads who 0 what)) ≡ Some x) → IsPlain x → Decides s what s (Err (Refused x.code))
 refused_decides s what x first plain = λ who lent reads. refused_comes s (λ given. rule_of s reads who given what) x lent (first who reads) plain
 
 -- the error of a check is the rule's refusal
-pub err_decides : {T : Type 0} (s : CoreState) (what : Request) (r : Rule) (x : T) → gives_size what ≡ false → ((who : Actor) (reads : CellReads) → first_of (refusals (rule_of s reads who 0 what)) ≡ first_of (refusals r))
+pub err_decides : {T : Type 0} (s : CoreState) (what : Call) (r : Rule) (x : T) → gives_size what ≡ false → ((who : Actor) (reads : CellReads) → first_of (refusals (rule_of s reads who 0 what)) ≡ first_of (refusals r))
     → (code : Code) → or_refused (first_of (refusals r)) x ≡ Err code → Decides s what s (Err (Refused code))
 err_decides {T = T} s what r x sized same code told = λ who. by who (first_of (refusals r)) refl told
   where
@@ -72,7 +72,7 @@ ok_none None x y told = (refl, cc)
 ok_none (Some r) x y told = cc
 
 -- a call that nothing refuses has to wait
-pub waits_decides : (s : CoreState) (what : Request) (r : Rule) → ((who : Actor) (reads : CellReads) (given : ℕ) → rule_of s reads who given what ≡ r) → first_of (refusals r) ≡ None → r.waits ≡ true → Decides s what s (Err NotReady)
+pub waits_decides : (s : CoreState) (what : Call) (r : Rule) → ((who : Actor) (reads : CellReads) (given : ℕ) → rule_of s reads who given what ≡ r) → first_of (refusals r) ≡ None → r.waits ≡ true → Decides s what s (Err NotReady)
 waits_decides s what r same none waits = λ who lent reads. record {
   not_ready = λ given. rw (same who reads given, none, waits) refl;
   same = refl;
@@ -80,7 +80,7 @@ waits_decides s what r same none waits = λ who lent reads. record {
 }
 
 -- a call has its effect
-pub effect_decides : (s : CoreState) (what : Request) (r : ℕ → Rule) (new : CoreState) (answer : Code) (value : Gives) (did : Did)
+pub effect_decides : (s : CoreState) (what : Call) (r : ℕ → Rule) (new : CoreState) (answer : Code) (value : Gives) (did : Did)
     → ((who : Actor) (reads : CellReads) → rule_of s reads who (given_by value) what ≡ r (given_by value)) → first_of (refusals (r (given_by value))) ≡ None → (r (given_by value)).waits ≡ false
     → told_on (r (given_by value)).on (r (given_by value)).effect ≡ record { state = new; code = answer; gives = value; text = []; shown = None; did = did }
     → IsGiven (is_some (r (given_by value)).creates && is_success answer) s.handles (given_by value) → is_out_of_memory answer ≡ false → Decides s what new (Ok (record { code = answer; gives = value; place = 0 }))

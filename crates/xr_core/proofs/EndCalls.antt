@@ -8,7 +8,8 @@ use Rattle.xr_types.specs.declared.frames.Blend.{Blend}
 use Rattle.xr_types.specs.declared.frames.Layer.{Layer}
 use Rattle.xr_model.specs.machine.CellCalls.{CellCall, pin_calls, MayCall, Leads}
 use Rattle.xr_model.specs.machine.Refusals.{first_of}
-use Rattle.xr_model.specs.machine.Request.{Request, end_frame}
+use Rattle.xr_types.specs.declared.calls.Call.{Call}
+use Rattle.xr_types.specs.declared.calls.Call.TheVariants as ask
 use Rattle.xr_model.specs.machine.Rule.{Did, refusals, nothing_done}
 use Rattle.xr_model.specs.machine.SessionRule.{Loss, loss_of, code_on}
 use Rattle.xr_model.specs.machine.Rules.Frames.{end_frame_rule, new_frame, with_frame}
@@ -24,8 +25,8 @@ module _ {C : Type 0} (does : C → CellCall → C → Type 0) (s : CoreState) (
   abbrev loss : Loss
   loss = loss_of (life_of s session)
 
-  abbrev what : Request
-  what = end_frame session time blend layers
+  abbrev what : Call
+  what = ask.EndFrame session time blend layers
 
   abbrev used : Did
   used = record nothing_done { used = (new_frame s time layers).images }

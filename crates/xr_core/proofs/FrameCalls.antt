@@ -9,7 +9,7 @@ use Rattle.xr_types.specs.declared.frames.Blend.{Blend}
 use Rattle.xr_types.specs.declared.frames.Layer.{Layer}
 use Rattle.xr_model.specs.machine.Frames.{begun_loop}
 use Rattle.xr_model.specs.machine.Refusals.{Refusal, when, first_of}
-use Rattle.xr_model.specs.machine.Request.{begin_frame}
+use Rattle.xr_types.specs.declared.calls.Call.TheVariants as ask
 use Rattle.xr_model.specs.machine.Rule.{ahead, refusals, nothing_done}
 use Rattle.xr_model.specs.machine.SessionRule.{Loss, loss_of, code_on}
 use Rattle.xr_model.specs.machine.Layers.{frame_checks}
@@ -40,26 +40,26 @@ module _ (s : CoreState) (session : ℕ) where
   order = when (not s.frames.frame_loop.has_waited) CallOrderInvalid ∷ []
 
   -- a begin that is refused ahead of the call order
-  pub begin_refused : (code : Code) → or_refused (first_of front) success ≡ Err code → Decides s (begin_frame session) s (Err (Refused code))
-  begin_refused code told = err_decides s (begin_frame session) (begin_frame_rule s session) success refl (λ who reads. refl) code (then_err front order success success code told)
+  pub begin_refused : (code : Code) → or_refused (first_of front) success ≡ Err code → Decides s (ask.BeginFrame session) s (Err (Refused code))
+  begin_refused code told = err_decides s (ask.BeginFrame session) (begin_frame_rule s session) success refl (λ who reads. refl) code (then_err front order success success code told)
 
   -- one that comes to the order is refused where no frame is waited for
   pub begin_disordered : (code : Code) (kept : CoreState) → or_refused (first_of front) success ≡ Ok success
       → Err code ≡ (if s.frames.frame_loop.has_waited then Ok (if s.frames.frame_loop.has_begun then FrameDiscarded else success) else Err CallOrderInvalid)
-      → kept ≡ (if s.frames.frame_loop.has_waited then with_loop s (begun_loop s.frames.frame_loop) else s) → Decides s (begin_frame session) kept (Err (Refused code))
+      → kept ≡ (if s.frames.frame_loop.has_waited then with_loop s (begun_loop s.frames.frame_loop) else s) → Decides s (ask.BeginFrame session) kept (Err (Refused code))
   begin_disordered code kept passed told stays = by s.frames.frame_loop.has_waited refl told stays
     where
       by : (b : Bool) → s.frames.frame_loop.has_waited ≡ b → Err code ≡ (if b then Ok (if s.frames.frame_loop.has_begun then FrameDiscarded else success) else Err CallOrderInvalid) → kept ≡ (if b then with_loop s (begun_loop s.frames.frame_loop) else s)
-          → Decides s (begin_frame session) kept (Err (Refused code))
+          → Decides s (ask.BeginFrame session) kept (Err (Refused code))
       by true e told stays = cc
       by false e told stays =
           let is : code ≡ CallOrderInvalid = cc in
-          rw (stays, is) (err_decides s (begin_frame session) (begin_frame_rule s session) success refl (λ who reads. refl) CallOrderInvalid (then_ok front order success success success passed ∙ rw e refl))
+          rw (stays, is) (err_decides s (ask.BeginFrame session) (begin_frame_rule s session) success refl (λ who reads. refl) CallOrderInvalid (then_ok front order success success success passed ∙ rw e refl))
 
   -- and else begins the frame
   pub begin_done : (code : Code) (kept : CoreState) → or_refused (first_of front) success ≡ Ok success
       → Ok code ≡ (if s.frames.frame_loop.has_waited then Ok (if s.frames.frame_loop.has_begun then FrameDiscarded else success) else Err CallOrderInvalid)
-      → kept ≡ (if s.frames.frame_loop.has_waited then with_loop s (begun_loop s.frames.frame_loop) else s) → Decides s (begin_frame session) kept (Ok (record { code = code; gives = Nothing; place = 0 }))
+      → kept ≡ (if s.frames.frame_loop.has_waited then with_loop s (begun_loop s.frames.frame_loop) else s) → Decides s (ask.BeginFrame session) kept (Ok (record { code = code; gives = Nothing; place = 0 }))
   begin_done code kept passed told stays = by s.frames.frame_loop.has_waited refl told stays
     where
       none : s.frames.frame_loop.has_waited ≡ true → first_of (refusals (begin_frame_rule s session)) ≡ None
@@ -74,12 +74,12 @@ module _ (s : CoreState) (session : ℕ) where
       found false = success_found loss
 
       by : (b : Bool) → s.frames.frame_loop.has_waited ≡ b → Ok code ≡ (if b then Ok (if s.frames.frame_loop.has_begun then FrameDiscarded else success) else Err CallOrderInvalid) → kept ≡ (if b then with_loop s (begun_loop s.frames.frame_loop) else s)
-          → Decides s (begin_frame session) kept (Ok (record { code = code; gives = Nothing; place = 0 }))
+          → Decides s (ask.BeginFrame session) kept (Ok (record { code = code; gives = Nothing; place = 0 }))
       by false e told stays = cc
       by true e told stays =
           let is : code ≡ (if s.frames.frame_loop.has_begun then FrameDiscarded else success) = cc in
           rw (stays, is)
-          (effect_decides s (begin_frame session) (λ given. begin_frame_rule s session) (with_loop s (begun_loop s.frames.frame_loop)) (if s.frames.frame_loop.has_begun then FrameDiscarded else success) Nothing nothing_done
+          (effect_decides s (ask.BeginFrame session) (λ given. begin_frame_rule s session) (with_loop s (begun_loop s.frames.frame_loop)) (if s.frames.frame_loop.has_begun then FrameDiscarded else success) Nothing nothing_done
           (λ who reads. refl) (none e) refl (rw (begins s.frames.frame_loop.has_begun) refl) refl (found s.frames.frame_loop.has_begun))
 
   -- where nothing refuses the end of a frame, one is begun

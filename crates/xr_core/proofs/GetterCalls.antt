@@ -21,7 +21,7 @@ use Rattle.xr_model.specs.machine.Publication.{Publication, PublishedAction, Sho
 use Rattle.xr_model.specs.machine.Refusals.{Refusal, when, first_of}
 use Rattle.xr_model.specs.machine.CoreCalls.{given_by}
 use Rattle.xr_model.specs.machine.Machine.{rule_of}
-use Rattle.xr_model.specs.machine.Request.{Request}
+use Rattle.xr_types.specs.declared.calls.Call.{Call}
 use Rattle.xr_model.specs.machine.Rule.{refusals, nothing_done}
 use Rattle.xr_model.specs.machine.Rules.Sync.{getter_rule}
 use Rattle.xr_model.specs.machine.SessionLife.{is_lost}
@@ -271,7 +271,7 @@ gives_no_handle Vector (Some c) = refl
 gives_no_handle Pose (Some c) = refl
 gives_no_handle Vibration (Some c) = refl
 
-module _ (s : CoreState) (wanted : ActionType) (session action sub : ℕ) (what : Request) (same : (who : Actor) (reads : CellReads) (given : ℕ) → rule_of s reads who given what ≡ getter_rule s wanted session action sub) where
+module _ (s : CoreState) (wanted : ActionType) (session action sub : ℕ) (what : Call) (same : (who : Actor) (reads : CellReads) (given : ℕ) → rule_of s reads who given what ≡ getter_rule s wanted session action sub) where
   pub getter_refused : (code : Code) → answer s wanted session action sub ≡ Err code → Decides s what s (Err (Refused code))
   getter_refused code told_so = by (first_of (refusals (getter_rule s wanted session action sub))) refl told_so
     where

@@ -12,7 +12,7 @@ use Rattle.xr_types.specs.Code.{is_out_of_memory, is_success}
 use Rattle.xr_core.specs.inside.Users.{users_with, KnowsUsers}
 use Rattle.xr_model.specs.machine.Profiles.{user_of}
 use Rattle.xr_core.proofs.UserAtoms.{users_more}
-use Rattle.xr_model.specs.machine.Request.{string_to_path, path_to_string}
+use Rattle.xr_types.specs.declared.calls.Call.TheVariants as ask
 use Rattle.xr_model.specs.machine.Handles.{is_live}
 use Rattle.xr_model.specs.machine.Paths.{is_path_text, intern_checks, intern_refusals, with_text, atom_of, may_want_memory, is_new, text_at, copy_refusals, copied, size_at, size_of}
 use Rattle.xr_model.specs.machine.Refusals.{Refusal, when, first_of, unless}
@@ -86,10 +86,10 @@ module _ (s : CoreState) (instance : ℕ) (text : List ℕ) (a : Answer) (atoms 
   shorted = sym (by_checks s.atoms text (is_out_of_memory a.code))
 
   -- a text that the part refuses is refused by the call
-  pub intern_refused : (a.code ≡ Success → ⊥) → Decides s (string_to_path instance text) (record s { atoms = atoms }) (Err (Refused a.code))
+  pub intern_refused : (a.code ≡ Success → ⊥) → Decides s (ask.StringToPath instance text) (record s { atoms = atoms }) (Err (Refused a.code))
   intern_refused failed = λ who lent. by (first_of (intern_refusals s.atoms text (is_out_of_memory a.code))) refl who lent
     where
-      by : (o : Option Refusal) → first_of (intern_refusals s.atoms text (is_out_of_memory a.code)) ≡ o → (who : Actor) → DecidesBy who s (string_to_path instance text) (record s { atoms = atoms }) (Err (Refused a.code))
+      by : (o : Option Refusal) → first_of (intern_refusals s.atoms text (is_out_of_memory a.code)) ≡ o → (who : Actor) → DecidesBy who s (ask.StringToPath instance text) (record s { atoms = atoms }) (Err (Refused a.code))
       by None e who lent = absurd (failed (ap (λ (x : Answer). x.code) (rw e at answer)))
       by (Some r) e who lent = λ reads.
           let same : atoms ≡ s.atoms = rw e at kept in
@@ -107,10 +107,10 @@ module _ (s : CoreState) (instance : ℕ) (text : List ℕ) (a : Answer) (atoms 
           }
 
   -- a text that it takes has its atom
-  pub interned : a.code ≡ Success → Decides s (string_to_path instance text) (record s { atoms = atoms }) (Ok (record { code = Success; gives = Number a.number; place = 0 }))
+  pub interned : a.code ≡ Success → Decides s (ask.StringToPath instance text) (record s { atoms = atoms }) (Ok (record { code = Success; gives = Number a.number; place = 0 }))
   interned good = λ who lent. by (first_of (intern_refusals s.atoms text (is_out_of_memory a.code))) refl who lent
     where
-      by : (o : Option Refusal) → first_of (intern_refusals s.atoms text (is_out_of_memory a.code)) ≡ o → (who : Actor) → DecidesBy who s (string_to_path instance text) (record s { atoms = atoms }) (Ok (record { code = Success; gives = Number a.number; place = 0 }))
+      by : (o : Option Refusal) → first_of (intern_refusals s.atoms text (is_out_of_memory a.code)) ≡ o → (who : Actor) → DecidesBy who s (ask.StringToPath instance text) (record s { atoms = atoms }) (Ok (record { code = Success; gives = Number a.number; place = 0 }))
       by None e who lent = λ reads.
           let new : atoms ≡ with_text s.atoms text = rw e at kept in
           let number : a.number ≡ atom_of s.atoms text = ap (λ (x : Answer). x.number) (rw e at answer) in
@@ -164,14 +164,14 @@ module _ (s : CoreState) (instance path : ℕ) (a : Answer) (before after : List
     (answer : a ≡ answer_by (first_of (copy_refusals (text_at s.atoms path) (length before))) (size_at (text_at s.atoms path)))
     (written : after ≡ written_over (copied (text_at s.atoms path) (length before)) before) where
   -- an atom that isn't known is refused by the call, and the buffer stays
-  pub copy_refused : (a.code ≡ Success → ⊥) → (a.code ≡ SizeInsufficient → ⊥) → (who : Actor) → DecidesWriting who s (path_to_string instance path (length before)) s (Err (Refused a.code)) before after
+  pub copy_refused : (a.code ≡ Success → ⊥) → (a.code ≡ SizeInsufficient → ⊥) → (who : Actor) → DecidesWriting who s (ask.PathToString instance path (length before)) s (Err (Refused a.code)) before after
   copy_refused failed small who = by (text_at s.atoms path) refl
     where
       neither : (t : List ℕ) (b : Bool) → (nat_lt 0 (length before) && nat_lt (length before) (size_of t)) ≡ b → a ≡ answer_by (first_of (copy_refusals (Some t) (length before))) (size_of t) → ⊥
       neither t true e k = small (ap (λ (x : Answer). x.code) (rw e at k))
       neither t false e k = failed (ap (λ (x : Answer). x.code) (rw e at k))
 
-      by : (found : Option (List ℕ)) → text_at s.atoms path ≡ found → DecidesWriting who s (path_to_string instance path (length before)) s (Err (Refused a.code)) before after
+      by : (found : Option (List ℕ)) → text_at s.atoms path ≡ found → DecidesWriting who s (ask.PathToString instance path (length before)) s (Err (Refused a.code)) before after
       by None e = λ frame reads.
           let code : a.code ≡ PathInvalid = ap (λ (x : Answer). x.code) (rw e at answer) in
           let stays : after ≡ before = rw e at written in
@@ -187,7 +187,7 @@ module _ (s : CoreState) (instance path : ℕ) (a : Answer) (before after : List
       by (Some t) e = absurd (neither t _ refl (rw e at answer))
 
   -- one that is known gives its size, whether or not the text fits
-  pub copy_given : (a.code ≡ Success) ⊎ (a.code ≡ SizeInsufficient) → (who : Actor) → DecidesWriting who s (path_to_string instance path (length before)) s (Ok (record { code = a.code; gives = Size a.number; place = 0 })) before after
+  pub copy_given : (a.code ≡ Success) ⊎ (a.code ≡ SizeInsufficient) → (who : Actor) → DecidesWriting who s (ask.PathToString instance path (length before)) s (Ok (record { code = a.code; gives = Size a.number; place = 0 })) before after
   copy_given known who = by (text_at s.atoms path) refl
     where
       not_invalid : (a.code ≡ Success) ⊎ (a.code ≡ SizeInsufficient) → a.code ≡ PathInvalid → ⊥
@@ -199,7 +199,7 @@ module _ (s : CoreState) (instance path : ℕ) (a : Answer) (before after : List
       unwritten n m small = grind (arith, nat_tests)
 
       one : (t : List ℕ) → text_at s.atoms path ≡ Some t → (b : Bool) → (nat_lt 0 (length before) && nat_lt (length before) (size_of t)) ≡ b
-          → DecidesWriting who s (path_to_string instance path (length before)) s (Ok (record { code = a.code; gives = Size a.number; place = 0 })) before after
+          → DecidesWriting who s (ask.PathToString instance path (length before)) s (Ok (record { code = a.code; gives = Size a.number; place = 0 })) before after
       one t e true eb = λ frame reads.
           let is : a ≡ record { code = SizeInsufficient; number = size_of t } = rw (e, eb) at answer in
           let over : nat_le (size_of t) (length before) ≡ false = unwritten (length before) (size_of t) eb in
@@ -226,6 +226,6 @@ module _ (s : CoreState) (instance path : ℕ) (a : Answer) (before after : List
             writes = rw (live, e, eb) (ap (λ (b : List ℕ). let lent : Lent = record { text = b; frame = frame } in lent) bytes);
           })
 
-      by : (found : Option (List ℕ)) → text_at s.atoms path ≡ found → DecidesWriting who s (path_to_string instance path (length before)) s (Ok (record { code = a.code; gives = Size a.number; place = 0 })) before after
+      by : (found : Option (List ℕ)) → text_at s.atoms path ≡ found → DecidesWriting who s (ask.PathToString instance path (length before)) s (Ok (record { code = a.code; gives = Size a.number; place = 0 })) before after
       by None e = absurd (not_invalid known (ap (λ (x : Answer). x.code) (rw e at answer)))
       by (Some t) e = one t e (nat_lt 0 (length before) && nat_lt (length before) (size_of t)) refl

@@ -14,7 +14,8 @@ use Rattle.xr_types.specs.Code.{is_out_of_memory, is_success}
 use Rattle.xr_types.specs.declared.input.ActiveSet.{ActiveSet}
 use Rattle.xr_model.specs.machine.Rules.Sync.{item_checks}
 use Rattle.xr_model.specs.machine.Handles.{Handles, no_handle, no_room}
-use Rattle.xr_model.specs.machine.Request.{Request, path_to_string, create_action, suggest_bindings, attach_sets, create_instance, end_frame, sync_actions}
+use Rattle.xr_types.specs.declared.calls.Call.{Call}
+use Rattle.xr_types.specs.declared.calls.Call.TheVariants as ask
 use Rattle.xr_types.specs.declared.frames.Layer.{Layer}
 use Rattle.xr_types.specs.declared.frames.Layer.TheVariants.{Projection, Quad}
 use Rattle.xr_model.specs.machine.Layers.{Look, layer_checks}
@@ -102,20 +103,20 @@ plain_items s session (item ∷ active) = plain_items s session active
 -- ---- all rules
 
 -- the call whose refusal may give a size
-abbrev pub gives_size : Request → Bool
-gives_size (path_to_string instance path capacity) = true
+abbrev pub gives_size : Call → Bool
+gives_size (ask.PathToString instance path capacity) = true
 gives_size _ = false
 
-pub plain_rule : (s : CoreState) (reads : CellReads) (who : Actor) (given : ℕ) (what : Request) → gives_size what ≡ false → are_plain (refusals (rule_of s reads who given what)) ≡ true
+pub plain_rule : (s : CoreState) (reads : CellReads) (who : Actor) (given : ℕ) (what : Call) → gives_size what ≡ false → are_plain (refusals (rule_of s reads who given what)) ≡ true
 plain_rule s reads who given = by
   where
-    by : (r : Request) → gives_size r ≡ false → are_plain (refusals (rule_of s reads who given r)) ≡ true
-    by (path_to_string instance path capacity) sized = absurd (true≢false sized)
-    by (create_action set name type subs localized) sized =
+    by : (r : Call) → gives_size r ≡ false → are_plain (refusals (rule_of s reads who given r)) ≡ true
+    by (ask.PathToString instance path capacity) sized = absurd (true≢false sized)
+    by (ask.CreateAction set name type subs localized) sized =
         plain_more (sub_checks s.atoms no_users subs) (action_label_checks s.sets set localized ++ no_room s.handles Action ∷ []) (plain_subs s.atoms no_users subs) refl
-    by (suggest_bindings instance profile list) sized = plain_bindings s (profile_at s.atoms profile) list
-    by (attach_sets session handles) sized = plain_handles s.handles ActionSet handles
-    by (sync_actions session active) sized = plain_items s session active
-    by (end_frame session time blend layers) sized = plain_layers (look_of s) layers
-    by (create_instance major minor) sized = refl
+    by (ask.SuggestBindings instance profile list) sized = plain_bindings s (profile_at s.atoms profile) list
+    by (ask.AttachSets session handles) sized = plain_handles s.handles ActionSet handles
+    by (ask.SyncActions session active) sized = plain_items s session active
+    by (ask.EndFrame session time blend layers) sized = plain_layers (look_of s) layers
+    by (ask.CreateInstance major minor) sized = refl
     by _ sized = refl

@@ -11,7 +11,7 @@ use Rattle.xr_model.specs.machine.Frames.{one_if}
 use Rattle.xr_model.specs.machine.Machine.{effect}
 use Rattle.xr_model.specs.machine.OverCells.{entry_by, AppliesOver}
 use Rattle.xr_model.specs.machine.PlainImages.{PlainImages, PlainDoes, no_images}
-use Rattle.xr_model.specs.machine.Request.{request_of, is_locked}
+use Rattle.xr_types.specs.CallKinds.{is_locked}
 use Rattle.xr_model.specs.machine.State.{CoreState, State, WholeCore, Settings, opening_core}
 use Rattle.xr_model.proofs.CellCounts.{still_counted, waiting_counts, pending_few}
 use Rattle.xr_model.proofs.OverCells.{plainly, waits_where}
@@ -37,7 +37,7 @@ module _ (old new : WholeCore) (c d : PlainImages) (who : Actor) (call : Call) (
 
   pub stays_plain : (answer : Step) → Made answer → IsPlain new d
   stays_plain (Done answer) x =
-      let e = entry_of who (request_of call) answer in
+      let e = entry_of who call answer in
       let a = pairs (Done answer) x in
       let done = still_counted old.kept x.reads old.held e c d x.own plain.sound frames_few plain.counted x.cells in
       let kept = x.applies.leads in
@@ -45,12 +45,12 @@ module _ (old new : WholeCore) (c d : PlainImages) (who : Actor) (call : Call) (
       let grows = pending_few old.kept x.reads e in
       record {
         sound = subst StateIsSound (sym a.leads) (sound_step (whole old c) e a.allowed a.is_ready plain.sound);
-        few = rw kept (more_locked (is_locked (request_of call)) old.kept.locked (length old.kept.frames.pending) (length (effect old.kept x.reads e).state.frames.pending) plain.few grows);
+        few = rw kept (more_locked (is_locked call) old.kept.locked (length old.kept.frames.pending) (length (effect old.kept x.reads e).state.frames.pending) plain.few grows);
         counted = rw (pending, x.holds) done;
       }
   stays_plain NotReady x =
       let w = x.applies 0 false in
-      let e = entry_by who (request_of call) NotReady in
+      let e = entry_by who call NotReady in
       let counts = waiting_counts old.kept x.reads e c d (waits_where old.kept x.reads e w.not_ready) x.cells in
       let sound = plain.sound in
       rw (w.same, x.holds) (record { sound = sound; few = plain.few; counted = record { all = rw counts plain.counted.all; counts = λ k. rw counts (plain.counted.counts k) } })

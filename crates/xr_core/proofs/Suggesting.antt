@@ -21,7 +21,7 @@ use Rattle.xr_model.specs.machine.PartAnswers.{code_by}
 use Rattle.xr_model.specs.machine.Paths.{text_at}
 use Rattle.xr_model.specs.machine.Profiles.{component}
 use Rattle.xr_model.specs.machine.Refusals.{Refusal, when, first_of, unless}
-use Rattle.xr_model.specs.machine.Request.{suggest_bindings}
+use Rattle.xr_types.specs.declared.calls.Call.TheVariants as ask
 use Rattle.xr_model.specs.machine.Rule.{refusals, nothing_done}
 use Rattle.xr_model.specs.machine.Rules.Bindings.{profile_at, profile_checks, pick_of, binding_checks, bound_of, bindings_checks, suggested, suggest_bindings_rule}
 use Rattle.xr_model.specs.machine.Sets.{is_in_sealed_set, type_of_action}
@@ -182,11 +182,11 @@ module _ (s : CoreState) (instance profile : ℕ) (list : List Binding) (live : 
           skips : first_of (suggest_refusals bound (is_out_of_memory code)) ≡ first_of (when (is_out_of_memory code) OutOfMemory ∷ [])
           skips = first_skips (number_checks bound) (when (is_out_of_memory code) OutOfMemory ∷ []) (number_same bound list counted ∙ few)
 
-          pub memory_short : (code ≡ Success → ⊥) → Decides s (suggest_bindings instance profile list) kept (Err (Refused code))
+          pub memory_short : (code ≡ Success → ⊥) → Decides s (ask.SuggestBindings instance profile list) kept (Err (Refused code))
           memory_short failed = by (is_out_of_memory code) refl (rw skips at leads) (rw skips at told)
             where
               by : (short : Bool) → is_out_of_memory code ≡ short → kept ≡ record s { suggestions = unless (first_of (when short OutOfMemory ∷ [])) s.suggestions (with_suggestions s.suggestions which bound) } → code ≡ code_by (first_of (when short OutOfMemory ∷ []))
-                  → Decides s (suggest_bindings instance profile list) kept (Err (Refused code))
+                  → Decides s (ask.SuggestBindings instance profile list) kept (Err (Refused code))
               by true eb leads told = rw (leads, told) (λ who lent reads. record {
                 ready = refl;
                 handle = refl;
@@ -198,12 +198,12 @@ module _ (s : CoreState) (instance profile : ℕ) (list : List Binding) (live : 
               })
               by false eb leads told = absurd (failed told)
 
-          pub suggests : code ≡ Success → Decides s (suggest_bindings instance profile list) kept (Ok (record { code = Success; gives = Nothing; place = 0 }))
+          pub suggests : code ≡ Success → Decides s (ask.SuggestBindings instance profile list) kept (Ok (record { code = Success; gives = Nothing; place = 0 }))
           suggests good = by (is_out_of_memory code) (ap is_out_of_memory good) (rw skips at leads)
             where
-              by : (short : Bool) → short ≡ false → kept ≡ record s { suggestions = unless (first_of (when short OutOfMemory ∷ [])) s.suggestions (with_suggestions s.suggestions which bound) } → Decides s (suggest_bindings instance profile list) kept (Ok (record { code = Success; gives = Nothing; place = 0 }))
+              by : (short : Bool) → short ≡ false → kept ≡ record s { suggestions = unless (first_of (when short OutOfMemory ∷ [])) s.suggestions (with_suggestions s.suggestions which bound) } → Decides s (ask.SuggestBindings instance profile list) kept (Ok (record { code = Success; gives = Nothing; place = 0 }))
               by true short leads = absurd (true≢false short)
               by false short leads =
                   let taken : kept ≡ record s { suggestions = suggested s (profile_at s.atoms profile) list } = leads ∙ ap (λ (b : List Bound). record s { suggestions = with_suggestions s.suggestions which b }) all ∙ ap (λ (o : Option Profile). record s { suggestions = suggested s o list }) (sym found) in
                   rw taken
-                  (effect_decides s (suggest_bindings instance profile list) (λ given. suggest_bindings_rule s instance profile list) (record s { suggestions = suggested s (profile_at s.atoms profile) list }) Success Nothing nothing_done (λ who reads. refl) nothing_refuses refl refl refl refl)
+                  (effect_decides s (ask.SuggestBindings instance profile list) (λ given. suggest_bindings_rule s instance profile list) (record s { suggestions = suggested s (profile_at s.atoms profile) list }) Success Nothing nothing_done (λ who reads. refl) nothing_refuses refl refl refl refl)

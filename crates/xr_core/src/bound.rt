@@ -36,10 +36,8 @@ impl Draft {
     pub(crate) fn start(alloc: Global) -> Result<Draft, NoMemory>
         ensures { IfOk result (λ draft. draft ≡ []) }
     {
-        match Vec::with_capacity(alloc, MOST_SUGGESTED) {
-            Ok(list) => Ok(Draft { list }),
-            Err(_) => Err(NoMemory),
-        }
+        let list = Vec::with_capacity(alloc, MOST_SUGGESTED)?;
+        Ok(Draft { list })
     }
 
     /// Nothing from now on.

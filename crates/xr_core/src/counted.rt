@@ -2,7 +2,7 @@
 ghost use Rattle.std.specs.Prelude.{◌≡◌, ◌≤ℤ◌, pos, ◌≤◌, [], ◌<◌, ◌^◌, ◌+◌, ◌↔◌, ◌&&◌, is_none, IfOk, IsTrue, length, not, if◌then◌else◌};
 ghost use Rattle.xr_types.specs.declared.limits.TheConstants.{MOST_SCRIPTS};
 ghost use Rattle.xr_model.specs.machine.Publishing.{publishes};
-ghost use Rattle.xr_model.specs.machine.Request.{request_of, is_locked, is_getter};
+ghost use Rattle.xr_types.specs.CallKinds.{is_getter, is_locked};
 ghost use Rattle.xr_model.specs.machine.Marks.{is_set};
 ghost use Rattle.xr_model.specs.machine.State.{with_apps, opening_core};
 ghost use Rattle.xr_model.specs.machine.Machine.{IsPresent};
@@ -42,36 +42,9 @@ impl Model for Core {
     ghost invariant = { λ c. (length c.inside.kept.handles.given ≤ c.calls) × (c.inside.kept.created ≤ c.calls) × (c.inside.kept.ended ≤ c.calls) };
 }
 
-/// Whether a call is a locked one, which are those that are counted.
-fn is_locked(call: &Call<'_>) -> bool
-    ensures { result ≡ is_locked (request_of call.now) }
-{
-    !matches!(
-        call,
-        Call::GetBoolean { .. }
-            | Call::GetFloat { .. }
-            | Call::GetVector { .. }
-            | Call::GetPoseActive { .. }
-            | Call::ImageDone
-    )
-}
-
-/// Whether a call is a getter of input, which answers from what was published last.
-fn is_getter(call: &Call<'_>) -> bool
-    ensures { result ≡ is_getter (request_of call.now) }
-{
-    matches!(
-        call,
-        Call::GetBoolean { .. }
-            | Call::GetFloat { .. }
-            | Call::GetVector { .. }
-            | Call::GetPoseActive { .. }
-    )
-}
-
 /// Whether a call that is answered so publishes what getters answer from.
 fn publishes(call: &Call<'_>, code: Code) -> bool
-    ensures { result ≡ publishes (request_of call.now) code }
+    ensures { result ≡ publishes call.now code }
 {
     match call {
         Call::CreateSession { .. }
@@ -96,14 +69,14 @@ fn publishes(call: &Call<'_>, code: Code) -> bool
 /// Answers a call that is made. It is counted where it is a locked one, and what it publishes has its place.
 fn answered(calls: &mut u64, published: &mut u64, call: &Call<'_>, mut reply: Reply) -> Step
     requires { calls.old < 2 ^ 44 }
-    ensures count { calls.new ≡ (if is_locked (request_of call.now) then calls.old + 1 else calls.old) }
-    ensures published { published.new ≡ (if publishes (request_of call.now) reply.code then calls.old + 1 else published.old) }
-    ensures reply { result ≡ Step.Done (record reply { place = if is_locked (request_of call.now) then calls.old + 1 else (if is_getter (request_of call.now) then published.old else 0) }) }
+    ensures count { calls.new ≡ (if is_locked call.now then calls.old + 1 else calls.old) }
+    ensures published { published.new ≡ (if publishes call.now reply.code then calls.old + 1 else published.old) }
+    ensures reply { result ≡ Step.Done (record reply { place = if is_locked call.now then calls.old + 1 else (if is_getter call.now then published.old else 0) }) }
 {
     let place = *calls + 1;
-    reply.place = if is_locked(call) {
+    reply.place = if call.is_locked() {
         place
-    } else if is_getter(call) {
+    } else if call.is_getter() {
         *published
     } else {
         0
@@ -111,7 +84,7 @@ fn answered(calls: &mut u64, published: &mut u64, call: &Call<'_>, mut reply: Re
     if publishes(call, reply.code) {
         *published = place;
     }
-    if is_locked(call) {
+    if call.is_locked() {
         *calls = place;
     }
     Step::Done(reply)
@@ -200,8 +173,8 @@ impl Core {
         shown: &mut Shown,
     ) -> Step
         requires calls { self.old.kept.locked < 2 ^ 44 }
-        requires may { MayMake self.old.kept who (request_of call.now) (length text.old) }
-        requires cells { MayApply C.may C.does self.old cells.old who (request_of call.now) }
+        requires may { MayMake self.old.kept who call.now (length text.old) }
+        requires cells { MayApply C.may C.does self.old cells.old who call.now }
         ensures { AppliesOver C.does (record { core = self.old; cells = cells.old; lent = record { text = text.old; frame = shown.old } }) (record { core = self.new; cells = cells.new; lent = record { text = text.new; frame = shown.new } }) who call.now result }
     {
         let reply = match self

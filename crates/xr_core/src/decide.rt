@@ -3,7 +3,6 @@
 ghost use Rattle.std.specs.Prelude.{◌≡◌, ◌<◌, ◌^◌, true, length, List};
 ghost use Rattle.xr_types.specs.declared.frames.Image.{Image};
 ghost use Rattle.xr_types.specs.declared.frames.Shown.{Shown};
-ghost use Rattle.xr_model.specs.machine.Request.{request_of};
 ghost use Rattle.xr_model.specs.machine.CoreCalls.{Fits, asked};
 ghost use Rattle.xr_model.specs.machine.Rule.{is_by};
 ghost use Rattle.xr_model.specs.machine.Machine.{IsPresent};
@@ -34,12 +33,12 @@ impl Parts {
         requires created { self.old.created < 2 ^ 44 }
         requires ended { self.old.ended < 2 ^ 44 }
         requires present { IsPresent self.old who }
-        requires caller { is_by (asked who (request_of call.now)).caller who ≡ true }
-        requires numbers { (asked who (request_of call.now)).in_range ≡ true }
-        requires buffer { Fits (asked who (request_of call.now)).lent (length text.old) }
-        requires aside { IsAside (request_of call.now) }
-        requires cells { MayTouch C.may C.does self.old cells.old (request_of call.now) }
-        ensures { (held : List Image) (frame : Shown) → DecidesAlong C.does (record { core = record { kept = self.old; held = held }; cells = cells.old; lent = record { text = text.old; frame = frame } }) (record { core = record { kept = self.new; held = held }; cells = cells.new; lent = record { text = text.new; frame = frame } }) who (request_of call.now) result }
+        requires caller { is_by (asked who call.now).caller who ≡ true }
+        requires numbers { (asked who call.now).in_range ≡ true }
+        requires buffer { Fits (asked who call.now).lent (length text.old) }
+        requires aside { IsAside call.now }
+        requires cells { MayTouch C.may C.does self.old cells.old call.now }
+        ensures { (held : List Image) (frame : Shown) → DecidesAlong C.does (record { core = record { kept = self.old; held = held }; cells = cells.old; lent = record { text = text.old; frame = frame } }) (record { core = record { kept = self.new; held = held }; cells = cells.new; lent = record { text = text.new; frame = frame } }) who call.now result }
     {
         match call {
             Call::DestroyInstance { instance } => self.destroy_instance(cells, *instance),
@@ -66,8 +65,8 @@ impl Parts {
                 instance,
                 profile,
                 list,
-            } => self.suggest_bindings(alloc, draft, *instance, *profile, list),
-            Call::SyncActions { session, active } => self.sync_actions(*session, active),
+            } => self.suggest_bindings(alloc, draft, *instance, *profile, list.as_slice()),
+            Call::SyncActions { session, active } => self.sync_actions(*session, active.as_slice()),
             Call::GetBoolean { .. }
             | Call::GetFloat { .. }
             | Call::GetVector { .. }
@@ -84,7 +83,7 @@ impl Parts {
                 time,
                 blend,
                 layers,
-            } => self.end_frame(cells, *session, time, *blend, layers),
+            } => self.end_frame(cells, *session, time, *blend, layers.as_slice()),
             Call::Mark { .. } | Call::AwaitMark { .. } | Call::Leave => self.own_call(who, call),
             Call::Device(event) => self.device_event(*event),
             Call::NextFrame | Call::ImageDone => unreachable!(),

@@ -209,7 +209,7 @@ impl Parts {
             apps,
             left: [false; MOST_SCRIPTS],
         };
-        Box::new(alloc, parts).map_err(|_| NoMemory)
+        Ok(Box::new(alloc, parts)?)
     }
 
     /// Whether there is such an application, from 1, and it hasn't left: whether it may make calls.

@@ -1,7 +1,6 @@
 // A core and plain cells as one value, seen as the whole state. It knows no call.
 ghost use Rattle.std.specs.Prelude.{◌≡◌, ◌≤ℤ◌, pos, ◌≤◌, ◌<◌, ◌^◌, ◌↔◌, ◌&&◌, [], is_none, IfOk, IsTrue, length, not};
 ghost use Rattle.xr_types.specs.declared.limits.TheConstants.{MOST_SCRIPTS};
-ghost use Rattle.xr_model.specs.machine.Request.{request_of};
 ghost use Rattle.xr_model.specs.machine.Marks.{is_set};
 ghost use Rattle.xr_model.specs.machine.State.{with_apps, opening};
 ghost use Rattle.xr_model.specs.machine.Frames.{is_empty};
@@ -110,7 +109,7 @@ impl PlainCore {
     #[inline(always)]
     pub fn apply(&mut self, who: Actor, call: &Call<'_>, text: &mut [u8], shown: &mut Shown) -> Step
         requires calls { self.old.core.locked < 2 ^ 44 }
-        requires may { MayMake self.old.core who (request_of call.now) (length text.old) }
+        requires may { MayMake self.old.core who call.now (length text.old) }
         ensures { Applies self.old self.new who call.now (record { text = text.old; frame = shown.old }) (record { text = text.new; frame = shown.new }) result }
     {
         self.core.apply(&mut self.cells, who, call, text, shown)

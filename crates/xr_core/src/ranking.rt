@@ -43,10 +43,8 @@ impl Ranking {
     pub(crate) fn start(alloc: Global) -> Result<Ranking, NoMemory>
         ensures { IfOk result (λ ranking. ranking ≡ []) }
     {
-        match Vec::with_capacity(alloc, ROOM) {
-            Ok(list) => Ok(Ranking { list }),
-            Err(_) => Err(NoMemory),
-        }
+        let list = Vec::with_capacity(alloc, ROOM)?;
+        Ok(Ranking { list })
     }
 
     /// No binding from now on.

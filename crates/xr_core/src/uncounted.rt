@@ -10,7 +10,7 @@ ghost use Rattle.xr_model.specs.machine.Images.{first_images};
 ghost use Rattle.xr_model.specs.machine.Rules.Frames.{with_frame_taken};
 ghost use Rattle.xr_model.specs.machine.Machine.{IsPresent};
 ghost use Rattle.xr_model.specs.machine.OverCells.{MayApply};
-ghost use Rattle.xr_model.specs.machine.Request.{next_frame, image_done, request_of};
+ghost use Rattle.xr_types.specs.declared.calls.Call.TheVariants as ask;
 ghost use Rattle.xr_model.specs.machine.Rule.{is_by};
 ghost use Rattle.xr_model.specs.machine.State.{with_apps, opening_core};
 ghost use Rattle.xr_core.specs.inside.Deciding.{DecidesAlong};
@@ -107,7 +107,7 @@ impl Uncounted {
     #[inline(never)]
     fn next_frame<C: Cells>(&mut self, cells: &mut C, shown: &mut Shown) -> Result<Reply, Halt>
         requires may { self.old.held ≡ [] → (stamps : List ℕ) → MayCall C.may C.does cells.old (peek_calls (first_images self.old.kept.frames.pending) stamps) }
-        ensures { (who : Actor) (text : List ℕ) → DecidesAlong C.does (record { core = self.old; cells = cells.old; lent = record { text = text; frame = shown.old } }) (record { core = self.new; cells = cells.new; lent = record { text = text; frame = shown.new } }) who next_frame result }
+        ensures { (who : Actor) (text : List ℕ) → DecidesAlong C.does (record { core = self.old; cells = cells.old; lent = record { text = text; frame = shown.old } }) (record { core = self.new; cells = cells.new; lent = record { text = text; frame = shown.new } }) who ask.NextFrame result }
     {
         if !self.holds_none() {
             return refused(Code::CallOrderInvalid);
@@ -140,7 +140,7 @@ impl Uncounted {
     #[inline(never)]
     fn image_done<C: Cells>(&mut self, cells: &mut C) -> Result<Reply, Halt>
         requires may { MayCall C.may C.does cells.old (return_calls (take 1 self.old.held)) }
-        ensures { (who : Actor) (lent : Lent) → DecidesAlong C.does (record { core = self.old; cells = cells.old; lent = lent }) (record { core = self.new; cells = cells.new; lent = lent }) who image_done result }
+        ensures { (who : Actor) (lent : Lent) → DecidesAlong C.does (record { core = self.old; cells = cells.old; lent = lent }) (record { core = self.new; cells = cells.new; lent = lent }) who ask.ImageDone result }
     {
         let Some(image) = self.pop_held() else {
             return refused(Code::CallOrderInvalid);
@@ -165,11 +165,11 @@ impl Uncounted {
         requires created { self.old.kept.created < 2 ^ 44 }
         requires ended { self.old.kept.ended < 2 ^ 44 }
         requires present { IsPresent self.old.kept who }
-        requires caller { is_by (asked who (request_of call.now)).caller who ≡ true }
-        requires numbers { (asked who (request_of call.now)).in_range ≡ true }
-        requires buffer { Fits (asked who (request_of call.now)).lent (length text.old) }
-        requires cells { MayApply C.may C.does self.old cells.old who (request_of call.now) }
-        ensures { DecidesAlong C.does (record { core = self.old; cells = cells.old; lent = record { text = text.old; frame = shown.old } }) (record { core = self.new; cells = cells.new; lent = record { text = text.new; frame = shown.new } }) who (request_of call.now) result }
+        requires caller { is_by (asked who call.now).caller who ≡ true }
+        requires numbers { (asked who call.now).in_range ≡ true }
+        requires buffer { Fits (asked who call.now).lent (length text.old) }
+        requires cells { MayApply C.may C.does self.old cells.old who call.now }
+        ensures { DecidesAlong C.does (record { core = self.old; cells = cells.old; lent = record { text = text.old; frame = shown.old } }) (record { core = self.new; cells = cells.new; lent = record { text = text.new; frame = shown.new } }) who call.now result }
     {
         match call {
             Call::NextFrame => self.next_frame(cells, shown),

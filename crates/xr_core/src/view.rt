@@ -1,6 +1,7 @@
 // What getters answer from, written as words. It changes nothing of a core.
 ghost use Rattle.std.specs.Prelude.{◌≡◌, ◌≤◌, ◌<◌, ◌+◌, ◌*◌, ◌++◌, ◌^◌, true, length, map, flat_map, option_and_then};
 ghost use Rattle.std.specs.List.{list_all};
+ghost use Rattle.xr_types.specs.declared.view.TheConstants.{MOST_WORDS};
 ghost use Rattle.xr_types.specs.Device.{is_time};
 ghost use Rattle.xr_types.specs.Printed.{all_users};
 ghost use Rattle.xr_model.specs.machine.Publication.{shown_of, first_seen, is_attached, columns_in, atom_of_user, publication_of};
@@ -38,7 +39,7 @@ fn type_number(kind: ActionType) -> u64
 
 /// The two words of a column.
 fn push_column(out: &mut View, column: &Column)
-    requires room { length out.old + 2 ≤ 904 }
+    requires room { length out.old + 2 ≤ MOST_WORDS }
     requires time { is_time column.now.time ≡ true }
     ensures { out.new ≡ out.old ++ column_words (shown_of column.now) }
 {
@@ -55,7 +56,7 @@ fn push_column(out: &mut View, column: &Column)
 /// The words of an action's columns.
 #[tactic(auto, using(crate::proofs::Viewed::words_more, crate::proofs::Viewed::one_of))]
 fn push_row(out: &mut View, row: &[Column; COLUMNS])
-    requires room { length out.old + 12 ≤ 904 }
+    requires room { length out.old + 12 ≤ MOST_WORDS }
     requires times { list_all (λ c. is_time c.time) row.now ≡ true }
     ensures words { out.new ≡ out.old ++ row_words row.now }
     ensures few { length out.new ≤ length out.old + 12 }
@@ -91,7 +92,7 @@ impl Parts {
     /// The words of an action's columns.
     #[tactic(auto, using(crate::proofs::Viewed::row_in))]
     fn push_columns(&self, out: &mut View, action: u64)
-        requires room { length out.old + 12 ≤ 904 }
+        requires room { length out.old + 12 ≤ MOST_WORDS }
         ensures words { out.new ≡ out.old ++ row_words (columns_in self.now.handles self.now.columns action) }
         ensures few { length out.new ≤ length out.old + 12 }
     {
@@ -103,7 +104,7 @@ impl Parts {
     /// The words of an action.
     #[tactic(auto, using(crate::proofs::Viewed::two_more))]
     fn push_action(&self, out: &mut View, action: &Action)
-        requires room { length out.old + 14 ≤ 904 }
+        requires room { length out.old + 14 ≤ MOST_WORDS }
         ensures words { out.new ≡ out.old ++ words_of_action (first_seen self.now.sessions) self.now.handles self.now.columns action.now }
         ensures few { length out.new ≤ length out.old + 14 }
     {
@@ -117,7 +118,7 @@ impl Parts {
     /// The words of all actions.
     #[tactic(auto, using(crate::proofs::Viewed::words_more))]
     fn push_actions(&self, out: &mut View)
-        requires room { length out.old + 14 * 64 ≤ 904 }
+        requires room { length out.old + 14 * 64 ≤ MOST_WORDS }
         ensures { out.new ≡ out.old ++ flat_map (words_of_action (first_seen self.now.sessions) self.now.handles self.now.columns) self.now.sets.actions }
     {
         for action in self.sets.actions() {
@@ -138,7 +139,7 @@ impl Parts {
 
     /// The words of the live session, with the count of actions.
     fn push_session(&self, out: &mut View)
-        requires room { length out.old + 2 ≤ 904 }
+        requires room { length out.old + 2 ≤ MOST_WORDS }
         ensures { out.new ≡ out.old ++ session_words (first_seen self.now.sessions) (length self.now.sets.actions) }
     {
         let actions = self.sets.actions().len() as u64;
@@ -157,7 +158,7 @@ impl Parts {
     /// The atoms of the five user paths.
     #[tactic(auto, using(crate::proofs::Viewed::five_more))]
     fn push_atoms(&self, out: &mut View)
-        requires room { length out.old + 5 ≤ 904 }
+        requires room { length out.old + 5 ≤ MOST_WORDS }
         ensures { out.new ≡ out.old ++ map (atom_of_user self.now.atoms self.now.sets.actions) all_users }
     {
         out.words.push(self.shown_atom(User::Left));

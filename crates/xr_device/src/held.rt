@@ -35,7 +35,7 @@ impl Held {
     pub(crate) fn start(alloc: Global) -> Result<Held, NoMemory>
         ensures { IfOk result (λ held. held ≡ []) }
     {
-        let bytes = Box::new(alloc, [0; ROOM]).map_err(|_| NoMemory)?;
+        let bytes = Box::new(alloc, [0; ROOM])?;
         Ok(Held {
             bytes,
             start: 0,

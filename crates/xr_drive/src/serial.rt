@@ -26,15 +26,9 @@ use xr_types::{DeviceEvent, Lists, NoMemory, Status, Wish};
 fn load_events(alloc: Global) -> Result<Vec<DeviceEvent>, NoMemory>
     ensures { IfOk result (λ events. events.items ≡ load_device.events) }
 {
-    let Ok(mut events) = Vec::with_capacity(alloc, 2) else {
-        return Err(NoMemory);
-    };
-    let Ok(()) = events.push(DeviceEvent::Wish(Wish::Focused)) else {
-        return Err(NoMemory);
-    };
-    let Ok(()) = events.push(DeviceEvent::Mark(1)) else {
-        return Err(NoMemory);
-    };
+    let mut events = Vec::with_capacity(alloc, 2)?;
+    events.push(DeviceEvent::Wish(Wish::Focused))?;
+    events.push(DeviceEvent::Mark(1))?;
     Ok(events)
 }
 

@@ -4,4 +4,4 @@
 
 mod queue;
 
-pub use queue::{EVENTS, Events};
+pub use queue::Events;

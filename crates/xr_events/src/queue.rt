@@ -5,10 +5,7 @@ ghost use Rattle.xr_model.specs.machine.Events.{no_events, pushed, polled, behin
 use circular_buffer::HeapCircularBuffer;
 use std::alloc::Global;
 use std::marker::Model;
-use xr_types::{Event, NoMemory};
-
-/// How many events wait at most.
-pub const EVENTS: usize = 32;
+use xr_types::{EVENTS, Event, NoMemory};
 
 /// The events that wait, seen by contracts as their list, the oldest first, and the count of lost events. The
 /// count stands still at the end of its type.
@@ -20,13 +17,14 @@ pub struct Events {
 
 impl Model for Events {
     ghost use Rattle.std.specs.Prelude.{◌≡◌, ◌≤◌, length};
+    ghost use Rattle.xr_types.specs.declared.limits.TheConstants.{EVENTS};
     ghost use Rattle.xr_model.specs.machine.Events.{Queue};
 
     ghost Value = { Queue };
 
     ghost view = { λ q. record { waiting = q.ring.items; lost = q.lost } };
 
-    ghost invariant = { λ q. (q.ring.capacity ≡ 32) × (length q.ring.items ≤ 32) };
+    ghost invariant = { λ q. (q.ring.capacity ≡ EVENTS) × (length q.ring.items ≤ EVENTS) };
 }
 
 impl Events {
@@ -34,10 +32,8 @@ impl Events {
     pub fn start(alloc: Global) -> Result<Events, NoMemory>
         ensures { IfOk result (λ events. events ≡ no_events) }
     {
-        match HeapCircularBuffer::with_capacity(alloc, EVENTS) {
-            Ok(ring) => Ok(Events { ring, lost: 0 }),
-            Err(_) => Err(NoMemory),
-        }
+        let ring = HeapCircularBuffer::with_capacity(alloc, EVENTS)?;
+        Ok(Events { ring, lost: 0 })
     }
 
     /// An event comes. A full queue drops its oldest event and counts it as lost.

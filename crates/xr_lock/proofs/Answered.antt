@@ -7,7 +7,7 @@ use Rattle.xr_types.specs.declared.calls.Step.TheVariants.{Done}
 use Rattle.xr_model.specs.machine.CoreCalls.{Lent, MayAsk, Applies}
 use Rattle.xr_model.specs.machine.History.{clock_of, StartsAt}
 use Rattle.xr_model.specs.machine.Machine.{step}
-use Rattle.xr_model.specs.machine.Request.{Entry, request_of}
+use Rattle.xr_model.specs.machine.Calls.{Entry}
 use Rattle.xr_model.specs.machine.State.{State}
 use Rattle.xr_model.specs.laws.FewCalls.{MayAdd}
 use Rattle.xr_model.specs.laws.Moments.{Moment, opening_moment, moment_after, exchange_at, actor_at}
@@ -21,8 +21,8 @@ comes_to m e reply is = sym is
 
 module _ {S : Type 0} (stands : S → Moment → Type 0) where
   at_holder : (k : Know) (h : Hold) (value : S) (call : Call) (reply : Reply) (size : ℕ) (before behind : Lent) (new : State) → h.noted ≡ None
-      → MayAsk (actor_at (number_in k.own)) (request_of call) size
-      → StartsAt (clock_of (moment_after (opening_moment k.apps) h.look).clocks (actor_at (number_in k.own))) (request_of call)
+      → MayAsk (actor_at (number_in k.own)) call size
+      → StartsAt (clock_of (moment_after (opening_moment k.apps) h.look).clocks (actor_at (number_in k.own))) call
       → MayAdd (number_in k.own) (moment_after (opening_moment k.apps) h.look) (noted_entry k call reply) (calls_in k.own)
       → Applies (moment_after (opening_moment k.apps) h.look).state new (actor_at (number_in k.own)) call before behind (Done reply)
       → ((m : Moment) → m.state ≡ new → stands value m) → NotesCall stands (holder k h) value call reply
@@ -43,8 +43,8 @@ module _ {S : Type 0} (stands : S → Moment → Type 0) where
   -- The call is one that the seat's actor may ask for, a wait begins at its clock, its calls stay few, and the value stands where
   -- the call has led.
   pub answered_notes : (k : Know) (h : Hold) (m : Me (Option S) View) (value : S) (call : Call) (reply : Reply) (size : ℕ) (before behind : Lent) (new : State) → m ≡ holder k h → h.noted ≡ None
-      → MayAsk (actor_at (number_in k.own)) (request_of call) size
-      → StartsAt (clock_of (moment_after (opening_moment k.apps) h.look).clocks (actor_at (number_in k.own))) (request_of call)
+      → MayAsk (actor_at (number_in k.own)) call size
+      → StartsAt (clock_of (moment_after (opening_moment k.apps) h.look).clocks (actor_at (number_in k.own))) call
       → MayAdd (number_in k.own) (moment_after (opening_moment k.apps) h.look) (noted_entry k call reply) (calls_in k.own)
       → Applies (moment_after (opening_moment k.apps) h.look).state new (actor_at (number_in k.own)) call before behind (Done reply)
       → ((m : Moment) → m.state ≡ new → stands value m) → NotesCall stands m value call reply

@@ -4,7 +4,7 @@ use Rattle.atomic_table.specs.Table.{Me}
 use Rattle.xr_types.specs.declared.calls.Call.{Call}
 use Rattle.xr_types.specs.declared.calls.Reply.{Reply}
 use Rattle.xr_model.specs.machine.CoreCalls.{entry_of}
-use Rattle.xr_model.specs.machine.Request.{Entry, request_of}
+use Rattle.xr_model.specs.machine.Calls.{Entry}
 use Rattle.xr_model.specs.laws.Moments.{Moment, opening_moment, moment_after, exchange_at, actor_at}
 use Rattle.xr_rule.specs.View.{Know, Hold, View, Idle, Holding, view, hold_from, number_in, history_with}
 use Rattle.xr_rule.specs.Rule.{MayNote}
@@ -12,7 +12,7 @@ use Rattle.xr_rule.specs.Plays.{Sees, Decides}
 
 -- the entry of a call of the seat's actor that is answered so
 abbrev pub noted_entry : Know → Call → Reply → Entry
-noted_entry k call reply = entry_of (actor_at (number_in k.own)) (request_of call) reply
+noted_entry k call reply = entry_of (actor_at (number_in k.own)) call reply
 
 module _ {S : Type 0} where
   -- a holder whose slot is empty, since the value is with the caller

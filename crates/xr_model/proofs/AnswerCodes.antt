@@ -15,7 +15,8 @@ use Rattle.xr_types.specs.declared.handles.Kind.{Kind}
 use Rattle.xr_types.specs.declared.handles.Kind.TheVariants as kind
 use Rattle.xr_types.specs.declared.input.Binding.{Binding}
 use Rattle.xr_types.specs.declared.input.Profile.{Profile}
-use Rattle.xr_model.specs.machine.Request.{Request, create_action, suggest_bindings, attach_sets, begin_frame, end_frame, device, sync_actions}
+use Rattle.xr_types.specs.declared.calls.Call.{Call}
+use Rattle.xr_types.specs.declared.calls.Call.TheVariants as ask
 use Rattle.xr_model.specs.machine.Handles.{Handles, no_handle}
 use Rattle.xr_model.specs.machine.Refusals.{Refusal, when, first_of}
 use Rattle.xr_model.specs.machine.Rule.{Effect, Rule, ahead, refusals, or_short, told_on, unless_refused, carried_out}
@@ -95,48 +96,48 @@ synced_success loss true = plain loss.pending
 synced_success loss false = inr (inr (inl refl))
 
 pub refusals_are_the_table : RefusalsAreTheTable
-refusals_are_the_table s reads e = by e.request
+refusals_are_the_table s reads e = by e.call
   where
-    by : (r : Request) → IsOfRow (answers_of r) (items_of s r) (rule s reads (record e { request = r }))
-    by (create_action set name type subs localized) = record {
+    by : (r : Call) → IsOfRow (answers_of r) (items_of s r) (rule s reads (record e { call = r }))
+    by (ask.CreateAction set name type subs localized) = record {
       refusals = ap (λ (cs : List Code). HandleInvalid ∷ ActionsetsAlreadyAttached ∷ NameInvalid ∷ PathFormatInvalid ∷ NameDuplicated ∷ cs) (subs_codes s.atoms no_users subs _);
       order = λ none. refl;
       memory = λ none. refl;
       success = inl refl;
     }
-    by (suggest_bindings instance profile list) = record {
+    by (ask.SuggestBindings instance profile list) = record {
       refusals = ap (λ (cs : List Code). HandleInvalid ∷ PathInvalid ∷ PathUnsupported ∷ ValidationFailure ∷ LimitReached ∷ cs) (bindings_codes s (profile_at s.atoms profile) list);
       order = λ none. refl;
       memory = λ none. absurd (true≢false none);
       success = inl refl;
     }
-    by (attach_sets session handles) = record {
+    by (ask.AttachSets session handles) = record {
       refusals = ap (λ (cs : List Code). HandleInvalid ∷ SessionLost ∷ ActionsetsAlreadyAttached ∷ ValidationFailure ∷ cs) (handles_codes s.handles kind.ActionSet handles);
       order = λ none. refl;
       memory = λ none. refl;
-      success = on_success (Some (loss_of (life_of s session))) (rule s reads (record e { request = attach_sets session handles })).effect refl;
+      success = on_success (Some (loss_of (life_of s session))) (rule s reads (record e { call = ask.AttachSets session handles })).effect refl;
     }
-    by (sync_actions session active) = record {
+    by (ask.SyncActions session active) = record {
       refusals = ap (λ (cs : List Code). HandleInvalid ∷ SessionLost ∷ LimitReached ∷ cs) (items_codes s session active);
       order = λ none. refl;
       memory = λ none. refl;
       success = synced_success (loss_of (life_of s session)) (is_state (life_of s session).state Focused);
     }
-    by (begin_frame session) = record {
+    by (ask.BeginFrame session) = record {
       refusals = refl;
       order = λ none. cc;
       memory = λ none. refl;
       success = begun_success (loss_of (life_of s session)) s.frames.frame_loop;
     }
-    by (end_frame session time blend layers) = record {
+    by (ask.EndFrame session time blend layers) = record {
       refusals = ap (λ (cs : List Code). HandleInvalid ∷ SessionLost ∷ SessionNotRunning ∷ CallOrderInvalid ∷ TimeInvalid ∷ EnvironmentBlendModeUnsupported ∷ LayerLimitExceeded ∷ cs) (layers_codes (look_of s) layers);
       order = λ none. cc;
       memory = λ none. refl;
-      success = on_success (Some (loss_of (life_of s session))) (rule s reads (record e { request = end_frame session time blend layers })).effect refl;
+      success = on_success (Some (loss_of (life_of s session))) (rule s reads (record e { call = ask.EndFrame session time blend layers })).effect refl;
     }
-    by (device what) = record { refusals = refl; order = λ none. refl; memory = λ none. refl; success = inl refl }
+    by (ask.Device what) = record { refusals = refl; order = λ none. refl; memory = λ none. refl; success = inl refl }
     by r =
-        let f = rule s reads (record e { request = r }) in
+        let f = rule s reads (record e { call = r }) in
         record { refusals = refl; order = λ none. cc; memory = λ none. cc; success = on_success f.on f.effect refl }
 
 -- ---- what is answered is one of the row's codes
@@ -219,4 +220,4 @@ module _ (s : CoreState) (short : Bool) (row : Row) (items : List ℕ) (r : Rule
       by true eb (Some x) eo = refused_by x eo
 
 pub answers_are_the_table : AnswersAreTheTable
-answers_are_the_table s e = answered s.core e.short (answers_of e.request) (items_of s.core e.request) (rule s.core (reads_of s e.request) e) (refusals_are_the_table s.core (reads_of s e.request) e)
+answers_are_the_table s e = answered s.core e.short (answers_of e.call) (items_of s.core e.call) (rule s.core (reads_of s e.call) e) (refusals_are_the_table s.core (reads_of s e.call) e)

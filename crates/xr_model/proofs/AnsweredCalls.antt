@@ -4,7 +4,6 @@ use Rattle.std.proofs.Common.{false, List, [], ◌∷◌, ap, ◌∙◌, refl, s
 use Rattle.xr_types.specs.declared.calls.Reply.{Reply}
 use Rattle.xr_types.specs.declared.calls.Step.{Step}
 use Rattle.xr_types.specs.declared.calls.Step.TheVariants.{Done, NotReady}
-use Rattle.xr_model.specs.machine.Request.{request_of}
 use Rattle.xr_model.specs.machine.CoreCalls.{entry_of}
 use Rattle.xr_model.specs.machine.State.{State}
 use Rattle.xr_model.specs.machine.Machine.{step}
@@ -13,10 +12,10 @@ use Rattle.xr_model.specs.machine.History.{clock_of, clocks_after, StartsAt}
 use Rattle.xr_model.specs.laws.AnswerLaws.{Asked, clocks_if, AreHistory, AnswersAreAHistory, replies_of}
 
 -- one answer more, in front
-one_more : (s mid t : State) (clocks : List ℤ) (a : Asked) (asked : List Asked) (answer : Step) → StartsAt (clock_of clocks a.who) (request_of a.call) → Applies s mid a.who a.call a.before a.behind answer
+one_more : (s mid t : State) (clocks : List ℤ) (a : Asked) (asked : List Asked) (answer : Step) → StartsAt (clock_of clocks a.who) a.call → Applies s mid a.who a.call a.before a.behind answer
     → AreHistory mid (clocks_if clocks a.who a.call answer mid) asked t → AreHistory s clocks (record a { answer = answer } ∷ asked) t
 one_more s mid t clocks a asked (Done reply) starts answered rest =
-    let e = entry_of a.who (request_of a.call) reply in
+    let e = entry_of a.who a.call reply in
     let more = subst (λ (m : State). AreHistory m (clocks_after clocks e m) asked t) answered.leads rest in
     record {
       legal = (answered.allowed, starts, answered.is_ready, more.legal);

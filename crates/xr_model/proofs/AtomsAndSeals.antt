@@ -6,7 +6,8 @@ use Rattle.xr_types.specs.Code.{is_success}
 use Rattle.xr_types.specs.declared.code.Code.TheVariants.{ActionsetsAlreadyAttached}
 use Rattle.xr_types.specs.declared.device.DeviceEvent.{DeviceEvent}
 use Rattle.xr_types.specs.declared.device.DeviceEvent.TheVariants as event
-use Rattle.xr_model.specs.machine.Request.{Request, destroy_instance, string_to_path, device}
+use Rattle.xr_types.specs.declared.calls.Call.{Call}
+use Rattle.xr_types.specs.declared.calls.Call.TheVariants as ask
 use Rattle.xr_model.specs.machine.Handles.{is_among, destroyed_by}
 use Rattle.xr_model.specs.machine.Paths.{is_new, with_text, text_at}
 use Rattle.xr_model.specs.machine.Refusals.{Refusal, when, first_of}
@@ -46,13 +47,13 @@ module _ (P : List (List ℕ) → Type 0) (s : CoreState) (same : P s.atoms) whe
   events _ = same
 
 pub atoms_stay : AtomsStay
-atoms_stay s e atom text aside found = by e.request aside
+atoms_stay s e atom text aside found = by e.call aside
   where
-    by : (r : Request) → is_instance_end r ≡ false → text_at (step s (record e { request = r })).0.core.atoms atom ≡ Some text
-    by (destroy_instance instance) aside = absurd (true≢false aside)
-    by (string_to_path instance new) aside = let f = rule s.core (reads_of s (string_to_path instance new)) (record e { request = string_to_path instance new }) in kept (λ atoms. text_at atoms atom ≡ Some text) s.core found (refusal e.short f) (told_on f.on f.effect) (λ none. still_text s.core.atoms atom text new found)
-    by (device what) aside = events (λ atoms. text_at atoms atom ≡ Some text) s.core found what
-    by r aside = let f = rule s.core (reads_of s r) (record e { request = r }) in kept (λ atoms. text_at atoms atom ≡ Some text) s.core found (refusal e.short f) (told_on f.on f.effect) (λ none. found)
+    by : (r : Call) → is_instance_end r ≡ false → text_at (step s (record e { call = r })).0.core.atoms atom ≡ Some text
+    by (ask.DestroyInstance instance) aside = absurd (true≢false aside)
+    by (ask.StringToPath instance new) aside = let f = rule s.core (reads_of s (ask.StringToPath instance new)) (record e { call = ask.StringToPath instance new }) in kept (λ atoms. text_at atoms atom ≡ Some text) s.core found (refusal e.short f) (told_on f.on f.effect) (λ none. still_text s.core.atoms atom text new found)
+    by (ask.Device what) aside = events (λ atoms. text_at atoms atom ≡ Some text) s.core found what
+    by r aside = let f = rule s.core (reads_of s r) (record e { call = r }) in kept (λ atoms. text_at atoms atom ≡ Some text) s.core found (refusal e.short f) (told_on f.on f.effect) (λ none. found)
 
 -- ---- sealed sets
 
@@ -87,7 +88,7 @@ record Stays (old : Sets) (set : ℕ) (new : Sets) : Type 0 where
 
 pub sealed_stays : SealedStays
 sealed_stays s e set is =
-    let stays = kept_by_step (λ h sp st su. Stays s.core.sets set st) s.core (reads_of s e.request) e (record {
+    let stays = kept_by_step (λ h sp st su. Stays s.core.sets set st) s.core (reads_of s e.call) e (record {
       same = same;
       instance = λ gives. same;
       session = λ gives instance. same;
@@ -131,12 +132,12 @@ sealed_stays s e set is =
 -- ---- atoms go with the instance
 
 pub atoms_go : AtomsGo
-atoms_go s e ends good = by e.request ends good
+atoms_go s e ends good = by e.call ends good
   where
-    by : (r : Request) → is_instance_end r ≡ true → is_success (step s (record e { request = r })).1.reply.code ≡ true → (step s (record e { request = r })).0.core.atoms ≡ []
-    by (destroy_instance instance) ends good = cases (is_live s.core.handles kind.Instance instance) refl
+    by : (r : Call) → is_instance_end r ≡ true → is_success (step s (record e { call = r })).1.reply.code ≡ true → (step s (record e { call = r })).0.core.atoms ≡ []
+    by (ask.DestroyInstance instance) ends good = cases (is_live s.core.handles kind.Instance instance) refl
       where
-        cases : (b : Bool) → is_live s.core.handles kind.Instance instance ≡ b → (step s (record e { request = destroy_instance instance })).0.core.atoms ≡ []
+        cases : (b : Bool) → is_live s.core.handles kind.Instance instance ≡ b → (step s (record e { call = ask.DestroyInstance instance })).0.core.atoms ≡ []
         cases true live = rw live refl
         cases false dead = absurd (true≢false (sym good ∙ rw dead refl))
     by _ ends good = absurd (true≢false (sym ends))

@@ -3,7 +3,7 @@ use Rattle.std.proofs.Common.{◌≡◌, ◌==◌, ℕ, ℤ, not, Bool, true, fa
 use Rattle.std.specs.Prelude.{option_map, unwrap_or, if◌then◌else◌}
 use Rattle.std.specs.List.{filter, list_all}
 use Rattle.xr_types.specs.declared.handles.Kind.TheVariants as kind
-use Rattle.xr_model.specs.machine.Request.{Entry}
+use Rattle.xr_model.specs.machine.Calls.{Entry}
 use Rattle.xr_model.specs.machine.Handles.{Handles, has, is_live, is_among, destroyed_by, with_handle, without}
 use Rattle.xr_model.specs.machine.LiveSessions.{Session, with_life, with_attached, with_session_at, without_sets, still_live}
 use Rattle.xr_model.specs.machine.SessionLife.{Life, Changed, unchanged, lost_session}
@@ -66,7 +66,7 @@ left_live h top once x live = by x.attached live
     by (Some sets) live = all_left (is_live h kind.ActionSet) (is_live (without h top) kind.ActionSet) (λ set. not (is_among (destroyed_by h top) set)) still sets live
 
 attached_step : (s : State) (e : Entry) → StandOnce s.core.handles → Has Kept s.core → AttachLive s.core.handles s.core.sessions → AttachLive (step s e).0.core.handles (step s e).0.core.sessions
-attached_step s e once kept each = kept_by_step AttachLive s.core (reads_of s e.request) e (record {
+attached_step s e once kept each = kept_by_step AttachLive s.core (reads_of s e.call) e (record {
   same = λ d c. each;
   instance = λ d c. each;
   session = λ d c good room instance. all_more (attaches_live s.core.handles) s.core.sessions _ each refl;

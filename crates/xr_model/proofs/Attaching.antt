@@ -4,7 +4,9 @@ use Rattle.std.specs.Prelude.{is_some, option_map, length, if◌then◌else◌}
 use Rattle.xr_types.specs.Code.{is_success}
 use Rattle.xr_types.specs.declared.code.Code.TheVariants.{HandleInvalid, CallOrderInvalid, ValidationFailure}
 use Rattle.xr_types.specs.declared.handles.Kind.TheVariants as kind
-use Rattle.xr_model.specs.machine.Request.{Entry, Request, attach_sets}
+use Rattle.xr_model.specs.machine.Calls.{Entry}
+use Rattle.xr_types.specs.declared.calls.Call.{Call}
+use Rattle.xr_types.specs.declared.calls.Call.TheVariants as ask
 use Rattle.xr_model.specs.machine.Handles.{Handles, has, is_live, no_handle, was_given, without, destroyed_by}
 use Rattle.xr_model.specs.machine.Refusals.{Refusal, when, first_of}
 use Rattle.xr_model.specs.machine.SessionLife.{Life, is_lost, Changed, unchanged, lost_session}
@@ -77,7 +79,7 @@ module _ (s : State) (e : Entry) (allowed : IsAllowed s e) (session : ℕ) (has_
   }
 
   has_step : Has session (step s e).0.core.handles (step s e).0.core.sessions
-  has_step = kept_by_step (Has session) s.core (reads_of s e.request) e (record {
+  has_step = kept_by_step (Has session) s.core (reads_of s e.call) e (record {
     same = λ d c. has_some;
     instance = λ d c. record { given = more e.given; attached = has_some.attached };
     chain = λ d c above. record { given = more e.given; attached = has_some.attached };
@@ -153,21 +155,21 @@ found_at (z ∷ xs) handle sets x found = by (z.handle == handle) refl found (fo
 
 module _ (s : State) (e : Entry) (session : ℕ) (handles : List ℕ) where
   f : Rule
-  f = rule s.core (reads_of s (attach_sets session handles)) (record e { request = attach_sets session handles })
+  f = rule s.core (reads_of s (ask.AttachSets session handles)) (record e { call = ask.AttachSets session handles })
 
-  unrefused : is_success (step s (record e { request = attach_sets session handles })).1.reply.code ≡ true → first_of (refusals f) ≡ None
+  unrefused : is_success (step s (record e { call = ask.AttachSets session handles })).1.reply.code ≡ true → first_of (refusals f) ≡ None
   unfolding f
   unrefused good = success_means s.core (first_of (refusals f)) (told_on f.on f.effect) (first_none is_success (refusals f) (none_handles s.core.handles handles)) good
 
-  attached_so : AreKnown s.core.handles → is_success (step s (record e { request = attach_sets session handles })).1.reply.code ≡ true
-      → Has session (step s (record e { request = attach_sets session handles })).0.core.handles (step s (record e { request = attach_sets session handles })).0.core.sessions
+  attached_so : AreKnown s.core.handles → is_success (step s (record e { call = ask.AttachSets session handles })).1.reply.code ≡ true
+      → Has session (step s (record e { call = ask.AttachSets session handles })).0.core.handles (step s (record e { call = ask.AttachSets session handles })).0.core.sessions
   unfolding f
   attached_so known good =
       let none = unrefused good in
       let live = first_fails (is_live s.core.handles kind.Session session) HandleInvalid (is_lost (life_of s.core session) ∷ when f.disorder CallOrderInvalid ∷ f.behind) none in
       rw none (record { given = live_given s e known session live; attached = found_at s.core.sessions session (sets_named s.core.sets handles) })
 
-  fails_again : AreListed s.core.handles s.core.sessions → Has session s.core.handles s.core.sessions → is_success (step s (record e { request = attach_sets session handles })).1.reply.code ≡ false
+  fails_again : AreListed s.core.handles s.core.sessions → Has session s.core.handles s.core.sessions → is_success (step s (record e { call = ask.AttachSets session handles })).1.reply.code ≡ false
   unfolding f
   fails_again listed has_some = is_false _ (λ good.
       let none = unrefused good in
@@ -199,11 +201,11 @@ carried P s o x none is = rw none is
 
 pub attaching_seals : AttachingSeals
 unfolding f
-attaching_seals s e set names good = by e.request names good
+attaching_seals s e set names good = by e.call names good
   where
-    by : (r : Request) → seals r set ≡ true → is_success (step s (record e { request = r })).1.reply.code ≡ true → is_some (set_at (step s (record e { request = r })).0.core.sets set) ≡ true → is_sealed (step s (record e { request = r })).0.core.sets set ≡ true
-    by (attach_sets session handles) names good =
-        let f = rule s.core (reads_of s (attach_sets session handles)) (record e { request = attach_sets session handles }) in
+    by : (r : Call) → seals r set ≡ true → is_success (step s (record e { call = r })).1.reply.code ≡ true → is_some (set_at (step s (record e { call = r })).0.core.sets set) ≡ true → is_sealed (step s (record e { call = r })).0.core.sets set ≡ true
+    by (ask.AttachSets session handles) names good =
+        let f = rule s.core (reads_of s (ask.AttachSets session handles)) (record e { call = ask.AttachSets session handles }) in
         carried (λ t. is_some (set_at t.sets set) ≡ true → is_sealed t.sets set ≡ true) s.core (first_of (refusals f)) (told_on f.on f.effect) (unrefused s e session handles good) (sealed_all handles s.core.sets.sets set names)
     by _ names good = absurd (true≢false (sym names))
 
@@ -223,9 +225,9 @@ new_sessions_are_bare settings es e legal allowed creates good = bare (after (op
     none_of None each = refl
     none_of (Some x) each = each x refl
 
-    bare : (s : State) (e : Entry) → IsAllowed s e → AreKnown s.core.handles → AreListed s.core.handles s.core.sessions → is_session_creation e.request ≡ true → is_success (step s e).1.reply.code ≡ true → attached_in (session_at (step s e).0.core.sessions e.given) ≡ None
+    bare : (s : State) (e : Entry) → IsAllowed s e → AreKnown s.core.handles → AreListed s.core.handles s.core.sessions → is_session_creation e.call ≡ true → is_success (step s e).1.reply.code ≡ true → attached_in (session_at (step s e).0.core.sessions e.given) ≡ None
     bare s e allowed known listed creates good =
-        kept_by_step (λ h xs. is_success (step s e).1.reply.code ≡ true → attached_in (session_at xs e.given) ≡ None) s.core (reads_of s e.request) e (record {
+        kept_by_step (λ h xs. is_success (step s e).1.reply.code ≡ true → attached_in (session_at xs e.given) ≡ None) s.core (reads_of s e.call) e (record {
           same = λ d c good. absurd (true≢false (sym good ∙ (ap (λ b. b && is_success (step s e).1.reply.code) (sym creates) ∙ c)));
           instance = λ d c. absurd (true≢false (sym creates ∙ c));
           session = λ d c good room instance again. new (new_session_given s e allowed c good);
@@ -250,19 +252,19 @@ new_sessions_are_bare settings es e legal allowed creates good = bare (after (op
 
 -- ---- the law
 
-attached_by : (s : State) (e : Entry) (session : ℕ) → AreKnown s.core.handles → attaches e.request session ≡ true → is_success (step s e).1.reply.code ≡ true → Has session (step s e).0.core.handles (step s e).0.core.sessions
-attached_by s e session known = by e.request
+attached_by : (s : State) (e : Entry) (session : ℕ) → AreKnown s.core.handles → attaches e.call session ≡ true → is_success (step s e).1.reply.code ≡ true → Has session (step s e).0.core.handles (step s e).0.core.sessions
+attached_by s e session known = by e.call
   where
-    by : (r : Request) → attaches r session ≡ true → is_success (step s (record e { request = r })).1.reply.code ≡ true → Has session (step s (record e { request = r })).0.core.handles (step s (record e { request = r })).0.core.sessions
-    by (attach_sets other handles) names good =
-        subst (λ (n : ℕ). Has n (step s (record e { request = attach_sets other handles })).0.core.handles (step s (record e { request = attach_sets other handles })).0.core.sessions) (same_key other session names) (attached_so s e other handles known good)
+    by : (r : Call) → attaches r session ≡ true → is_success (step s (record e { call = r })).1.reply.code ≡ true → Has session (step s (record e { call = r })).0.core.handles (step s (record e { call = r })).0.core.sessions
+    by (ask.AttachSets other handles) names good =
+        subst (λ (n : ℕ). Has n (step s (record e { call = ask.AttachSets other handles })).0.core.handles (step s (record e { call = ask.AttachSets other handles })).0.core.sessions) (same_key other session names) (attached_so s e other handles known good)
     by _ names good = absurd (true≢false (sym names))
 
-refused_again : (s : State) (e : Entry) (session : ℕ) → AreListed s.core.handles s.core.sessions → Has session s.core.handles s.core.sessions → attaches e.request session ≡ true → is_success (step s e).1.reply.code ≡ false
-refused_again s e session listed has_some = by e.request
+refused_again : (s : State) (e : Entry) (session : ℕ) → AreListed s.core.handles s.core.sessions → Has session s.core.handles s.core.sessions → attaches e.call session ≡ true → is_success (step s e).1.reply.code ≡ false
+refused_again s e session listed has_some = by e.call
   where
-    by : (r : Request) → attaches r session ≡ true → is_success (step s (record e { request = r })).1.reply.code ≡ false
-    by (attach_sets other handles) names = fails_again s e other handles listed (subst (λ (n : ℕ). Has n s.core.handles s.core.sessions) (sym (same_key other session names)) has_some)
+    by : (r : Call) → attaches r session ≡ true → is_success (step s (record e { call = r })).1.reply.code ≡ false
+    by (ask.AttachSets other handles) names = fails_again s e other handles listed (subst (λ (n : ℕ). Has n s.core.handles s.core.sessions) (sym (same_key other session names)) has_some)
     by _ names = absurd (true≢false (sym names))
 
 pub attaches_once : AttachesOnce

@@ -3,7 +3,9 @@
 use Rattle.std.proofs.Common.{◌≡◌, ◌≢◌, ◌==◌, ◌+◌, ◌++◌, ℕ, Bool, true, false, not, List, [], ◌∷◌, None, refl, sym, ap, ◌∙◌, arith}
 use Rattle.xr_types.specs.declared.handles.Kind.{Kind}
 use Rattle.xr_types.specs.declared.handles.Kind.TheVariants as kind
-use Rattle.xr_model.specs.machine.Request.{Entry, Request, begin_frame, end_frame, acquire_image, wait_image, paint, release_image, next_frame, image_done}
+use Rattle.xr_model.specs.machine.Calls.{Entry}
+use Rattle.xr_types.specs.declared.calls.Call.{Call}
+use Rattle.xr_types.specs.declared.calls.Call.TheVariants as ask
 use Rattle.xr_model.specs.machine.Chains.{chain_at}
 use Rattle.xr_model.specs.machine.Frames.{one_if}
 use Rattle.xr_model.specs.machine.Handles.{no_handle, is_live}
@@ -37,35 +39,35 @@ live_ahead s kind handle r is none = is_live_by (is_live s.handles kind handle) 
 
 -- where no earlier refusal holds, the rule's condition is that of the counts
 same_order : (s : CoreState) (past : List Decided) (reads : CellReads) (e : Entry) → FramesFit s.handles s.frames.frame_loop past → ChainsFit s.handles s.chains past → HeldFits reads.held past
-    → first_of (ahead (rule s reads e)) ≡ None → (rule s reads e).disorder ≡ is_disorder past e.request
-same_order s past reads e fits chains held none = by e.request none
+    → first_of (ahead (rule s reads e)) ≡ None → (rule s reads e).disorder ≡ is_disorder past e.call
+same_order s past reads e fits chains held none = by e.call none
   where
-    by : (r : Request) → first_of (ahead (rule s reads (record e { request = r }))) ≡ None → (rule s reads (record e { request = r })).disorder ≡ is_disorder past r
-    by (begin_frame session) none =
-        let live = live_ahead s kind.Session session (rule s reads (record e { request = begin_frame session })) refl none in
+    by : (r : Call) → first_of (ahead (rule s reads (record e { call = r }))) ≡ None → (rule s reads (record e { call = r })).disorder ≡ is_disorder past r
+    by (ask.BeginFrame session) none =
+        let live = live_ahead s kind.Session session (rule s reads (record e { call = ask.BeginFrame session })) refl none in
         bit_key (waits session past) (begins session past) s.frames.frame_loop.has_waited (fits.loops session live).frames
-    by (end_frame session time blend layers) none =
-        let live = live_ahead s kind.Session session (rule s reads (record e { request = end_frame session time blend layers })) refl none in
+    by (ask.EndFrame session time blend layers) none =
+        let live = live_ahead s kind.Session session (rule s reads (record e { call = ask.EndFrame session time blend layers })) refl none in
         ap not (sym (fits.loops session live).begun)
-    by (acquire_image chain) none =
-        let live = live_ahead s kind.Swapchain chain (rule s reads (record e { request = acquire_image chain })) refl none in
+    by (ask.AcquireImage chain) none =
+        let live = live_ahead s kind.Swapchain chain (rule s reads (record e { call = ask.AcquireImage chain })) refl none in
         acquire_key chain (chain_at s.chains chain) past (chains.fits chain live)
-    by (wait_image chain timeout start) none =
-        let live = live_ahead s kind.Swapchain chain (rule s reads (record e { request = wait_image chain timeout start })) refl none in
+    by (ask.WaitImage chain timeout start) none =
+        let live = live_ahead s kind.Swapchain chain (rule s reads (record e { call = ask.WaitImage chain timeout start })) refl none in
         wait_key chain (chain_at s.chains chain) past (chains.fits chain live)
-    by (paint chain value) none =
-        let live = live_ahead s kind.Swapchain chain (rule s reads (record e { request = paint chain value })) refl none in
+    by (ask.Paint chain value) none =
+        let live = live_ahead s kind.Swapchain chain (rule s reads (record e { call = ask.Paint chain value })) refl none in
         paint_key chain (chain_at s.chains chain) past (chains.fits chain live)
-    by (release_image chain) none =
-        let live = live_ahead s kind.Swapchain chain (rule s reads (record e { request = release_image chain })) refl none in
+    by (ask.ReleaseImage chain) none =
+        let live = live_ahead s kind.Swapchain chain (rule s reads (record e { call = ask.ReleaseImage chain })) refl none in
         paint_key chain (chain_at s.chains chain) past (chains.fits chain live)
-    by next_frame none = some_held reads.held (given_back past) (taken_images past) held
-    by image_done none = none_held reads.held (given_back past) (taken_images past) held
+    by ask.NextFrame none = some_held reads.held (given_back past) (taken_images past) held
+    by ask.ImageDone none = none_held reads.held (given_back past) (taken_images past) held
     by _ none = refl
 
 pub call_order : CallOrder
 call_order settings es e legal =
     let s = after (opening settings) es in
-    let code = coded s.core e.short (rule s.core (reads_of s e.request) e) (sessionless s.core (reads_of s e.request) e) in
-    let same = same_order s.core (past_of settings es) (reads_of s e.request) e (fits_history settings es legal) (chains_history settings es legal) (held_history settings es) in
+    let code = coded s.core e.short (rule s.core (reads_of s e.call) e) (sessionless s.core (reads_of s e.call) e) in
+    let same = same_order s.core (past_of settings es) (reads_of s e.call) e (fits_history settings es legal) (chains_history settings es legal) (held_history settings es) in
     ((λ is. let two = code.0 is in (two.0, sym (same two.0) ∙ two.1)), (λ two. code.1 (two.0, same two.0 ∙ two.1)))

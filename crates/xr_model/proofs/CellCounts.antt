@@ -13,7 +13,10 @@ use Rattle.xr_model.specs.machine.CellCalls.{CellCall, pin, claim, free, stamp, 
 use Rattle.xr_model.specs.machine.PlainImages.{PlainImages, PlainDoes, count_at}
 use Rattle.xr_model.specs.machine.Frames.{one_if}
 use Rattle.xr_model.specs.machine.Refusals.{Refusal}
-use Rattle.xr_model.specs.machine.Request.{Request, Entry, end_frame, next_frame, image_done, is_locked}
+use Rattle.xr_types.specs.CallKinds.{is_locked}
+use Rattle.xr_model.specs.machine.Calls.{Entry}
+use Rattle.xr_types.specs.declared.calls.Call.{Call}
+use Rattle.xr_types.specs.declared.calls.Call.TheVariants as ask
 use Rattle.xr_model.specs.machine.State.{CoreState, CellReads}
 use Rattle.xr_model.specs.machine.Rule.{Rule, Effect, Did, refusal, told_on, unless_refused}
 use Rattle.xr_model.specs.machine.Rules.Frames.{new_frame}
@@ -159,38 +162,38 @@ record UsesNone (did : Did) : Type 0 where
   returned : did.returned ≡ []
 
 -- where no frame is submitted, no image is used more
-used_none : (s : CoreState) (r : CellReads) (e : Entry) → is_frame_move e.request ≡ false → (effect s r e).did.used ≡ []
-used_none s r e aside = by e.request aside
+used_none : (s : CoreState) (r : CellReads) (e : Entry) → is_frame_move e.call ≡ false → (effect s r e).did.used ≡ []
+used_none s r e aside = by e.call aside
   where
-    by : (what : Request) → is_frame_move what ≡ false → (effect s r (record e { request = what })).did.used ≡ []
-    by (end_frame session time blend layers) aside = absurd (true≢false aside)
-    by next_frame aside = absurd (true≢false aside)
-    by what aside = did_kept (λ d. d.used ≡ []) s e.short (rule s r (record e { request = what })) refl refl
+    by : (what : Call) → is_frame_move what ≡ false → (effect s r (record e { call = what })).did.used ≡ []
+    by (ask.EndFrame session time blend layers) aside = absurd (true≢false aside)
+    by ask.NextFrame aside = absurd (true≢false aside)
+    by what aside = did_kept (λ d. d.used ≡ []) s e.short (rule s r (record e { call = what })) refl refl
 
 module _ (s : CoreState) (r : CellReads) (held : List Image) (e : Entry) (c d : PlainImages) (own : r.held ≡ held) (sound : IsSound s.handles.chains s.chains s.frames.pending s.shown_images held)
     (few : length s.frames.pending < 2 ^ 44) (counted : AreCounted c s.frames.pending held) where
-  abbrev IsKept : Request → Type 0
-  IsKept what = Leads PlainDoes c (cell_calls s r (record e { request = what })) d → (k : ℕ) → count_at d k ≡ count_of (effect s r (record e { request = what })).state.frames.pending (held_after held (effect s r (record e { request = what })).did) k
+  abbrev IsKept : Call → Type 0
+  IsKept what = Leads PlainDoes c (cell_calls s r (record e { call = what })) d → (k : ℕ) → count_at d k ≡ count_of (effect s r (record e { call = what })).state.frames.pending (held_after held (effect s r (record e { call = what })).did) k
 
-  taken_counted : IsKept next_frame
-  taken_counted leads = takes held s.frames.pending own refl counted.counts (counts_left s r (record e { request = next_frame }) c d none.used none.returned leads)
+  taken_counted : IsKept ask.NextFrame
+  taken_counted leads = takes held s.frames.pending own refl counted.counts (counts_left s r (record e { call = ask.NextFrame }) c d none.used none.returned leads)
     where
-      none : UsesNone (effect s r (record e { request = next_frame })).did
-      none = did_kept UsesNone s e.short (rule s r (record e { request = next_frame })) (record { used = refl; returned = refl }) (record { used = refl; returned = refl })
+      none : UsesNone (effect s r (record e { call = ask.NextFrame })).did
+      none = did_kept UsesNone s e.short (rule s r (record e { call = ask.NextFrame })) (record { used = refl; returned = refl }) (record { used = refl; returned = refl })
 
       takes : (hs : List Image) (fs : List PendingFrame) → r.held ≡ hs → s.frames.pending ≡ fs → ((k : ℕ) → count_at c k ≡ count_of s.frames.pending hs k) → d.counts ≡ c.counts
-          → (k : ℕ) → count_at d k ≡ count_of (effect s r (record e { request = next_frame })).state.frames.pending (held_after hs (effect s r (record e { request = next_frame })).did) k
+          → (k : ℕ) → count_at d k ≡ count_of (effect s r (record e { call = ask.NextFrame })).state.frames.pending (held_after hs (effect s r (record e { call = ask.NextFrame })).did) k
       takes (i ∷ hs) fs is pending counts same k = rw (is, same) (counts k)
       takes [] [] is pending counts same k = rw (is, pending, same) (rw pending at counts k)
       takes [] (f ∷ fs) is pending counts same k =
           let all : count_at c k ≡ (times_in f.images k + uses_of fs k) + 0 = rw pending at counts k in
           rw (is, pending, same, append-nil f.images) (all ∙ omega arith)
 
-  returned_counted : IsKept image_done
+  returned_counted : IsKept ask.ImageDone
   returned_counted leads = gives held own counted.counts leads
     where
-      gives : (hs : List Image) → r.held ≡ hs → ((k : ℕ) → count_at c k ≡ count_of s.frames.pending hs k) → Leads PlainDoes c (cell_calls s r (record e { request = image_done })) d
-          → (k : ℕ) → count_at d k ≡ count_of (effect s r (record e { request = image_done })).state.frames.pending (held_after hs (effect s r (record e { request = image_done })).did) k
+      gives : (hs : List Image) → r.held ≡ hs → ((k : ℕ) → count_at c k ≡ count_of s.frames.pending hs k) → Leads PlainDoes c (cell_calls s r (record e { call = ask.ImageDone })) d
+          → (k : ℕ) → count_at d k ≡ count_of (effect s r (record e { call = ask.ImageDone })).state.frames.pending (held_after hs (effect s r (record e { call = ask.ImageDone })).did) k
       gives [] is counts leads k = let same : d ≡ c = rw is at leads in rw (is, same) (counts k)
       gives (i ∷ hs) is counts leads k = rw is (one (slot_of i == k) refl)
         where
@@ -209,11 +212,11 @@ module _ (s : CoreState) (r : CellReads) (held : List Image) (e : Entry) (c d : 
               rw (given, less, ← n) left
           one false apart = let here = counts k in let all : count_at c k ≡ uses_of s.frames.pending k + (0 + times_in hs k) = rw apart at here in rw given (others_stay c.counts (slot_of i) k (count_at c (slot_of i) - 1) apart ∙ all ∙ omega arith)
 
-  submitted_counted : (session : ℕ) (time : ℤ) (blend : Blend) (layers : List Layer) → IsKept (end_frame session time blend layers)
+  submitted_counted : (session : ℕ) (time : ℤ) (blend : Blend) (layers : List Layer) → IsKept (ask.EndFrame session time blend layers)
   submitted_counted session time blend layers leads = ends (refusal e.short f) refl leads
     where
       x : Entry
-      x = record e { request = end_frame session time blend layers }
+      x = record e { call = ask.EndFrame session time blend layers }
 
       f : Rule
       f = rule s r x
@@ -246,18 +249,18 @@ module _ (s : CoreState) (r : CellReads) (held : List Image) (e : Entry) (c d : 
               let last = sound.last.once q in
               omega (arith, one, here, pending, kept, last, few)
 
-  counts_kept : IsKept e.request
-  counts_kept = by e.request
+  counts_kept : IsKept e.call
+  counts_kept = by e.call
     where
-      by : (what : Request) → IsKept what
-      by next_frame = taken_counted
-      by image_done = returned_counted
-      by (end_frame session time blend layers) = submitted_counted session time blend layers
+      by : (what : Call) → IsKept what
+      by ask.NextFrame = taken_counted
+      by ask.ImageDone = returned_counted
+      by (ask.EndFrame session time blend layers) = submitted_counted session time blend layers
       by what = λ leads.
-          let still = still_call s r (record e { request = what }) tt in
-          let frames = frames_stay s r (record e { request = what }) refl in
-          let same = counts_left s r (record e { request = what }) c d (used_none s r (record e { request = what }) refl) still.returned leads in
-          left_counted s held (effect s r (record e { request = what })) c d frames.pending still.taken still.returned same counted.counts
+          let still = still_call s r (record e { call = what }) tt in
+          let frames = frames_stay s r (record e { call = what }) refl in
+          let same = counts_left s r (record e { call = what }) c d (used_none s r (record e { call = what }) refl) still.returned leads in
+          left_counted s held (effect s r (record e { call = what })) c d frames.pending still.taken still.returned same counted.counts
 
   -- after each entry the counts are those of the frames and of what is held
   pub still_counted : Leads PlainDoes c (cell_calls s r e) d → AreCounted d (effect s r e).state.frames.pending (held_after held (effect s r e).did)
@@ -265,16 +268,16 @@ module _ (s : CoreState) (r : CellReads) (held : List Image) (e : Entry) (c d : 
 
 -- no call that may have to wait uses an image or gives one back
 pub waiting_counts : (s : CoreState) (r : CellReads) (e : Entry) (c d : PlainImages) → (rule s r e).waits ≡ true → Leads PlainDoes c (cell_calls s r e) d → d.counts ≡ c.counts
-waiting_counts s r e c d waits leads = let none = by e.request waits in counts_left s r e c d none.used none.returned leads
+waiting_counts s r e c d waits leads = let none = by e.call waits in counts_left s r e c d none.used none.returned leads
   where
-    by : (what : Request) → (rule s r (record e { request = what })).waits ≡ true → UsesNone (effect s r (record e { request = what })).did
-    by (end_frame session time blend layers) waits = absurd (true≢false (sym waits))
-    by image_done waits = absurd (true≢false (sym waits))
-    by what waits = did_kept UsesNone s e.short (rule s r (record e { request = what })) (record { used = refl; returned = refl }) (record { used = refl; returned = refl })
+    by : (what : Call) → (rule s r (record e { call = what })).waits ≡ true → UsesNone (effect s r (record e { call = what })).did
+    by (ask.EndFrame session time blend layers) waits = absurd (true≢false (sym waits))
+    by ask.ImageDone waits = absurd (true≢false (sym waits))
+    by what waits = did_kept UsesNone s e.short (rule s r (record e { call = what })) (record { used = refl; returned = refl }) (record { used = refl; returned = refl })
 
 -- how many frames are pending after an entry
-pub pending_few : (s : CoreState) (r : CellReads) (e : Entry) → length (effect s r e).state.frames.pending ≤ length s.frames.pending + one_if (is_locked e.request)
-pending_few s r e = by e.request
+pub pending_few : (s : CoreState) (r : CellReads) (e : Entry) → length (effect s r e).state.frames.pending ≤ length s.frames.pending + one_if (is_locked e.call)
+pending_few s r e = by e.call
   where
     ends : (o : Option Refusal) (x : Effect) → length x.state.frames.pending ≤ length s.frames.pending + 1 → length (unless_refused s o x).state.frames.pending ≤ length s.frames.pending + 1
     ends None x less = less
@@ -288,14 +291,14 @@ pending_few s r e = by e.request
     fewer [] = omega arith
     fewer (g ∷ fs) = omega arith
 
-    by : (what : Request) → length (effect s r (record e { request = what })).state.frames.pending ≤ length s.frames.pending + one_if (is_locked what)
-    by (end_frame session time blend layers) =
-        let f = rule s r (record e { request = end_frame session time blend layers }) in
+    by : (what : Call) → length (effect s r (record e { call = what })).state.frames.pending ≤ length s.frames.pending + one_if (is_locked what)
+    by (ask.EndFrame session time blend layers) =
+        let f = rule s r (record e { call = ask.EndFrame session time blend layers }) in
         ends (refusal e.short f) (told_on f.on f.effect) (more s.frames.pending (new_frame s time layers))
-    by next_frame =
-        let f = rule s r (record e { request = next_frame }) in
+    by ask.NextFrame =
+        let f = rule s r (record e { call = ask.NextFrame }) in
         ends (refusal e.short f) f.effect (fewer s.frames.pending)
     by what =
-        let same = (frames_stay s r (record e { request = what }) refl).pending in
+        let same = (frames_stay s r (record e { call = what }) refl).pending in
         let more = one_if (is_locked what) in
         rw same (omega arith)

@@ -14,7 +14,9 @@ use Rattle.xr_types.specs.Frames.{PendingFrame}
 use Rattle.xr_model.specs.machine.Frames.{is_empty, one_if}
 use Rattle.xr_model.specs.machine.Handles.{Handles, no_handles, no_handle, no_room, has, is_live, was_given, with_handle, cleared, without, without_alone, destroyed_parents}
 use Rattle.xr_model.specs.machine.Refusals.{Refusal, when}
-use Rattle.xr_model.specs.machine.Request.{Request, Entry, destroy_instance, destroy_session, create_swapchain, destroy_swapchain, acquire_image, wait_image, release_image, destroy_action_set, destroy_action, next_frame, device}
+use Rattle.xr_model.specs.machine.Calls.{Entry}
+use Rattle.xr_types.specs.declared.calls.Call.{Call}
+use Rattle.xr_types.specs.declared.calls.Call.TheVariants as ask
 use Rattle.xr_model.specs.machine.State.{CoreState, CellReads, Settings, State, opening}
 use Rattle.xr_model.specs.machine.Rule.{Rule, Effect, Did, nothing_done, refusals, refusal, told_on, unless_refused, carried_out}
 use Rattle.xr_model.specs.machine.Rules.Session.{life_of}
@@ -33,19 +35,19 @@ use Rattle.xr_model.proofs.HandleSteps.{is_chain_creation, kept_by_step}
 
 -- ---- counts
 
-abbrev is_chain_call : Request → Bool
-is_chain_call (acquire_image chain) = true
-is_chain_call (wait_image chain timeout start) = true
-is_chain_call (release_image chain) = true
+abbrev is_chain_call : Call → Bool
+is_chain_call (ask.AcquireImage chain) = true
+is_chain_call (ask.WaitImage chain timeout start) = true
+is_chain_call (ask.ReleaseImage chain) = true
 is_chain_call _ = false
 
 abbrev touches_chain : ℕ → Decided → Bool
-touches_chain q t = (is_chain_call t.request && (t.is_done && (asked_chain t.request == q))) || creates_static q t
+touches_chain q t = (is_chain_call t.call && (t.is_done && (asked_chain t.call == q))) || creates_static q t
 
-chain_sorts : (r : Request) (b : Bool) → is_chain_call r && b ≡ false → (is_acquire_image r && b ≡ false) × (is_wait_image r && b ≡ false) × (is_release_image r && b ≡ false)
-chain_sorts (acquire_image chain) b e = (e, refl, refl)
-chain_sorts (wait_image chain timeout start) b e = (refl, e, refl)
-chain_sorts (release_image chain) b e = (refl, refl, e)
+chain_sorts : (r : Call) (b : Bool) → is_chain_call r && b ≡ false → (is_acquire_image r && b ≡ false) × (is_wait_image r && b ≡ false) × (is_release_image r && b ≡ false)
+chain_sorts (ask.AcquireImage chain) b e = (e, refl, refl)
+chain_sorts (ask.WaitImage chain timeout start) b e = (refl, e, refl)
+chain_sorts (ask.ReleaseImage chain) b e = (refl, refl, e)
 chain_sorts _ b e = (refl, refl, refl)
 
 pub record ChainFits (q : ℕ) (c : Chain) (past : List Decided) : Type 0 where
@@ -61,8 +63,8 @@ OptFits q (Some c) past = ChainFits q c past
 
 chain_aside : (q : ℕ) (c : Chain) (t : Decided) (past : List Decided) → touches_chain q t ≡ false → ChainFits q c past → ChainFits q c (t ∷ past)
 chain_aside q c t past aside fits =
-    let two = neither_of (is_chain_call t.request && (t.is_done && (asked_chain t.request == q))) (creates_static q t) aside in
-    let none = chain_sorts t.request (t.is_done && (asked_chain t.request == q)) two.0 in
+    let two = neither_of (is_chain_call t.call && (t.is_done && (asked_chain t.call == q))) (creates_static q t) aside in
+    let none = chain_sorts t.call (t.is_done && (asked_chain t.call == q)) two.0 in
     record {
       acquired = rw (none.0, none.2) fits.acquired;
       waited = rw (none.1, none.2) fits.waited;
@@ -86,8 +88,8 @@ no_counts : (q : ℕ) (past : List Decided) → list_any (touches_chain q) past 
 no_counts q [] none = record { acquires = refl; waits = refl; releases = refl; static = refl }
 no_counts q (t ∷ past) none =
     let two = neither_of (touches_chain q t) (list_any (touches_chain q) past) none in
-    let here = neither_of (is_chain_call t.request && (t.is_done && (asked_chain t.request == q))) (creates_static q t) two.0 in
-    let sorts = chain_sorts t.request (t.is_done && (asked_chain t.request == q)) here.0 in
+    let here = neither_of (is_chain_call t.call && (t.is_done && (asked_chain t.call == q))) (creates_static q t) two.0 in
+    let sorts = chain_sorts t.call (t.is_done && (asked_chain t.call == q)) here.0 in
     let more = no_counts q past two.1 in
     record { acquires = rw sorts.0 more.acquires; waits = rw sorts.1 more.waits; releases = rw sorts.2 more.releases; static = rw here.1 more.static }
 
@@ -242,7 +244,7 @@ fewer_without h handle = record { live = λ q live. live_before h handle (destro
 fewer_alone : (h : Handles) (chain : ℕ) → Fewer h (without_alone h kind.Swapchain chain)
 fewer_alone h chain = record { live = λ q live. live_before h chain [] q live; given = λ q new. new }
 
-fewer_step : (s : CoreState) (reads : CellReads) (e : Entry) → is_chain_creation e.request ≡ false → Fewer s.handles (core_step s reads e).0.handles
+fewer_step : (s : CoreState) (reads : CellReads) (e : Entry) → is_chain_creation e.call ≡ false → Fewer s.handles (core_step s reads e).0.handles
 fewer_step s reads e other = kept_by_step (λ h. Fewer s.handles h) s reads e (record {
   same = fewer_same s.handles;
   instance = λ gives. record { live = λ q live. live; given = before };
@@ -282,31 +284,31 @@ events_same s (event.Clock time) = refl
 events_same s _ = refl
 
 -- the calls that change a chain
-abbrev is_chain_move : Request → Bool
-is_chain_move (create_swapchain session format width height fixed) = true
+abbrev is_chain_move : Call → Bool
+is_chain_move (ask.CreateSwapchain session format width height fixed) = true
 is_chain_move r = is_chain_call r
 
-chains_stay : (s : CoreState) (reads : CellReads) (e : Entry) → is_chain_move e.request ≡ false → SameChains s.chains (core_step s reads e).0.handles (core_step s reads e).0.chains
-chains_stay s reads e aside = by e.request aside
+chains_stay : (s : CoreState) (reads : CellReads) (e : Entry) → is_chain_move e.call ≡ false → SameChains s.chains (core_step s reads e).0.handles (core_step s reads e).0.chains
+chains_stay s reads e aside = by e.call aside
   where
     gone : (handle : ℕ) → SameChains s.chains (without s.handles handle) (left_in_places (without s.handles handle) (is_place_used s.frames.pending s.shown_images) 0 s.chains)
     gone handle = left_same s.chains (without s.handles handle) (is_place_used s.frames.pending s.shown_images)
 
-    by : (r : Request) → is_chain_move r ≡ false → SameChains s.chains (core_step s reads (record e { request = r })).0.handles (core_step s reads (record e { request = r })).0.chains
-    by (create_swapchain session format width height fixed) aside = absurd (true≢false aside)
-    by (acquire_image chain) aside = absurd (true≢false aside)
-    by (wait_image chain timeout start) aside = absurd (true≢false aside)
-    by (release_image chain) aside = absurd (true≢false aside)
-    by (destroy_instance instance) aside = let f = rule s reads (record e { request = destroy_instance instance }) in chains_kept s (refusal e.short f) (told_on f.on f.effect) (gone instance)
-    by (destroy_session session) aside = let f = rule s reads (record e { request = destroy_session session }) in chains_kept s (refusal e.short f) (told_on f.on f.effect) (gone session)
-    by (destroy_action_set set) aside = let f = rule s reads (record e { request = destroy_action_set set }) in chains_kept s (refusal e.short f) (told_on f.on f.effect) (gone set)
-    by (destroy_action action) aside = let f = rule s reads (record e { request = destroy_action action }) in chains_kept s (refusal e.short f) (told_on f.on f.effect) (gone action)
-    by (destroy_swapchain chain) aside =
-        let f = rule s reads (record e { request = destroy_swapchain chain }) in
+    by : (r : Call) → is_chain_move r ≡ false → SameChains s.chains (core_step s reads (record e { call = r })).0.handles (core_step s reads (record e { call = r })).0.chains
+    by (ask.CreateSwapchain session format width height fixed) aside = absurd (true≢false aside)
+    by (ask.AcquireImage chain) aside = absurd (true≢false aside)
+    by (ask.WaitImage chain timeout start) aside = absurd (true≢false aside)
+    by (ask.ReleaseImage chain) aside = absurd (true≢false aside)
+    by (ask.DestroyInstance instance) aside = let f = rule s reads (record e { call = ask.DestroyInstance instance }) in chains_kept s (refusal e.short f) (told_on f.on f.effect) (gone instance)
+    by (ask.DestroySession session) aside = let f = rule s reads (record e { call = ask.DestroySession session }) in chains_kept s (refusal e.short f) (told_on f.on f.effect) (gone session)
+    by (ask.DestroyActionSet set) aside = let f = rule s reads (record e { call = ask.DestroyActionSet set }) in chains_kept s (refusal e.short f) (told_on f.on f.effect) (gone set)
+    by (ask.DestroyAction action) aside = let f = rule s reads (record e { call = ask.DestroyAction action }) in chains_kept s (refusal e.short f) (told_on f.on f.effect) (gone action)
+    by (ask.DestroySwapchain chain) aside =
+        let f = rule s reads (record e { call = ask.DestroySwapchain chain }) in
         chains_kept s (refusal e.short f) (told_on f.on f.effect) (left_same s.chains (without_alone s.handles kind.Swapchain chain) (is_place_used s.frames.pending s.shown_images))
-    by next_frame aside = let f = rule s reads (record e { request = next_frame }) in chains_kept s (refusal e.short f) (told_on f.on f.effect) (taken_same s.chains s.handles s.frames.pending)
-    by (device what) aside = let same = events_same s what in record { at = λ q live. ap (λ (l : List Chain). chain_at l q) same; absent = λ q nz none. ap (λ (l : List Chain). has_chain l q) same ∙ none }
-    by r aside = let f = rule s reads (record e { request = r }) in chains_kept s (refusal e.short f) (told_on f.on f.effect) (record { at = λ q live. refl; absent = λ q nz none. none })
+    by ask.NextFrame aside = let f = rule s reads (record e { call = ask.NextFrame }) in chains_kept s (refusal e.short f) (told_on f.on f.effect) (taken_same s.chains s.handles s.frames.pending)
+    by (ask.Device what) aside = let same = events_same s what in record { at = λ q live. ap (λ (l : List Chain). chain_at l q) same; absent = λ q nz none. ap (λ (l : List Chain). has_chain l q) same ∙ none }
+    by r aside = let f = rule s reads (record e { call = r }) in chains_kept s (refusal e.short f) (told_on f.on f.effect) (record { at = λ q live. refl; absent = λ q nz none. none })
 
 -- ---- an entry keeps the fit
 
@@ -336,7 +338,7 @@ abbrev Changes : ℕ → (Chain → Chain) → Decided → List Decided → Opti
 Changes q f t past o = OptFits q o past → OptFits q (option_map f o) (t ∷ past)
 
 -- a call on a live chain that changes it
-fits_changed : (h : Handles) (chains : List Chain) (chain : ℕ) (f : Chain → Chain) (t : Decided) (past : List Decided) → IsChange f → is_chain_call t.request ≡ true → is_static_creation t.request ≡ false → t.is_done ≡ true → asked_chain t.request ≡ chain
+fits_changed : (h : Handles) (chains : List Chain) (chain : ℕ) (f : Chain → Chain) (t : Decided) (past : List Decided) → IsChange f → is_chain_call t.call ≡ true → is_static_creation t.call ≡ false → t.is_done ≡ true → asked_chain t.call ≡ chain
     → is_live h kind.Swapchain chain ≡ true → Changes chain f t past (chain_at chains chain) → ChainsFit h chains past → ChainsFit h (with_chain_at chain f chains) (t ∷ past)
 fits_changed h chains chain f t past change call static done asked live changes fits = record {
   known = fits.known;
@@ -361,7 +363,7 @@ new_is_own g w k fixed nz = rw (itself g, nz) refl
 
 -- a chain is created
 fits_created : (h : Handles) (chains : List Chain) (session g format w k : ℕ) (fixed : Bool) (d : Did) (past : List Decided) → (g == 0) ≡ false → was_given h g ≡ false → has_chain chains 0 ≡ true → AreKnown (with_handle h kind.Swapchain session g)
-    → ChainsFit h chains past → ChainsFit (with_handle h kind.Swapchain session g) (with_chain chains (new_chain g w k fixed)) (record { request = create_swapchain session format w k fixed; is_done = true; given = g; did = d } ∷ past)
+    → ChainsFit h chains past → ChainsFit (with_handle h kind.Swapchain session g) (with_chain chains (new_chain g w k fixed)) (record { call = ask.CreateSwapchain session format w k fixed; is_done = true; given = g; did = d } ∷ past)
 fits_created h chains session g format w k fixed d past nz new room known fits = record {
   known = known;
   untouched = λ q qz free. let two = neither_of (g == q) (was_given h q) free in rw two.0 (rw (and_none fixed) (fits.untouched q qz two.1));
@@ -374,7 +376,7 @@ fits_created h chains session g format w k fixed d past nz new room known fits =
     and_none false = refl
 
     t : Decided
-    t = record { request = create_swapchain session format w k fixed; is_done = true; given = g; did = d }
+    t = record { call = ask.CreateSwapchain session format w k fixed; is_done = true; given = g; did = d }
 
     own : ChainFits g (new_chain g w k fixed) (t ∷ past)
     own =
@@ -421,7 +423,7 @@ not_zero_more : (n : ℕ) → (n + 1 == 0) ≡ false
 not_zero_more n = grind (arith, nat_tests)
 
 module _ (q g : ℕ) (d : Did) (past : List Decided) where
-  acquires : (o : Option Chain) → is_acquire_wrong o ≡ false → Changes q acquiring (record { request = acquire_image q; is_done = true; given = g; did = d }) past o
+  acquires : (o : Option Chain) → is_acquire_wrong o ≡ false → Changes q acquiring (record { call = ask.AcquireImage q; is_done = true; given = g; did = d }) past o
   acquires None free fits = fits
   acquires (Some c) free fits =
       let acquired = fits.acquired in
@@ -434,7 +436,7 @@ module _ (q g : ℕ) (d : Did) (past : List Decided) where
         first = λ is. rw (is, itself q) (sym (not_zero_more (on_chain is_acquire_image q past)));
       }
 
-  waits : (o : Option Chain) (timeout start : ℤ) → is_wait_wrong o ≡ false → Changes q waiting (record { request = wait_image q timeout start; is_done = true; given = g; did = d }) past o
+  waits : (o : Option Chain) (timeout start : ℤ) → is_wait_wrong o ≡ false → Changes q waiting (record { call = ask.WaitImage q timeout start; is_done = true; given = g; did = d }) past o
   unfolding is_wait_wrong
   waits None timeout start free fits = fits
   waits (Some c) timeout start free fits =
@@ -442,7 +444,7 @@ module _ (q g : ℕ) (d : Did) (past : List Decided) where
       let waited : on_chain is_wait_image q past ≡ on_chain is_release_image q past + 0 = rw two.1 at fits.waited in
       record { acquired = fits.acquired; waited = rw (itself q) (omega (arith, waited)); some = λ is. two.0; static = fits.static; first = fits.first }
 
-  releases : (o : Option Chain) → is_paint_wrong o ≡ false → Changes q releasing (record { request = release_image q; is_done = true; given = g; did = d }) past o
+  releases : (o : Option Chain) → is_paint_wrong o ≡ false → Changes q releasing (record { call = ask.ReleaseImage q; is_done = true; given = g; did = d }) past o
   unfolding is_paint_wrong
   releases None free fits = fits
   releases (Some c) free fits =
@@ -458,28 +460,28 @@ module _ (q g : ℕ) (d : Did) (past : List Decided) where
         first = fits.first;
       }
 
-abbrev Fits : List Decided → Request → ℕ → Effect → Type 0
-Fits past r g x = ChainsFit x.state.handles x.state.chains (record { request = r; is_done = is_success x.code; given = g; did = x.did } ∷ past)
+abbrev Fits : List Decided → Call → ℕ → Effect → Type 0
+Fits past r g x = ChainsFit x.state.handles x.state.chains (record { call = r; is_done = is_success x.code; given = g; did = x.did } ∷ past)
 
 and_none : (b : Bool) → b && false ≡ false
 and_none true = refl
 and_none false = refl
 
 -- what didn't succeed changes nothing
-fits_quiet : (h : Handles) (chains : List Chain) (r : Request) (g : ℕ) (d : Did) (past : List Decided) → ChainsFit h chains past → ChainsFit h chains (record { request = r; is_done = false; given = g; did = d } ∷ past)
+fits_quiet : (h : Handles) (chains : List Chain) (r : Call) (g : ℕ) (d : Did) (past : List Decided) → ChainsFit h chains past → ChainsFit h chains (record { call = r; is_done = false; given = g; did = d } ∷ past)
 fits_quiet h chains r g d past fits = fits_aside h h chains chains _ past (λ q. rw (and_none (is_chain_call r)) (and_none (is_static_creation r))) (fewer_same h) fits.known (record { at = λ q live. refl; absent = λ q nz none. none }) fits
 
-module _ (s : CoreState) (past : List Decided) (fits : ChainsFit s.handles s.chains past) (r : Request) (g : ℕ) where
+module _ (s : CoreState) (past : List Decided) (fits : ChainsFit s.handles s.chains past) (r : Call) (g : ℕ) where
   refuse : (x : Effect) (refused : Refusal) → is_success refused.code ≡ false → Fits past r g (unless_refused s (Some refused) x)
   refuse x refused failed = rw failed (fits_quiet s.handles s.chains r g nothing_done past fits)
 
   -- a call on a live chain: it is refused, or changes the chain so
   by_call : (f : Rule) (short : Bool) (chain : ℕ) (change : Chain → Chain) → all_fail (refusals f) ≡ true → is_success f.effect.code ≡ true → is_chain_call r ≡ true → is_static_creation r ≡ false → asked_chain r ≡ chain → IsChange change
       → f.handles ≡ no_handle s.handles kind.Swapchain chain ∷ [] → f.effect.state.handles ≡ s.handles → f.effect.state.chains ≡ with_chain_at chain change s.chains
-      → (IsClear f → Changes chain change (record { request = r; is_done = true; given = g; did = f.effect.did }) past (chain_at s.chains chain)) → Fits past r g (carried_out s short f)
+      → (IsClear f → Changes chain change (record { call = r; is_done = true; given = g; did = f.effect.did }) past (chain_at s.chains chain)) → Fits past r g (carried_out s short f)
   by_call f short chain change fails good call static asked changes named handles chains goes = by_rule (Fits past r g) s f short fails (refuse (told_on f.on f.effect)) (λ none. done f.on (clear f short none))
     where
-      fit : IsClear f → ChainsFit s.handles (with_chain_at chain change s.chains) (record { request = r; is_done = true; given = g; did = f.effect.did } ∷ past)
+      fit : IsClear f → ChainsFit s.handles (with_chain_at chain change s.chains) (record { call = r; is_done = true; given = g; did = f.effect.did } ∷ past)
       fit free = fits_changed s.handles s.chains chain change _ past changes call static refl asked (is_live_by (is_live s.handles kind.Swapchain chain) (rw named at free.handles)) (goes free) fits
 
       done : (l : Option Loss) → IsClear f → Fits past r g (told_on l f.effect)
@@ -494,24 +496,24 @@ new_given true h g e is = is
 new_given false h g e is = absurd (true≢false (sym e))
 
 fits_step : (s : State) (e : Entry) (past : List Decided) → IsAllowed s e → ChainsFit s.core.handles s.core.chains past → ChainsFit (step s e).0.core.handles (step s e).0.core.chains (decided s e ∷ past)
-fits_step s e past allowed fits = by e.request allowed
+fits_step s e past allowed fits = by e.call allowed
   where
-    other : (r : Request) → is_chain_move r ≡ false → is_chain_creation r ≡ false → ((q : ℕ) → touches_chain q (decided s (record e { request = r })) ≡ false)
-        → ChainsFit (step s (record e { request = r })).0.core.handles (step s (record e { request = r })).0.core.chains (decided s (record e { request = r }) ∷ past)
+    other : (r : Call) → is_chain_move r ≡ false → is_chain_creation r ≡ false → ((q : ℕ) → touches_chain q (decided s (record e { call = r })) ≡ false)
+        → ChainsFit (step s (record e { call = r })).0.core.handles (step s (record e { call = r })).0.core.chains (decided s (record e { call = r }) ∷ past)
     other r moves creates aside =
-        fits_aside s.core.handles (step s (record e { request = r })).0.core.handles s.core.chains (step s (record e { request = r })).0.core.chains (decided s (record e { request = r })) past aside
-        (fewer_step s.core (reads_of s r) (record e { request = r }) creates) (known_step s (record e { request = r }) fits.known) (chains_stay s.core (reads_of s r) (record e { request = r }) moves) fits
+        fits_aside s.core.handles (step s (record e { call = r })).0.core.handles s.core.chains (step s (record e { call = r })).0.core.chains (decided s (record e { call = r })) past aside
+        (fewer_step s.core (reads_of s r) (record e { call = r }) creates) (known_step s (record e { call = r }) fits.known) (chains_stay s.core (reads_of s r) (record e { call = r }) moves) fits
 
-    by : (r : Request) → IsAllowed s (record e { request = r }) → ChainsFit (step s (record e { request = r })).0.core.handles (step s (record e { request = r })).0.core.chains (decided s (record e { request = r }) ∷ past)
-    by (create_swapchain session format width height fixed) allowed = by_rule (Fits past (create_swapchain session format width height fixed) e.given) s.core f e.short refl (refuse s.core past fits (create_swapchain session format width height fixed) e.given (told_on f.on f.effect)) made
+    by : (r : Call) → IsAllowed s (record e { call = r }) → ChainsFit (step s (record e { call = r })).0.core.handles (step s (record e { call = r })).0.core.chains (decided s (record e { call = r }) ∷ past)
+    by (ask.CreateSwapchain session format width height fixed) allowed = by_rule (Fits past (ask.CreateSwapchain session format width height fixed) e.given) s.core f e.short refl (refuse s.core past fits (ask.CreateSwapchain session format width height fixed) e.given (told_on f.on f.effect)) made
       where
         x : Entry
-        x = record e { request = create_swapchain session format width height fixed }
+        x = record e { call = ask.CreateSwapchain session format width height fixed }
 
         f : Rule
-        f = rule s.core (reads_of s (create_swapchain session format width height fixed)) x
+        f = rule s.core (reads_of s (ask.CreateSwapchain session format width height fixed)) x
 
-        made : refusal e.short f ≡ None → Fits past (create_swapchain session format width height fixed) e.given (told_on f.on f.effect)
+        made : refusal e.short f ≡ None → Fits past (ask.CreateSwapchain session format width height fixed) e.given (told_on f.on f.effect)
         made none =
             let behind = (clear f e.short none).behind in
             let one = none_first (not (is_format format)) SwapchainFormatUnsupported (when (not (is_size width && is_size height)) ValidationFailure ∷ no_place s.core.chains ∷ no_room s.core.handles kind.Swapchain ∷ []) behind in
@@ -521,14 +523,14 @@ fits_step s e past allowed fits = by e.request allowed
             let done_is = goes s.core (refusal e.short f) (told_on f.on f.effect) none in
             let new = new_given (is_some f.creates && is_success (step s x).1.reply.code) s.core.handles e.given (ap (λ (y : Effect). is_success y.code) done_is ∙ good) allowed.handle in
             rw good (fits_created s.core.handles s.core.chains session e.given format width height fixed f.effect.did past (given_nonzero e.given new.0) new.1 room (subst (λ (y : Effect). AreKnown y.state.handles) done_is (known_step s x fits.known)) fits)
-    by (acquire_image chain) allowed =
-        by_call s.core past fits (acquire_image chain) e.given (rule s.core (reads_of s (acquire_image chain)) (record e { request = acquire_image chain })) e.short chain acquiring refl refl refl refl refl (λ c. (refl, refl)) refl refl refl
+    by (ask.AcquireImage chain) allowed =
+        by_call s.core past fits (ask.AcquireImage chain) e.given (rule s.core (reads_of s (ask.AcquireImage chain)) (record e { call = ask.AcquireImage chain })) e.short chain acquiring refl refl refl refl refl (λ c. (refl, refl)) refl refl refl
         (λ free. acquires chain e.given _ past (chain_at s.core.chains chain) free.order)
-    by (wait_image chain timeout start) allowed =
-        by_call s.core past fits (wait_image chain timeout start) e.given (rule s.core (reads_of s (wait_image chain timeout start)) (record e { request = wait_image chain timeout start })) e.short chain waiting refl refl refl refl refl (λ c. (refl, refl)) refl refl refl
+    by (ask.WaitImage chain timeout start) allowed =
+        by_call s.core past fits (ask.WaitImage chain timeout start) e.given (rule s.core (reads_of s (ask.WaitImage chain timeout start)) (record e { call = ask.WaitImage chain timeout start })) e.short chain waiting refl refl refl refl refl (λ c. (refl, refl)) refl refl refl
         (λ free. waits chain e.given _ past (chain_at s.core.chains chain) timeout start free.order)
-    by (release_image chain) allowed =
-        by_call s.core past fits (release_image chain) e.given (rule s.core (reads_of s (release_image chain)) (record e { request = release_image chain })) e.short chain releasing refl refl refl refl refl (λ c. (refl, refl)) refl refl refl
+    by (ask.ReleaseImage chain) allowed =
+        by_call s.core past fits (ask.ReleaseImage chain) e.given (rule s.core (reads_of s (ask.ReleaseImage chain)) (record e { call = ask.ReleaseImage chain })) e.short chain releasing refl refl refl refl refl (λ c. (refl, refl)) refl refl refl
         (λ free. releases chain e.given _ past (chain_at s.core.chains chain) free.order)
     by r allowed = other r refl refl (λ q. refl)
 

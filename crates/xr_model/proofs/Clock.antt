@@ -3,7 +3,8 @@ use Rattle.std.proofs.Common.{◌≡◌, ℤ, Bool, true, false, Option, Some, N
 use Rattle.std.specs.Prelude.{int_le, if◌then◌else◌}
 use Rattle.xr_types.specs.declared.device.DeviceEvent.{DeviceEvent}
 use Rattle.xr_types.specs.declared.device.DeviceEvent.TheVariants as event
-use Rattle.xr_model.specs.machine.Request.{Request, device}
+use Rattle.xr_types.specs.declared.calls.Call.{Call}
+use Rattle.xr_types.specs.declared.calls.Call.TheVariants as ask
 use Rattle.xr_model.specs.machine.Refusals.{Refusal}
 use Rattle.xr_model.specs.machine.State.{CoreState}
 use Rattle.xr_model.specs.machine.Rule.{Effect, refusal, told_on, unless_refused}
@@ -31,10 +32,10 @@ events s (event.Clock time) = not_before s.device.clock time
 events s _ = not_before_itself s.device.clock
 
 pub clock_never_falls : ClockNeverFalls
-clock_never_falls s e = by e.request
+clock_never_falls s e = by e.call
   where
-    by : (r : Request) → int_le s.core.device.clock (step s (record e { request = r })).0.core.device.clock ≡ true
-    by (device what) = events s.core what
+    by : (r : Call) → int_le s.core.device.clock (step s (record e { call = r })).0.core.device.clock ≡ true
+    by (ask.Device what) = events s.core what
     by r =
-        let f = rule s.core (reads_of s r) (record e { request = r }) in
+        let f = rule s.core (reads_of s r) (record e { call = r }) in
         kept s.core (refusal e.short f) (told_on f.on f.effect) (not_before_itself s.core.device.clock)

@@ -4,7 +4,9 @@ use Rattle.xr_types.specs.Code.{is_success}
 use Rattle.xr_types.specs.declared.handles.Kind.{Kind}
 use Rattle.xr_types.specs.declared.handles.Kind.TheVariants.{Instance, Session, ActionSet, Action, Space, Swapchain}
 use Rattle.xr_types.specs.declared.handles.Slot.{Slot}
-use Rattle.xr_model.specs.machine.Request.{Entry, Request, destroy_instance, destroy_session, destroy_space, destroy_action_set, destroy_action, destroy_swapchain}
+use Rattle.xr_model.specs.machine.Calls.{Entry}
+use Rattle.xr_types.specs.declared.calls.Call.{Call}
+use Rattle.xr_types.specs.declared.calls.Call.TheVariants as ask
 use Rattle.xr_model.specs.machine.Handles.{Handles, has, is_live, row_of, without, without_alone}
 use Rattle.xr_model.specs.machine.HandlePlaces.{kind_of}
 use Rattle.xr_model.specs.machine.State.{State, opening}
@@ -66,32 +68,32 @@ chain_is_whole h chain once live =
       cleared_same chain h.spaces f,
     ) refl
 
-over_destroyed : (s : State) (e : Entry) (handle : ℕ) → AreKnown s.core.handles → StandOnce s.core.handles → destroys e.request handle ≡ true → is_success (step s e).1.reply.code ≡ true → IsOver handle (step s e).0.core.handles
-over_destroyed s e handle known once = by e.request
+over_destroyed : (s : State) (e : Entry) (handle : ℕ) → AreKnown s.core.handles → StandOnce s.core.handles → destroys e.call handle ≡ true → is_success (step s e).1.reply.code ≡ true → IsOver handle (step s e).0.core.handles
+over_destroyed s e handle known once = by e.call
   where
-    by : (r : Request) → destroys r handle ≡ true → is_success (step s (record e { request = r })).1.reply.code ≡ true → IsOver handle (step s (record e { request = r })).0.core.handles
-    by (destroy_instance instance) names good =
-        destroyed (IsOver handle) s.core (is_live s.core.handles Instance instance) (rule s.core (reads_of s (destroy_instance instance)) (record e { request = destroy_instance instance })).effect good
+    by : (r : Call) → destroys r handle ≡ true → is_success (step s (record e { call = r })).1.reply.code ≡ true → IsOver handle (step s (record e { call = r })).0.core.handles
+    by (ask.DestroyInstance instance) names good =
+        destroyed (IsOver handle) s.core (is_live s.core.handles Instance instance) (rule s.core (reads_of s (ask.DestroyInstance instance)) (record e { call = ask.DestroyInstance instance })).effect good
         (λ live. subst (λ (n : ℕ). IsOver n (without s.core.handles instance)) (same_key instance handle names)
         (over_without s.core.handles Instance instance known live (λ a. rw a.instances (and_false (not (instance == 0))))))
-    by (destroy_session session) names good =
-        destroyed (IsOver handle) s.core (is_live s.core.handles Session session) (rule s.core (reads_of s (destroy_session session)) (record e { request = destroy_session session })).effect good
+    by (ask.DestroySession session) names good =
+        destroyed (IsOver handle) s.core (is_live s.core.handles Session session) (rule s.core (reads_of s (ask.DestroySession session)) (record e { call = ask.DestroySession session })).effect good
         (λ live. subst (λ (n : ℕ). IsOver n (without s.core.handles session)) (same_key session handle names)
         (over_without s.core.handles Session session known live (λ a. rw a.sessions (and_false (not (session == 0))))))
-    by (destroy_space space) names good =
-        destroyed (IsOver handle) s.core (is_live s.core.handles Space space) (rule s.core (reads_of s (destroy_space space)) (record e { request = destroy_space space })).effect good
+    by (ask.DestroySpace space) names good =
+        destroyed (IsOver handle) s.core (is_live s.core.handles Space space) (rule s.core (reads_of s (ask.DestroySpace space)) (record e { call = ask.DestroySpace space })).effect good
         (λ live. subst (λ (h : Handles). IsOver handle h) (sym (alone_is_whole s.core.handles space once live)) (subst (λ (n : ℕ). IsOver n (without s.core.handles space)) (same_key space handle names)
         (over_without s.core.handles Space space known live (λ a. rw a.spaces (and_false (not (space == 0)))))))
-    by (destroy_action_set set) names good =
-        destroyed (IsOver handle) s.core (is_live s.core.handles ActionSet set) (rule s.core (reads_of s (destroy_action_set set)) (record e { request = destroy_action_set set })).effect good
+    by (ask.DestroyActionSet set) names good =
+        destroyed (IsOver handle) s.core (is_live s.core.handles ActionSet set) (rule s.core (reads_of s (ask.DestroyActionSet set)) (record e { call = ask.DestroyActionSet set })).effect good
         (λ live. subst (λ (n : ℕ). IsOver n (without s.core.handles set)) (same_key set handle names)
         (over_without s.core.handles ActionSet set known live (λ a. rw a.sets (and_false (not (set == 0))))))
-    by (destroy_action action) names good =
-        destroyed (IsOver handle) s.core (is_live s.core.handles Action action) (rule s.core (reads_of s (destroy_action action)) (record e { request = destroy_action action })).effect good
+    by (ask.DestroyAction action) names good =
+        destroyed (IsOver handle) s.core (is_live s.core.handles Action action) (rule s.core (reads_of s (ask.DestroyAction action)) (record e { call = ask.DestroyAction action })).effect good
         (λ live. subst (λ (n : ℕ). IsOver n (without s.core.handles action)) (same_key action handle names)
         (over_without s.core.handles Action action known live (λ a. rw a.actions (and_false (not (action == 0))))))
-    by (destroy_swapchain chain) names good =
-        destroyed (IsOver handle) s.core (is_live s.core.handles Swapchain chain) (rule s.core (reads_of s (destroy_swapchain chain)) (record e { request = destroy_swapchain chain })).effect good
+    by (ask.DestroySwapchain chain) names good =
+        destroyed (IsOver handle) s.core (is_live s.core.handles Swapchain chain) (rule s.core (reads_of s (ask.DestroySwapchain chain)) (record e { call = ask.DestroySwapchain chain })).effect good
         (λ live. subst (λ (h : Handles). IsOver handle h) (sym (chain_is_whole s.core.handles chain once live)) (subst (λ (n : ℕ). IsOver n (without s.core.handles chain)) (same_key chain handle names)
         (over_without s.core.handles Swapchain chain known live (λ a. rw a.chains (and_false (not (chain == 0)))))))
     by _ names good = absurd (true≢false (sym names))

@@ -6,7 +6,7 @@ use Rattle.xr_types.specs.declared.handles.Kind.{Kind}
 use Rattle.xr_types.specs.declared.handles.Kind.TheVariants.{Instance, Session, ActionSet, Action, Space, Swapchain}
 use Rattle.xr_types.specs.declared.handles.Slot.{Slot}
 use Rattle.xr_types.specs.declared.handles.TheConstants.{INSTANCES, SESSIONS, ACTION_SETS, ACTIONS, SPACES, SWAPCHAINS}
-use Rattle.xr_model.specs.machine.Request.{Entry}
+use Rattle.xr_model.specs.machine.Calls.{Entry}
 use Rattle.xr_model.specs.machine.Handles.{Handles, has, is_live, was_given, row_of, with_row, put_in, first_free, cleared, with_handle, destroyed_instances, destroyed_parents, without, without_alone}
 use Rattle.xr_model.specs.machine.HandlePlaces.{kind_of}
 use Rattle.xr_model.specs.machine.Refusals.{when, first_of}
@@ -107,7 +107,7 @@ known_alone h kind gone known handle nz new = absent_alone h kind gone handle nz
     same_given Swapchain new = new
 
 pub known_step : (s : State) (e : Entry) → AreKnown s.core.handles → AreKnown (step s e).0.core.handles
-known_step s e known = kept_by_step AreKnown s.core (reads_of s e.request) e (record {
+known_step s e known = kept_by_step AreKnown s.core (reads_of s e.call) e (record {
   same = known;
   instance = λ gives. known_put s.core.handles Instance 0 e.given known;
   session = λ gives instance live. known_put s.core.handles Session instance e.given known;
@@ -155,19 +155,19 @@ or_given true c e = refl
 or_given false c e = e
 
 over_step : (s : State) (e : Entry) (handle : ℕ) → IsAllowed s e → IsOver handle s.core.handles → IsOver handle (step s e).0.core.handles
-over_step s e handle allowed over = kept_by_step (IsOver handle) s.core (reads_of s e.request) e (record {
+over_step s e handle allowed over = kept_by_step (IsOver handle) s.core (reads_of s e.call) e (record {
   same = over;
-  instance = λ gives. let other = is_other s.core.handles handle e.given (gives_handle s.core (reads_of s e.request) e) over allowed.handle gives in
+  instance = λ gives. let other = is_other s.core.handles handle e.given (gives_handle s.core (reads_of s e.call) e) over allowed.handle gives in
       record { some = over.some; given = or_given (e.given == handle) (was_given s.core.handles handle) over.given; absent = absent_put s.core.handles Instance 0 e.given handle other over.absent };
-  session = λ gives instance live. let other = is_other s.core.handles handle e.given (gives_handle s.core (reads_of s e.request) e) over allowed.handle gives in
+  session = λ gives instance live. let other = is_other s.core.handles handle e.given (gives_handle s.core (reads_of s e.call) e) over allowed.handle gives in
       record { some = over.some; given = or_given (e.given == handle) (was_given s.core.handles handle) over.given; absent = absent_put s.core.handles Session instance e.given handle other over.absent };
-  set = λ gives instance live. let other = is_other s.core.handles handle e.given (gives_handle s.core (reads_of s e.request) e) over allowed.handle gives in
+  set = λ gives instance live. let other = is_other s.core.handles handle e.given (gives_handle s.core (reads_of s e.call) e) over allowed.handle gives in
       record { some = over.some; given = or_given (e.given == handle) (was_given s.core.handles handle) over.given; absent = absent_put s.core.handles ActionSet instance e.given handle other over.absent };
-  action = λ gives set live. let other = is_other s.core.handles handle e.given (gives_handle s.core (reads_of s e.request) e) over allowed.handle gives in
+  action = λ gives set live. let other = is_other s.core.handles handle e.given (gives_handle s.core (reads_of s e.call) e) over allowed.handle gives in
       record { some = over.some; given = or_given (e.given == handle) (was_given s.core.handles handle) over.given; absent = absent_put s.core.handles Action set e.given handle other over.absent };
-  space = λ gives session live. let other = is_other s.core.handles handle e.given (gives_handle s.core (reads_of s e.request) e) over allowed.handle gives in
+  space = λ gives session live. let other = is_other s.core.handles handle e.given (gives_handle s.core (reads_of s e.call) e) over allowed.handle gives in
       record { some = over.some; given = or_given (e.given == handle) (was_given s.core.handles handle) over.given; absent = absent_put s.core.handles Space session e.given handle other over.absent };
-  chain = λ is gives session live. let other = is_other s.core.handles handle e.given (gives_handle s.core (reads_of s e.request) e) over allowed.handle gives in
+  chain = λ is gives session live. let other = is_other s.core.handles handle e.given (gives_handle s.core (reads_of s e.call) e) over allowed.handle gives in
       record { some = over.some; given = or_given (e.given == handle) (was_given s.core.handles handle) over.given; absent = absent_put s.core.handles Swapchain session e.given handle other over.absent };
   without = λ gone. record { some = over.some; given = over.given; absent = absent_without s.core.handles gone handle over.some over.absent };
   alone = λ gone. record { some = over.some; given = over.given; absent = absent_alone s.core.handles Space gone handle over.some over.absent };

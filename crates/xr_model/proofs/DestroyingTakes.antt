@@ -6,7 +6,9 @@ use Rattle.xr_types.specs.Code.{is_success}
 use Rattle.xr_types.specs.declared.handles.Kind.{Kind}
 use Rattle.xr_types.specs.declared.handles.Kind.TheVariants.{Instance, Session, ActionSet, Action, Space, Swapchain}
 use Rattle.xr_types.specs.declared.handles.Slot.{Slot}
-use Rattle.xr_model.specs.machine.Request.{Entry, Request, destroy_instance, destroy_session, destroy_space, destroy_action_set, destroy_action, destroy_swapchain}
+use Rattle.xr_model.specs.machine.Calls.{Entry}
+use Rattle.xr_types.specs.declared.calls.Call.{Call}
+use Rattle.xr_types.specs.declared.calls.Call.TheVariants as ask
 use Rattle.xr_model.specs.machine.Handles.{Handles, free, has, is_live, row_of, put_in, first_free, goes, going, cleared, destroyed_instances, destroyed_parents, without}
 use Rattle.xr_model.specs.machine.HandlePlaces.{slot_in, parent_of}
 use Rattle.xr_model.specs.laws.HandleLaws.{count_in, places_with, is_under, AreUnder, StandOnce, is_within, destroys, DestroyingTakes}
@@ -153,7 +155,7 @@ roots_put given row roots =
     subst (λ l. list_all (λ s. s.parent == 0) l ≡ true) (sym (put_is_first new row)) (each_put (λ s. s.parent == 0) new row roots refl)
 
 roots_step : (s : State) (e : Entry) → AreRoots s.core.handles → AreRoots (step s e).0.core.handles
-roots_step s e roots = kept_by_step (λ h. list_all (λ s. s.parent == 0) h.instances ≡ true) s.core (reads_of s e.request) e (record {
+roots_step s e roots = kept_by_step (λ h. list_all (λ s. s.parent == 0) h.instances ≡ true) s.core (reads_of s e.call) e (record {
   same = roots;
   instance = λ gives. roots_put e.given s.core.handles.instances roots;
   session = λ gives instance live. roots;
@@ -306,33 +308,33 @@ module _ (h : Handles) (top : ℕ) (some : (top == 0) ≡ false) (once : StandOn
 abbrev Takes : Handles → ℕ → Handles → Type 0
 Takes h handle new = (kind : Kind) (other : ℕ) → is_live new kind other ≡ is_live h kind other && not (is_within 2 h other handle)
 
-takes_step : (s : State) (e : Entry) (handle : ℕ) → StandOnce s.core.handles → AreUnder s.core.handles → AreRoots s.core.handles → destroys e.request handle ≡ true → is_success (step s e).1.reply.code ≡ true
+takes_step : (s : State) (e : Entry) (handle : ℕ) → StandOnce s.core.handles → AreUnder s.core.handles → AreRoots s.core.handles → destroys e.call handle ≡ true → is_success (step s e).1.reply.code ≡ true
     → Takes s.core.handles handle (step s e).0.core.handles
-takes_step s e handle once under roots = by e.request
+takes_step s e handle once under roots = by e.call
   where
     taken : (kind : Kind) (named : ℕ) → (named == handle) ≡ true → is_live s.core.handles kind named ≡ true → Takes s.core.handles handle (without s.core.handles named)
     taken kind named names live =
         let some = not_true (named == 0) (both_of (not (named == 0)) _ live).0 in
         subst (λ (n : ℕ). Takes s.core.handles n (without s.core.handles named)) (same_key named handle names) (without_takes s.core.handles named some once under roots)
 
-    by : (r : Request) → destroys r handle ≡ true → is_success (step s (record e { request = r })).1.reply.code ≡ true → Takes s.core.handles handle (step s (record e { request = r })).0.core.handles
-    by (destroy_instance instance) names good =
-        destroyed (λ new. Takes s.core.handles handle new) s.core (is_live s.core.handles Instance instance) (rule s.core (reads_of s (destroy_instance instance)) (record e { request = destroy_instance instance })).effect good
+    by : (r : Call) → destroys r handle ≡ true → is_success (step s (record e { call = r })).1.reply.code ≡ true → Takes s.core.handles handle (step s (record e { call = r })).0.core.handles
+    by (ask.DestroyInstance instance) names good =
+        destroyed (λ new. Takes s.core.handles handle new) s.core (is_live s.core.handles Instance instance) (rule s.core (reads_of s (ask.DestroyInstance instance)) (record e { call = ask.DestroyInstance instance })).effect good
         (λ live. taken Instance instance names live)
-    by (destroy_session session) names good =
-        destroyed (λ new. Takes s.core.handles handle new) s.core (is_live s.core.handles Session session) (rule s.core (reads_of s (destroy_session session)) (record e { request = destroy_session session })).effect good
+    by (ask.DestroySession session) names good =
+        destroyed (λ new. Takes s.core.handles handle new) s.core (is_live s.core.handles Session session) (rule s.core (reads_of s (ask.DestroySession session)) (record e { call = ask.DestroySession session })).effect good
         (λ live. taken Session session names live)
-    by (destroy_space space) names good =
-        destroyed (λ new. Takes s.core.handles handle new) s.core (is_live s.core.handles Space space) (rule s.core (reads_of s (destroy_space space)) (record e { request = destroy_space space })).effect good
+    by (ask.DestroySpace space) names good =
+        destroyed (λ new. Takes s.core.handles handle new) s.core (is_live s.core.handles Space space) (rule s.core (reads_of s (ask.DestroySpace space)) (record e { call = ask.DestroySpace space })).effect good
         (λ live. subst (λ (h : Handles). Takes s.core.handles handle h) (sym (alone_is_whole s.core.handles space once live)) (taken Space space names live))
-    by (destroy_action_set set) names good =
-        destroyed (λ new. Takes s.core.handles handle new) s.core (is_live s.core.handles ActionSet set) (rule s.core (reads_of s (destroy_action_set set)) (record e { request = destroy_action_set set })).effect good
+    by (ask.DestroyActionSet set) names good =
+        destroyed (λ new. Takes s.core.handles handle new) s.core (is_live s.core.handles ActionSet set) (rule s.core (reads_of s (ask.DestroyActionSet set)) (record e { call = ask.DestroyActionSet set })).effect good
         (λ live. taken ActionSet set names live)
-    by (destroy_action action) names good =
-        destroyed (λ new. Takes s.core.handles handle new) s.core (is_live s.core.handles Action action) (rule s.core (reads_of s (destroy_action action)) (record e { request = destroy_action action })).effect good
+    by (ask.DestroyAction action) names good =
+        destroyed (λ new. Takes s.core.handles handle new) s.core (is_live s.core.handles Action action) (rule s.core (reads_of s (ask.DestroyAction action)) (record e { call = ask.DestroyAction action })).effect good
         (λ live. taken Action action names live)
-    by (destroy_swapchain chain) names good =
-        destroyed (λ new. Takes s.core.handles handle new) s.core (is_live s.core.handles Swapchain chain) (rule s.core (reads_of s (destroy_swapchain chain)) (record e { request = destroy_swapchain chain })).effect good
+    by (ask.DestroySwapchain chain) names good =
+        destroyed (λ new. Takes s.core.handles handle new) s.core (is_live s.core.handles Swapchain chain) (rule s.core (reads_of s (ask.DestroySwapchain chain)) (record e { call = ask.DestroySwapchain chain })).effect good
         (λ live. subst (λ (h : Handles). Takes s.core.handles handle h) (sym (chain_is_whole s.core.handles chain once live)) (taken Swapchain chain names live))
     by _ names good = absurd (true≢false (sym names))
 

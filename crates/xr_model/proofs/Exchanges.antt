@@ -2,7 +2,7 @@
 use Rattle.std.proofs.Common.{◌≡◌, ◌+◌, ℕ, zero, suc, Bool, true, false, List, [], ◌∷◌, Some, ap, refl, ◌∙◌, arith}
 use Rattle.std.specs.Prelude.{slice_get, if◌then◌else◌}
 use Rattle.xr_types.specs.declared.calls.Actor.{Actor}
-use Rattle.xr_model.specs.machine.Request.{Entry, Exchange, is_actor}
+use Rattle.xr_model.specs.machine.Calls.{Entry, Exchange, is_actor}
 use Rattle.xr_model.specs.machine.State.{State, opening}
 use Rattle.xr_model.specs.machine.Machine.{step}
 use Rattle.xr_model.specs.machine.History.{calls_from}
@@ -15,7 +15,7 @@ record StandsFrom (s : State) (n : ℕ) (who : Actor) (es : List Entry) (k : ℕ
   own : slice_get (positions_from n who es) k ≡ Some (n + at)
   entry : Entry
   there : slice_get es at ≡ Some entry
-  asks : entry.request ≡ x.request
+  asks : entry.call ≡ x.call
   comes : outcome_from s es at ≡ Some x.outcome
 
 -- with one entry more in front
@@ -38,17 +38,17 @@ exchange_stands s n who [] k x found = cc
 exchange_stands s n who (e ∷ es) k x found = by (is_actor who e.actor) refl k (λ j there. exchange_stands (step s e).0 (n + 1) who es j x there) found
   where
     by : (b : Bool) → is_actor who e.actor ≡ b → (k : ℕ) → ((j : ℕ) → slice_get (calls_from (step s e).0 who es) j ≡ Some x → StandsFrom (step s e).0 (n + 1) who es j x)
-        → slice_get (if b then record { request = e.request; outcome = (step s e).1 } ∷ calls_from (step s e).0 who es else calls_from (step s e).0 who es) k ≡ Some x
+        → slice_get (if b then record { call = e.call; outcome = (step s e).1 } ∷ calls_from (step s e).0 who es else calls_from (step s e).0 who es) k ≡ Some x
         → StandsFrom s n who (e ∷ es) k x
     by false is k more found = later s n who e es k k x (rw is refl) (more k found)
     by true is zero more found =
-        let same = only x (record { request = e.request; outcome = (step s e).1 }) found in
+        let same = only x (record { call = e.call; outcome = (step s e).1 }) found in
         record {
           at = 0;
           own = rw is (ap (λ (m : ℕ). Some m) (omega arith));
           entry = e;
           there = refl;
-          asks = ap (λ (y : Exchange). y.request) same;
+          asks = ap (λ (y : Exchange). y.call) same;
           comes = ap (λ (y : Exchange). Some y.outcome) same;
         }
     by true is (suc j) more found = later s n who e es j (suc j) x (rw is refl) (more j found)

@@ -12,7 +12,10 @@ use Rattle.xr_types.specs.declared.frames.Shown.{Shown}
 use Rattle.xr_model.specs.machine.CoreCalls.{asked}
 use Rattle.xr_model.specs.machine.Frames.{is_empty}
 use Rattle.xr_model.specs.machine.Refusals.{when, first_of}
-use Rattle.xr_model.specs.machine.Request.{Request, begin_frame, end_frame, next_frame, image_done, Entry, Exchange, is_actor, is_locked}
+use Rattle.xr_types.specs.CallKinds.{is_locked}
+use Rattle.xr_model.specs.machine.Calls.{Entry, Exchange, is_actor}
+use Rattle.xr_types.specs.declared.calls.Call.{Call}
+use Rattle.xr_types.specs.declared.calls.Call.TheVariants as ask
 use Rattle.xr_model.specs.machine.Rule.{is_by, or_short, unless_refused}
 use Rattle.xr_model.specs.machine.Rules.Frames.{next_frame_rule, told_frame, oldest_shown}
 use Rattle.xr_model.specs.machine.State.{State, CoreState, CellReads, opening, with_apps}
@@ -49,9 +52,9 @@ all_more is_so [] x all one = rw one refl
 all_more is_so (y ∷ xs) x all one = let two = both_of (is_so y) (list_all is_so xs) all in rw (two.0, all_more is_so xs x two.1 one) refl
 
 -- what the compositor asks for is one of its two calls
-is_its_own : (r : Request) → is_by (asked Compositor r).caller Compositor ≡ true → is_compositor_call r ≡ true
-is_its_own next_frame own = refl
-is_its_own image_done own = refl
+is_its_own : (r : Call) → is_by (asked Compositor r).caller Compositor ≡ true → is_compositor_call r ≡ true
+is_its_own ask.NextFrame own = refl
+is_its_own ask.ImageDone own = refl
 is_its_own r own = absurd (true≢false (sym own))
 
 abbrev is_at_most : Bool → Bool → Type 0
@@ -73,28 +76,28 @@ nothing_at_most : (b : Bool) → is_at_most false b
 nothing_at_most true = omega arith
 nothing_at_most false = omega arith
 
-ends_if_frameless : (m : Moment) (e : Entry) (calls : List Exchange) → is_compositor_call e.request ≡ true → MayShow m e calls → is_at_most (is_frameless (exchange_at m e)) (tells_end (exchange_at m e))
+ends_if_frameless : (m : Moment) (e : Entry) (calls : List Exchange) → is_compositor_call e.call ≡ true → MayShow m e calls → is_at_most (is_frameless (exchange_at m e)) (tells_end (exchange_at m e))
 unfolding exchange_at
-ends_if_frameless m e calls own may = by e.request own may.in_order
+ends_if_frameless m e calls own may = by e.call own may.in_order
   where
-    by : (r : Request) → is_compositor_call r ≡ true → (is_next_frame r ≡ true → (step m.state (record e { request = r })).1.reply.code ≢ CallOrderInvalid)
-        → is_at_most (is_locked r && not (is_some (step m.state (record e { request = r })).1.shown)) (is_end (step m.state (record e { request = r })).1.reply.gives)
-    by next_frame own differs = shows_or_ends m.state.core (reads_of m.state next_frame) (not (is_empty m.state.cells.held)) (differs refl)
-    by image_done own differs = nothing_at_most (is_end (step m.state (record e { request = image_done })).1.reply.gives)
+    by : (r : Call) → is_compositor_call r ≡ true → (is_next_frame r ≡ true → (step m.state (record e { call = r })).1.reply.code ≢ CallOrderInvalid)
+        → is_at_most (is_locked r && not (is_some (step m.state (record e { call = r })).1.shown)) (is_end (step m.state (record e { call = r })).1.reply.gives)
+    by ask.NextFrame own differs = shows_or_ends m.state.core (reads_of m.state ask.NextFrame) (not (is_empty m.state.cells.held)) (differs refl)
+    by ask.ImageDone own differs = nothing_at_most (is_end (step m.state (record e { call = ask.ImageDone })).1.reply.gives)
     by r own differs = absurd (true≢false (sym own))
 
-asks_its_own : (m : Moment) (e : Entry) → is_compositor_call e.request ≡ true → is_compositor_call (exchange_at m e).request ≡ true
+asks_its_own : (m : Moment) (e : Entry) → is_compositor_call e.call ≡ true → is_compositor_call (exchange_at m e).call ≡ true
 unfolding exchange_at
 asks_its_own m e own = own
 
-few_frames : (m : Moment) (e : Entry) (calls : List Exchange) → is_compositor_call e.request ≡ true → HasFewFrames calls → MayShow m e calls → HasFewFrames (calls ++ exchange_at m e ∷ [])
+few_frames : (m : Moment) (e : Entry) (calls : List Exchange) → is_compositor_call e.call ≡ true → HasFewFrames calls → MayShow m e calls → HasFewFrames (calls ++ exchange_at m e ∷ [])
 few_frames m e calls own few may =
     let x = exchange_at m e in
     let unended = may.unended in
     let shown = few.shown in
     let one = ends_if_frameless m e calls own may in
     record {
-      its_own = all_more (λ y. is_compositor_call y.request) calls x few.its_own (asks_its_own m e own);
+      its_own = all_more (λ y. is_compositor_call y.call) calls x few.its_own (asks_its_own m e own);
       shown = omega (arith, many_more is_frameless calls x, many_more tells_end calls x, shown, one);
       ended = omega (arith, many_more tells_end calls x, unended, at_most_one (tells_end x));
     }
@@ -109,7 +112,7 @@ one_longer calls x few = omega (arith, length-append calls (x ∷ []))
 pub few_more : FewMore
 few_more zero m e calls is own few may = one_longer calls (exchange_at m e) may
 few_more (suc (suc k)) m e calls is own few may = one_longer calls (exchange_at m e) may
-few_more (suc zero) m e calls is own few may = few_frames m e calls (is_its_own e.request (subst (λ (who : Actor). is_by (asked who e.request).caller who ≡ true) is own)) few may
+few_more (suc zero) m e calls is own few may = few_frames m e calls (is_its_own e.call (subst (λ (who : Actor). is_by (asked who e.call).caller who ≡ true) is own)) few may
 
 -- ---- sums over numbers
 
@@ -135,49 +138,49 @@ sum_few (suc k) f all = omega (arith, all k (omega arith), sum_few k f (λ i l. 
 
 -- ---- weights of calls
 
-abbrev weight : (Request → ℕ) → List Exchange → ℕ
+abbrev weight : (Call → ℕ) → List Exchange → ℕ
 weight w [] = 0
-weight w (x ∷ xs) = w x.request + weight w xs
+weight w (x ∷ xs) = w x.call + weight w xs
 
-abbrev weight_of : (Request → ℕ) → List Entry → ℕ
+abbrev weight_of : (Call → ℕ) → List Entry → ℕ
 weight_of w [] = 0
-weight_of w (e ∷ es) = w e.request + weight_of w es
+weight_of w (e ∷ es) = w e.call + weight_of w es
 
 abbrev added : Bool → Exchange → List Exchange → List Exchange
 added b x xs = if b then x ∷ xs else xs
 
-weight_added : (w : Request → ℕ) (b : Bool) (x : Exchange) (xs : List Exchange) → weight w (added b x xs) ≡ (if b then w x.request else 0) + weight w xs
+weight_added : (w : Call → ℕ) (b : Bool) (x : Exchange) (xs : List Exchange) → weight w (added b x xs) ≡ (if b then w x.call else 0) + weight w xs
 weight_added w true x xs = refl
 weight_added w false x xs = omega arith
 
 -- each entry weighs in with its actor's calls
-weighs : (apps : ℕ) (w : Request → ℕ) (s : State) (clocks : List ℤ) (es : List Entry) → s.core.apps ≡ apps → IsLegalFrom s clocks es
+weighs : (apps : ℕ) (w : Call → ℕ) (s : State) (clocks : List ℤ) (es : List Entry) → s.core.apps ≡ apps → IsLegalFrom s clocks es
     → weight_of w es ≤ sum_to (apps + 2) (λ n. weight w (calls_from s (actor_at n) es))
 weighs apps w s clocks [] same legal = omega arith
 weighs apps w s clocks (e ∷ es) same legal =
     let t = (step s e).0 in
-    let x : Exchange = record { request = e.request; outcome = (step s e).1 } in
+    let x : Exchange = record { call = e.call; outcome = (step s e).1 } in
     let is : HasNumber apps e.actor = number_of apps s e.actor same legal.0.present in
     let is_so : is_actor (actor_at is.number) e.actor ≡ true = subst (λ (who : Actor). is_actor (actor_at is.number) who ≡ true) (sym is.is) (actor_itself (actor_at is.number)) in
-    let more = sum_more (apps + 2) is.number (w e.request) (λ n. weight w (calls_from s (actor_at n) (e ∷ es))) (λ n. weight w (calls_from t (actor_at n) es)) is.is_below
+    let more = sum_more (apps + 2) is.number (w e.call) (λ n. weight w (calls_from s (actor_at n) (e ∷ es))) (λ n. weight w (calls_from t (actor_at n) es)) is.is_below
     (λ n. omega (arith, weight_added w (is_actor (actor_at n) e.actor) x (calls_from t (actor_at n) es)))
     (whole (is_actor (actor_at is.number) e.actor) is_so x (calls_from t (actor_at is.number) es)) in
     omega (arith, more, weighs apps w t (clocks_after clocks e t) es same legal.3)
   where
-    whole : (b : Bool) → b ≡ true → (x : Exchange) (xs : List Exchange) → weight w xs + w x.request ≤ weight w (added b x xs)
+    whole : (b : Bool) → b ≡ true → (x : Exchange) (xs : List Exchange) → weight w xs + w x.call ≤ weight w (added b x xs)
     whole true is x xs = omega arith
     whole false is x xs = absurd (true≢false (sym is))
 
-weight_is_few : (w : Request → ℕ) → ((r : Request) → w r ≤ 1) → (xs : List Exchange) → weight w xs ≤ length xs
+weight_is_few : (w : Call → ℕ) → ((r : Call) → w r ≤ 1) → (xs : List Exchange) → weight w xs ≤ length xs
 weight_is_few w one [] = omega arith
-weight_is_few w one (x ∷ xs) = omega (arith, one x.request, weight_is_few w one xs)
+weight_is_few w one (x ∷ xs) = omega (arith, one x.call, weight_is_few w one xs)
 
 -- ---- counted calls, and calls on frames
 
-abbrev locks : Request → ℕ
+abbrev locks : Call → ℕ
 locks r = if is_locked r then 1 else 0
 
-locks_once : (r : Request) → locks r ≤ 1
+locks_once : (r : Call) → locks r ≤ 1
 locks_once r = by (is_locked r)
   where
     by : (b : Bool) → (if b then 1 else 0) ≤ 1
@@ -186,7 +189,7 @@ locks_once r = by (is_locked r)
 
 locked_weigh : (es : List Entry) → count_locked es ≡ weight_of locks es
 locked_weigh [] = refl
-locked_weigh (e ∷ es) = by (is_locked e.request) (locked_weigh es)
+locked_weigh (e ∷ es) = by (is_locked e.call) (locked_weigh es)
   where
     by : (b : Bool) → count_locked es ≡ weight_of locks es → (if b then count_locked es + 1 else count_locked es) ≡ (if b then 1 else 0) + weight_of locks es
     by true same = omega (arith, same)
@@ -196,22 +199,22 @@ frames_weigh : (es : List Entry) → frame_calls es ≡ weight_of frame_call es
 frames_weigh [] = refl
 frames_weigh (e ∷ es) = omega (arith, frames_weigh es)
 
-frame_call_once : (r : Request) → frame_call r ≤ 1
-frame_call_once (begin_frame session) = omega arith
-frame_call_once (end_frame session time blend layers) = omega arith
+frame_call_once : (r : Call) → frame_call r ≤ 1
+frame_call_once (ask.BeginFrame session) = omega arith
+frame_call_once (ask.EndFrame session time blend layers) = omega arith
 frame_call_once r = omega arith
 
-no_frame_call : (r : Request) → is_compositor_call r ≡ true → frame_call r ≡ 0
-no_frame_call next_frame own = refl
-no_frame_call image_done own = refl
+no_frame_call : (r : Call) → is_compositor_call r ≡ true → frame_call r ≡ 0
+no_frame_call ask.NextFrame own = refl
+no_frame_call ask.ImageDone own = refl
 no_frame_call r own = absurd (true≢false (sym own))
 
 -- the compositor neither begins nor ends frames
-none_on_frames : (xs : List Exchange) → list_all (λ x. is_compositor_call x.request) xs ≡ true → weight frame_call xs ≡ 0
+none_on_frames : (xs : List Exchange) → list_all (λ x. is_compositor_call x.call) xs ≡ true → weight frame_call xs ≡ 0
 none_on_frames [] own = refl
 none_on_frames (x ∷ xs) own =
-    let two = both_of (is_compositor_call x.request) (list_all (λ y. is_compositor_call y.request) xs) own in
-    omega (arith, no_frame_call x.request two.0, none_on_frames xs two.1)
+    let two = both_of (is_compositor_call x.call) (list_all (λ y. is_compositor_call y.call) xs) own in
+    omega (arith, no_frame_call x.call two.0, none_on_frames xs two.1)
 
 -- ---- frames that are shown
 
@@ -221,7 +224,7 @@ shows x = is_some x.outcome.shown
 -- a counted call shows a frame or is frameless
 shown_or_frameless : (xs : List Exchange) → weight locks xs ≤ how_many is_frameless xs + how_many shows xs
 shown_or_frameless [] = omega arith
-shown_or_frameless (x ∷ xs) = by (is_locked x.request) (shows x) (shown_or_frameless xs)
+shown_or_frameless (x ∷ xs) = by (is_locked x.call) (shows x) (shown_or_frameless xs)
   where
     by : (a b : Bool) → weight locks xs ≤ how_many is_frameless xs + how_many shows xs
         → (if a then 1 else 0) + weight locks xs ≤ (if a && not b then how_many is_frameless xs + 1 else how_many is_frameless xs) + (if b then how_many shows xs + 1 else how_many shows xs)
@@ -238,7 +241,7 @@ shown_are_taken s who (e ∷ es) = by (is_actor who e.actor) (step s e).1.shown 
     rest = calls_from (step s e).0 who es
 
     x : Option Shown → Exchange
-    x f = record { request = e.request; outcome = record (step s e).1 { shown = f } }
+    x f = record { call = e.call; outcome = record (step s e).1 { shown = f } }
 
     by : (b : Bool) (f : Option Shown) → how_many shows rest ≤ length (shown_from (step s e).0 es) → how_many shows (added b (x f) rest) ≤ length (shown_if f ++ shown_from (step s e).0 es)
     by true None few = few
@@ -248,7 +251,7 @@ shown_are_taken s who (e ∷ es) = by (is_actor who e.actor) (step s e).1.shown 
 
 -- ---- the whole
 
-few_of : (w : Request → ℕ) → ((r : Request) → w r ≤ 1) → (xs : List Exchange) → length xs ≤ 2 ^ 40 → weight w xs ≤ 2 ^ 40
+few_of : (w : Call → ℕ) → ((r : Call) → w r ≤ 1) → (xs : List Exchange) → length xs ≤ 2 ^ 40 → weight w xs ≤ 2 ^ 40
 few_of w one xs few = omega (arith, weight_is_few w one xs)
 
 pub locked_are_few : LockedAreFew

@@ -7,7 +7,9 @@ use Rattle.xr_types.specs.declared.handles.Kind.{Kind}
 use Rattle.xr_types.specs.declared.handles.Kind.TheVariants.{Instance, Session, ActionSet, Action, Space, Swapchain}
 use Rattle.xr_types.specs.declared.input.Bound.{Bound}
 use Rattle.xr_model.specs.machine.Chains.{Chain}
-use Rattle.xr_model.specs.machine.Request.{Entry, Request, destroy_instance, destroy_session, destroy_space, destroy_action_set, destroy_action, destroy_swapchain}
+use Rattle.xr_model.specs.machine.Calls.{Entry}
+use Rattle.xr_types.specs.declared.calls.Call.{Call}
+use Rattle.xr_types.specs.declared.calls.Call.TheVariants as ask
 use Rattle.xr_model.specs.machine.Handles.{Handles, has, is_live, is_among, destroyed_by, without, without_alone}
 use Rattle.xr_model.specs.machine.LiveSessions as sessions
 use Rattle.xr_model.specs.machine.LiveSessions.{without_sets, still_live}
@@ -184,33 +186,33 @@ done_so P s false x good done = absurd (true≢false (sym good))
 counted : (s t : CoreState) (gone : ℕ → Bool) (apps locked published : ℕ) → AreFiltered s t gone → AreFiltered s (record t { apps = apps; locked = locked; published = published }) gone
 counted s t gone apps locked published f = record { sessions = f.sessions; sets = f.sets; actions = f.actions; spaces = f.spaces; suggestions = f.suggestions }
 
-filtered : (s : State) (e : Entry) (handle : ℕ) → AreListed s.core.handles s.core.sessions → Has Kept s.core → AttachLive s.core.handles s.core.sessions → StandOnce s.core.handles → AreUnder s.core.handles → AreRoots s.core.handles → destroys e.request handle ≡ true → is_success (step s e).1.reply.code ≡ true
+filtered : (s : State) (e : Entry) (handle : ℕ) → AreListed s.core.handles s.core.sessions → Has Kept s.core → AttachLive s.core.handles s.core.sessions → StandOnce s.core.handles → AreUnder s.core.handles → AreRoots s.core.handles → destroys e.call handle ≡ true → is_success (step s e).1.reply.code ≡ true
     → AreFiltered s.core (step s e).0.core (λ k. is_within 2 s.core.handles k handle)
 filtered s e handle listed kept attached once under roots names good =
-    counted s.core (effect s.core (reads_of s e.request) e).state (λ k. is_within 2 s.core.handles k handle) s.core.apps (locked_after s.core e.request) (published_after s.core e.request (effect s.core (reads_of s e.request) e).code) (by e.request names good)
+    counted s.core (effect s.core (reads_of s e.call) e).state (λ k. is_within 2 s.core.handles k handle) s.core.apps (locked_after s.core e.call) (published_after s.core e.call (effect s.core (reads_of s e.call) e).code) (by e.call names good)
   where
     below : (kind : Kind) (named : ℕ) → (named == handle) ≡ true → is_live s.core.handles kind named ≡ true → AreFiltered s.core (without_handle s.core named) (λ k. is_within 2 s.core.handles k handle)
     below kind named names live =
         let some = not_true (named == 0) (both_of (not (named == 0)) _ live).0 in
         subst (λ (n : ℕ). AreFiltered s.core (without_handle s.core named) (λ k. is_within 2 s.core.handles k n)) (same_key named handle names) (with_all_below s.core listed kept attached once under roots named some)
 
-    by : (r : Request) → destroys r handle ≡ true → is_success (step s (record e { request = r })).1.reply.code ≡ true → AreFiltered s.core (effect s.core (reads_of s r) (record e { request = r })).state (λ k. is_within 2 s.core.handles k handle)
-    by (destroy_instance instance) names good =
-        done_so (λ t. AreFiltered s.core t (λ k. is_within 2 s.core.handles k handle)) s.core (is_live s.core.handles Instance instance) (rule s.core (reads_of s (destroy_instance instance)) (record e { request = destroy_instance instance })).effect good
+    by : (r : Call) → destroys r handle ≡ true → is_success (step s (record e { call = r })).1.reply.code ≡ true → AreFiltered s.core (effect s.core (reads_of s r) (record e { call = r })).state (λ k. is_within 2 s.core.handles k handle)
+    by (ask.DestroyInstance instance) names good =
+        done_so (λ t. AreFiltered s.core t (λ k. is_within 2 s.core.handles k handle)) s.core (is_live s.core.handles Instance instance) (rule s.core (reads_of s (ask.DestroyInstance instance)) (record e { call = ask.DestroyInstance instance })).effect good
         (λ live. let f = below Instance instance names live in record { sessions = f.sessions; sets = f.sets; actions = f.actions; spaces = f.spaces; suggestions = f.suggestions })
-    by (destroy_session session) names good =
-        done_so (λ t. AreFiltered s.core t (λ k. is_within 2 s.core.handles k handle)) s.core (is_live s.core.handles Session session) (rule s.core (reads_of s (destroy_session session)) (record e { request = destroy_session session })).effect good (below Session session names)
-    by (destroy_space space) names good =
-        done_so (λ t. AreFiltered s.core t (λ k. is_within 2 s.core.handles k handle)) s.core (is_live s.core.handles Space space) (rule s.core (reads_of s (destroy_space space)) (record e { request = destroy_space space })).effect good
+    by (ask.DestroySession session) names good =
+        done_so (λ t. AreFiltered s.core t (λ k. is_within 2 s.core.handles k handle)) s.core (is_live s.core.handles Session session) (rule s.core (reads_of s (ask.DestroySession session)) (record e { call = ask.DestroySession session })).effect good (below Session session names)
+    by (ask.DestroySpace space) names good =
+        done_so (λ t. AreFiltered s.core t (λ k. is_within 2 s.core.handles k handle)) s.core (is_live s.core.handles Space space) (rule s.core (reads_of s (ask.DestroySpace space)) (record e { call = ask.DestroySpace space })).effect good
         (λ live.
         let some = not_true (space == 0) (both_of (not (space == 0)) _ live).0 in
         subst (λ (n : ℕ). AreFiltered s.core (with_space_gone s.core space) (λ k. is_within 2 s.core.handles k n)) (same_key space handle names) (space_alone s.core listed kept attached once under roots space some live))
-    by (destroy_action_set set) names good =
-        done_so (λ t. AreFiltered s.core t (λ k. is_within 2 s.core.handles k handle)) s.core (is_live s.core.handles ActionSet set) (rule s.core (reads_of s (destroy_action_set set)) (record e { request = destroy_action_set set })).effect good (below ActionSet set names)
-    by (destroy_action action) names good =
-        done_so (λ t. AreFiltered s.core t (λ k. is_within 2 s.core.handles k handle)) s.core (is_live s.core.handles Action action) (rule s.core (reads_of s (destroy_action action)) (record e { request = destroy_action action })).effect good (below Action action names)
-    by (destroy_swapchain chain) names good =
-        done_so (λ t. AreFiltered s.core t (λ k. is_within 2 s.core.handles k handle)) s.core (is_live s.core.handles Swapchain chain) (rule s.core (reads_of s (destroy_swapchain chain)) (record e { request = destroy_swapchain chain })).effect good
+    by (ask.DestroyActionSet set) names good =
+        done_so (λ t. AreFiltered s.core t (λ k. is_within 2 s.core.handles k handle)) s.core (is_live s.core.handles ActionSet set) (rule s.core (reads_of s (ask.DestroyActionSet set)) (record e { call = ask.DestroyActionSet set })).effect good (below ActionSet set names)
+    by (ask.DestroyAction action) names good =
+        done_so (λ t. AreFiltered s.core t (λ k. is_within 2 s.core.handles k handle)) s.core (is_live s.core.handles Action action) (rule s.core (reads_of s (ask.DestroyAction action)) (record e { call = ask.DestroyAction action })).effect good (below Action action names)
+    by (ask.DestroySwapchain chain) names good =
+        done_so (λ t. AreFiltered s.core t (λ k. is_within 2 s.core.handles k handle)) s.core (is_live s.core.handles Swapchain chain) (rule s.core (reads_of s (ask.DestroySwapchain chain)) (record e { call = ask.DestroySwapchain chain })).effect good
         (λ live.
         let some = not_true (chain == 0) (both_of (not (chain == 0)) _ live).0 in
         subst (λ (n : ℕ). AreFiltered s.core (with_chain_gone s.core chain) (λ k. is_within 2 s.core.handles k n)) (same_key chain handle names) (chain_alone s.core listed kept attached once under roots chain some live))

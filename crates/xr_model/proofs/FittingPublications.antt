@@ -18,7 +18,9 @@ use Rattle.xr_model.specs.machine.Handles.{Handles, has, is_live, is_among, dest
 use Rattle.xr_model.specs.machine.HandlePlaces.{place_in}
 use Rattle.xr_model.specs.machine.Publication.{SeenSession, first_seen, shown_of, columns_in, published_action, publication_of}
 use Rattle.xr_model.specs.machine.Refusals.{Refusal}
-use Rattle.xr_model.specs.machine.Request.{Request, Entry, create_action, destroy_session, destroy_action, destroy_action_set, destroy_instance, sync_actions, device}
+use Rattle.xr_model.specs.machine.Calls.{Entry}
+use Rattle.xr_types.specs.declared.calls.Call.{Call}
+use Rattle.xr_types.specs.declared.calls.Call.TheVariants as ask
 use Rattle.xr_model.specs.machine.Rule.{Effect, refusal, unless_refused, told_on}
 use Rattle.xr_model.specs.machine.Rules.Device.{behind_event, later_of}
 use Rattle.xr_model.specs.machine.Rules.Session.{life_of}
@@ -107,31 +109,31 @@ module _ (s : CoreState) (reads : CellReads) (e : Entry) (fits : Fits s) where
   synced true active = synced_fit (map (heard_by s) active) (bindings_of s) s.device.inputs s.device.clock s.columns fits.1 fits.2 fits.0
   synced false active = no_columns_fit
 
-  fits_step : has_good_numbers e.request ≡ true → Fits (core_step s reads e).0
-  fits_step good = by e.request good
+  fits_step : has_good_numbers e.call ≡ true → Fits (core_step s reads e).0
+  fits_step good = by e.call good
     where
-      by : (r : Request) → has_good_numbers r ≡ true → Fits (core_step s reads (record e { request = r })).0
-      by (sync_actions session active) good =
-          let f = rule s reads (record e { request = sync_actions session active }) in
+      by : (r : Call) → has_good_numbers r ≡ true → Fits (core_step s reads (record e { call = r })).0
+      by (ask.SyncActions session active) good =
+          let f = rule s reads (record e { call = ask.SyncActions session active }) in
           kept s (refusal e.short f) (told_on f.on f.effect) fits (λ none. (synced (is_state (life_of s session).state Focused) active, fits.1, fits.2, fits.3))
-      by (create_action set name type subs localized) good =
-          let f = rule s reads (record e { request = create_action set name type subs localized }) in
+      by (ask.CreateAction set name type subs localized) good =
+          let f = rule s reads (record e { call = ask.CreateAction set name type subs localized }) in
           kept s (refusal e.short f) (told_on f.on f.effect) fits (λ none. (fits.0, fits.1, fits.2, all_more has_five s.sets.actions _ fits.3 (rw (declared_length s.atoms subs no_users) refl)))
-      by (destroy_instance instance) good =
-          let f = rule s reads (record e { request = destroy_instance instance }) in
+      by (ask.DestroyInstance instance) good =
+          let f = rule s reads (record e { call = ask.DestroyInstance instance }) in
           kept s (refusal e.short f) (told_on f.on f.effect) fits (λ none. gone instance)
-      by (destroy_session session) good =
-          let f = rule s reads (record e { request = destroy_session session }) in
+      by (ask.DestroySession session) good =
+          let f = rule s reads (record e { call = ask.DestroySession session }) in
           kept s (refusal e.short f) (told_on f.on f.effect) fits (λ none. gone session)
-      by (destroy_action_set set) good =
-          let f = rule s reads (record e { request = destroy_action_set set }) in
+      by (ask.DestroyActionSet set) good =
+          let f = rule s reads (record e { call = ask.DestroyActionSet set }) in
           kept s (refusal e.short f) (told_on f.on f.effect) fits (λ none. gone set)
-      by (destroy_action action) good =
-          let f = rule s reads (record e { request = destroy_action action }) in
+      by (ask.DestroyAction action) good =
+          let f = rule s reads (record e { call = ask.DestroyAction action }) in
           kept s (refusal e.short f) (told_on f.on f.effect) fits (λ none. gone action)
-      by (device what) good = events what good
+      by (ask.Device what) good = events what good
       by r good =
-          let f = rule s reads (record e { request = r }) in
+          let f = rule s reads (record e { call = r }) in
           kept s (refusal e.short f) (told_on f.on f.effect) fits (λ none. fits)
 
 -- the row of actions keeps its places
@@ -149,10 +151,10 @@ places_step s reads e places = handles.kept_by_step (λ h. length h.actions ≡ 
   chain_alone = λ chain. places;
 })
 
-fitting_step : (s : State) (e : Entry) → has_good_numbers e.request ≡ true → IsFitting s.core → IsFitting (step s e).0.core
+fitting_step : (s : State) (e : Entry) → has_good_numbers e.call ≡ true → IsFitting s.core → IsFitting (step s e).0.core
 fitting_step s e good fits =
-    let four = fits_step s.core (reads_of s e.request) e (fits.columns, fits.values, fits.clock, fits.declared) good in
-    record { columns = four.0; values = four.1; clock = four.2; declared = four.3; places = places_step s.core (reads_of s e.request) e fits.places }
+    let four = fits_step s.core (reads_of s e.call) e (fits.columns, fits.values, fits.clock, fits.declared) good in
+    record { columns = four.0; values = four.1; clock = four.2; declared = four.3; places = places_step s.core (reads_of s e.call) e fits.places }
 
 fitting_opening : (settings : Settings) → IsFitting (opening settings).core
 fitting_opening settings = record { columns = no_columns_fit; values = refl; clock = refl; declared = refl; places = refl }
@@ -237,10 +239,10 @@ listed_live : (s : CoreState) → IsSound s → list_all (λ x. is_live s.handle
 listed_live s sound = all_weaker (λ x. is_some (find (λ y. y.handle == x.handle) s.sets.actions)) (λ x. is_live s.handles kind.Action x.handle) (λ x found. sym (sound.kept.actions x.handle) ∙ found)
     s.sets.actions (all_found (λ (x : Action). x.handle) s.sets.actions s.sets.actions (λ k found. found))
 
-fit_from : (s : State) (clocks : List ℤ) (es : List Entry) → IsLegalFrom s clocks es → list_all (λ e. has_good_numbers e.request) es ≡ true → IsSound s.core → IsFitting s.core → PublicationFits (publication_of (after s es).core)
+fit_from : (s : State) (clocks : List ℤ) (es : List Entry) → IsLegalFrom s clocks es → list_all (λ e. has_good_numbers e.call) es ≡ true → IsSound s.core → IsFitting s.core → PublicationFits (publication_of (after s es).core)
 fit_from s clocks [] legal good sound fits = record { atoms = refl; each = actions_have_room s.core fits (first_seen s.core.sessions) s.core.sets.actions (listed_live s.core sound) fits.declared }
 fit_from s clocks (e ∷ es) legal good sound fits =
-    let two = both_of (has_good_numbers e.request) (list_all (λ e. has_good_numbers e.request) es) good in
+    let two = both_of (has_good_numbers e.call) (list_all (λ e. has_good_numbers e.call) es) good in
     fit_from (step s e).0 (clocks_after clocks e (step s e).0) es legal.3 two.1 (sound_step s e legal.0 sound) (fitting_step s e two.0 fits)
 
 pub publications_fit : PublicationsFit

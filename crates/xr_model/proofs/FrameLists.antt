@@ -7,7 +7,9 @@ use Rattle.xr_types.specs.declared.device.DeviceEvent.{DeviceEvent}
 use Rattle.xr_types.specs.declared.device.DeviceEvent.TheVariants as event
 use Rattle.xr_types.specs.Frames.{PendingFrame}
 use Rattle.xr_types.specs.declared.frames.Shown.{Shown}
-use Rattle.xr_model.specs.machine.Request.{Entry, Request, create_session, begin_session, end_session, wait_frame, begin_frame, end_frame, next_frame, device}
+use Rattle.xr_model.specs.machine.Calls.{Entry}
+use Rattle.xr_types.specs.declared.calls.Call.{Call}
+use Rattle.xr_types.specs.declared.calls.Call.TheVariants as ask
 use Rattle.xr_model.specs.machine.Frames.{Frames, one_if, is_frame_held_back, reset_loop}
 use Rattle.xr_model.specs.machine.SessionRule.{loss_of}
 use Rattle.xr_model.specs.machine.Refusals.{Refusal}
@@ -43,25 +45,25 @@ event_same s (event.Clock time) = (refl, refl)
 event_same s _ = (refl, refl)
 
 -- the calls that submit and show frames
-abbrev pub is_frame_move : Request → Bool
-is_frame_move (end_frame session time blend layers) = true
-is_frame_move next_frame = true
+abbrev pub is_frame_move : Call → Bool
+is_frame_move (ask.EndFrame session time blend layers) = true
+is_frame_move ask.NextFrame = true
 is_frame_move _ = false
 
-pub frames_stay : (s : CoreState) (reads : CellReads) (e : Entry) → is_frame_move e.request ≡ false → Same s (effect s reads e)
-frames_stay s reads e aside = by e.request aside
+pub frames_stay : (s : CoreState) (reads : CellReads) (e : Entry) → is_frame_move e.call ≡ false → Same s (effect s reads e)
+frames_stay s reads e aside = by e.call aside
   where
-    by : (r : Request) → is_frame_move r ≡ false → Same s (effect s reads (record e { request = r }))
-    by (end_frame session time blend layers) aside = absurd (true≢false aside)
-    by next_frame aside = absurd (true≢false aside)
-    by (device what) aside = let c = event_same s what in record { pending = c.0; ended = c.1; shown = refl }
-    by r aside = let f = rule s reads (record e { request = r }) in same_refused s (refusal e.short f) (told_on f.on f.effect) (record { pending = refl; ended = refl; shown = refl })
+    by : (r : Call) → is_frame_move r ≡ false → Same s (effect s reads (record e { call = r }))
+    by (ask.EndFrame session time blend layers) aside = absurd (true≢false aside)
+    by ask.NextFrame aside = absurd (true≢false aside)
+    by (ask.Device what) aside = let c = event_same s what in record { pending = c.0; ended = c.1; shown = refl }
+    by r aside = let f = rule s reads (record e { call = r }) in same_refused s (refusal e.short f) (told_on f.on f.effect) (record { pending = refl; ended = refl; shown = refl })
 
 -- ---- what an entry takes and adds
 
 -- the frame that is pending behind a call where it succeeds, if it submits one
-abbrev pub frame_if : Bool → CoreState → Request → List PendingFrame
-frame_if true s (end_frame session time blend layers) = new_frame s time layers ∷ []
+abbrev pub frame_if : Bool → CoreState → Call → List PendingFrame
+frame_if true s (ask.EndFrame session time blend layers) = new_frame s time layers ∷ []
 frame_if _ s _ = []
 
 -- the frames that a call takes where it shows one: the oldest of these
@@ -88,50 +90,50 @@ moves_refused : (s : CoreState) (o : Option Refusal) (x : Effect) → Moves s x 
 moves_refused s None x m = m
 moves_refused s (Some r) x m = moves_same s (unless_refused s (Some r) x) (record { pending = refl; ended = refl; shown = refl })
 
-pub moves : (s : CoreState) (reads : CellReads) (e : Entry) → Moves s (effect s reads e) (frame_if (is_success (effect s reads e).code) s e.request)
-moves s reads e = by e.request
+pub moves : (s : CoreState) (reads : CellReads) (e : Entry) → Moves s (effect s reads e) (frame_if (is_success (effect s reads e).code) s e.call)
+moves s reads e = by e.call
   where
-    still : (r : Request) (b : Bool) → is_frame_move r ≡ false → frame_if b s r ≡ [] → Moves s (effect s reads (record e { request = r })) (frame_if b s r)
-    still r b aside none = rw none (moves_same s (effect s reads (record e { request = r })) (frames_stay s reads (record e { request = r }) aside))
+    still : (r : Call) (b : Bool) → is_frame_move r ≡ false → frame_if b s r ≡ [] → Moves s (effect s reads (record e { call = r })) (frame_if b s r)
+    still r b aside none = rw none (moves_same s (effect s reads (record e { call = r })) (frames_stay s reads (record e { call = r }) aside))
 
-    none_if : (b : Bool) (r : Request) → is_frame_move r ≡ false → frame_if b s r ≡ []
+    none_if : (b : Bool) (r : Call) → is_frame_move r ≡ false → frame_if b s r ≡ []
     none_if false r aside = refl
-    none_if true (end_frame session time blend layers) aside = absurd (true≢false aside)
+    none_if true (ask.EndFrame session time blend layers) aside = absurd (true≢false aside)
     none_if true _ aside = refl
 
-    by : (r : Request) → Moves s (effect s reads (record e { request = r })) (frame_if (is_success (effect s reads (record e { request = r })).code) s r)
-    by next_frame =
-        let f = rule s reads (record e { request = next_frame }) in
-        rw (none_next (is_success (effect s reads (record e { request = next_frame })).code)) (moves_refused s (refusal e.short f) f.effect (record { pending = takes s.frames.pending reads.stamps; ended = omega arith }))
+    by : (r : Call) → Moves s (effect s reads (record e { call = r })) (frame_if (is_success (effect s reads (record e { call = r })).code) s r)
+    by ask.NextFrame =
+        let f = rule s reads (record e { call = ask.NextFrame }) in
+        rw (none_next (is_success (effect s reads (record e { call = ask.NextFrame })).code)) (moves_refused s (refusal e.short f) f.effect (record { pending = takes s.frames.pending reads.stamps; ended = omega arith }))
       where
-        none_next : (b : Bool) → frame_if b s next_frame ≡ []
+        none_next : (b : Bool) → frame_if b s ask.NextFrame ≡ []
         none_next true = refl
         none_next false = refl
-    by (end_frame session time blend layers) = by_rule (λ x. Moves s x (frame_if (is_success x.code) s (end_frame session time blend layers))) s f e.short (layers_fail (look_of s) layers) refused ended
+    by (ask.EndFrame session time blend layers) = by_rule (λ x. Moves s x (frame_if (is_success x.code) s (ask.EndFrame session time blend layers))) s f e.short (layers_fail (look_of s) layers) refused ended
       where
         f : Rule
-        f = rule s reads (record e { request = end_frame session time blend layers })
+        f = rule s reads (record e { call = ask.EndFrame session time blend layers })
 
-        refused : (x : Refusal) → is_success x.code ≡ false → Moves s (unless_refused s (Some x) (told_on f.on f.effect)) (frame_if (is_success x.code) s (end_frame session time blend layers))
+        refused : (x : Refusal) → is_success x.code ≡ false → Moves s (unless_refused s (Some x) (told_on f.on f.effect)) (frame_if (is_success x.code) s (ask.EndFrame session time blend layers))
         refused x failed = rw failed (moves_same s (unless_refused s (Some x) f.effect) (record { pending = refl; ended = refl; shown = refl }))
 
-        ended : refusal e.short f ≡ None → Moves s (told_on f.on f.effect) (frame_if (is_success (told_on f.on f.effect).code) s (end_frame session time blend layers))
+        ended : refusal e.short f ≡ None → Moves s (told_on f.on f.effect) (frame_if (is_success (told_on f.on f.effect).code) s (ask.EndFrame session time blend layers))
         ended none = rw (success_succeeds (loss_of (life_of s session))) (record { pending = refl; ended = refl })
-    by r = still r (is_success (effect s reads (record e { request = r })).code) refl (none_if (is_success (effect s reads (record e { request = r })).code) r refl)
+    by r = still r (is_success (effect s reads (record e { call = r })).code) refl (none_if (is_success (effect s reads (record e { call = r })).code) r refl)
 
 -- ---- frames are numbered
 
-numbered_by : (n : ℕ) (s : State) (b : Bool) (r : Request) → n ≡ s.core.ended + 1 → (rest : List Shown) → AreNumbered (n + length (frame_if b s.core r)) rest → AreNumbered n (submitted_if b s r ++ rest)
+numbered_by : (n : ℕ) (s : State) (b : Bool) (r : Call) → n ≡ s.core.ended + 1 → (rest : List Shown) → AreNumbered (n + length (frame_if b s.core r)) rest → AreNumbered n (submitted_if b s r ++ rest)
 numbered_by n s false r is rest more = subst (λ (k : ℕ). AreNumbered k rest) (omega arith) more
-numbered_by n s true (end_frame session time blend layers) is rest more = (sym is, more)
+numbered_by n s true (ask.EndFrame session time blend layers) is rest more = (sym is, more)
 numbered_by n s true _ is rest more = subst (λ (k : ℕ). AreNumbered k rest) (omega arith) more
 
 numbered_from : (s : State) (es : List Entry) → AreNumbered (s.core.ended + 1) (submitted_from s es)
 numbered_from s [] = tt
 numbered_from s (e ∷ es) =
-    let m = (moves s.core (reads_of s e.request) e).ended in
-    let here : (step s e).0.core.ended + 1 ≡ (s.core.ended + 1) + length (frame_if (is_success (step s e).1.reply.code) s.core e.request) = omega (arith, m) in
-    numbered_by (s.core.ended + 1) s (is_success (step s e).1.reply.code) e.request refl (submitted_from (step s e).0 es)
+    let m = (moves s.core (reads_of s e.call) e).ended in
+    let here : (step s e).0.core.ended + 1 ≡ (s.core.ended + 1) + length (frame_if (is_success (step s e).1.reply.code) s.core e.call) = omega (arith, m) in
+    numbered_by (s.core.ended + 1) s (is_success (step s e).1.reply.code) e.call refl (submitted_from (step s e).0 es)
     (subst (λ (k : ℕ). AreNumbered k (submitted_from (step s e).0 es)) here (numbered_from (step s e).0 es))
 
 pub frames_are_numbered : FramesAreNumbered
@@ -175,36 +177,36 @@ bound_waited f free = by f.frame_loop.has_waited free
     by false free = grind (arith, nat_tests, free)
 
 bound_step : (s : CoreState) (reads : CellReads) (e : Entry) → core_ready s reads e ≡ true → IsBound s.frames → IsBound (core_step s reads e).0.frames
-bound_step s reads e is_ready bound = by e.request is_ready
+bound_step s reads e is_ready bound = by e.call is_ready
   where
-    by : (r : Request) → core_ready s reads (record e { request = r }) ≡ true → IsBound (core_step s reads (record e { request = r })).0.frames
-    by (create_session instance system) is_ready =
-        let f = rule s reads (record e { request = create_session instance system }) in
+    by : (r : Call) → core_ready s reads (record e { call = r }) ≡ true → IsBound (core_step s reads (record e { call = r })).0.frames
+    by (ask.CreateSession instance system) is_ready =
+        let f = rule s reads (record e { call = ask.CreateSession instance system }) in
         bound_refused s (refusal e.short f) (told_on f.on f.effect) bound (λ none. bound_reset s.frames bound)
-    by (begin_session session view) is_ready =
-        let f = rule s reads (record e { request = begin_session session view }) in
+    by (ask.BeginSession session view) is_ready =
+        let f = rule s reads (record e { call = ask.BeginSession session view }) in
         bound_refused s (refusal e.short f) (told_on f.on f.effect) bound (λ none. bound_reset s.frames bound)
-    by (end_session session) is_ready =
-        let f = rule s reads (record e { request = end_session session }) in
+    by (ask.EndSession session) is_ready =
+        let f = rule s reads (record e { call = ask.EndSession session }) in
         bound_refused s (refusal e.short f) (told_on f.on f.effect) bound (λ none. bound_reset s.frames bound)
-    by (wait_frame session) is_ready =
-        let f = rule s reads (record e { request = wait_frame session }) in
-        bound_refused s (refusal e.short f) (told_on f.on f.effect) bound (λ none. bound_waited s.frames (is_ready_to s reads (record e { request = wait_frame session }) is_ready (clear f e.short none).whole))
-    by (begin_frame session) is_ready =
-        let f = rule s reads (record e { request = begin_frame session }) in
+    by (ask.WaitFrame session) is_ready =
+        let f = rule s reads (record e { call = ask.WaitFrame session }) in
+        bound_refused s (refusal e.short f) (told_on f.on f.effect) bound (λ none. bound_waited s.frames (is_ready_to s reads (record e { call = ask.WaitFrame session }) is_ready (clear f e.short none).whole))
+    by (ask.BeginFrame session) is_ready =
+        let f = rule s reads (record e { call = ask.BeginFrame session }) in
         bound_refused s (refusal e.short f) (told_on f.on f.effect) bound (λ none. bound_begun s.frames (not_false s.frames.frame_loop.has_waited (clear f e.short none).order) bound)
-    by (end_frame session time blend layers) is_ready =
-        let f = rule s reads (record e { request = end_frame session time blend layers }) in
+    by (ask.EndFrame session time blend layers) is_ready =
+        let f = rule s reads (record e { call = ask.EndFrame session time blend layers }) in
         bound_refused s (refusal e.short f) (told_on f.on f.effect) bound (λ none. bound_ended s.frames _ (not_false s.frames.frame_loop.has_begun (clear f e.short none).order) bound)
-    by next_frame is_ready =
-        let f = rule s reads (record e { request = next_frame }) in
+    by ask.NextFrame is_ready =
+        let f = rule s reads (record e { call = ask.NextFrame }) in
         bound_refused s (refusal e.short f) (told_on f.on f.effect) bound (λ none. bound_taken s.frames.pending (one_if s.frames.frame_loop.has_waited) (one_if s.frames.frame_loop.has_begun) bound)
-    by (device what) is_ready = subst IsBound (sym (event_frames s what)) bound
-    by r is_ready = let f = rule s reads (record e { request = r }) in bound_refused s (refusal e.short f) (told_on f.on f.effect) bound (λ none. bound)
+    by (ask.Device what) is_ready = subst IsBound (sym (event_frames s what)) bound
+    by r is_ready = let f = rule s reads (record e { call = r }) in bound_refused s (refusal e.short f) (told_on f.on f.effect) bound (λ none. bound)
 
 bound_after : (s : State) (clocks : List ℤ) (es : List Entry) → IsLegalFrom s clocks es → IsBound s.core.frames → IsBound (after s es).core.frames
 bound_after s clocks [] legal bound = bound
-bound_after s clocks (e ∷ es) legal bound = bound_after (step s e).0 (clocks_after clocks e (step s e).0) es legal.3 (bound_step s.core (reads_of s e.request) e legal.2 bound)
+bound_after s clocks (e ∷ es) legal bound = bound_after (step s e).0 (clocks_after clocks e (step s e).0) es legal.3 (bound_step s.core (reads_of s e.call) e legal.2 bound)
 
 pub at_most_three : AtMostThree
 at_most_three settings es legal = let bound = bound_after (opening settings) (opening_clocks settings) es legal (omega arith) in omega (arith, bound)

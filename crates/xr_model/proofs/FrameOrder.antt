@@ -13,7 +13,9 @@ use Rattle.xr_types.specs.declared.code.Code.{Code}
 use Rattle.xr_types.specs.declared.code.Code.TheVariants.{HandleInvalid, SystemInvalid, LimitReached, CallOrderInvalid, OutOfMemory}
 use Rattle.xr_types.specs.declared.device.DeviceEvent.{DeviceEvent}
 use Rattle.xr_types.specs.declared.device.DeviceEvent.TheVariants as event
-use Rattle.xr_model.specs.machine.Request.{Entry, Request, create_session, begin_session, end_session, wait_frame, begin_frame, end_frame, device}
+use Rattle.xr_model.specs.machine.Calls.{Entry}
+use Rattle.xr_types.specs.declared.calls.Call.{Call}
+use Rattle.xr_types.specs.declared.calls.Call.TheVariants as ask
 use Rattle.xr_model.specs.machine.State.{CoreState, CellReads, Settings, State, opening}
 use Rattle.xr_model.specs.machine.Rule.{Rule, Effect, Did, nothing_done, refusals, refusal, or_short, told_on, unless_refused, carried_out}
 use Rattle.xr_model.specs.machine.Rules.Device.{behind_event}
@@ -39,26 +41,26 @@ use Rattle.xr_model.proofs.Destroying.{AreKnown, known_step, known_opening, and_
 -- ---- counts
 
 -- a call that is counted for some session
-abbrev pub is_counted : Request → Bool
-is_counted (begin_session session view) = true
-is_counted (end_session session) = true
-is_counted (wait_frame session) = true
-is_counted (begin_frame session) = true
-is_counted (end_frame session time blend layers) = true
+abbrev pub is_counted : Call → Bool
+is_counted (ask.BeginSession session view) = true
+is_counted (ask.EndSession session) = true
+is_counted (ask.WaitFrame session) = true
+is_counted (ask.BeginFrame session) = true
+is_counted (ask.EndFrame session time blend layers) = true
 is_counted _ = false
 
 -- a successful one on this session
 abbrev pub touches : ℕ → Decided → Bool
-touches q t = is_counted t.request && (t.is_done && (period_session t.request == q))
+touches q t = is_counted t.call && (t.is_done && (period_session t.call == q))
 
 -- what touches no session acts on none
-sorts_are_counted : (r : Request) (b : Bool) → is_counted r && b ≡ false
+sorts_are_counted : (r : Call) (b : Bool) → is_counted r && b ≡ false
     → (is_begin_session r && b ≡ false) × (is_end_session r && b ≡ false) × (is_wait_frame r && b ≡ false) × (is_begin_frame r && b ≡ false) × (is_end_frame r && b ≡ false)
-sorts_are_counted (begin_session session view) b e = (e, refl, refl, refl, refl)
-sorts_are_counted (end_session session) b e = (refl, e, refl, refl, refl)
-sorts_are_counted (wait_frame session) b e = (refl, refl, e, refl, refl)
-sorts_are_counted (begin_frame session) b e = (refl, refl, refl, e, refl)
-sorts_are_counted (end_frame session time blend layers) b e = (refl, refl, refl, refl, e)
+sorts_are_counted (ask.BeginSession session view) b e = (e, refl, refl, refl, refl)
+sorts_are_counted (ask.EndSession session) b e = (refl, e, refl, refl, refl)
+sorts_are_counted (ask.WaitFrame session) b e = (refl, refl, e, refl, refl)
+sorts_are_counted (ask.BeginFrame session) b e = (refl, refl, refl, e, refl)
+sorts_are_counted (ask.EndFrame session time blend layers) b e = (refl, refl, refl, refl, e)
 sorts_are_counted _ b e = (refl, refl, refl, refl, refl)
 
 -- ---- the loop by the counts of its session
@@ -69,7 +71,7 @@ pub record LoopFits (q : ℕ) (l : FrameLoop) (past : List Decided) : Type 0 whe
 
 pub loop_aside : (q : ℕ) (l : FrameLoop) (t : Decided) (past : List Decided) → touches q t ≡ false → LoopFits q l past → LoopFits q l (t ∷ past)
 loop_aside q l t past aside fits =
-    let none = sorts_are_counted t.request (t.is_done && (period_session t.request == q)) aside in
+    let none = sorts_are_counted t.call (t.is_done && (period_session t.call == q)) aside in
     record {
       frames = rw (none.0, none.1, none.2, none.3) fits.frames;
       begun = rw (none.0, none.1, none.3, none.4) fits.begun;
@@ -87,23 +89,23 @@ loop_fresh q (t ∷ past) none = by (touches q t) refl none (loop_fresh q past)
 -- ---- what each call does to the counts of its session
 
 module _ (h : ℕ) (l : FrameLoop) (past : List Decided) (g : ℕ) (d : Did) where
-  begins_period : (view : ViewConfig) → LoopFits h (reset_loop l) (record { request = begin_session h view; is_done = true; given = g; did = d } ∷ past)
+  begins_period : (view : ViewConfig) → LoopFits h (reset_loop l) (record { call = ask.BeginSession h view; is_done = true; given = g; did = d } ∷ past)
   begins_period view = record { frames = rw (itself h) refl; begun = rw (itself h) refl }
 
-  ends_period : LoopFits h (reset_loop l) (record { request = end_session h; is_done = true; given = g; did = d } ∷ past)
+  ends_period : LoopFits h (reset_loop l) (record { call = ask.EndSession h; is_done = true; given = g; did = d } ∷ past)
   ends_period = record { frames = rw (itself h) refl; begun = rw (itself h) refl }
 
-  waits_frame : (time : ℤ) → l.has_waited ≡ false → LoopFits h l past → LoopFits h (waited_loop l time) (record { request = wait_frame h; is_done = true; given = g; did = d } ∷ past)
+  waits_frame : (time : ℤ) → l.has_waited ≡ false → LoopFits h l past → LoopFits h (waited_loop l time) (record { call = ask.WaitFrame h; is_done = true; given = g; did = d } ∷ past)
   waits_frame time none fits =
       let frames : waits h past ≡ begins h past + 0 = rw none at fits.frames in
       record { frames = rw (itself h) (omega (arith, frames)); begun = fits.begun }
 
-  begins_frame : l.has_waited ≡ true → LoopFits h l past → LoopFits h (begun_loop l) (record { request = begin_frame h; is_done = true; given = g; did = d } ∷ past)
+  begins_frame : l.has_waited ≡ true → LoopFits h l past → LoopFits h (begun_loop l) (record { call = ask.BeginFrame h; is_done = true; given = g; did = d } ∷ past)
   begins_frame some fits =
       let frames : waits h past ≡ begins h past + 1 = rw some at fits.frames in
       record { frames = rw (itself h) (omega (arith, frames)); begun = rw (itself h) refl }
 
-  ends_frame : (time : ℤ) (blend : Blend) (layers : List Layer) → LoopFits h l past → LoopFits h (ended_loop l) (record { request = end_frame h time blend layers; is_done = true; given = g; did = d } ∷ past)
+  ends_frame : (time : ℤ) (blend : Blend) (layers : List Layer) → LoopFits h l past → LoopFits h (ended_loop l) (record { call = ask.EndFrame h time blend layers; is_done = true; given = g; did = d } ∷ past)
   ends_frame time blend layers fits = record { frames = fits.frames; begun = rw (itself h) refl }
 
 -- ---- the handles, the loop and the counts
@@ -159,7 +161,7 @@ live_has h q live = by (q == 0) live
     by false live = live
 
 -- a call on a live session that changes the loop
-fits_call : (h : Handles) (l l2 : FrameLoop) (t : Decided) (past : List Decided) (session : ℕ) → t.is_done ≡ true → is_counted t.request ≡ true → period_session t.request ≡ session
+fits_call : (h : Handles) (l l2 : FrameLoop) (t : Decided) (past : List Decided) (session : ℕ) → t.is_done ≡ true → is_counted t.call ≡ true → period_session t.call ≡ session
     → is_live h kind.Session session ≡ true → (LoopFits session l past → LoopFits session l2 (t ∷ past)) → FramesFit h l past → FramesFit h l2 (t ∷ past)
 fits_call h l l2 t past session done counts on live change fits = record {
   row = fits.row;
@@ -206,7 +208,7 @@ fewer_without h handle = record {
     by : (q : ℕ) → is_live (without h handle) kind.Session q ≡ true → is_live (without h handle) kind.Session q && is_live h kind.Session q ≡ is_live (without h handle) kind.Session q → is_live h kind.Session q ≡ true
     by q live both = rw live at both
 
-module _ (s : CoreState) (reads : CellReads) (e : Entry) (other : is_session_creation e.request ≡ false) where
+module _ (s : CoreState) (reads : CellReads) (e : Entry) (other : is_session_creation e.call ≡ false) where
   given_before : (q : ℕ) → (e.given == q) || was_given s.handles q ≡ false → was_given s.handles q ≡ false
   given_before q new = (neither_of (e.given == q) (was_given s.handles q) new).1
 
@@ -242,22 +244,22 @@ events_keep_loop s (event.Clock time) = refl
 events_keep_loop s _ = refl
 
 -- the calls that are counted, and the creation of a session, change the loop; no other call does
-abbrev pub is_loop_call : Request → Bool
-is_loop_call (create_session instance system) = true
+abbrev pub is_loop_call : Call → Bool
+is_loop_call (ask.CreateSession instance system) = true
 is_loop_call r = is_counted r
 
-pub loop_stays : (s : CoreState) (reads : CellReads) (e : Entry) → is_loop_call e.request ≡ false → LoopIs s.frames.frame_loop (core_step s reads e).0
-loop_stays s reads e aside = by e.request aside
+pub loop_stays : (s : CoreState) (reads : CellReads) (e : Entry) → is_loop_call e.call ≡ false → LoopIs s.frames.frame_loop (core_step s reads e).0
+loop_stays s reads e aside = by e.call aside
   where
-    by : (r : Request) → is_loop_call r ≡ false → LoopIs s.frames.frame_loop (core_step s reads (record e { request = r })).0
-    by (create_session instance system) aside = absurd (true≢false aside)
-    by (begin_session session view) aside = absurd (true≢false aside)
-    by (end_session session) aside = absurd (true≢false aside)
-    by (wait_frame session) aside = absurd (true≢false aside)
-    by (begin_frame session) aside = absurd (true≢false aside)
-    by (end_frame session time blend layers) aside = absurd (true≢false aside)
-    by (device what) aside = events_keep_loop s what
-    by r aside = let f = rule s reads (record e { request = r }) in loop_kept s.frames.frame_loop s (refusal e.short f) (told_on f.on f.effect) refl refl
+    by : (r : Call) → is_loop_call r ≡ false → LoopIs s.frames.frame_loop (core_step s reads (record e { call = r })).0
+    by (ask.CreateSession instance system) aside = absurd (true≢false aside)
+    by (ask.BeginSession session view) aside = absurd (true≢false aside)
+    by (ask.EndSession session) aside = absurd (true≢false aside)
+    by (ask.WaitFrame session) aside = absurd (true≢false aside)
+    by (ask.BeginFrame session) aside = absurd (true≢false aside)
+    by (ask.EndFrame session time blend layers) aside = absurd (true≢false aside)
+    by (ask.Device what) aside = events_keep_loop s what
+    by r aside = let f = rule s reads (record e { call = r }) in loop_kept s.frames.frame_loop s (refusal e.short f) (told_on f.on f.effect) refl refl
 
 -- ---- refusals
 
@@ -323,11 +325,11 @@ clear f short none =
 
 -- ---- an entry keeps the fit
 
-abbrev Fits : List Decided → Request → ℕ → Effect → Type 0
-Fits past r g x = FramesFit x.state.handles x.state.frames.frame_loop (record { request = r; is_done = is_success x.code; given = g; did = x.did } ∷ past)
+abbrev Fits : List Decided → Call → ℕ → Effect → Type 0
+Fits past r g x = FramesFit x.state.handles x.state.frames.frame_loop (record { call = r; is_done = is_success x.code; given = g; did = x.did } ∷ past)
 
 -- what didn't succeed changes nothing
-fits_quiet : (h : Handles) (l : FrameLoop) (r : Request) (g : ℕ) (d : Did) (past : List Decided) → FramesFit h l past → FramesFit h l (record { request = r; is_done = false; given = g; did = d } ∷ past)
+fits_quiet : (h : Handles) (l : FrameLoop) (r : Call) (g : ℕ) (d : Did) (past : List Decided) → FramesFit h l past → FramesFit h l (record { call = r; is_done = false; given = g; did = d } ∷ past)
 fits_quiet h l r g d past fits = fits_aside h h l _ past (λ q. and_false (is_counted r)) (fewer_same h) fits.known fits
 
 -- a handle that refuses nothing is live
@@ -350,21 +352,21 @@ by_rule P s f short fails refuse go = by (refusal short f) refl
     by None found = go found
     by (Some r) found = refuse r (short_fails (f.takes_memory && short) (first_of (refusals f)) r (λ x there. first_fails (refusals f) x fails there) found)
 
-module _ (s : CoreState) (past : List Decided) (fits : FramesFit s.handles s.frames.frame_loop past) (r : Request) (g : ℕ) where
+module _ (s : CoreState) (past : List Decided) (fits : FramesFit s.handles s.frames.frame_loop past) (r : Call) (g : ℕ) where
   refuse : (f : Effect) (x : Refusal) → is_success x.code ≡ false → Fits past r g (unless_refused s (Some x) f)
   refuse f x failed = rw failed (fits_quiet s.handles s.frames.frame_loop r g nothing_done past fits)
 
   -- a success on a live session
   succeed : (x : Effect) (session : ℕ) (l2 : FrameLoop) → is_success x.code ≡ true → is_counted r ≡ true → period_session r ≡ session → is_live s.handles kind.Session session ≡ true
       → x.state.handles ≡ s.handles → x.state.frames.frame_loop ≡ l2
-      → (LoopFits session s.frames.frame_loop past → LoopFits session l2 (record { request = r; is_done = true; given = g; did = x.did } ∷ past)) → Fits past r g x
+      → (LoopFits session s.frames.frame_loop past → LoopFits session l2 (record { call = r; is_done = true; given = g; did = x.did } ∷ past)) → Fits past r g x
   succeed x session l2 good counts on live handles loop change =
       rw (good, handles, loop) (fits_call s.handles s.frames.frame_loop l2 _ past session refl counts on live change fits)
 
   -- a counted call: it is refused, or changes the loop of its session so
   by_call : (f : Rule) (short : Bool) (session : ℕ) (l2 : FrameLoop) → all_fail (refusals f) ≡ true → is_success f.effect.code ≡ true → is_counted r ≡ true → period_session r ≡ session
       → f.handles ≡ no_handle s.handles kind.Session session ∷ [] → f.effect.state.handles ≡ s.handles → f.effect.state.frames.frame_loop ≡ l2
-      → (IsClear f → LoopFits session s.frames.frame_loop past → LoopFits session l2 (record { request = r; is_done = true; given = g; did = f.effect.did } ∷ past)) → Fits past r g (carried_out s short f)
+      → (IsClear f → LoopFits session s.frames.frame_loop past → LoopFits session l2 (record { call = r; is_done = true; given = g; did = f.effect.did } ∷ past)) → Fits past r g (carried_out s short f)
   by_call f short session l2 fails good counts on named handles loop change = by_rule (Fits past r g) s f short fails (refuse (told_on f.on f.effect)) (λ none. done f.on (clear f short none))
     where
       live : IsClear f → is_live s.handles kind.Session session ≡ true
@@ -426,10 +428,10 @@ not_waited f free = by f.frame_loop.has_waited free
 
 module _ (s : State) (e : Entry) (past : List Decided) (allowed : IsAllowed s e) (is_ready : ready s e ≡ true) (fits : FramesFit s.core.handles s.core.frames.frame_loop past) where
   -- a call that is none of the counted ones
-  fits_other : is_loop_call e.request ≡ false → is_session_creation e.request ≡ false → is_counted e.request ≡ false → FramesFit (step s e).0.core.handles (step s e).0.core.frames.frame_loop (decided s e ∷ past)
+  fits_other : is_loop_call e.call ≡ false → is_session_creation e.call ≡ false → is_counted e.call ≡ false → FramesFit (step s e).0.core.handles (step s e).0.core.frames.frame_loop (decided s e ∷ past)
   fits_other aside none uncounted =
-      subst (λ (l : FrameLoop). FramesFit (step s e).0.core.handles l (decided s e ∷ past)) (sym (loop_stays s.core (reads_of s e.request) e aside))
-      (fits_aside s.core.handles (step s e).0.core.handles s.core.frames.frame_loop (decided s e) past (λ q. rw uncounted refl) (fewer_step s.core (reads_of s e.request) e none) (known_step s e fits.known) fits)
+      subst (λ (l : FrameLoop). FramesFit (step s e).0.core.handles l (decided s e ∷ past)) (sym (loop_stays s.core (reads_of s e.call) e aside))
+      (fits_aside s.core.handles (step s e).0.core.handles s.core.frames.frame_loop (decided s e) past (λ q. rw uncounted refl) (fewer_step s.core (reads_of s e.call) e none) (known_step s e fits.known) fits)
 
 -- the effect of what nothing refuses
 pub goes : (s : CoreState) (o : Option Refusal) (x : Effect) → o ≡ None → unless_refused s o x ≡ x
@@ -445,19 +447,19 @@ nonzero n some = by (n == 0) refl
 
 pub fits_step : (s : State) (e : Entry) (past : List Decided) → IsAllowed s e → ready s e ≡ true → FramesFit s.core.handles s.core.frames.frame_loop past
     → FramesFit (step s e).0.core.handles (step s e).0.core.frames.frame_loop (decided s e ∷ past)
-fits_step s e past allowed is_ready fits = by e.request allowed is_ready
+fits_step s e past allowed is_ready fits = by e.call allowed is_ready
   where
-    by : (r : Request) → IsAllowed s (record e { request = r }) → ready s (record e { request = r }) ≡ true → FramesFit (step s (record e { request = r })).0.core.handles (step s (record e { request = r })).0.core.frames.frame_loop (decided s (record e { request = r }) ∷ past)
-    by (create_session instance system) allowed ready_is =
-        by_rule (Fits past (create_session instance system) e.given) s.core f e.short refl (refuse s.core past fits (create_session instance system) e.given f.effect) made
+    by : (r : Call) → IsAllowed s (record e { call = r }) → ready s (record e { call = r }) ≡ true → FramesFit (step s (record e { call = r })).0.core.handles (step s (record e { call = r })).0.core.frames.frame_loop (decided s (record e { call = r }) ∷ past)
+    by (ask.CreateSession instance system) allowed ready_is =
+        by_rule (Fits past (ask.CreateSession instance system) e.given) s.core f e.short refl (refuse s.core past fits (ask.CreateSession instance system) e.given f.effect) made
       where
         x : Entry
-        x = record e { request = create_session instance system }
+        x = record e { call = ask.CreateSession instance system }
 
         f : Rule
-        f = rule s.core (reads_of s (create_session instance system)) (record e { request = create_session instance system })
+        f = rule s.core (reads_of s (ask.CreateSession instance system)) (record e { call = ask.CreateSession instance system })
 
-        made : refusal e.short f ≡ None → Fits past (create_session instance system) e.given f.effect
+        made : refusal e.short f ≡ None → Fits past (ask.CreateSession instance system) e.given f.effect
         made none =
             let one = none_first (not (system == the_system)) SystemInvalid (when (not (has_room s.core.handles kind.Session)) LimitReached ∷ []) (clear f e.short none).behind in
             let room = not_false (has_room s.core.handles kind.Session) (none_first (not (has_room s.core.handles kind.Session)) LimitReached [] one.1).0 in
@@ -465,22 +467,22 @@ fits_step s e past allowed is_ready fits = by e.request allowed is_ready
             let new = new_session_given s x allowed refl (ap (λ (y : Effect). is_success y.code) done_is) in
             fits_created s.core.handles s.core.frames.frame_loop _ past instance e.given (λ q. refl) room (nonzero e.given new.0) new.1
             (subst (λ (y : Effect). AreKnown y.state.handles) done_is (known_step s x fits.known)) fits
-    by (begin_session session view) allowed ready_is =
-        by_call s.core past fits (begin_session session view) e.given (rule s.core (reads_of s (begin_session session view)) (record e { request = begin_session session view })) e.short session (reset_loop s.core.frames.frame_loop) refl refl refl refl refl refl refl
+    by (ask.BeginSession session view) allowed ready_is =
+        by_call s.core past fits (ask.BeginSession session view) e.given (rule s.core (reads_of s (ask.BeginSession session view)) (record e { call = ask.BeginSession session view })) e.short session (reset_loop s.core.frames.frame_loop) refl refl refl refl refl refl refl
         (λ free fit. begins_period session s.core.frames.frame_loop past e.given _ view)
-    by (end_session session) allowed ready_is =
-        by_call s.core past fits (end_session session) e.given (rule s.core (reads_of s (end_session session)) (record e { request = end_session session })) e.short session (reset_loop s.core.frames.frame_loop) refl refl refl refl refl refl refl
+    by (ask.EndSession session) allowed ready_is =
+        by_call s.core past fits (ask.EndSession session) e.given (rule s.core (reads_of s (ask.EndSession session)) (record e { call = ask.EndSession session })) e.short session (reset_loop s.core.frames.frame_loop) refl refl refl refl refl refl refl
         (λ free fit. ends_period session s.core.frames.frame_loop past e.given _)
-    by (wait_frame session) allowed ready_is =
-        by_call s.core past fits (wait_frame session) e.given (rule s.core (reads_of s (wait_frame session)) (record e { request = wait_frame session })) e.short session (waited_loop s.core.frames.frame_loop (next_time s.core)) refl refl refl refl refl refl refl
-        (λ free. waits_frame session s.core.frames.frame_loop past e.given _ (next_time s.core) (not_waited s.core.frames (is_ready_to s.core (reads_of s (wait_frame session)) (record e { request = wait_frame session }) ready_is free.whole)))
-    by (begin_frame session) allowed ready_is =
-        by_call s.core past fits (begin_frame session) e.given (rule s.core (reads_of s (begin_frame session)) (record e { request = begin_frame session })) e.short session (begun_loop s.core.frames.frame_loop) refl (begun_succeeds s.core.frames.frame_loop) refl refl refl refl refl
+    by (ask.WaitFrame session) allowed ready_is =
+        by_call s.core past fits (ask.WaitFrame session) e.given (rule s.core (reads_of s (ask.WaitFrame session)) (record e { call = ask.WaitFrame session })) e.short session (waited_loop s.core.frames.frame_loop (next_time s.core)) refl refl refl refl refl refl refl
+        (λ free. waits_frame session s.core.frames.frame_loop past e.given _ (next_time s.core) (not_waited s.core.frames (is_ready_to s.core (reads_of s (ask.WaitFrame session)) (record e { call = ask.WaitFrame session }) ready_is free.whole)))
+    by (ask.BeginFrame session) allowed ready_is =
+        by_call s.core past fits (ask.BeginFrame session) e.given (rule s.core (reads_of s (ask.BeginFrame session)) (record e { call = ask.BeginFrame session })) e.short session (begun_loop s.core.frames.frame_loop) refl (begun_succeeds s.core.frames.frame_loop) refl refl refl refl refl
         (λ free. begins_frame session s.core.frames.frame_loop past e.given _ (not_false s.core.frames.frame_loop.has_waited free.order))
-    by (end_frame session time blend layers) allowed ready_is =
-        by_call s.core past fits (end_frame session time blend layers) e.given (rule s.core (reads_of s (end_frame session time blend layers)) (record e { request = end_frame session time blend layers })) e.short session (ended_loop s.core.frames.frame_loop) (layers_fail (look_of s.core) layers) refl refl refl refl refl refl
+    by (ask.EndFrame session time blend layers) allowed ready_is =
+        by_call s.core past fits (ask.EndFrame session time blend layers) e.given (rule s.core (reads_of s (ask.EndFrame session time blend layers)) (record e { call = ask.EndFrame session time blend layers })) e.short session (ended_loop s.core.frames.frame_loop) (layers_fail (look_of s.core) layers) refl refl refl refl refl refl
         (λ free. ends_frame session s.core.frames.frame_loop past e.given _ time blend layers)
-    by r allowed ready_is = fits_other s (record e { request = r }) past allowed ready_is fits refl refl refl
+    by r allowed ready_is = fits_other s (record e { call = r }) past allowed ready_is fits refl refl refl
 
 pub fits_after : (s : State) (clocks : List ℤ) (past : List Decided) (es : List Entry) → IsLegalFrom s clocks es → FramesFit s.core.handles s.core.frames.frame_loop past
     → FramesFit (after s es).core.handles (after s es).core.frames.frame_loop (past_from s past es)

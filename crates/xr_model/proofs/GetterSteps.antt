@@ -4,7 +4,10 @@ use Rattle.xr_types.specs.declared.input.ActionType.{ActionType}
 use Rattle.xr_types.specs.declared.input.ActionType.TheVariants as type
 use Rattle.xr_model.specs.machine.Publication.{Publication, publication_of, published_at, getter_gives}
 use Rattle.xr_model.specs.machine.Refusals.{Refusal, first_of}
-use Rattle.xr_model.specs.machine.Request.{Request, Entry, is_getter, get_boolean, get_float, get_vector, get_pose_active}
+use Rattle.xr_types.specs.CallKinds.{is_getter}
+use Rattle.xr_model.specs.machine.Calls.{Entry}
+use Rattle.xr_types.specs.declared.calls.Call.{Call}
+use Rattle.xr_types.specs.declared.calls.Call.TheVariants as ask
 use Rattle.xr_model.specs.machine.Reads.{answered, reads}
 use Rattle.xr_model.specs.machine.Rule.{Rule, refusals, refusal, unless_refused, told_on, decided_call}
 use Rattle.xr_model.specs.machine.Rules.Sync.{getter_rule}
@@ -32,23 +35,23 @@ module _ (s : State) (e : Entry) (wanted : ActionType) (session action sub : ℕ
   all_stays = stays (refusal e.short made)
 
 pub getters_change_nothing : GettersChangeNothing
-getters_change_nothing s e is = by e.request is
+getters_change_nothing s e is = by e.call is
   where
-    by : (r : Request) → is_getter r ≡ true → (step s (record e { request = r })).0 ≡ s
-    by (get_boolean session action sub) is = all_stays s e type.Boolean session action sub
-    by (get_float session action sub) is = all_stays s e type.Float session action sub
-    by (get_vector session action sub) is = all_stays s e type.Vector session action sub
-    by (get_pose_active session action sub) is = all_stays s e type.Pose session action sub
+    by : (r : Call) → is_getter r ≡ true → (step s (record e { call = r })).0 ≡ s
+    by (ask.GetBoolean session action sub) is = all_stays s e type.Boolean session action sub
+    by (ask.GetFloat session action sub) is = all_stays s e type.Float session action sub
+    by (ask.GetVector session action sub) is = all_stays s e type.Vector session action sub
+    by (ask.GetPoseActive session action sub) is = all_stays s e type.Pose session action sub
     by _ is = absurd (true≢false (sym is))
 
 pub getters_are_ready : GettersAreReady
-getters_are_ready s e is = by e.request is
+getters_are_ready s e is = by e.call is
   where
-    by : (r : Request) → is_getter r ≡ true → ready s (record e { request = r }) ≡ true
-    by (get_boolean session action sub) is = refl
-    by (get_float session action sub) is = refl
-    by (get_vector session action sub) is = refl
-    by (get_pose_active session action sub) is = refl
+    by : (r : Call) → is_getter r ≡ true → ready s (record e { call = r }) ≡ true
+    by (ask.GetBoolean session action sub) is = refl
+    by (ask.GetFloat session action sub) is = refl
+    by (ask.GetVector session action sub) is = refl
+    by (ask.GetPoseActive session action sub) is = refl
     by _ is = absurd (true≢false (sym is))
 
 -- ---- what it is answered
@@ -61,20 +64,20 @@ module _ (s : CoreState) (wanted : ActionType) (session action sub : ℕ) where
   published = publication_of s
 
   -- by what refuses it
-  carried : (o : Option Refusal) → answered published o (getter_gives published wanted (published_at published action) sub) ≡ (decided_call s (get_boolean session action sub) (unless_refused s o (told_on asked.on asked.effect))).1
+  carried : (o : Option Refusal) → answered published o (getter_gives published wanted (published_at published action) sub) ≡ (decided_call s (ask.GetBoolean session action sub) (unless_refused s o (told_on asked.on asked.effect))).1
   carried None = refl
   carried (Some r) = refl
 
   all_carried : answered published (first_of (refusals asked)) (getter_gives published wanted (published_at published action) sub)
-      ≡ (decided_call s (get_boolean session action sub) (unless_refused s (first_of (refusals asked)) (told_on asked.on asked.effect))).1
+      ≡ (decided_call s (ask.GetBoolean session action sub) (unless_refused s (first_of (refusals asked)) (told_on asked.on asked.effect))).1
   all_carried = carried (first_of (refusals asked))
 
 pub getters_read : GettersRead
-getters_read s e is = by e.request is
+getters_read s e is = by e.call is
   where
-    by : (r : Request) → is_getter r ≡ true → reads (publication_of s.core) r ≡ Some (step s (record e { request = r })).1
-    by (get_boolean session action sub) is = ap Some (all_carried s.core type.Boolean session action sub)
-    by (get_float session action sub) is = ap Some (all_carried s.core type.Float session action sub)
-    by (get_vector session action sub) is = ap Some (all_carried s.core type.Vector session action sub)
-    by (get_pose_active session action sub) is = ap Some (all_carried s.core type.Pose session action sub)
+    by : (r : Call) → is_getter r ≡ true → reads (publication_of s.core) r ≡ Some (step s (record e { call = r })).1
+    by (ask.GetBoolean session action sub) is = ap Some (all_carried s.core type.Boolean session action sub)
+    by (ask.GetFloat session action sub) is = ap Some (all_carried s.core type.Float session action sub)
+    by (ask.GetVector session action sub) is = ap Some (all_carried s.core type.Vector session action sub)
+    by (ask.GetPoseActive session action sub) is = ap Some (all_carried s.core type.Pose session action sub)
     by _ is = absurd (true≢false (sym is))

@@ -3,7 +3,7 @@ use Rattle.std.proofs.Common.{◌≡◌, ◌≢◌, ◌+◌, ◌≤◌, ◌==◌
 use Rattle.std.specs.Prelude.{slice_get, if◌then◌else◌}
 use Rattle.xr_types.specs.declared.calls.Actor.{Actor}
 use Rattle.xr_types.specs.declared.calls.Actor.TheVariants.{App, Compositor, Device}
-use Rattle.xr_model.specs.machine.Request.{Entry, Exchange, is_actor}
+use Rattle.xr_model.specs.machine.Calls.{Entry, Exchange, is_actor}
 use Rattle.xr_model.specs.machine.State.{State, opening, with_apps}
 use Rattle.xr_model.specs.machine.Machine.{IsPresent, step}
 use Rattle.xr_model.specs.machine.History.{after, calls_from, clocks_after, opening_clocks, IsLegalFrom}
@@ -31,7 +31,7 @@ pub calls_in_turn : (s : State) (who : Actor) (es fs : List Entry) → calls_fro
 calls_in_turn s who [] fs = refl
 calls_in_turn s who (e ∷ es) fs =
     let t = (step s e).0 in
-    let x : Exchange = record { request = e.request; outcome = (step s e).1 } in
+    let x : Exchange = record { call = e.call; outcome = (step s e).1 } in
     ap (added (is_actor who e.actor) x) (calls_in_turn t who es fs)
     ∙ added_behind (is_actor who e.actor) x (calls_from t who es) (calls_from (after t es) who fs)
 
@@ -57,7 +57,7 @@ none_made : (s : State) (who : Actor) (fs gs : List Entry) → calls_from s who 
 none_made s who [] gs e = (refl, refl)
 none_made s who (f ∷ fs) gs e =
     let t = (step s f).0 in
-    let z = not_added (is_actor who f.actor) (record { request = f.request; outcome = (step s f).1 }) (calls_from t who (fs ++ gs)) e in
+    let z = not_added (is_actor who f.actor) (record { call = f.call; outcome = (step s f).1 }) (calls_from t who (fs ++ gs)) e in
     let more = none_made t who fs gs z.1 in
     (rw (z.0, more.0) refl, rw z.0 more.1)
 

@@ -5,7 +5,9 @@ use Rattle.xr_types.specs.Code.{is_success}
 use Rattle.xr_types.specs.declared.code.Code.{Code}
 use Rattle.xr_types.specs.declared.code.Code.TheVariants.{HandleInvalid, CallOrderInvalid}
 use Rattle.xr_types.specs.declared.handles.Kind.TheVariants as kind
-use Rattle.xr_model.specs.machine.Request.{Entry, Request, create_instance, destroy_instance, create_session, destroy_session, create_reference_space, destroy_space, create_action_set, destroy_action_set, create_action, destroy_action, create_swapchain, destroy_swapchain, device, create_action_space}
+use Rattle.xr_model.specs.machine.Calls.{Entry}
+use Rattle.xr_types.specs.declared.calls.Call.{Call}
+use Rattle.xr_types.specs.declared.calls.Call.TheVariants as ask
 use Rattle.xr_model.specs.machine.Handles.{Handles, is_live, with_handle, without, without_alone, no_handle}
 use Rattle.xr_model.specs.machine.Refusals.{Refusal, when, first_of}
 use Rattle.xr_model.specs.machine.State.{CoreState, CellReads}
@@ -19,8 +21,8 @@ use Rattle.xr_model.proofs.Successes.{success_succeeds}
 use Rattle.xr_model.specs.machine.Rules.Device.{behind_event}
 use Rattle.xr_model.specs.machine.Machine.{core_step, rule}
 
-abbrev pub is_chain_creation : Request → Bool
-is_chain_creation (create_swapchain session format width height fixed) = true
+abbrev pub is_chain_creation : Call → Bool
+is_chain_creation (ask.CreateSwapchain session format width height fixed) = true
 is_chain_creation _ = false
 
 -- the entry gives a new handle
@@ -35,7 +37,7 @@ pub record Keeps (P : Handles → Type 0) (s : CoreState) (reads : CellReads) (e
   pub set : gives_handle s reads e ≡ true → (instance : ℕ) → is_live s.handles kind.Instance instance ≡ true → P (with_handle s.handles kind.ActionSet instance e.given)
   pub action : gives_handle s reads e ≡ true → (set : ℕ) → is_live s.handles kind.ActionSet set ≡ true → P (with_handle s.handles kind.Action set e.given)
   pub space : gives_handle s reads e ≡ true → (session : ℕ) → is_live s.handles kind.Session session ≡ true → P (with_handle s.handles kind.Space session e.given)
-  pub chain : is_chain_creation e.request ≡ true → gives_handle s reads e ≡ true → (session : ℕ) → is_live s.handles kind.Session session ≡ true → P (with_handle s.handles kind.Swapchain session e.given)
+  pub chain : is_chain_creation e.call ≡ true → gives_handle s reads e ≡ true → (session : ℕ) → is_live s.handles kind.Session session ≡ true → P (with_handle s.handles kind.Swapchain session e.given)
   pub without : (handle : ℕ) → P (without s.handles handle)
   pub alone : (space : ℕ) → P (without_alone s.handles kind.Space space)
   pub chain_alone : (chain : ℕ) → P (without_alone s.handles kind.Swapchain chain)
@@ -61,56 +63,56 @@ events_leave P s _ same = same
 
 -- the property holds after the entry
 pub kept_by_step : (P : Handles → Type 0) (s : CoreState) (reads : CellReads) (e : Entry) → Keeps P s reads e → P (core_step s reads e).0.handles
-kept_by_step P s reads e = by e.request
+kept_by_step P s reads e = by e.call
   where
-    by : (r : Request) → Keeps P s reads (record e { request = r }) → P (core_step s reads (record e { request = r })).0.handles
-    by (create_instance major minor) k =
-        let f = rule s reads (record e { request = create_instance major minor }) in
+    by : (r : Call) → Keeps P s reads (record e { call = r }) → P (core_step s reads (record e { call = r })).0.handles
+    by (ask.CreateInstance major minor) k =
+        let f = rule s reads (record e { call = ask.CreateInstance major minor }) in
         kept P s (refusal e.short f) (told_on f.on f.effect) k.same (λ none. k.instance (succeeds s (refusal e.short f) (told_on f.on f.effect) refl none))
-    by (create_session instance system) k =
-        let f = rule s reads (record e { request = create_session instance system }) in
+    by (ask.CreateSession instance system) k =
+        let f = rule s reads (record e { call = ask.CreateSession instance system }) in
         kept P s (refusal e.short f) (told_on f.on f.effect) k.same
         (λ none. k.session (succeeds s (refusal e.short f) (told_on f.on f.effect) refl none) instance (first_fails (is_live s.handles kind.Instance instance) HandleInvalid (when f.disorder CallOrderInvalid ∷ f.behind) none))
-    by (destroy_instance instance) k =
-        let f = rule s reads (record e { request = destroy_instance instance }) in
+    by (ask.DestroyInstance instance) k =
+        let f = rule s reads (record e { call = ask.DestroyInstance instance }) in
         kept P s (refusal e.short f) (told_on f.on f.effect) k.same (λ none. k.without instance)
-    by (destroy_session session) k =
-        let f = rule s reads (record e { request = destroy_session session }) in
+    by (ask.DestroySession session) k =
+        let f = rule s reads (record e { call = ask.DestroySession session }) in
         kept P s (refusal e.short f) (told_on f.on f.effect) k.same (λ none. k.without session)
-    by (create_reference_space session what offset) k =
-        let f = rule s reads (record e { request = create_reference_space session what offset }) in
+    by (ask.CreateReferenceSpace session what offset) k =
+        let f = rule s reads (record e { call = ask.CreateReferenceSpace session what offset }) in
         kept P s (refusal e.short f) (told_on f.on f.effect) k.same
         (λ none. k.space (succeeds s (refusal e.short f) (told_on f.on f.effect) (success_succeeds (loss_of (life_of s session))) none) session
         (first_fails (is_live s.handles kind.Session session) HandleInvalid (is_lost (life_of s session) ∷ when f.disorder CallOrderInvalid ∷ f.behind) none))
-    by (create_action_space session action sub offset) k =
-        let f = rule s reads (record e { request = create_action_space session action sub offset }) in
+    by (ask.CreateActionSpace session action sub offset) k =
+        let f = rule s reads (record e { call = ask.CreateActionSpace session action sub offset }) in
         kept P s (refusal e.short f) (told_on f.on f.effect) k.same
         (λ none. k.space (succeeds s (refusal e.short f) (told_on f.on f.effect) (success_succeeds (loss_of (life_of s session))) none) session
         (first_fails (is_live s.handles kind.Session session) HandleInvalid (no_handle s.handles kind.Action action ∷ is_lost (life_of s session) ∷ when f.disorder CallOrderInvalid ∷ f.behind) none))
-    by (create_swapchain session format width height fixed) k =
-        let f = rule s reads (record e { request = create_swapchain session format width height fixed }) in
+    by (ask.CreateSwapchain session format width height fixed) k =
+        let f = rule s reads (record e { call = ask.CreateSwapchain session format width height fixed }) in
         kept P s (refusal e.short f) (told_on f.on f.effect) k.same
         (λ none. k.chain refl (succeeds s (refusal e.short f) (told_on f.on f.effect) (success_succeeds (loss_of (life_of s session))) none) session
         (first_fails (is_live s.handles kind.Session session) HandleInvalid (is_lost (life_of s session) ∷ when f.disorder CallOrderInvalid ∷ f.behind) none))
-    by (destroy_swapchain chain) k =
-        let f = rule s reads (record e { request = destroy_swapchain chain }) in
+    by (ask.DestroySwapchain chain) k =
+        let f = rule s reads (record e { call = ask.DestroySwapchain chain }) in
         kept P s (refusal e.short f) (told_on f.on f.effect) k.same (λ none. k.chain_alone chain)
-    by (destroy_space space) k =
-        let f = rule s reads (record e { request = destroy_space space }) in
+    by (ask.DestroySpace space) k =
+        let f = rule s reads (record e { call = ask.DestroySpace space }) in
         kept P s (refusal e.short f) (told_on f.on f.effect) k.same (λ none. k.alone space)
-    by (create_action_set instance name localized priority) k =
-        let f = rule s reads (record e { request = create_action_set instance name localized priority }) in
+    by (ask.CreateActionSet instance name localized priority) k =
+        let f = rule s reads (record e { call = ask.CreateActionSet instance name localized priority }) in
         kept P s (refusal e.short f) (told_on f.on f.effect) k.same
         (λ none. k.set (succeeds s (refusal e.short f) (told_on f.on f.effect) refl none) instance (first_fails (is_live s.handles kind.Instance instance) HandleInvalid (when f.disorder CallOrderInvalid ∷ f.behind) none))
-    by (destroy_action_set set) k =
-        let f = rule s reads (record e { request = destroy_action_set set }) in
+    by (ask.DestroyActionSet set) k =
+        let f = rule s reads (record e { call = ask.DestroyActionSet set }) in
         kept P s (refusal e.short f) (told_on f.on f.effect) k.same (λ none. k.without set)
-    by (create_action set name type subs localized) k =
-        let f = rule s reads (record e { request = create_action set name type subs localized }) in
+    by (ask.CreateAction set name type subs localized) k =
+        let f = rule s reads (record e { call = ask.CreateAction set name type subs localized }) in
         kept P s (refusal e.short f) (told_on f.on f.effect) k.same
         (λ none. k.action (succeeds s (refusal e.short f) (told_on f.on f.effect) refl none) set (first_fails (is_live s.handles kind.ActionSet set) HandleInvalid (when f.disorder CallOrderInvalid ∷ f.behind) none))
-    by (destroy_action action) k =
-        let f = rule s reads (record e { request = destroy_action action }) in
+    by (ask.DestroyAction action) k =
+        let f = rule s reads (record e { call = ask.DestroyAction action }) in
         kept P s (refusal e.short f) (told_on f.on f.effect) k.same (λ none. k.without action)
-    by (device what) k = events_leave P s what k.same
-    by r k = let f = rule s reads (record e { request = r }) in kept P s (refusal e.short f) (told_on f.on f.effect) k.same (λ none. k.same)
+    by (ask.Device what) k = events_leave P s what k.same
+    by r k = let f = rule s reads (record e { call = r }) in kept P s (refusal e.short f) (told_on f.on f.effect) k.same (λ none. k.same)

@@ -5,7 +5,9 @@ use Rattle.std.proofs.lemmas.Bool.Decides.{nat_tests}
 use Rattle.xr_types.specs.declared.frames.Image.{Image}
 use Rattle.xr_model.specs.machine.Frames.{is_empty}
 use Rattle.xr_model.specs.machine.Refusals.{Refusal}
-use Rattle.xr_model.specs.machine.Request.{Request, Entry, next_frame, image_done}
+use Rattle.xr_model.specs.machine.Calls.{Entry}
+use Rattle.xr_types.specs.declared.calls.Call.{Call}
+use Rattle.xr_types.specs.declared.calls.Call.TheVariants as ask
 use Rattle.xr_model.specs.machine.State.{Settings, CoreState, CellReads, State, opening}
 use Rattle.xr_model.specs.machine.SessionRule.{Loss}
 use Rattle.xr_model.specs.machine.Rule.{Rule, Did, nothing_done, refusal, told_on, unless_refused, carried_out}
@@ -27,9 +29,9 @@ did_kept P s short f nothing done = by (refusal short f) f.on
     by (Some r) on = nothing
 
 -- the compositor's calls
-abbrev pub IsAside : Request → Type 0
-IsAside next_frame = ⊥
-IsAside image_done = ⊥
+abbrev pub IsAside : Call → Type 0
+IsAside ask.NextFrame = ⊥
+IsAside ask.ImageDone = ⊥
 IsAside _ = Unit {0}
 
 -- nothing was taken or given back
@@ -38,13 +40,13 @@ pub record LeavesHeld (did : Did) : Type 0 where
   pub returned : did.returned ≡ []
 
 -- the other calls leave what is held
-pub leaves_held : (s : CoreState) (reads : CellReads) (e : Entry) → IsAside e.request → LeavesHeld (effect s reads e).did
-leaves_held s reads e = by e.request
+pub leaves_held : (s : CoreState) (reads : CellReads) (e : Entry) → IsAside e.call → LeavesHeld (effect s reads e).did
+leaves_held s reads e = by e.call
   where
-    by : (r : Request) → IsAside r → LeavesHeld (effect s reads (record e { request = r })).did
-    by next_frame aside = absurd aside
-    by image_done aside = absurd aside
-    by r aside = did_kept LeavesHeld s e.short (rule s reads (record e { request = r })) (record { taken = refl; returned = refl }) (record { taken = refl; returned = refl })
+    by : (r : Call) → IsAside r → LeavesHeld (effect s reads (record e { call = r })).did
+    by ask.NextFrame aside = absurd aside
+    by ask.ImageDone aside = absurd aside
+    by r aside = did_kept LeavesHeld s e.short (rule s reads (record e { call = r })) (record { taken = refl; returned = refl }) (record { taken = refl; returned = refl })
 
 -- ---- what is held
 
@@ -60,13 +62,13 @@ left : (did : Did) (held : List Image) (past : List Decided) → did.taken ≡ [
 left did held past taken returned fits = rw (taken, returned) (omega (arith, fits))
 
 held_step : (s : State) (e : Entry) (past : List Decided) → HeldFits s.cells.held past → HeldFits (step s e).0.cells.held (decided s e ∷ past)
-held_step s e past fits = by e.request
+held_step s e past fits = by e.call
   where
-    by : (r : Request) → HeldFits (step s (record e { request = r })).0.cells.held (decided s (record e { request = r }) ∷ past)
-    by next_frame = taken (refusal e.short f) refl
+    by : (r : Call) → HeldFits (step s (record e { call = r })).0.cells.held (decided s (record e { call = r }) ∷ past)
+    by ask.NextFrame = taken (refusal e.short f) refl
       where
         f : Rule
-        f = rule s.core (reads_of s next_frame) (record e { request = next_frame })
+        f = rule s.core (reads_of s ask.NextFrame) (record e { call = ask.NextFrame })
 
         taken : (o : Option Refusal) → refusal e.short f ≡ o → length (unless_refused s.core o f.effect).did.taken + taken_images past ≡ given_back past + length (held_after s.cells.held (unless_refused s.core o f.effect).did)
         taken (Some r) found = omega (arith, fits)
@@ -74,14 +76,14 @@ held_step s e past fits = by e.request
             let none = none_is_empty s.cells.held (not_false (is_empty s.cells.held) (clear f e.short found).order) in
             let same : taken_images past ≡ given_back past + 0 = rw none at fits in
             rw (none, append-nil (first_images s.core.frames.pending)) (omega (arith, same))
-    by image_done = gives s.cells.held refl fits
+    by ask.ImageDone = gives s.cells.held refl fits
       where
-        gives : (hs : List Image) → s.cells.held ≡ hs → HeldFits hs past → HeldFits (step s (record e { request = image_done })).0.cells.held (decided s (record e { request = image_done }) ∷ past)
+        gives : (hs : List Image) → s.cells.held ≡ hs → HeldFits hs past → HeldFits (step s (record e { call = ask.ImageDone })).0.cells.held (decided s (record e { call = ask.ImageDone }) ∷ past)
         gives [] is fits = rw is (omega (arith, fits))
         gives (i ∷ hs) is fits = rw is (omega (arith, fits))
     by r =
-        let still = leaves_held s.core (reads_of s r) (record e { request = r }) tt in
-        left (effect s.core (reads_of s r) (record e { request = r })).did s.cells.held past still.taken still.returned fits
+        let still = leaves_held s.core (reads_of s r) (record e { call = r }) tt in
+        left (effect s.core (reads_of s r) (record e { call = r })).did s.cells.held past still.taken still.returned fits
 
 held_after_all : (s : State) (past : List Decided) (es : List Entry) → HeldFits s.cells.held past → HeldFits (after s es).cells.held (past_from s past es)
 held_after_all s past [] fits = fits

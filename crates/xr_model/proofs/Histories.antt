@@ -8,7 +8,10 @@ use Rattle.xr_model.specs.machine.SessionRule.{Loss}
 use Rattle.xr_model.proofs.Successes.{success_still, begun_succeeds}
 use Rattle.xr_types.specs.declared.device.DeviceEvent.TheVariants as event
 use Rattle.xr_model.specs.machine.Publishing.{is_published}
-use Rattle.xr_model.specs.machine.Request.{Entry, Outcome, is_locked, Request, create_session, destroy_session, create_action, destroy_action, destroy_action_set, destroy_instance, attach_sets, sync_actions, device, begin_frame, leave}
+use Rattle.xr_types.specs.CallKinds.{is_locked}
+use Rattle.xr_model.specs.machine.Calls.{Entry, Outcome}
+use Rattle.xr_types.specs.declared.calls.Call.{Call}
+use Rattle.xr_types.specs.declared.calls.Call.TheVariants as ask
 use Rattle.xr_model.specs.machine.Refusals.{Refusal}
 use Rattle.xr_model.specs.machine.State.{CoreState, CellReads, State}
 use Rattle.xr_model.specs.machine.Rule.{Effect, refusal, told_on, unless_refused, nothing_done, locked_after, published_after}
@@ -40,12 +43,12 @@ synced_succeeds false = refl
 
 -- the effect of every rule is a success
 effects_succeed : (s : CoreState) (reads : CellReads) (e : Entry) → is_success (rule s reads e).effect.code ≡ true
-effects_succeed s reads e = by e.request
+effects_succeed s reads e = by e.call
   where
-    by : (r : Request) → is_success (rule s reads (record e { request = r })).effect.code ≡ true
-    by (begin_frame session) = begun_succeeds s.frames.frame_loop
-    by (sync_actions session active) = synced_succeeds (is_state (life_of s session).state Focused)
-    by leave = refl
+    by : (r : Call) → is_success (rule s reads (record e { call = r })).effect.code ≡ true
+    by (ask.BeginFrame session) = begun_succeeds s.frames.frame_loop
+    by (ask.SyncActions session active) = synced_succeeds (is_state (life_of s session).state Focused)
+    by ask.Leave = refl
     by _ = refl
 
 told_succeeds : (on : Option Loss) (x : Effect) → is_success x.code ≡ true → is_success (told_on on x).code ≡ true
@@ -53,8 +56,8 @@ told_succeeds None x good = good
 told_succeeds (Some loss) x good = success_still loss x.code good
 
 -- what an effect that did nothing leaves of the whole state
-left_whole : (s : State) (e : Entry) (x : Effect) → x.state ≡ s.core → x.did ≡ nothing_done → published_after s.core e.request x.code ≡ s.core.published
-    → record { core = record x.state { apps = s.core.apps; locked = locked_after s.core e.request; published = published_after s.core e.request x.code }; cells = cells_after s.cells x.did } ≡ record s { core = record s.core { locked = locked_after s.core e.request } }
+left_whole : (s : State) (e : Entry) (x : Effect) → x.state ≡ s.core → x.did ≡ nothing_done → published_after s.core e.call x.code ≡ s.core.published
+    → record { core = record x.state { apps = s.core.apps; locked = locked_after s.core e.call; published = published_after s.core e.call x.code }; cells = cells_after s.cells x.did } ≡ record s { core = record s.core { locked = locked_after s.core e.call } }
 left_whole s e x state did same = rw (state, did, same) refl
 
 -- a call without an effect publishes nothing
@@ -64,36 +67,36 @@ silent SessionLossPending bad = absurd (true≢false (sym bad))
 silent SessionNotFocused bad = absurd (true≢false (sym bad))
 silent _ bad = refl
 
-unpublished : (s : State) (e : Entry) → is_without_effect (step s e).1.reply.code ≡ true → published_after s.core e.request (step s e).1.reply.code ≡ s.core.published
-unpublished s e bad = by e.request bad
+unpublished : (s : State) (e : Entry) → is_without_effect (step s e).1.reply.code ≡ true → published_after s.core e.call (step s e).1.reply.code ≡ s.core.published
+unpublished s e bad = by e.call bad
   where
-    code_of : Request → Code
-    code_of r = (step s (record e { request = r })).1.reply.code
+    code_of : Call → Code
+    code_of r = (step s (record e { call = r })).1.reply.code
 
-    none : (r : Request) → is_without_effect (code_of r) ≡ true → (if is_published (code_of r) then s.core.locked + 1 else s.core.published) ≡ s.core.published
+    none : (r : Call) → is_without_effect (code_of r) ≡ true → (if is_published (code_of r) then s.core.locked + 1 else s.core.published) ≡ s.core.published
     none r bad = rw (silent (code_of r) bad) refl
 
-    by : (r : Request) → is_without_effect (code_of r) ≡ true → published_after s.core r (code_of r) ≡ s.core.published
-    by (create_session instance system) bad = none (create_session instance system) bad
-    by (destroy_session session) bad = none (destroy_session session) bad
-    by (create_action set name type subs localized) bad = none (create_action set name type subs localized) bad
-    by (destroy_action action) bad = none (destroy_action action) bad
-    by (destroy_action_set set) bad = none (destroy_action_set set) bad
-    by (destroy_instance instance) bad = none (destroy_instance instance) bad
-    by (attach_sets session sets) bad = none (attach_sets session sets) bad
-    by (sync_actions session active) bad = none (sync_actions session active) bad
-    by (device event.Loss) bad = absurd (true≢false (sym bad))
-    by (device event.Lost) bad = absurd (true≢false (sym bad))
-    by (device event.Fault) bad = absurd (true≢false (sym bad))
-    by (device (event.Garbled line)) bad = absurd (true≢false (sym bad))
-    by (device told) bad = refl
+    by : (r : Call) → is_without_effect (code_of r) ≡ true → published_after s.core r (code_of r) ≡ s.core.published
+    by (ask.CreateSession instance system) bad = none (ask.CreateSession instance system) bad
+    by (ask.DestroySession session) bad = none (ask.DestroySession session) bad
+    by (ask.CreateAction set name type subs localized) bad = none (ask.CreateAction set name type subs localized) bad
+    by (ask.DestroyAction action) bad = none (ask.DestroyAction action) bad
+    by (ask.DestroyActionSet set) bad = none (ask.DestroyActionSet set) bad
+    by (ask.DestroyInstance instance) bad = none (ask.DestroyInstance instance) bad
+    by (ask.AttachSets session sets) bad = none (ask.AttachSets session sets) bad
+    by (ask.SyncActions session active) bad = none (ask.SyncActions session active) bad
+    by (ask.Device event.Loss) bad = absurd (true≢false (sym bad))
+    by (ask.Device event.Lost) bad = absurd (true≢false (sym bad))
+    by (ask.Device event.Fault) bad = absurd (true≢false (sym bad))
+    by (ask.Device (event.Garbled line)) bad = absurd (true≢false (sym bad))
+    by (ask.Device told) bad = refl
     by r bad = refl
 
 pub refusals_change_nothing : RefusalsChangeNothing
 refusals_change_nothing s e bad =
-    let f = rule s.core (reads_of s e.request) e in
-    let both = refused_or_done s.core (refusal e.short f) (told_on f.on f.effect) (told_succeeds f.on f.effect (effects_succeed s.core (reads_of s e.request) e)) bad in
-    left_whole s e (effect s.core (reads_of s e.request) e) both.0 both.1 (unpublished s e bad)
+    let f = rule s.core (reads_of s e.call) e in
+    let both = refused_or_done s.core (refusal e.short f) (told_on f.on f.effect) (told_succeeds f.on f.effect (effects_succeed s.core (reads_of s e.call) e)) bad in
+    left_whole s e (effect s.core (reads_of s e.call) e) both.0 both.1 (unpublished s e bad)
 
 pub after_is_in_turn : AfterIsInTurn
 after_is_in_turn s [] fs = refl
@@ -104,11 +107,11 @@ counted : (b : Bool) (n : ℕ) → (if b then n + 1 else n) ≡ n + cond b 1 0
 counted true n = refl
 counted false n = omega arith
 
-step_counts : (s : State) (e : Entry) → (step s e).0.core.locked ≡ s.core.locked + cond (is_locked e.request) 1 0
-step_counts s e = counted (is_locked e.request) s.core.locked
+step_counts : (s : State) (e : Entry) → (step s e).0.core.locked ≡ s.core.locked + cond (is_locked e.call) 1 0
+step_counts s e = counted (is_locked e.call) s.core.locked
 
-one_more : (e : Entry) (es : List Entry) → count_locked (e ∷ es) ≡ count_locked es + cond (is_locked e.request) 1 0
-one_more e es = counted (is_locked e.request) (count_locked es)
+one_more : (e : Entry) (es : List Entry) → count_locked (e ∷ es) ≡ count_locked es + cond (is_locked e.call) 1 0
+one_more e es = counted (is_locked e.call) (count_locked es)
 
 pub entries_are_counted : EntriesAreCounted
 entries_are_counted s [] = omega arith

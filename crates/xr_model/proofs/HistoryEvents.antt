@@ -5,7 +5,9 @@ use Rattle.std.specs.List.{list_any, list_all}
 use Rattle.xr_types.specs.Code.{is_success}
 use Rattle.xr_types.specs.declared.session.Event.{Event}
 use Rattle.xr_types.specs.declared.session.Event.TheVariants as variant
-use Rattle.xr_model.specs.machine.Request.{Entry, Request, destroy_instance, poll_event}
+use Rattle.xr_model.specs.machine.Calls.{Entry}
+use Rattle.xr_types.specs.declared.calls.Call.{Call}
+use Rattle.xr_types.specs.declared.calls.Call.TheVariants as ask
 use Rattle.xr_types.specs.declared.handles.Kind.TheVariants as kind
 use Rattle.xr_model.specs.machine.Handles.{is_live}
 use Rattle.xr_model.specs.machine.Events.{Queue, no_events, polled, behind_poll, most_lost}
@@ -108,13 +110,13 @@ not_told false x e = refl
 not_told true x e = absurd (true≢false e)
 
 polled_so : (s : State) (e : Entry) → polls s e ≡ true → Stepped s e
-polled_so s e = by e.request
+polled_so s e = by e.call
   where
-    by : (r : Request) → polls s (record e { request = r }) ≡ true → Stepped s (record e { request = r })
-    by (poll_event instance) is =
-        let f = rule s.core (reads_of s (poll_event instance)) (record e { request = poll_event instance }) in
+    by : (r : Call) → polls s (record e { call = r }) ≡ true → Stepped s (record e { call = r })
+    by (ask.PollEvent instance) is =
+        let f = rule s.core (reads_of s (ask.PollEvent instance)) (record e { call = ask.PollEvent instance }) in
         let p = polling s.core (refusal e.short f) (first_none is_success (refusals f) refl) in
-        record { here = []; come = subst (λ (b : Bool). ComeBy b s (record e { request = poll_event instance }) []) (sym is) refl; steps = p.0; pushes = p.1; plain = refl; leads = p.2 }
+        record { here = []; come = subst (λ (b : Bool). ComeBy b s (record e { call = ask.PollEvent instance }) []) (sym is) refl; steps = p.0; pushes = p.1; plain = refl; leads = p.2 }
     by _ is = absurd (true≢false (sym is))
 
 stepped : (s : State) (e : Entry) → IsAllowed s e → AreKnown s.core.handles → AreListed s.core.handles s.core.sessions → AreApart s.core.sessions → ends s e ≡ false → Stepped s e
@@ -171,12 +173,12 @@ histories_add_up settings es fs legal empty stays =
 -- ---- the instance's end
 
 pub events_go : EventsGo
-events_go s e = by e.request
+events_go s e = by e.call
   where
-    by : (r : Request) → ends s (record e { request = r }) ≡ true → (step s (record e { request = r })).0.core.events ≡ no_events
-    by (destroy_instance instance) good = cases (is_live s.core.handles kind.Instance instance) refl
+    by : (r : Call) → ends s (record e { call = r }) ≡ true → (step s (record e { call = r })).0.core.events ≡ no_events
+    by (ask.DestroyInstance instance) good = cases (is_live s.core.handles kind.Instance instance) refl
       where
-        cases : (b : Bool) → is_live s.core.handles kind.Instance instance ≡ b → (step s (record e { request = destroy_instance instance })).0.core.events ≡ no_events
+        cases : (b : Bool) → is_live s.core.handles kind.Instance instance ≡ b → (step s (record e { call = ask.DestroyInstance instance })).0.core.events ≡ no_events
         cases true live = rw live refl
         cases false dead = absurd (true≢false (sym good ∙ rw dead refl))
     by _ good = absurd (true≢false (sym good))

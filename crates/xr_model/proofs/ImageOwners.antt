@@ -10,7 +10,9 @@ use Rattle.xr_types.specs.Frames.{PendingFrame}
 use Rattle.xr_model.specs.machine.Chains.{has_no_chain, Chain, free_place, is_chain, chain_at, place_of_chain, is_wait_wrong, oldest_of, oldest_index, oldest_image}
 use Rattle.xr_model.specs.machine.Handles.{is_live}
 use Rattle.xr_model.specs.machine.Images.{slot_of, times_in, uses_of, count_of}
-use Rattle.xr_model.specs.machine.Request.{Request, Entry, wait_image}
+use Rattle.xr_model.specs.machine.Calls.{Entry}
+use Rattle.xr_types.specs.declared.calls.Call.{Call}
+use Rattle.xr_types.specs.declared.calls.Call.TheVariants as ask
 use Rattle.xr_model.specs.machine.State.{CoreState, Settings, State, opening}
 use Rattle.xr_model.specs.machine.Rule.{Did}
 use Rattle.xr_model.specs.machine.Rules.Swapchains.{is_up}
@@ -160,21 +162,21 @@ IfClaimed s i t did = has_image i did.claimed ≡ true → (is_had s.core i ≡ 
 
 -- a wait gets an image that the state says is nobody's
 claims_nobodys : (s : State) (e : Entry) (i : Image) → ready s e ≡ true → has_image i (did_at s e).claimed ≡ true → (is_had s.core i ≡ false) × (count_now s i ≡ 0)
-claims_nobodys s e i is_ready = by e.request is_ready
+claims_nobodys s e i is_ready = by e.call is_ready
   where
-    by : (r : Request) → ready s (record e { request = r }) ≡ true → has_image i (did_at s (record e { request = r })).claimed ≡ true → (is_had s.core i ≡ false) × (count_now s i ≡ 0)
-    by (wait_image chain timeout start) is_ready =
-        let x = record e { request = wait_image chain timeout start } in
-        let f = rule s.core (reads_of s (wait_image chain timeout start)) x in
+    by : (r : Call) → ready s (record e { call = r }) ≡ true → has_image i (did_at s (record e { call = r })).claimed ≡ true → (is_had s.core i ≡ false) × (count_now s i ≡ 0)
+    by (ask.WaitImage chain timeout start) is_ready =
+        let x = record e { call = ask.WaitImage chain timeout start } in
+        let f = rule s.core (reads_of s (ask.WaitImage chain timeout start)) x in
         effect_kept (IfClaimed s i) s.core e.short f (λ claimed. absurd (true≢false (sym claimed))) (λ none claimed.
         let free = clear f e.short none in
         let some = wait_some (chain_at s.core.chains chain) free.order in
-        let unused = (reads_of s (wait_image chain timeout start)).unused in
+        let unused = (reads_of s (ask.WaitImage chain timeout start)).unused in
         let up = is_up s.core.device.clock timeout start in
-        let zero_count = is_unused unused up (is_ready_to s.core (reads_of s (wait_image chain timeout start)) x is_ready free.whole) (none_first (not unused && up) TimeoutExpired [] free.behind).0 in
+        let zero_count = is_unused unused up (is_ready_to s.core (reads_of s (ask.WaitImage chain timeout start)) x is_ready free.whole) (none_first (not unused && up) TimeoutExpired [] free.behind).0 in
         nobodys s.core.chains s.core.frames.pending s.cells.held i (place_of_chain s.core.chains chain) (chain_at s.core.chains chain) some.0 (found_at (is_chain chain) s.core.chains some.0 some.1) some.1
         (not_waited some.0 (sym (ap is_wait_wrong some.1) ∙ free.order)) (same_key (count_of s.core.frames.pending s.cells.held (slot_of (oldest_image s.core.chains chain))) 0 zero_count) claimed)
-    by r is_ready = effect_kept (IfClaimed s i) s.core e.short (rule s.core (reads_of s r) (record e { request = r })) (λ claimed. absurd (true≢false (sym claimed))) (λ none claimed. absurd (true≢false (sym claimed)))
+    by r is_ready = effect_kept (IfClaimed s i) s.core e.short (rule s.core (reads_of s r) (record e { call = r })) (λ claimed. absurd (true≢false (sym claimed))) (λ none claimed. absurd (true≢false (sym claimed)))
 
 pub waited_image_is_nobodys : WaitedImageIsNobodys
 waited_image_is_nobodys settings es e i legal placed claimed =

@@ -12,7 +12,9 @@ use Rattle.xr_model.specs.machine.Chains.{Chain, is_chain, chain_at, place_of_ch
 use Rattle.xr_model.specs.machine.Handles.{no_room}
 use Rattle.xr_model.specs.machine.Images.{Stamped, slot_of, uses_of, count_of, stamp_in, with_stamps, unstamped}
 use Rattle.xr_model.specs.machine.Refusals.{when}
-use Rattle.xr_model.specs.machine.Request.{Request, Entry, create_swapchain, paint}
+use Rattle.xr_model.specs.machine.Calls.{Entry}
+use Rattle.xr_types.specs.declared.calls.Call.{Call}
+use Rattle.xr_types.specs.declared.calls.Call.TheVariants as ask
 use Rattle.xr_model.specs.machine.State.{CoreState, State, opening}
 use Rattle.xr_model.specs.machine.Rule.{Did}
 use Rattle.xr_model.specs.machine.Machine.{rule, step, reads_of}
@@ -97,24 +99,24 @@ Stays s i t did = stamp_in (with_stamps did.stamped s.cells.stamps) i ≡ stamp_
 
 -- The stamp of an image that is used stays.
 pub used_stamp_stays : (s : State) (e : Entry) (i : Image) → StateIsSound s → count_now s i ≢ 0 → stamp_in (step s e).0.cells.stamps i ≡ stamp_in s.cells.stamps i
-used_stamp_stays s e i sound used = by e.request
+used_stamp_stays s e i sound used = by e.call
   where
-    by : (r : Request) → stamp_in (step s (record e { request = r })).0.cells.stamps i ≡ stamp_in s.cells.stamps i
-    by (create_swapchain session format width height fixed) =
-        let f = rule s.core (reads_of s (create_swapchain session format width height fixed)) (record e { request = create_swapchain session format width height fixed }) in
+    by : (r : Call) → stamp_in (step s (record e { call = r })).0.cells.stamps i ≡ stamp_in s.cells.stamps i
+    by (ask.CreateSwapchain session format width height fixed) =
+        let f = rule s.core (reads_of s (ask.CreateSwapchain session format width height fixed)) (record e { call = ask.CreateSwapchain session format width height fixed }) in
         effect_kept (Stays s i) s.core e.short f refl (λ none.
         let behind = (clear f e.short none).behind in
         let one = none_first (not (is_format format)) SwapchainFormatUnsupported (when (not (is_size width && is_size height)) ValidationFailure ∷ no_place s.core.chains ∷ no_room s.core.handles Swapchain ∷ []) behind in
         let two = none_first (not (is_size width && is_size height)) ValidationFailure (no_place s.core.chains ∷ no_room s.core.handles Swapchain ∷ []) one.1 in
         let free = not_false (has_free_place s.core.chains) (none_first (not (has_free_place s.core.chains)) LimitReached (no_room s.core.handles Swapchain ∷ []) two.1).0 in
         stamps_elsewhere i (unstamped (first_place s.core.chains)) s.cells.stamps (created_elsewhere s i sound used free))
-    by (paint chain n) =
-        let f = rule s.core (reads_of s (paint chain n)) (record e { request = paint chain n }) in
+    by (ask.Paint chain n) =
+        let f = rule s.core (reads_of s (ask.Paint chain n)) (record e { call = ask.Paint chain n }) in
         effect_kept (Stays s i) s.core e.short f refl (λ none.
         let order = (clear f e.short none).order in
         let some = paint_some (chain_at s.core.chains chain) order in
         stamps_elsewhere i (record { image = oldest_image s.core.chains chain; stamp = n } ∷ []) s.cells.stamps (painted_elsewhere s i sound used chain some.0 some.1 (was_waited some.0 (sym (ap is_paint_wrong some.1) ∙ order)), tt))
-    by r = effect_kept (Stays s i) s.core e.short (rule s.core (reads_of s r) (record e { request = r })) refl (λ none. refl)
+    by r = effect_kept (Stays s i) s.core e.short (rule s.core (reads_of s r) (record e { call = r })) refl (λ none. refl)
 
 some_more : (u r n : ℕ) → u ≡ r + n → nat_lt r u ≡ true → n ≢ 0
 some_more u r n e less z = absurd (omega (arith, e, z, below r u less))

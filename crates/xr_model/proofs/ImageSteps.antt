@@ -13,7 +13,9 @@ use Rattle.xr_model.specs.machine.Frames.{is_empty}
 use Rattle.xr_model.specs.machine.Handles.{Handles, no_room, is_live, without, without_alone}
 use Rattle.xr_model.specs.machine.Images.{slot_of, times_in, uses_of, count_of, first_images}
 use Rattle.xr_model.specs.machine.Refusals.{when}
-use Rattle.xr_model.specs.machine.Request.{Request, Entry, destroy_instance, destroy_session, destroy_action_set, destroy_action, create_swapchain, destroy_swapchain, acquire_image, wait_image, release_image, end_frame, next_frame, image_done, device}
+use Rattle.xr_model.specs.machine.Calls.{Entry}
+use Rattle.xr_types.specs.declared.calls.Call.{Call}
+use Rattle.xr_types.specs.declared.calls.Call.TheVariants as ask
 use Rattle.xr_model.specs.machine.State.{CoreState, State}
 use Rattle.xr_model.specs.machine.Rule.{Did, nothing_done}
 use Rattle.xr_model.specs.machine.Rules.Device.{behind_event}
@@ -49,17 +51,17 @@ taken_once [] held k none = refl
 taken_once (f ∷ fs) held k none = rw (none, append-nil f.images) (omega arith)
 
 count_step : (s : State) (e : Entry) (k : ℕ) → CountsBy s k (step s e).0.core (did_at s e)
-count_step s e k = by e.request
+count_step s e k = by e.call
   where
-    by : (r : Request) → CountsBy s k (step s (record e { request = r })).0.core (did_at s (record e { request = r }))
-    by (end_frame session time blend layers) = effect_kept (CountsBy s k) s.core e.short (rule s.core (reads_of s (end_frame session time blend layers)) (record e { request = end_frame session time blend layers })) refl
+    by : (r : Call) → CountsBy s k (step s (record e { call = r })).0.core (did_at s (record e { call = r }))
+    by (ask.EndFrame session time blend layers) = effect_kept (CountsBy s k) s.core e.short (rule s.core (reads_of s (ask.EndFrame session time blend layers)) (record e { call = ask.EndFrame session time blend layers })) refl
         (λ none. let more = uses_more s.core.frames.pending (new_frame s.core time layers) k in omega (arith, more))
-    by next_frame =
-        let f = rule s.core (reads_of s next_frame) (record e { request = next_frame }) in
+    by ask.NextFrame =
+        let f = rule s.core (reads_of s ask.NextFrame) (record e { call = ask.NextFrame }) in
         effect_kept (CountsBy s k) s.core e.short f refl (λ none. taken_once s.core.frames.pending s.cells.held k (none_is_empty s.cells.held (not_false (is_empty s.cells.held) (clear f e.short none).order)))
-    by image_done = effect_kept (CountsBy s k) s.core e.short (rule s.core (reads_of s image_done) (record e { request = image_done })) refl (λ none. returned_once (uses_of s.core.frames.pending k) s.cells.held k)
-    by (device what) = effect_kept (CountsBy s k) s.core e.short (rule s.core (reads_of s (device what)) (record e { request = device what })) refl (λ none. events_count s k what)
-    by r = effect_kept (CountsBy s k) s.core e.short (rule s.core (reads_of s r) (record e { request = r })) refl (λ none. refl)
+    by ask.ImageDone = effect_kept (CountsBy s k) s.core e.short (rule s.core (reads_of s ask.ImageDone) (record e { call = ask.ImageDone })) refl (λ none. returned_once (uses_of s.core.frames.pending k) s.cells.held k)
+    by (ask.Device what) = effect_kept (CountsBy s k) s.core e.short (rule s.core (reads_of s (ask.Device what)) (record e { call = ask.Device what })) refl (λ none. events_count s k what)
+    by r = effect_kept (CountsBy s k) s.core e.short (rule s.core (reads_of s r) (record e { call = r })) refl (λ none. refl)
 
 -- ---- owners
 
@@ -176,18 +178,18 @@ had_released i n o c is same waited = rw (same, is, waited) (own (oldest_of c.ac
     own false = refl
 
 had_step : (s : State) (e : Entry) (i : Image) → StandOnce s.core.handles → AreUnder s.core.handles → StateIsSound s → HadBy s.core i (step s e).0.core (did_at s e)
-had_step s e i once under sound = by e.request
+had_step s e i once under sound = by e.call
   where
-    by : (r : Request) → HadBy s.core i (step s (record e { request = r })).0.core (did_at s (record e { request = r }))
-    by (create_swapchain session format width height fixed) =
-        let f = rule s.core (reads_of s (create_swapchain session format width height fixed)) (record e { request = create_swapchain session format width height fixed }) in
+    by : (r : Call) → HadBy s.core i (step s (record e { call = r })).0.core (did_at s (record e { call = r }))
+    by (ask.CreateSwapchain session format width height fixed) =
+        let f = rule s.core (reads_of s (ask.CreateSwapchain session format width height fixed)) (record e { call = ask.CreateSwapchain session format width height fixed }) in
         effect_kept (HadBy s.core i) s.core e.short f refl (λ none.
         let behind = (clear f e.short none).behind in
         let one = none_first (not (is_format format)) SwapchainFormatUnsupported (when (not (is_size width && is_size height)) ValidationFailure ∷ no_place s.core.chains ∷ no_room s.core.handles Swapchain ∷ []) behind in
         let two = none_first (not (is_size width && is_size height)) ValidationFailure (no_place s.core.chains ∷ no_room s.core.handles Swapchain ∷ []) one.1 in
         had_created s i sound e.given width height fixed (not_false (has_free_place s.core.chains) (none_first (not (has_free_place s.core.chains)) LimitReached (no_room s.core.handles Swapchain ∷ []) two.1).0))
-    by (acquire_image chain) =
-        let f = rule s.core (reads_of s (acquire_image chain)) (record e { request = acquire_image chain }) in
+    by (ask.AcquireImage chain) =
+        let f = rule s.core (reads_of s (ask.AcquireImage chain)) (record e { call = ask.AcquireImage chain }) in
         effect_kept (HadBy s.core i) s.core e.short f refl (λ none.
         let some = acquire_some (chain_at s.core.chains chain) (clear f e.short none).order in
         had_chain s i sound chain acquiring some.0 nothing_done some.1 (λ eb good. still some.0 good some.0.has_waited refl) (λ eb b. refl))
@@ -195,44 +197,44 @@ had_step s e i once under sound = by e.request
         still : (c : Chain) → PlaceIsSound s.core.handles.chains c → (w : Bool) → c.has_waited ≡ w → w && (oldest_of (c.acquired ++ c.next ∷ []) == i.index) ≡ w && (oldest_of c.acquired == i.index)
         still c good true waited = ap (λ (n : ℕ). n == i.index) (oldest_stays s.core.handles.chains c c.next good waited)
         still c good false waited = refl
-    by (wait_image chain timeout start) =
-        let f = rule s.core (reads_of s (wait_image chain timeout start)) (record e { request = wait_image chain timeout start }) in
+    by (ask.WaitImage chain timeout start) =
+        let f = rule s.core (reads_of s (ask.WaitImage chain timeout start)) (record e { call = ask.WaitImage chain timeout start }) in
         effect_kept (HadBy s.core i) s.core e.short f refl (λ none.
         let order = (clear f e.short none).order in
         let some = wait_some (chain_at s.core.chains chain) order in
         had_chain s i sound chain waiting some.0 (record nothing_done { claimed = oldest_image s.core.chains chain ∷ [] }) some.1
         (λ eb good. had_waited i (place_of_chain s.core.chains chain) (chain_at s.core.chains chain) some.0 some.1 eb (not_waited some.0 (sym (ap is_wait_wrong some.1) ∙ order)))
         (λ eb b. rw eb refl))
-    by (release_image chain) =
-        let f = rule s.core (reads_of s (release_image chain)) (record e { request = release_image chain }) in
+    by (ask.ReleaseImage chain) =
+        let f = rule s.core (reads_of s (ask.ReleaseImage chain)) (record e { call = ask.ReleaseImage chain }) in
         effect_kept (HadBy s.core i) s.core e.short f refl (λ none.
         let order = (clear f e.short none).order in
         let some = paint_some (chain_at s.core.chains chain) order in
         had_chain s i sound chain releasing some.0 (record nothing_done { freed = oldest_image s.core.chains chain ∷ [] }) some.1
         (λ eb good. had_released i (place_of_chain s.core.chains chain) (chain_at s.core.chains chain) some.0 some.1 eb (was_waited some.0 (sym (ap is_paint_wrong some.1) ∙ order)))
         (λ eb b. rw eb refl))
-    by next_frame = effect_kept (HadBy s.core i) s.core e.short (rule s.core (reads_of s next_frame) (record e { request = next_frame })) refl (λ none. had_taken s i sound s.core.frames.pending)
-    by (destroy_instance instance) =
-        let f = rule s.core (reads_of s (destroy_instance instance)) (record e { request = destroy_instance instance }) in
+    by ask.NextFrame = effect_kept (HadBy s.core i) s.core e.short (rule s.core (reads_of s ask.NextFrame) (record e { call = ask.NextFrame })) refl (λ none. had_taken s i sound s.core.frames.pending)
+    by (ask.DestroyInstance instance) =
+        let f = rule s.core (reads_of s (ask.DestroyInstance instance)) (record e { call = ask.DestroyInstance instance }) in
         effect_kept (HadBy s.core i) s.core e.short f refl (λ none. had_without s i sound (without s.core.handles instance) f.effect.state f.effect.did refl refl refl)
-    by (destroy_session session) =
-        let f = rule s.core (reads_of s (destroy_session session)) (record e { request = destroy_session session }) in
+    by (ask.DestroySession session) =
+        let f = rule s.core (reads_of s (ask.DestroySession session)) (record e { call = ask.DestroySession session }) in
         effect_kept (HadBy s.core i) s.core e.short f refl (λ none. had_without s i sound (without s.core.handles session) f.effect.state f.effect.did refl refl refl)
-    by (destroy_swapchain chain) =
-        let f = rule s.core (reads_of s (destroy_swapchain chain)) (record e { request = destroy_swapchain chain }) in
+    by (ask.DestroySwapchain chain) =
+        let f = rule s.core (reads_of s (ask.DestroySwapchain chain)) (record e { call = ask.DestroySwapchain chain }) in
         effect_kept (HadBy s.core i) s.core e.short f refl (λ none. had_without s i sound (without_alone s.core.handles Swapchain chain) f.effect.state f.effect.did refl refl refl)
-    by (destroy_action_set set) =
-        let f = rule s.core (reads_of s (destroy_action_set set)) (record e { request = destroy_action_set set }) in
+    by (ask.DestroyActionSet set) =
+        let f = rule s.core (reads_of s (ask.DestroyActionSet set)) (record e { call = ask.DestroyActionSet set }) in
         effect_kept (HadBy s.core i) s.core e.short f refl (λ none.
         let same = set_leaves_chains s.core.handles set once under (is_live_by (is_live s.core.handles ActionSet set) (clear f e.short none).handles) in
         had_swept s i sound (without s.core.handles set) (is_place_used s.core.frames.pending s.core.shown_images) (λ q live. subst (λ (row : List Slot). is_live_in row q ≡ true) (sym same) live))
-    by (destroy_action action) =
-        let f = rule s.core (reads_of s (destroy_action action)) (record e { request = destroy_action action }) in
+    by (ask.DestroyAction action) =
+        let f = rule s.core (reads_of s (ask.DestroyAction action)) (record e { call = ask.DestroyAction action }) in
         effect_kept (HadBy s.core i) s.core e.short f refl (λ none.
         let same = action_leaves_chains s.core.handles action once under (is_live_by (is_live s.core.handles Action action) (clear f e.short none).handles) in
         had_swept s i sound (without s.core.handles action) (is_place_used s.core.frames.pending s.core.shown_images) (λ q live. subst (λ (row : List Slot). is_live_in row q ≡ true) (sym same) live))
-    by (device what) = effect_kept (HadBy s.core i) s.core e.short (rule s.core (reads_of s (device what)) (record e { request = device what })) refl (λ none. events_had s.core i what)
-    by r = effect_kept (HadBy s.core i) s.core e.short (rule s.core (reads_of s r) (record e { request = r })) refl (λ none. refl)
+    by (ask.Device what) = effect_kept (HadBy s.core i) s.core e.short (rule s.core (reads_of s (ask.Device what)) (record e { call = ask.Device what })) refl (λ none. events_had s.core i what)
+    by r = effect_kept (HadBy s.core i) s.core e.short (rule s.core (reads_of s r) (record e { call = r })) refl (λ none. refl)
 
 pub image_steps : (s : State) (e : Entry) (i : Image) → StandOnce s.core.handles → AreUnder s.core.handles → StateIsSound s → ImageSteps s e i
 image_steps s e i once under sound = record { count = count_step s e (slot_of i); had = had_step s e i once under sound }

@@ -3,7 +3,8 @@ use Rattle.std.proofs.Common.{arith, ◌≡◌, ◌&&◌, ℕ, ℤ, zero, suc, n
 use Rattle.std.specs.Prelude.{int_le, int_lt, slice_get, slice_set, unwrap_or, if◌then◌else◌}
 use Rattle.std.specs.List.{list_all, find}
 use Rattle.xr_types.specs.declared.spaces.TheConstants.{ORIGINS, SAMPLES}
-use Rattle.xr_model.specs.machine.Request.{Entry, Request}
+use Rattle.xr_model.specs.machine.Calls.{Entry}
+use Rattle.xr_types.specs.declared.calls.Call.{Call}
 use Rattle.xr_model.specs.machine.Spaces.{Sample, with_sample, samples_of, with_sample_of, origin_place, pose_at}
 use Rattle.xr_model.specs.machine.State.{State, opening}
 use Rattle.xr_model.specs.machine.Machine.{step, reads_of}
@@ -21,7 +22,7 @@ set_length (x ∷ xs) zero a = refl
 set_length (x ∷ xs) (suc i) a = let more = set_length xs i a in omega (arith, more)
 
 rows_step : (s : State) (e : Entry) → length s.core.spaces.samples ≡ ORIGINS → length (step s e).0.core.spaces.samples ≡ ORIGINS
-rows_step s e rows = kept_by_step (λ h sp st su. length sp.samples ≡ ORIGINS) s.core (reads_of s e.request) e (record {
+rows_step s e rows = kept_by_step (λ h sp st su. length sp.samples ≡ ORIGINS) s.core (reads_of s e.call) e (record {
   same = rows;
   instance = λ gives. rows;
   session = λ gives instance. rows;
@@ -93,7 +94,7 @@ taken_where time pose (newest ∷ older) fall = by (int_lt newest.time time) ref
 pub later_poses_are_taken : LaterPosesAreTaken
 later_poses_are_taken settings es e origin time pose asks inside =
     subst
-    (λ (r : Request). TakenWhere (is_after_all time old) old (samples_of (step s (record e { request = r })).0.core.spaces.samples origin) time pose)
+    (λ (r : Call). TakenWhere (is_after_all time old) old (samples_of (step s (record e { call = r })).0.core.spaces.samples origin) time pose)
     (sym asks)
     (subst (λ (new : List Sample). TakenWhere (is_after_all time old) old new time pose) (sym own) (taken_where time pose old fall))
   where

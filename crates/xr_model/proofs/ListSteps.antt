@@ -11,7 +11,9 @@ use Rattle.xr_types.specs.declared.input.Bound.{Bound}
 use Rattle.xr_types.specs.declared.input.Profile.{Profile}
 use Rattle.xr_types.specs.declared.spaces.Origin.{Origin}
 use Rattle.xr_types.specs.declared.spaces.Root.{Root}
-use Rattle.xr_model.specs.machine.Request.{Entry, Request, create_instance, destroy_instance, create_session, destroy_session, create_reference_space, destroy_space, create_action_set, destroy_action_set, create_action, destroy_action, suggest_bindings, attach_sets, device, create_swapchain, destroy_swapchain, create_action_space}
+use Rattle.xr_model.specs.machine.Calls.{Entry}
+use Rattle.xr_types.specs.declared.calls.Call.{Call}
+use Rattle.xr_types.specs.declared.calls.Call.TheVariants as ask
 use Rattle.xr_model.specs.machine.Handles.{Handles, is_live, has_room, no_handle, no_room, with_handle, without, without_alone, destroyed_by}
 use Rattle.xr_model.specs.machine.Bindings.{without_suggestions, number_checks}
 use Rattle.xr_model.specs.machine.Refusals.{Refusal, when, first_of}
@@ -90,29 +92,29 @@ kept P s None x same done = done refl
 kept P s (Some r) x same done = same
 
 module _ (P : Handles → Spaces → Sets → List (List Bound) → Type 0) (s : CoreState) (reads : CellReads) (e : Entry) where
-  events : (what : DeviceEvent) → Keeps P s reads (record e { request = device what }) → Has P (behind_event s what)
+  events : (what : DeviceEvent) → Keeps P s reads (record e { call = ask.Device what }) → Has P (behind_event s what)
   events (event.Clock time) k = k.same
   events (event.Pose origin time pose) k = k.sample origin time pose
   events _ k = k.same
 
 -- the property holds after the entry
 pub kept_by_step : (P : Handles → Spaces → Sets → List (List Bound) → Type 0) (s : CoreState) (reads : CellReads) (e : Entry) → Keeps P s reads e → Has P (core_step s reads e).0
-kept_by_step P s reads e = by e.request
+kept_by_step P s reads e = by e.call
   where
-    by : (r : Request) → Keeps P s reads (record e { request = r }) → Has P (core_step s reads (record e { request = r })).0
-    by (create_instance major minor) k =
-        let f = rule s reads (record e { request = create_instance major minor }) in
+    by : (r : Call) → Keeps P s reads (record e { call = r }) → Has P (core_step s reads (record e { call = r })).0
+    by (ask.CreateInstance major minor) k =
+        let f = rule s reads (record e { call = ask.CreateInstance major minor }) in
         kept P s (refusal e.short f) (told_on f.on f.effect) k.same (λ none. k.instance (succeeds s (refusal e.short f) (told_on f.on f.effect) refl none))
-    by (create_session instance system) k =
-        let f = rule s reads (record e { request = create_session instance system }) in
+    by (ask.CreateSession instance system) k =
+        let f = rule s reads (record e { call = ask.CreateSession instance system }) in
         kept P s (refusal e.short f) (told_on f.on f.effect) k.same (λ none. k.session (succeeds s (refusal e.short f) (told_on f.on f.effect) refl none) instance)
-    by (create_action_set instance name localized priority) k =
-        let f = rule s reads (record e { request = create_action_set instance name localized priority }) in
+    by (ask.CreateActionSet instance name localized priority) k =
+        let f = rule s reads (record e { call = ask.CreateActionSet instance name localized priority }) in
         let front = no_handle s.handles kind.Instance instance ∷ when false CallOrderInvalid ∷ [] in
         kept P s (refusal e.short f) (told_on f.on f.effect) k.same
         (λ none. k.set (succeeds s (refusal e.short f) (told_on f.on f.effect) refl none) (has_place s.handles kind.ActionSet (none_behind (front ++ set_checks s.sets name localized) (no_room s.handles kind.ActionSet ∷ []) none)) instance name localized priority)
-    by (create_action set name type subs localized) k =
-        let f = rule s reads (record e { request = create_action set name type subs localized }) in
+    by (ask.CreateAction set name type subs localized) k =
+        let f = rule s reads (record e { call = ask.CreateAction set name type subs localized }) in
         let last = no_room s.handles kind.Action ∷ [] in
         let labels = action_label_checks s.sets set localized in
         let subs_ = sub_checks s.atoms no_users subs in
@@ -123,46 +125,46 @@ kept_by_step P s reads e = by e.request
         let room = has_place s.handles kind.Action (none_behind labels last (none_behind subs_ (labels ++ last) (none_behind names (subs_ ++ (labels ++ last)) behind))) in
         k.action (succeeds s (refusal e.short f) (told_on f.on f.effect) refl none) room (new_action s e.given set name type subs localized) refl
         (first_fails (is_live s.handles kind.ActionSet set) HandleInvalid (when f.disorder CallOrderInvalid ∷ f.behind) none) (none_front names (subs_ ++ (labels ++ last)) behind))
-    by (create_reference_space session what offset) k =
-        let f = rule s reads (record e { request = create_reference_space session what offset }) in
+    by (ask.CreateReferenceSpace session what offset) k =
+        let f = rule s reads (record e { call = ask.CreateReferenceSpace session what offset }) in
         let front = no_handle s.handles kind.Session session ∷ is_lost (life_of s session) ∷ when false CallOrderInvalid ∷ [] in
         kept P s (refusal e.short f) (told_on f.on f.effect) k.same
         (λ none. k.space (succeeds s (refusal e.short f) (told_on f.on f.effect) (success_succeeds (loss_of (life_of s session))) none)
         (has_place s.handles kind.Space (none_behind (front ++ reference_checks what offset s.device.stage) (no_room s.handles kind.Space ∷ []) none)) session _ offset)
-    by (create_action_space session action sub offset) k =
-        let f = rule s reads (record e { request = create_action_space session action sub offset }) in
+    by (ask.CreateActionSpace session action sub offset) k =
+        let f = rule s reads (record e { call = ask.CreateActionSpace session action sub offset }) in
         let front = no_handle s.handles kind.Session session ∷ no_handle s.handles kind.Action action ∷ is_lost (life_of s session) ∷ when false CallOrderInvalid ∷ [] in
         kept P s (refusal e.short f) (told_on f.on f.effect) k.same
         (λ none. k.space (succeeds s (refusal e.short f) (told_on f.on f.effect) (success_succeeds (loss_of (life_of s session))) none)
         (has_place s.handles kind.Space (none_behind (front ++ when (not (is_of_poses s action)) ActionTypeMismatch ∷ when (is_none (column_named s action sub)) PathUnsupported ∷ when (offset == 0) PoseInvalid ∷ []) (no_room s.handles kind.Space ∷ []) none)) session _ offset)
-    by (create_swapchain session format width height fixed) k =
-        let f = rule s reads (record e { request = create_swapchain session format width height fixed }) in
+    by (ask.CreateSwapchain session format width height fixed) k =
+        let f = rule s reads (record e { call = ask.CreateSwapchain session format width height fixed }) in
         kept P s (refusal e.short f) (told_on f.on f.effect) k.same (λ none. k.chain (succeeds s (refusal e.short f) (told_on f.on f.effect) (success_succeeds (loss_of (life_of s session))) none) session)
-    by (destroy_swapchain chain) k =
-        let f = rule s reads (record e { request = destroy_swapchain chain }) in
+    by (ask.DestroySwapchain chain) k =
+        let f = rule s reads (record e { call = ask.DestroySwapchain chain }) in
         kept P s (refusal e.short f) (told_on f.on f.effect) k.same (λ none. k.chain_alone chain)
-    by (destroy_instance instance) k =
-        let f = rule s reads (record e { request = destroy_instance instance }) in
+    by (ask.DestroyInstance instance) k =
+        let f = rule s reads (record e { call = ask.DestroyInstance instance }) in
         kept P s (refusal e.short f) (told_on f.on f.effect) k.same (λ none. k.gone instance)
-    by (destroy_session session) k =
-        let f = rule s reads (record e { request = destroy_session session }) in
+    by (ask.DestroySession session) k =
+        let f = rule s reads (record e { call = ask.DestroySession session }) in
         kept P s (refusal e.short f) (told_on f.on f.effect) k.same (λ none. k.gone session)
-    by (destroy_action_set set) k =
-        let f = rule s reads (record e { request = destroy_action_set set }) in
+    by (ask.DestroyActionSet set) k =
+        let f = rule s reads (record e { call = ask.DestroyActionSet set }) in
         kept P s (refusal e.short f) (told_on f.on f.effect) k.same (λ none. k.gone set)
-    by (destroy_action action) k =
-        let f = rule s reads (record e { request = destroy_action action }) in
+    by (ask.DestroyAction action) k =
+        let f = rule s reads (record e { call = ask.DestroyAction action }) in
         kept P s (refusal e.short f) (told_on f.on f.effect) k.same (λ none. k.gone action)
-    by (destroy_space space) k =
-        let f = rule s reads (record e { request = destroy_space space }) in
+    by (ask.DestroySpace space) k =
+        let f = rule s reads (record e { call = ask.DestroySpace space }) in
         kept P s (refusal e.short f) (told_on f.on f.effect) k.same (λ none. k.alone space)
-    by (suggest_bindings instance profile list) k =
-        let f = rule s reads (record e { request = suggest_bindings instance profile list }) in
+    by (ask.SuggestBindings instance profile list) k =
+        let f = rule s reads (record e { call = ask.SuggestBindings instance profile list }) in
         let o = profile_at s.atoms profile in
         kept P s (refusal e.short f) (told_on f.on f.effect) k.same
         (λ none. k.suggest o list (none_behind (no_handle s.handles kind.Instance instance ∷ when false CallOrderInvalid ∷ (profile_checks s.atoms profile ++ number_checks list)) (bindings_checks s o list) (unshort e.short (first_of (refusals f)) none)))
-    by (attach_sets session handles) k =
-        let f = rule s reads (record e { request = attach_sets session handles }) in
+    by (ask.AttachSets session handles) k =
+        let f = rule s reads (record e { call = ask.AttachSets session handles }) in
         kept P s (refusal e.short f) (told_on f.on f.effect) k.same (λ none. k.attach handles)
-    by (device what) k = events P s reads e what k
-    by r k = let f = rule s reads (record e { request = r }) in kept P s (refusal e.short f) (told_on f.on f.effect) k.same (λ none. k.same)
+    by (ask.Device what) k = events P s reads e what k
+    by r k = let f = rule s reads (record e { call = r }) in kept P s (refusal e.short f) (told_on f.on f.effect) k.same (λ none. k.same)

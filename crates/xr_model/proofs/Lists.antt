@@ -5,7 +5,7 @@ use Rattle.std.specs.List.{filter, list_all}
 use Rattle.xr_types.specs.declared.handles.Kind.TheVariants.{Action, Space}
 use Rattle.xr_types.specs.declared.handles.Slot.{Slot}
 use Rattle.xr_types.specs.declared.input.Bound.{Bound}
-use Rattle.xr_model.specs.machine.Request.{Entry}
+use Rattle.xr_model.specs.machine.Calls.{Entry}
 use Rattle.xr_model.specs.machine.Handles.{Handles, has, is_live, is_among, was_given, first_free, put_in, going, cleared, destroyed_instances, destroyed_parents, destroyed_by, without, without_alone, with_handle}
 use Rattle.xr_model.specs.machine.Sets as inputs
 use Rattle.xr_model.specs.machine.Sets.{Sets, Set, action_at, set_at, sealed_by}
@@ -281,7 +281,7 @@ module _ (h : Handles) (sp : Spaces) (st : Sets) (su : List (List Bound)) (kept 
         or_no false = refl
 
 pub kept_step : (s : State) (e : Entry) → IsAllowed s e → AreKnown s.core.handles → StandOnce s.core.handles → Has Kept s.core → Has Kept (step s e).0.core
-kept_step s e allowed known once kept = kept_by_step Kept s.core (reads_of s e.request) e (record {
+kept_step s e allowed known once kept = kept_by_step Kept s.core (reads_of s e.call) e (record {
   same = kept;
   instance = λ gives. record { spaces = kept.spaces; sets = kept.sets; actions = kept.actions; above = kept.above; suggested = kept.suggested };
   session = λ gives instance. record { spaces = kept.spaces; sets = kept.sets; actions = kept.actions; above = kept.above; suggested = kept.suggested };
@@ -315,10 +315,10 @@ kept_step s e allowed known once kept = kept_by_step Kept s.core (reads_of s e.r
   sample = λ what time pose. record { spaces = kept.spaces; sets = kept.sets; actions = kept.actions; above = kept.above; suggested = kept.suggested };
 })
   where
-    fresh : gives_handle s.core (reads_of s e.request) e ≡ true → (e.given ≢ 0) × (was_given s.core.handles e.given ≡ false)
-    fresh gives = given_one (gives_handle s.core (reads_of s e.request) e) s.core.handles e.given gives allowed.handle
+    fresh : gives_handle s.core (reads_of s e.call) e ≡ true → (e.given ≢ 0) × (was_given s.core.handles e.given ≡ false)
+    fresh gives = given_one (gives_handle s.core (reads_of s e.call) e) s.core.handles e.given gives allowed.handle
 
-    some : gives_handle s.core (reads_of s e.request) e ≡ true → (e.given == 0) ≡ false
+    some : gives_handle s.core (reads_of s e.call) e ≡ true → (e.given == 0) ≡ false
     some gives = is_false (e.given == 0) (λ is. (fresh gives).0 (same_key e.given 0 is))
 
 kept_after : (s : State) (clocks : List ℤ) (es : List Entry) → IsLegalFrom s clocks es → AreKnown s.core.handles → StandOnce s.core.handles → Has Kept s.core → Has Kept (after s es).core

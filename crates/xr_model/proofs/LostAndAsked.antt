@@ -6,7 +6,8 @@ use Rattle.xr_types.specs.declared.device.DeviceEvent.{DeviceEvent}
 use Rattle.xr_types.specs.declared.device.DeviceEvent.TheVariants as event
 use Rattle.xr_types.specs.declared.device.Wish.{Wish}
 use Rattle.xr_types.specs.declared.session.SessionState.TheVariants.{Ready, Synchronized, Exiting, LossPending}
-use Rattle.xr_model.specs.machine.Request.{Request, begin_session, end_session, request_exit_session, end_frame, device}
+use Rattle.xr_types.specs.declared.calls.Call.{Call}
+use Rattle.xr_types.specs.declared.calls.Call.TheVariants as ask
 use Rattle.xr_model.specs.machine.SessionLife.{Life, is_state, unchanged, begun_session, ended_session, exiting_session, losing_session, synced_session, entered}
 use Rattle.xr_model.specs.machine.Machine.{step, reads_of}
 use Rattle.xr_model.specs.laws.SessionLifeLaws.{LostStaysLost, asks_for_end, OnlyItsCallAsksForTheEnd}
@@ -34,36 +35,36 @@ synced_leaves w life = by (is_state life.state Ready)
 
 -- ---- lost
 
-still_lost : (w : Wish) (r : Request) (handle : ℕ) (good : Bool) (life : Life) → life.lost ≡ true → (life_after w r handle good life).lost ≡ true
+still_lost : (w : Wish) (r : Call) (handle : ℕ) (good : Bool) (life : Life) → life.lost ≡ true → (life_after w r handle good life).lost ≡ true
 still_lost w r handle good life lost = by r
   where
     either : (b : Bool) (new : Life) → new.lost ≡ true → (if b then new else life).lost ≡ true
     either true new does = does
     either false new does = lost
 
-    events : (what : DeviceEvent) → (life_after w (device what) handle good life).lost ≡ true
+    events : (what : DeviceEvent) → (life_after w (ask.Device what) handle good life).lost ≡ true
     events event.Loss = (losing_leaves life).0 ∙ lost
     events event.Lost = refl
     events event.Fault = refl
     events (event.Garbled line) = refl
     events _ = lost
 
-    by : (r : Request) → (life_after w r handle good life).lost ≡ true
-    by (begin_session session view) = either (good && (session == handle)) (begun_session life) lost
-    by (end_session session) = either (good && (session == handle)) (ended_session w life).life lost
-    by (request_exit_session session) = either (good && (session == handle)) (exiting_session w life).life lost
-    by (end_frame session time blend layers) = either (good && (session == handle)) (synced_session w life).life ((synced_leaves w life).0 ∙ lost)
-    by (device what) = events what
+    by : (r : Call) → (life_after w r handle good life).lost ≡ true
+    by (ask.BeginSession session view) = either (good && (session == handle)) (begun_session life) lost
+    by (ask.EndSession session) = either (good && (session == handle)) (ended_session w life).life lost
+    by (ask.RequestExitSession session) = either (good && (session == handle)) (exiting_session w life).life lost
+    by (ask.EndFrame session time blend layers) = either (good && (session == handle)) (synced_session w life).life ((synced_leaves w life).0 ∙ lost)
+    by (ask.Device what) = events what
     by _ = lost
 
 pub lost_stays_lost : LostStaysLost
 lost_stays_lost s e session x y before later lost =
-    rw (lived_on s.core (reads_of s e.request) e session x y before later)
-    (still_lost s.core.device.wish e.request session (is_success (step s e).1.reply.code) x.life lost)
+    rw (lived_on s.core (reads_of s e.call) e session x y before later)
+    (still_lost s.core.device.wish e.call session (is_success (step s e).1.reply.code) x.life lost)
 
 -- ---- asked for
 
-asked_after : (w : Wish) (r : Request) (handle : ℕ) (good : Bool) (life : Life)
+asked_after : (w : Wish) (r : Call) (handle : ℕ) (good : Bool) (life : Life)
     → (life_after w r handle good life).exit ≡ life.exit || (asks_for_end r handle && good)
 asked_after w r handle good life = by r
   where
@@ -85,20 +86,20 @@ asked_after w r handle good life = by r
     asks false true = or_not life.exit
     asks false false = or_not life.exit
 
-    events : (what : DeviceEvent) → (life_after w (device what) handle good life).exit ≡ life.exit || false
+    events : (what : DeviceEvent) → (life_after w (ask.Device what) handle good life).exit ≡ life.exit || false
     events event.Loss = (losing_leaves life).1 ∙ or_not life.exit
     events (event.Wish wish) = or_not life.exit
     events _ = or_not life.exit
 
-    by : (r : Request) → (life_after w r handle good life).exit ≡ life.exit || (asks_for_end r handle && good)
-    by (begin_session session view) = either (good && (session == handle)) (begun_session life) refl
-    by (end_session session) = either (good && (session == handle)) (ended_session w life).life refl
-    by (request_exit_session session) = asks good (session == handle)
-    by (end_frame session time blend layers) = either (good && (session == handle)) (synced_session w life).life (synced_leaves w life).1
-    by (device what) = events what
+    by : (r : Call) → (life_after w r handle good life).exit ≡ life.exit || (asks_for_end r handle && good)
+    by (ask.BeginSession session view) = either (good && (session == handle)) (begun_session life) refl
+    by (ask.EndSession session) = either (good && (session == handle)) (ended_session w life).life refl
+    by (ask.RequestExitSession session) = asks good (session == handle)
+    by (ask.EndFrame session time blend layers) = either (good && (session == handle)) (synced_session w life).life (synced_leaves w life).1
+    by (ask.Device what) = events what
     by _ = or_not life.exit
 
 pub only_its_call_asks_for_the_end : OnlyItsCallAsksForTheEnd
 only_its_call_asks_for_the_end s e session x y before later =
-    ap (λ life. life.exit) (lived_on s.core (reads_of s e.request) e session x y before later)
-    ∙ asked_after s.core.device.wish e.request session (is_success (step s e).1.reply.code) x.life
+    ap (λ life. life.exit) (lived_on s.core (reads_of s e.call) e session x y before later)
+    ∙ asked_after s.core.device.wish e.call session (is_success (step s e).1.reply.code) x.life

@@ -4,7 +4,9 @@ use Rattle.std.specs.Prelude.{is_some, if◌then◌else◌}
 use Rattle.std.specs.List.{filter}
 use Rattle.xr_types.specs.declared.handles.Kind.TheVariants as kind
 use Rattle.xr_types.specs.Code.{is_success}
-use Rattle.xr_model.specs.machine.Request.{Entry, Request, create_session}
+use Rattle.xr_model.specs.machine.Calls.{Entry}
+use Rattle.xr_types.specs.declared.calls.Call.{Call}
+use Rattle.xr_types.specs.declared.calls.Call.TheVariants as ask
 use Rattle.xr_model.specs.machine.Handles.{Handles, is_live, was_given, without, destroyed_by}
 use Rattle.xr_model.specs.machine.State.{CoreState, CellReads, Settings, State, opening}
 use Rattle.xr_model.specs.machine.SessionLife.{Life, Changed, unchanged, started_session, lost_session}
@@ -33,26 +35,26 @@ not_given_to : (b : Bool) (h : Handles) (given : ℕ) → b ≡ false → IsGive
 not_given_to true h given e is = absurd (true≢false e)
 not_given_to false h given e is = is
 
-creation_of_session : (s : CoreState) (reads : CellReads) (e : Entry) → is_session_creation e.request ≡ true → is_some (rule s reads e).creates ≡ true
-creation_of_session s reads e = by e.request
+creation_of_session : (s : CoreState) (reads : CellReads) (e : Entry) → is_session_creation e.call ≡ true → is_some (rule s reads e).creates ≡ true
+creation_of_session s reads e = by e.call
   where
-    by : (r : Request) → is_session_creation r ≡ true → is_some (rule s reads (record e { request = r })).creates ≡ true
-    by (create_session instance system) is = refl
+    by : (r : Call) → is_session_creation r ≡ true → is_some (rule s reads (record e { call = r })).creates ≡ true
+    by (ask.CreateSession instance system) is = refl
     by _ is = absurd (true≢false (sym is))
 
 and_true : (a b : Bool) → a ≡ true → b ≡ true → a && b ≡ true
 and_true a b e f = rw (e, f) refl
 
 -- what a legal creation of a session gives
-pub new_session_given : (s : State) (e : Entry) → IsAllowed s e → is_session_creation e.request ≡ true → is_success (step s e).1.reply.code ≡ true → (e.given ≢ 0) × (was_given s.core.handles e.given ≡ false)
+pub new_session_given : (s : State) (e : Entry) → IsAllowed s e → is_session_creation e.call ≡ true → is_success (step s e).1.reply.code ≡ true → (e.given ≢ 0) × (was_given s.core.handles e.given ≡ false)
 new_session_given s e allowed creates good =
-    given_to (is_some (rule s.core (reads_of s e.request) e).creates && is_success (step s e).1.reply.code) s.core.handles e.given
-    (and_true (is_some (rule s.core (reads_of s e.request) e).creates) (is_success (step s e).1.reply.code) (creation_of_session s.core (reads_of s e.request) e creates) good) allowed.handle
+    given_to (is_some (rule s.core (reads_of s e.call) e).creates && is_success (step s e).1.reply.code) s.core.handles e.given
+    (and_true (is_some (rule s.core (reads_of s e.call) e).creates) (is_success (step s e).1.reply.code) (creation_of_session s.core (reads_of s e.call) e creates) good) allowed.handle
 
 -- ---- listed
 
 listed_step : (s : State) (e : Entry) → IsAllowed s e → AreListed s.core.handles s.core.sessions → AreListed (step s e).0.core.handles (step s e).0.core.sessions
-listed_step s e allowed listed = kept_by_step (λ h xs. AreListed h xs) s.core (reads_of s e.request) e (record {
+listed_step s e allowed listed = kept_by_step (λ h xs. AreListed h xs) s.core (reads_of s e.call) e (record {
   same = λ d c. listed;
   instance = λ d c. listed;
   session = λ d c good room instance. let new = new_session_given s e allowed c good in listed_more s.core.handles s.core.sessions _ instance e.given listed refl (nonzero e.given new.0) room;
@@ -80,7 +82,7 @@ sessions_are_listed settings es legal = listed_after (opening settings) (opening
 
 -- what is known of a lost device before an entry, and what after it
 abbrev after_entry : Entry → (ℕ → Bool) → ℕ → Bool
-after_entry e before session = not (creates_session e session) && (before session || is_device_lost e.request)
+after_entry e before session = not (creates_session e session) && (before session || is_device_lost e.call)
 
 abbrev AreLost : (ℕ → Bool) → List Session → Type 0
 AreLost known xs = (session : ℕ) (x : Session) → session_at xs session ≡ Some x → x.life.lost ≡ known session
@@ -188,25 +190,25 @@ module _ (s : State) (e : Entry) (allowed : IsAllowed s e) (known : AreKnown s.c
       true≢false (sym live ∙ listed session ∙ dead)
 
   -- a session that the entry doesn't create
-  as_before : (session : ℕ) → is_device_lost e.request ≡ false → creates_session e session ≡ false → before session ≡ after_entry e before session
+  as_before : (session : ℕ) → is_device_lost e.call ≡ false → creates_session e session ≡ false → before session ≡ after_entry e before session
   as_before session d c = rw (c, d) (sym (or_false (before session)))
 
-  not_created : (session : ℕ) (x : Session) → session_at s.core.sessions session ≡ Some x → is_session_creation e.request && is_success (step s e).1.reply.code ≡ false → creates_session e session ≡ false
-  not_created session x found refused = by (is_session_creation e.request) refl
+  not_created : (session : ℕ) (x : Session) → session_at s.core.sessions session ≡ Some x → is_session_creation e.call && is_success (step s e).1.reply.code ≡ false → creates_session e session ≡ false
+  not_created session x found refused = by (is_session_creation e.call) refl
     where
-      by : (b : Bool) → is_session_creation e.request ≡ b → is_session_creation e.request && (e.given == session) ≡ false
+      by : (b : Bool) → is_session_creation e.call ≡ b → is_session_creation e.call && (e.given == session) ≡ false
       by false eb = rw eb refl
       by true eb =
           let failed : is_success (step s e).1.reply.code ≡ false = rw eb at refused in
-          let none : is_some (rule s.core (reads_of s e.request) e).creates && is_success (step s e).1.reply.code ≡ false = rw (creation_of_session s.core (reads_of s e.request) e eb, failed) refl in
-          let zero = not_given_to (is_some (rule s.core (reads_of s e.request) e).creates && is_success (step s e).1.reply.code) s.core.handles e.given none allowed.handle in
+          let none : is_some (rule s.core (reads_of s e.call) e).creates && is_success (step s e).1.reply.code ≡ false = rw (creation_of_session s.core (reads_of s e.call) e eb, failed) refl in
+          let zero = not_given_to (is_some (rule s.core (reads_of s e.call) e).creates && is_success (step s e).1.reply.code) s.core.handles e.given none allowed.handle in
           rw eb (is_false (e.given == session) (λ same. never_zero session x found (subst (λ (n : ℕ). (n == 0) ≡ true) (sym zero ∙ same_key e.given session same) refl)))
 
-  uncreated : (session : ℕ) → is_session_creation e.request ≡ false → creates_session e session ≡ false
+  uncreated : (session : ℕ) → is_session_creation e.call ≡ false → creates_session e session ≡ false
   uncreated session c = rw c refl
 
   lost_step : AreLost (after_entry e before) (step s e).0.core.sessions
-  lost_step = kept_by_step (λ h xs. AreLost (after_entry e before) xs) s.core (reads_of s e.request) e (record {
+  lost_step = kept_by_step (λ h xs. AreLost (after_entry e before) xs) s.core (reads_of s e.call) e (record {
     same = λ d c session x found. lost_before session x found ∙ as_before session d (not_created session x found c);
     instance = λ d c session x found. lost_before session x found ∙ as_before session d (uncreated session c);
     session = λ d c good room instance session x found. created d c good session x (found_more s.core.sessions _ session x found);
@@ -228,7 +230,7 @@ module _ (s : State) (e : Entry) (allowed : IsAllowed s e) (known : AreKnown s.c
     lost = λ d c session x found. let one = found_each (λ life. unchanged (lost_session life)) s.core.sessions session x found in ap (λ (l : Life). l.lost) one.2 ∙ rw (uncreated session c, d) (sym (or_true (before session)));
   })
     where
-      created : is_device_lost e.request ≡ false → is_session_creation e.request ≡ true → is_success (step s e).1.reply.code ≡ true → (session : ℕ) (x : Session) → Found s.core.sessions (new_session s.core e.given (started_session s.core.device.wish).life) session x → x.life.lost ≡ after_entry e before session
+      created : is_device_lost e.call ≡ false → is_session_creation e.call ≡ true → is_success (step s e).1.reply.code ≡ true → (session : ℕ) (x : Session) → Found s.core.sessions (new_session s.core e.given (started_session s.core.device.wish).life) session x → x.life.lost ≡ after_entry e before session
       created d c good session x (inl there) =
           let fresh = (new_session_given s e allowed c good).1 in
           lost_before session x there ∙ as_before session d (rw c (is_false (e.given == session) (λ same. never_new session x there (subst (λ (n : ℕ). was_given s.core.handles n ≡ false) (same_key e.given session same) fresh))))

@@ -6,7 +6,9 @@ use Rattle.xr_types.specs.Device.{is_mark}
 use Rattle.xr_types.specs.declared.device.DeviceEvent.{DeviceEvent}
 use Rattle.xr_types.specs.declared.device.DeviceEvent.TheVariants as event
 use Rattle.xr_types.specs.declared.limits.TheConstants.{MOST_MARK}
-use Rattle.xr_model.specs.machine.Request.{Request, mark, await_mark, leave, device, Entry}
+use Rattle.xr_model.specs.machine.Calls.{Entry}
+use Rattle.xr_types.specs.declared.calls.Call.{Call}
+use Rattle.xr_types.specs.declared.calls.Call.TheVariants as ask
 use Rattle.xr_model.specs.machine.Marks.{no_marks, in_place, mark_at, with_mark}
 use Rattle.xr_model.specs.machine.Refusals.{Refusal}
 use Rattle.xr_model.specs.machine.State.{CoreState, State, opening}
@@ -87,26 +89,26 @@ module _ (P : List (Option ℕ) → Type 0) (s : CoreState) (same : P s.marks) w
   kept (Some r) x done = same
 
 marks_step : (number : ℕ) → is_mark number ≡ true → (s : State) (e : Entry) (o : Option ℕ) → Tells number s.core.marks o
-    → Tells number (step s e).0.core.marks (value_after number e.request o)
-marks_step number is s e o old = by e.request
+    → Tells number (step s e).0.core.marks (value_after number e.call o)
+marks_step number is s e o old = by e.call
   where
-    events : (what : DeviceEvent) → Tells number (behind_event s.core what).marks (value_after number (device what) o)
+    events : (what : DeviceEvent) → Tells number (behind_event s.core what).marks (value_after number (ask.Device what) o)
     events (event.Mark n) = set_mark number is s.core.marks n 0 o old
     events (event.Clock time) = old
     events _ = old
 
-    by : (r : Request) → Tells number (step s (record e { request = r })).0.core.marks (value_after number r o)
-    by (mark n value) = set_mark number is s.core.marks n value o old
-    by (device what) = events what
-    by leave = old
+    by : (r : Call) → Tells number (step s (record e { call = r })).0.core.marks (value_after number r o)
+    by (ask.Mark n value) = set_mark number is s.core.marks n value o old
+    by (ask.Device what) = events what
+    by ask.Leave = old
     by r =
-        let f = rule s.core (reads_of s r) (record e { request = r }) in
+        let f = rule s.core (reads_of s r) (record e { call = r }) in
         kept (λ marks. Tells number marks o) s.core old (refusal e.short f) (told_on f.on f.effect) old
 
 marks_after : (number : ℕ) → is_mark number ≡ true → (s : State) (es : List Entry) (o : Option ℕ) → Tells number s.core.marks o
     → Tells number (after s es).core.marks (last_value number o es)
 marks_after number is s [] o old = old
-marks_after number is s (e ∷ es) o old = marks_after number is (step s e).0 es (value_after number e.request o) (marks_step number is s e o old)
+marks_after number is s (e ∷ es) o old = marks_after number is (step s e).0 es (value_after number e.call o) (marks_step number is s e o old)
 
 none_there : (n k : ℕ) → in_place (slice_get (replicate n None) k) ≡ None
 none_there zero k = refl
@@ -122,18 +124,18 @@ none_set number = record { row = length-replicate {A = Option ℕ} MOST_MARK Non
 
 -- ---- the laws
 
-awaited : (s : State) (e : Entry) (number : ℕ) (o : Option ℕ) → Tells number s.core.marks o → e.request ≡ await_mark number → GivesLast s e o
-awaited s e number o tells asks = subst (λ r. GivesLast s (record e { request = r }) o) (sym asks) (by o tells.found)
+awaited : (s : State) (e : Entry) (number : ℕ) (o : Option ℕ) → Tells number s.core.marks o → e.call ≡ ask.AwaitMark number → GivesLast s e o
+awaited s e number o tells asks = subst (λ r. GivesLast s (record e { call = r }) o) (sym asks) (by o tells.found)
   where
-    by : (o : Option ℕ) → mark_at s.core.marks number ≡ o → GivesLast s (record e { request = await_mark number }) o
+    by : (o : Option ℕ) → mark_at s.core.marks number ≡ o → GivesLast s (record e { call = ask.AwaitMark number }) o
     by None found = record { waits = rw found refl; gives = λ v is. cc }
     by (Some w) found = record { waits = rw found refl; gives = λ v is. cc }
 
-device_waits : (s : State) (e : Entry) (number : ℕ) (o : Option ℕ) → Tells number s.core.marks o → e.request ≡ device (event.Await number)
+device_waits : (s : State) (e : Entry) (number : ℕ) (o : Option ℕ) → Tells number s.core.marks o → e.call ≡ ask.Device (event.Await number)
     → ready s e ≡ is_some o
-device_waits s e number o tells asks = subst (λ r. ready s (record e { request = r }) ≡ is_some o) (sym asks) (by o tells.found)
+device_waits s e number o tells asks = subst (λ r. ready s (record e { call = r }) ≡ is_some o) (sym asks) (by o tells.found)
   where
-    by : (o : Option ℕ) → mark_at s.core.marks number ≡ o → ready s (record e { request = device (event.Await number) }) ≡ is_some o
+    by : (o : Option ℕ) → mark_at s.core.marks number ≡ o → ready s (record e { call = ask.Device (event.Await number) }) ≡ is_some o
     by None found = rw found refl
     by (Some w) found = rw found refl
 

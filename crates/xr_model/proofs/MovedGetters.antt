@@ -5,7 +5,10 @@ use Rattle.xr_types.specs.declared.calls.Actor.{Actor}
 use Rattle.xr_types.specs.declared.calls.Actor.TheVariants.{App, Compositor, Device}
 use Rattle.xr_model.specs.machine.Publication.{Publication, publication_of}
 use Rattle.xr_model.specs.machine.Reads.{reads}
-use Rattle.xr_model.specs.machine.Request.{Request, Entry, Outcome, Exchange, is_actor, is_getter, is_locked, get_boolean, get_float, get_vector, get_pose_active}
+use Rattle.xr_types.specs.CallKinds.{is_getter, is_locked}
+use Rattle.xr_model.specs.machine.Calls.{Entry, Outcome, Exchange, is_actor}
+use Rattle.xr_types.specs.declared.calls.Call.{Call}
+use Rattle.xr_types.specs.declared.calls.Call.TheVariants as ask
 use Rattle.xr_model.specs.machine.State.{State, opening}
 use Rattle.xr_model.specs.machine.Machine.{IsAllowed, IsPresent, ready, step}
 use Rattle.xr_model.specs.machine.History.{after, calls_from, clock_of, with_clock, clocks_after, opening_clocks, StartsAt, IsLegalFrom}
@@ -23,12 +26,12 @@ use Rattle.xr_model.proofs.Turns.{same_actor}
 
 -- an actor is present before another's entry where it is behind it, and the other way round
 present_before : (s : State) (f : Entry) (who : Actor) → IsAllowed s f → is_actor who f.actor ≡ false → IsPresent (step s f).0.core who → IsPresent s.core who
-present_before s f (App k) allowed other there = (there.0, there.1, sym (left_stays s f k there.0 allowed.present (and_false (is_actor (App k) f.actor) (is_leave f.request) other)) ∙ there.2)
+present_before s f (App k) allowed other there = (there.0, there.1, sym (left_stays s f k there.0 allowed.present (and_false (is_actor (App k) f.actor) (is_leave f.call) other)) ∙ there.2)
 present_before s f Compositor allowed other there = there
 present_before s f Device allowed other there = there
 
 present_behind : (s : State) (f : Entry) (who : Actor) → IsAllowed s f → is_actor who f.actor ≡ false → IsPresent s.core who → IsPresent (step s f).0.core who
-present_behind s f who allowed other there = stays s f who allowed.present (and_false (is_actor who f.actor) (is_leave f.request) other) there
+present_behind s f who allowed other there = stays s f who allowed.present (and_false (is_actor who f.actor) (is_leave f.call) other) there
 
 -- ---- lists of exchanges
 
@@ -43,36 +46,36 @@ swapped false b x y rest apart = refl
 
 -- ---- a getter in a history
 
-module _ (e : Entry) (is : is_getter e.request ≡ true) where
+module _ (e : Entry) (is : is_getter e.call ≡ true) where
   -- it is allowed wherever its actor is present
   allowed_at : (s t : State) → IsAllowed s e → IsPresent t.core e.actor → IsAllowed t e
-  allowed_at s t allowed there = by e.request is allowed
+  allowed_at s t allowed there = by e.call is allowed
     where
-      by : (r : Request) → is_getter r ≡ true → IsAllowed s (record e { request = r }) → IsAllowed t (record e { request = r })
-      by (get_boolean session action sub) is a = record { handle = a.handle; memory = λ short. absurd (true≢false (sym (a.memory short).0)); present = there }
-      by (get_float session action sub) is a = record { handle = a.handle; memory = λ short. absurd (true≢false (sym (a.memory short).0)); present = there }
-      by (get_vector session action sub) is a = record { handle = a.handle; memory = λ short. absurd (true≢false (sym (a.memory short).0)); present = there }
-      by (get_pose_active session action sub) is a = record { handle = a.handle; memory = λ short. absurd (true≢false (sym (a.memory short).0)); present = there }
+      by : (r : Call) → is_getter r ≡ true → IsAllowed s (record e { call = r }) → IsAllowed t (record e { call = r })
+      by (ask.GetBoolean session action sub) is a = record { handle = a.handle; memory = λ short. absurd (true≢false (sym (a.memory short).0)); present = there }
+      by (ask.GetFloat session action sub) is a = record { handle = a.handle; memory = λ short. absurd (true≢false (sym (a.memory short).0)); present = there }
+      by (ask.GetVector session action sub) is a = record { handle = a.handle; memory = λ short. absurd (true≢false (sym (a.memory short).0)); present = there }
+      by (ask.GetPoseActive session action sub) is a = record { handle = a.handle; memory = λ short. absurd (true≢false (sym (a.memory short).0)); present = there }
       by _ is a = absurd (true≢false (sym is))
 
-  starts : (clock : ℤ) → StartsAt clock e.request
-  starts clock = by e.request is
+  starts : (clock : ℤ) → StartsAt clock e.call
+  starts clock = by e.call is
     where
-      by : (r : Request) → is_getter r ≡ true → StartsAt clock r
-      by (get_boolean session action sub) is = tt
-      by (get_float session action sub) is = tt
-      by (get_vector session action sub) is = tt
-      by (get_pose_active session action sub) is = tt
+      by : (r : Call) → is_getter r ≡ true → StartsAt clock r
+      by (ask.GetBoolean session action sub) is = tt
+      by (ask.GetFloat session action sub) is = tt
+      by (ask.GetVector session action sub) is = tt
+      by (ask.GetPoseActive session action sub) is = tt
       by _ is = absurd (true≢false (sym is))
 
-  unlocked : is_locked e.request ≡ false
-  unlocked = by e.request is
+  unlocked : is_locked e.call ≡ false
+  unlocked = by e.call is
     where
-      by : (r : Request) → is_getter r ≡ true → is_locked r ≡ false
-      by (get_boolean session action sub) is = refl
-      by (get_float session action sub) is = refl
-      by (get_vector session action sub) is = refl
-      by (get_pose_active session action sub) is = refl
+      by : (r : Call) → is_getter r ≡ true → is_locked r ≡ false
+      by (ask.GetBoolean session action sub) is = refl
+      by (ask.GetFloat session action sub) is = refl
+      by (ask.GetVector session action sub) is = refl
+      by (ask.GetPoseActive session action sub) is = refl
       by _ is = absurd (true≢false (sym is))
 
   ready_at : (s : State) → IsTrue (ready s e)
@@ -92,7 +95,7 @@ module _ (e : Entry) (is : is_getter e.request ≡ true) where
 
   -- it is answered alike where the same is published
   same_outcome : (s t : State) → publication_of t.core ≡ publication_of s.core → (step t e).1 ≡ (step s e).1
-  same_outcome s t same = some (sym (getters_read t e is) ∙ ap (λ (p : Publication). reads p e.request) same ∙ getters_read s e is)
+  same_outcome s t same = some (sym (getters_read t e is) ∙ ap (λ (p : Publication). reads p e.call) same ∙ getters_read s e is)
     where
       some : {x y : Outcome} → Some x ≡ Some y → x ≡ y
       some two = cc
@@ -119,7 +122,7 @@ module _ (e : Entry) (is : is_getter e.request ≡ true) where
 
   -- what it and each other entry come to
   abbrev exchange : State → Exchange
-  exchange s = record { request = e.request; outcome = (step s e).1 }
+  exchange s = record { call = e.call; outcome = (step s e).1 }
 
   calls_behind : (s : State) (who : Actor) (xs : List Entry) → calls_from s who (e ∷ xs) ≡ added (is_actor who e.actor) (exchange s) (calls_from s who xs)
   calls_behind s who xs = ap (λ (t : State). added (is_actor who e.actor) (exchange s) (calls_from t who xs)) (getters_change_nothing s e is)
@@ -130,9 +133,9 @@ module _ (e : Entry) (is : is_getter e.request ≡ true) where
   same_from s clocks (f ∷ fs) gs who legal sound quiet none =
       let two = both_of (not (is_actor e.actor f.actor)) (none_is_by e.actor fs) none in
       let t = (step s f).0 in
-      let x : Exchange = record { request = f.request; outcome = (step s f).1 } in
+      let x : Exchange = record { call = f.call; outcome = (step s f).1 } in
       let rest = same_from t (clocks_after clocks f t) fs gs who legal.3 (sound_step s f legal.0 sound) quiet.1 two.1 in
-      let one : exchange t ≡ exchange s = ap (λ (o : Outcome). record { request = e.request; outcome = o }) (same_outcome s t (stays_published s f sound quiet.0)) in
+      let one : exchange t ≡ exchange s = ap (λ (o : Outcome). record { call = e.call; outcome = o }) (same_outcome s t (stays_published s f sound quiet.0)) in
       calls_behind s who (f ∷ (fs ++ gs))
       ∙ swapped (is_actor who e.actor) (is_actor who f.actor) (exchange s) x (calls_from t who (fs ++ gs)) (λ a b. true≢false (sym (subst (λ (w : Actor). is_actor w f.actor ≡ true) (same_actor who e.actor a) b) ∙ not_true (is_actor e.actor f.actor) two.0))
       ∙ ap (λ (xs : List Exchange). added (is_actor who f.actor) x xs) (ap (λ (y : Exchange). added (is_actor who e.actor) y (calls_from t who (fs ++ gs))) (sym one) ∙ sym (calls_behind t who (fs ++ gs)) ∙ rest)
@@ -146,7 +149,7 @@ legal_front s clocks (e ∷ es) xs ys leads legal = (legal.0, legal.1, legal.2, 
 
 calls_front : (s : State) (es xs ys : List Entry) (who : Actor) → calls_from (after s es) who xs ≡ calls_from (after s es) who ys → calls_from s who (es ++ xs) ≡ calls_from s who (es ++ ys)
 calls_front s [] xs ys who same = same
-calls_front s (e ∷ es) xs ys who same = ap (λ (l : List Exchange). added (is_actor who e.actor) (record { request = e.request; outcome = (step s e).1 }) l) (calls_front (step s e).0 es xs ys who same)
+calls_front s (e ∷ es) xs ys who same = ap (λ (l : List Exchange). added (is_actor who e.actor) (record { call = e.call; outcome = (step s e).1 }) l) (calls_front (step s e).0 es xs ys who same)
 
 pub getters_move : GettersMove
 getters_move settings es fs gs e legal quiet is none =

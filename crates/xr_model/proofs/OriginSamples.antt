@@ -7,7 +7,8 @@ use Rattle.xr_types.specs.declared.input.User.TheVariants as user
 use Rattle.xr_types.specs.declared.spaces.Origin.{Origin}
 use Rattle.xr_types.specs.declared.spaces.Origin.TheVariants as origin
 use Rattle.xr_types.specs.declared.spaces.TheConstants.{ORIGINS}
-use Rattle.xr_model.specs.machine.Request.{Request, device}
+use Rattle.xr_types.specs.declared.calls.Call.{Call}
+use Rattle.xr_types.specs.declared.calls.Call.TheVariants as ask
 use Rattle.xr_model.specs.machine.Refusals.{Refusal}
 use Rattle.xr_model.specs.machine.Spaces.{Sample, samples_of, with_sample, origin_place}
 use Rattle.xr_model.specs.machine.State.{CoreState}
@@ -33,7 +34,7 @@ same_samples : (s : CoreState) (o : Option Refusal) (x : Effect)
 same_samples s None x same = same
 same_samples s (Some r) x same = refl
 
-events : (s : CoreState) (told : DeviceEvent) (what : Origin) → is_told_at (origin_told (device told)) (origin_place what) ≡ false
+events : (s : CoreState) (told : DeviceEvent) (what : Origin) → is_told_at (origin_told (ask.Device told)) (origin_place what) ≡ false
     → samples_of (behind_event s told).spaces.samples what ≡ samples_of s.spaces.samples what
 events s (event.Pose origin time pose) what other =
     let new = with_sample time pose (samples_of s.spaces.samples origin) in
@@ -42,13 +43,13 @@ events s (event.Clock time) what other = refl
 events s _ what other = refl
 
 pub samples_are_their_origins : SamplesAreTheirOrigins
-samples_are_their_origins s e what other = by e.request other
+samples_are_their_origins s e what other = by e.call other
   where
-    by : (r : Request) → is_told_at (origin_told r) (origin_place what) ≡ false
-        → samples_of (step s (record e { request = r })).0.core.spaces.samples what ≡ samples_of s.core.spaces.samples what
-    by (device told) other = events s.core told what other
+    by : (r : Call) → is_told_at (origin_told r) (origin_place what) ≡ false
+        → samples_of (step s (record e { call = r })).0.core.spaces.samples what ≡ samples_of s.core.spaces.samples what
+    by (ask.Device told) other = events s.core told what other
     by r other =
-        let f = rule s.core (reads_of s r) (record e { request = r }) in
+        let f = rule s.core (reads_of s r) (record e { call = r }) in
         ap (λ (samples : List (List Sample)). samples_of samples what) (same_samples s.core (refusal e.short f) (told_on f.on f.effect) refl)
 
 -- ---- places

@@ -2,7 +2,7 @@
 use Rattle.std.proofs.Common.{◌≡◌, ℕ, ◌==◌, not, true, List, [], ◌∷◌, refl}
 use Rattle.xr_types.specs.declared.handles.Kind.TheVariants.{Instance, Session, ActionSet, Action, Space, Swapchain}
 use Rattle.xr_types.specs.declared.handles.Slot.{Slot}
-use Rattle.xr_model.specs.machine.Request.{Entry}
+use Rattle.xr_model.specs.machine.Calls.{Entry}
 use Rattle.xr_model.specs.machine.Handles.{Handles, is_live, has, with_handle, going, destroyed_instances, destroyed_parents, without, without_alone}
 use Rattle.xr_model.specs.machine.State.{State, opening}
 use Rattle.xr_model.specs.machine.Machine.{step, reads_of}
@@ -133,7 +133,7 @@ chain_under h session given live u =
     }
 
 pub under_step : (s : State) (e : Entry) → AreUnder s.core.handles → AreUnder (step s e).0.core.handles
-under_step s e u = kept_by_step (λ h. AreUnder h) s.core (reads_of s e.request) e (record {
+under_step s e u = kept_by_step (λ h. AreUnder h) s.core (reads_of s e.call) e (record {
   same = u;
   instance = λ gives. instance_under s.core.handles e.given u;
   session = λ gives instance live. session_under s.core.handles instance e.given live u;

@@ -7,7 +7,10 @@ use Rattle.xr_types.specs.declared.device.DeviceEvent.{DeviceEvent}
 use Rattle.xr_types.specs.declared.device.DeviceEvent.TheVariants as event
 use Rattle.xr_types.specs.declared.frames.Image.{Image}
 use Rattle.xr_model.specs.machine.Refusals.{Refusal}
-use Rattle.xr_model.specs.machine.Request.{Request, leave, device, next_frame, image_done, Entry, is_actor, is_locked}
+use Rattle.xr_types.specs.CallKinds.{is_locked}
+use Rattle.xr_model.specs.machine.Calls.{Entry, is_actor}
+use Rattle.xr_types.specs.declared.calls.Call.{Call}
+use Rattle.xr_types.specs.declared.calls.Call.TheVariants as ask
 use Rattle.xr_model.specs.machine.Rule.{Effect, Did, refusal, unless_refused, told_on}
 use Rattle.xr_model.specs.machine.Rules.Device.{behind_event}
 use Rattle.xr_model.specs.machine.Rules.Own.{left_with}
@@ -51,16 +54,16 @@ first_half : (b : Bool) → b && true ≡ false → b ≡ false
 first_half true e = e
 first_half false e = refl
 
-pub left_stays : (s : State) (f : Entry) (k : ℕ) → 1 ≤ k → IsPresent s.core f.actor → is_actor (App k) f.actor && is_leave f.request ≡ false
+pub left_stays : (s : State) (f : Entry) (k : ℕ) → 1 ≤ k → IsPresent s.core f.actor → is_actor (App k) f.actor && is_leave f.call ≡ false
     → slice_get (step s f).0.core.left (k - 1) ≡ slice_get s.core.left (k - 1)
-left_stays s f k some there other = by f.request other
+left_stays s f k some there other = by f.call other
   where
-    by : (r : Request) → is_actor (App k) f.actor && is_leave r ≡ false → slice_get (step s (record f { request = r })).0.core.left (k - 1) ≡ slice_get s.core.left (k - 1)
-    by leave other = another_leaves s.core k some f.actor there (first_half (is_actor (App k) f.actor) other)
-    by (device what) other = events_keep_left s.core k some what
-    by r other = let x = rule s.core (reads_of s r) (record f { request = r }) in left_kept s.core k some (refusal f.short x) (told_on x.on x.effect) refl
+    by : (r : Call) → is_actor (App k) f.actor && is_leave r ≡ false → slice_get (step s (record f { call = r })).0.core.left (k - 1) ≡ slice_get s.core.left (k - 1)
+    by ask.Leave other = another_leaves s.core k some f.actor there (first_half (is_actor (App k) f.actor) other)
+    by (ask.Device what) other = events_keep_left s.core k some what
+    by r other = let x = rule s.core (reads_of s r) (record f { call = r }) in left_kept s.core k some (refusal f.short x) (told_on x.on x.effect) refl
 
-pub stays : (s : State) (f : Entry) (who : Actor) → IsPresent s.core f.actor → is_actor who f.actor && is_leave f.request ≡ false → IsPresent s.core who → IsPresent (step s f).0.core who
+pub stays : (s : State) (f : Entry) (who : Actor) → IsPresent s.core f.actor → is_actor who f.actor && is_leave f.call ≡ false → IsPresent s.core who → IsPresent (step s f).0.core who
 stays s f (App k) maker other there = (there.0, there.1, left_stays s f k there.0 maker other ∙ there.2)
 stays s f Compositor maker other there = tt
 stays s f Device maker other there = tt
@@ -68,8 +71,8 @@ stays s f Device maker other there = tt
 stays_from : (s : State) (clocks : List ℤ) (es : List Entry) (who : Actor) → IsLegalFrom s clocks es → leaves_by_none who es ≡ true → IsPresent s.core who → IsPresent (moment_after (record { state = s; clocks = clocks }) es).state.core who
 stays_from s clocks [] who legal none there = there
 stays_from s clocks (e ∷ es) who legal none there =
-    let two = both_of (not (is_actor who e.actor && is_leave e.request)) (leaves_by_none who es) none in
-    stays_from (step s e).0 (clocks_after clocks e (step s e).0) es who legal.3 two.1 (stays s e who legal.0.present (not_true (is_actor who e.actor && is_leave e.request) two.0) there)
+    let two = both_of (not (is_actor who e.actor && is_leave e.call)) (leaves_by_none who es) none in
+    stays_from (step s e).0 (clocks_after clocks e (step s e).0) es who legal.3 two.1 (stays s e who legal.0.present (not_true (is_actor who e.actor && is_leave e.call) two.0) there)
 
 pub actors_stay : ActorsStay
 actors_stay m es who legal none there = stays_from m.state m.clocks es who legal none there
@@ -88,7 +91,7 @@ another_clock s clocks time Compositor other here there apart = refl
 another_clock s clocks time Device other here there apart = refl
 
 clock_stays : (s : State) (clocks : List ℤ) (e : Entry) (t : State) (who : Actor) → IsPresent s.core who → IsPresent s.core e.actor → is_actor who e.actor ≡ false → clock_of (clocks_after clocks e t) who ≡ clock_of clocks who
-clock_stays s clocks e t who here there apart = by (is_locked e.request)
+clock_stays s clocks e t who here there apart = by (is_locked e.call)
   where
     by : (b : Bool) → clock_of (if b then with_clock clocks e.actor t.core.device.clock else clocks) who ≡ clock_of clocks who
     by true = another_clock s.core clocks t.core.device.clock who e.actor here there apart
@@ -99,7 +102,7 @@ clocks_stay_from s clocks [] who legal none here = refl
 clocks_stay_from s clocks (e ∷ es) who legal none here =
     let two = both_of (not (is_actor who e.actor)) (none_is_by who es) none in
     let apart = not_true (is_actor who e.actor) two.0 in
-    clocks_stay_from (step s e).0 (clocks_after clocks e (step s e).0) es who legal.3 two.1 (stays s e who legal.0.present (and_false (is_actor who e.actor) (is_leave e.request) apart) here)
+    clocks_stay_from (step s e).0 (clocks_after clocks e (step s e).0) es who legal.3 two.1 (stays s e who legal.0.present (and_false (is_actor who e.actor) (is_leave e.call) apart) here)
     ∙ clock_stays s clocks e (step s e).0 who here legal.0.present apart
 
 pub clocks_stay : ClocksStay
@@ -107,13 +110,13 @@ clocks_stay m es who legal none here = clocks_stay_from m.state m.clocks es who 
 
 -- ---- held images
 
-is_aside : (r : Request) → is_compositor_call r ≡ false → IsAside r
-is_aside next_frame other = absurd (true≢false other)
-is_aside image_done other = absurd (true≢false other)
+is_aside : (r : Call) → is_compositor_call r ≡ false → IsAside r
+is_aside ask.NextFrame other = absurd (true≢false other)
+is_aside ask.ImageDone other = absurd (true≢false other)
 is_aside r other = tt
 
 held_as_it_was : (did : Did) (held : List Image) → LeavesHeld did → held_after held did ≡ held
 held_as_it_was did held leaves = rw (leaves.taken, leaves.returned) refl
 
 pub held_images_stay : HeldImagesStay
-held_images_stay s e other = held_as_it_was (effect s.core (reads_of s e.request) e).did s.cells.held (leaves_held s.core (reads_of s e.request) e (is_aside e.request other))
+held_images_stay s e other = held_as_it_was (effect s.core (reads_of s e.call) e).did s.cells.held (leaves_held s.core (reads_of s e.call) e (is_aside e.call other))

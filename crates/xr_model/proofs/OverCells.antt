@@ -15,7 +15,8 @@ use Rattle.xr_model.specs.machine.CellCalls.{CellCall, pin, claim, free, stamp, 
 use Rattle.xr_model.specs.machine.PlainImages.{PlainImages, PlainMay, PlainDoes, count_at}
 use Rattle.xr_model.specs.machine.Handles.{is_live}
 use Rattle.xr_model.specs.machine.Refusals.{first_of}
-use Rattle.xr_model.specs.machine.Request.{Request, Entry, destroy_instance, destroy_session, create_swapchain, destroy_swapchain, wait_image, paint, release_image, end_frame, next_frame, image_done, request_of}
+use Rattle.xr_model.specs.machine.Calls.{Entry}
+use Rattle.xr_types.specs.declared.calls.Call.TheVariants as ask
 use Rattle.xr_model.specs.machine.State.{CoreState, State, CellReads}
 use Rattle.xr_model.specs.machine.Rule.{Effect, Did, refusals, decided_call}
 use Rattle.xr_model.specs.machine.Rules.Session.{life_of}
@@ -28,17 +29,17 @@ use Rattle.xr_model.proofs.HeldFits.{did_kept, IsAside}
 -- ---- what a call does to cells
 
 -- calls that touch no cells
-abbrev pub IsQuiet : Request → Type 0
-IsQuiet (destroy_instance instance) = ⊥
-IsQuiet (destroy_session session) = ⊥
-IsQuiet (create_swapchain session format width height fixed) = ⊥
-IsQuiet (destroy_swapchain chain) = ⊥
-IsQuiet (wait_image chain timeout start) = ⊥
-IsQuiet (paint chain value) = ⊥
-IsQuiet (release_image chain) = ⊥
-IsQuiet (end_frame session time blend layers) = ⊥
-IsQuiet next_frame = ⊥
-IsQuiet image_done = ⊥
+abbrev pub IsQuiet : Call → Type 0
+IsQuiet (ask.DestroyInstance instance) = ⊥
+IsQuiet (ask.DestroySession session) = ⊥
+IsQuiet (ask.CreateSwapchain session format width height fixed) = ⊥
+IsQuiet (ask.DestroySwapchain chain) = ⊥
+IsQuiet (ask.WaitImage chain timeout start) = ⊥
+IsQuiet (ask.Paint chain value) = ⊥
+IsQuiet (ask.ReleaseImage chain) = ⊥
+IsQuiet (ask.EndFrame session time blend layers) = ⊥
+IsQuiet ask.NextFrame = ⊥
+IsQuiet ask.ImageDone = ⊥
 IsQuiet _ = Unit {0}
 
 -- no image is taken or given back
@@ -46,17 +47,17 @@ pub record IsStill (did : Did) : Type 0 where
   pub taken : did.taken ≡ []
   pub returned : did.returned ≡ []
 
-pub still_call : (s : CoreState) (reads : CellReads) (e : Entry) → IsAside e.request → IsStill (effect s reads e).did
-still_call s reads e = by e.request
+pub still_call : (s : CoreState) (reads : CellReads) (e : Entry) → IsAside e.call → IsStill (effect s reads e).did
+still_call s reads e = by e.call
   where
-    by : (r : Request) → IsAside r → IsStill (effect s reads (record e { request = r })).did
-    by next_frame aside = absurd aside
-    by image_done aside = absurd aside
-    by r aside = did_kept IsStill s e.short (rule s reads (record e { request = r })) (record { taken = refl; returned = refl }) (record { taken = refl; returned = refl })
+    by : (r : Call) → IsAside r → IsStill (effect s reads (record e { call = r })).did
+    by ask.NextFrame aside = absurd aside
+    by ask.ImageDone aside = absurd aside
+    by r aside = did_kept IsStill s e.short (rule s reads (record e { call = r })) (record { taken = refl; returned = refl }) (record { taken = refl; returned = refl })
 
-pub quiet_aside : (r : Request) → IsQuiet r → IsAside r
-quiet_aside next_frame quiet = quiet
-quiet_aside image_done quiet = quiet
+pub quiet_aside : (r : Call) → IsQuiet r → IsAside r
+quiet_aside ask.NextFrame quiet = quiet
+quiet_aside ask.ImageDone quiet = quiet
 quiet_aside _ quiet = tt
 
 -- nor used, claimed, freed or stamped
@@ -66,30 +67,30 @@ record IsCalm (did : Did) : Type 0 where
   freed : did.freed ≡ []
   stamped : did.stamped ≡ []
 
-calm_call : (s : CoreState) (reads : CellReads) (e : Entry) → IsQuiet e.request → IsCalm (effect s reads e).did
-calm_call s reads e = by e.request
+calm_call : (s : CoreState) (reads : CellReads) (e : Entry) → IsQuiet e.call → IsCalm (effect s reads e).did
+calm_call s reads e = by e.call
   where
-    by : (r : Request) → IsQuiet r → IsCalm (effect s reads (record e { request = r })).did
-    by (destroy_instance instance) quiet = absurd quiet
-    by (destroy_session session) quiet = absurd quiet
-    by (create_swapchain session format width height fixed) quiet = absurd quiet
-    by (destroy_swapchain chain) quiet = absurd quiet
-    by (wait_image chain timeout start) quiet = absurd quiet
-    by (paint chain value) quiet = absurd quiet
-    by (release_image chain) quiet = absurd quiet
-    by (end_frame session time blend layers) quiet = absurd quiet
-    by next_frame quiet = absurd quiet
-    by image_done quiet = absurd quiet
-    by r quiet = did_kept IsCalm s e.short (rule s reads (record e { request = r })) (record { used = refl; claimed = refl; freed = refl; stamped = refl }) (record { used = refl; claimed = refl; freed = refl; stamped = refl })
+    by : (r : Call) → IsQuiet r → IsCalm (effect s reads (record e { call = r })).did
+    by (ask.DestroyInstance instance) quiet = absurd quiet
+    by (ask.DestroySession session) quiet = absurd quiet
+    by (ask.CreateSwapchain session format width height fixed) quiet = absurd quiet
+    by (ask.DestroySwapchain chain) quiet = absurd quiet
+    by (ask.WaitImage chain timeout start) quiet = absurd quiet
+    by (ask.Paint chain value) quiet = absurd quiet
+    by (ask.ReleaseImage chain) quiet = absurd quiet
+    by (ask.EndFrame session time blend layers) quiet = absurd quiet
+    by ask.NextFrame quiet = absurd quiet
+    by ask.ImageDone quiet = absurd quiet
+    by r quiet = did_kept IsCalm s e.short (rule s reads (record e { call = r })) (record { used = refl; claimed = refl; freed = refl; stamped = refl }) (record { used = refl; claimed = refl; freed = refl; stamped = refl })
 
 -- no call that may have to wait stamps
 unstamped : (s : CoreState) (reads : CellReads) (e : Entry) → (rule s reads e).waits ≡ true → (effect s reads e).did.stamped ≡ []
-unstamped s reads e = by e.request
+unstamped s reads e = by e.call
   where
-    by : (r : Request) → (rule s reads (record e { request = r })).waits ≡ true → (effect s reads (record e { request = r })).did.stamped ≡ []
-    by (create_swapchain session format width height fixed) waits = absurd (true≢false (sym waits))
-    by (paint chain value) waits = absurd (true≢false (sym waits))
-    by r waits = did_kept (λ d. d.stamped ≡ []) s e.short (rule s reads (record e { request = r })) refl refl
+    by : (r : Call) → (rule s reads (record e { call = r })).waits ≡ true → (effect s reads (record e { call = r })).did.stamped ≡ []
+    by (ask.CreateSwapchain session format width height fixed) waits = absurd (true≢false (sym waits))
+    by (ask.Paint chain value) waits = absurd (true≢false (sym waits))
+    by r waits = did_kept (λ d. d.stamped ≡ []) s e.short (rule s reads (record e { call = r })) refl refl
 
 pub waits_where : (s : CoreState) (reads : CellReads) (e : Entry) → core_ready s reads e ≡ false → (rule s reads e).waits ≡ true
 waits_where s reads e = by (rule s reads e).waits
@@ -103,22 +104,22 @@ waits_where s reads e = by (rule s reads e).waits
 abbrev pub told_nothing : List Image → CellReads
 told_nothing held = record { unused = true; stamps = []; held = held }
 
-pub no_calls : (s : CoreState) (held : List Image) (e : Entry) → IsQuiet e.request → cell_calls s (told_nothing held) e ≡ []
+pub no_calls : (s : CoreState) (held : List Image) (e : Entry) → IsQuiet e.call → cell_calls s (told_nothing held) e ≡ []
 no_calls s held e quiet =
-    let still = still_call s (told_nothing held) e (quiet_aside e.request quiet) in
+    let still = still_call s (told_nothing held) e (quiet_aside e.call quiet) in
     let calm = calm_call s (told_nothing held) e quiet in
     rw (calm.claimed, calm.used, calm.freed, calm.stamped, still.taken, still.returned) refl
 
 module _ {C : Type 0} (does : C → CellCall → C → Type 0) where
   -- what they answer for every reads is their clause over cells
-  pub quiet_over : (s new : CoreState) (held : List Image) (c : C) (who : Actor) (asked : Call) (lent left : Lent) (answer : Step) → IsQuiet (request_of asked)
+  pub quiet_over : (s new : CoreState) (held : List Image) (c : C) (who : Actor) (asked : Call) (lent left : Lent) (answer : Step) → IsQuiet asked
       → ((reads : CellReads) → CoreApplies reads s new who asked lent left answer)
       → AppliesOver does (record { core = record { kept = s; held = held }; cells = c; lent = lent }) (record { core = record { kept = new; held = held }; cells = c; lent = left }) who asked answer
   quiet_over s new held c who asked lent left (Done answer) quiet made =
-      let still = still_call s (told_nothing held) (entry_of who (request_of asked) answer) (quiet_aside (request_of asked) quiet) in
-      record { reads = told_nothing held; own = refl; each = rw still.taken refl; cells = rw (no_calls s held (entry_of who (request_of asked) answer) quiet) refl; applies = made (told_nothing held); holds = rw (still.taken, still.returned) refl }
+      let still = still_call s (told_nothing held) (entry_of who asked answer) (quiet_aside asked quiet) in
+      record { reads = told_nothing held; own = refl; each = rw still.taken refl; cells = rw (no_calls s held (entry_of who asked answer) quiet) refl; applies = made (told_nothing held); holds = rw (still.taken, still.returned) refl }
   quiet_over s new held c who asked lent left NotReady quiet made =
-      record { reads = told_nothing held; own = refl; each = refl; cells = rw (no_calls s held (entry_by who (request_of asked) NotReady) quiet) refl; applies = made (told_nothing held); holds = refl }
+      record { reads = told_nothing held; own = refl; each = refl; cells = rw (no_calls s held (entry_by who asked NotReady) quiet) refl; applies = made (told_nothing held); holds = refl }
 
 -- ---- plain cells
 
@@ -193,13 +194,13 @@ stamps_done s r e stamps =
 abbrev MayWait : CoreState → ℕ → Type 0
 MayWait s chain = (is_live s.handles Swapchain chain ≡ true) × ((life_of s (session_above s.handles chain)).lost ≡ false) × (is_wait_wrong (chain_at s.chains chain) ≡ false)
 
-abbrev IsTold : CoreState → Request → Bool → Bool → Type 0
-IsTold s (wait_image chain timeout start) u v = MayWait s chain → u ≡ v
+abbrev IsTold : CoreState → Call → Bool → Bool → Type 0
+IsTold s (ask.WaitImage chain timeout start) u v = MayWait s chain → u ≡ v
 IsTold s _ u v = Unit {0}
 
 -- where no image is held, a frame is shown with these stamps
-abbrev AreTold : List Image → Request → List ℕ → List ℕ → Type 0
-AreTold held next_frame ns ms = held ≡ [] → ns ≡ ms
+abbrev AreTold : List Image → Call → List ℕ → List ℕ → Type 0
+AreTold held ask.NextFrame ns ms = held ≡ [] → ns ≡ ms
 AreTold held _ ns ms = Unit {0}
 
 record Agrees (s : CoreState) (r q : CellReads) (e : Entry) : Type 0 where
@@ -219,53 +220,53 @@ module _ (s : CoreState) (held : List Image) (u v : Bool) (ns ms : List ℕ) whe
   abbrev other : CellReads
   other = record { unused = v; stamps = ms; held = held }
 
-  agree : (e : Entry) → IsTold s e.request u v → Agrees s told other e
-  agree e = by e.request
+  agree : (e : Entry) → IsTold s e.call u v → Agrees s told other e
+  agree e = by e.call
     where
-      by : (r : Request) → IsTold s r u v → Agrees s told other (record e { request = r })
-      by (wait_image chain timeout start) is = at (is_live s.handles Swapchain chain) refl (life_of s (session_above s.handles chain)).lost refl (is_wait_wrong (chain_at s.chains chain)) refl
+      by : (r : Call) → IsTold s r u v → Agrees s told other (record e { call = r })
+      by (ask.WaitImage chain timeout start) is = at (is_live s.handles Swapchain chain) refl (life_of s (session_above s.handles chain)).lost refl (is_wait_wrong (chain_at s.chains chain)) refl
         where
           at : (a : Bool) → is_live s.handles Swapchain chain ≡ a → (b : Bool) → (life_of s (session_above s.handles chain)).lost ≡ b → (d : Bool) → is_wait_wrong (chain_at s.chains chain) ≡ d
-              → Agrees s told other (record e { request = wait_image chain timeout start })
+              → Agrees s told other (record e { call = ask.WaitImage chain timeout start })
           at false live b lost d order = record { creates = refl; takes = refl; first = rw live refl; readies = rw live (or_true _ ∙ sym (or_true _)) }
           at true live true lost d order = record { creates = refl; takes = refl; first = rw (lost, live) refl; readies = rw (lost, live) (or_true _ ∙ sym (or_true _)) }
           at true live false lost true order = record { creates = refl; takes = refl; first = rw (lost, order, live) refl; readies = rw (lost, order, live) (or_true _ ∙ sym (or_true _)) }
           at true live false lost false order = let same : u ≡ v = is (live, lost, order) in rw same (record { creates = refl; takes = refl; first = refl; readies = refl })
       by r is = record { creates = refl; takes = refl; first = refl; readies = refl }
 
-  same_effect : (e : Entry) → IsTold s e.request u v → AreTold held e.request ns ms → effect s told e ≡ effect s other e
-  same_effect e = by e.request
+  same_effect : (e : Entry) → IsTold s e.call u v → AreTold held e.call ns ms → effect s told e ≡ effect s other e
+  same_effect e = by e.call
     where
-      by : (r : Request) → IsTold s r u v → AreTold held r ns ms → effect s told (record e { request = r }) ≡ effect s other (record e { request = r })
-      by (wait_image chain timeout start) is are = at (is_live s.handles Swapchain chain) refl (life_of s (session_above s.handles chain)).lost refl (is_wait_wrong (chain_at s.chains chain)) refl
+      by : (r : Call) → IsTold s r u v → AreTold held r ns ms → effect s told (record e { call = r }) ≡ effect s other (record e { call = r })
+      by (ask.WaitImage chain timeout start) is are = at (is_live s.handles Swapchain chain) refl (life_of s (session_above s.handles chain)).lost refl (is_wait_wrong (chain_at s.chains chain)) refl
         where
           at : (a : Bool) → is_live s.handles Swapchain chain ≡ a → (b : Bool) → (life_of s (session_above s.handles chain)).lost ≡ b → (d : Bool) → is_wait_wrong (chain_at s.chains chain) ≡ d
-              → effect s told (record e { request = wait_image chain timeout start }) ≡ effect s other (record e { request = wait_image chain timeout start })
+              → effect s told (record e { call = ask.WaitImage chain timeout start }) ≡ effect s other (record e { call = ask.WaitImage chain timeout start })
           at false live b lost d order = rw live refl
           at true live true lost d order = rw (lost, live) refl
           at true live false lost true order = rw (lost, order, live) refl
           at true live false lost false order = let same : u ≡ v = is (live, lost, order) in rw same refl
-      by next_frame is are = at held refl
+      by ask.NextFrame is are = at held refl
         where
-          at : (hs : List Image) → held ≡ hs → effect s told (record e { request = next_frame }) ≡ effect s other (record e { request = next_frame })
+          at : (hs : List Image) → held ≡ hs → effect s told (record e { call = ask.NextFrame }) ≡ effect s other (record e { call = ask.NextFrame })
           at [] none = let same : ns ≡ ms = are none in rw same refl
           at (i ∷ hs) some = rw some refl
       by r is are = refl
 
-module _ (s : CoreState) (r q : CellReads) (e : Entry) (same : r.held ≡ q.held) (is : IsTold s e.request r.unused q.unused) where
+module _ (s : CoreState) (r q : CellReads) (e : Entry) (same : r.held ≡ q.held) (is : IsTold s e.call r.unused q.unused) where
   agree_of : Agrees s r q e
   agree_of = subst (λ (hs : List Image). Agrees s (record { unused = r.unused; stamps = r.stamps; held = hs }) q e) (sym same) (agree s q.held r.unused q.unused r.stamps q.stamps e is)
 
-  same_of : AreTold q.held e.request r.stamps q.stamps → effect s r e ≡ effect s q e
+  same_of : AreTold q.held e.call r.stamps q.stamps → effect s r e ≡ effect s q e
   same_of are = subst (λ (hs : List Image). effect s (record { unused = r.unused; stamps = r.stamps; held = hs }) e ≡ effect s q e) (sym same) (same_effect s q.held r.unused q.unused r.stamps q.stamps e is are)
 
 -- what a claim answered is whether the count is 0
 told_by : (s : CoreState) (r : CellReads) (held : List Image) (e : Entry) (c d : PlainImages) → ((k : ℕ) → count_at c k ≡ count_of s.frames.pending held k) → Leads PlainDoes c (cell_calls s r e) d
-    → IsTold s e.request r.unused (count_of s.frames.pending held (slot_of (waited_image s e.request)) == 0)
-told_by s r held e c d counts = by e.request
+    → IsTold s e.call r.unused (count_of s.frames.pending held (slot_of (waited_image s e.call)) == 0)
+told_by s r held e c d counts = by e.call
   where
-    by : (what : Request) → Leads PlainDoes c (cell_calls s r (record e { request = what })) d → IsTold s what r.unused (count_of s.frames.pending held (slot_of (waited_image s what)) == 0)
-    by (wait_image chain timeout start) leads = λ may. (rw (may.1, may.2, may.0) at leads).1.0 ∙ ap (λ (n : ℕ). n == 0) (counts (slot_of (oldest_image s.chains chain)))
+    by : (what : Call) → Leads PlainDoes c (cell_calls s r (record e { call = what })) d → IsTold s what r.unused (count_of s.frames.pending held (slot_of (waited_image s what)) == 0)
+    by (ask.WaitImage chain timeout start) leads = λ may. (rw (may.1, may.2, may.0) at leads).1.0 ∙ ap (λ (n : ℕ). n == 0) (counts (slot_of (oldest_image s.chains chain)))
     by _ leads = tt
 
 -- what looks at images found is their stamps
@@ -279,12 +280,12 @@ found_stamps (i ∷ images) (n ∷ ns) c d each (m, h, rest) =
     rw (h.0, more, h.1) refl
 
 shown_by : (s : CoreState) (r : CellReads) (e : Entry) (c d : PlainImages) → length r.stamps ≡ length (effect s r e).did.taken → Leads PlainDoes c (cell_calls s r e) d
-    → AreTold r.held e.request r.stamps (stamps_at c.stamps (first_images s.frames.pending))
-shown_by s r e c d = by e.request
+    → AreTold r.held e.call r.stamps (stamps_at c.stamps (first_images s.frames.pending))
+shown_by s r e c d = by e.call
   where
-    by : (what : Request) → length r.stamps ≡ length (effect s r (record e { request = what })).did.taken → Leads PlainDoes c (cell_calls s r (record e { request = what })) d
+    by : (what : Call) → length r.stamps ≡ length (effect s r (record e { call = what })).did.taken → Leads PlainDoes c (cell_calls s r (record e { call = what })) d
         → AreTold r.held what r.stamps (stamps_at c.stamps (first_images s.frames.pending))
-    by next_frame each leads = λ none. found_stamps (first_images s.frames.pending) r.stamps c d (rw none at each) (rw none at leads)
+    by ask.NextFrame each leads = λ none. found_stamps (first_images s.frames.pending) r.stamps c d (rw none at each) (rw none at leads)
     by _ each leads = tt
 
 -- ---- the clause of the whole machine
@@ -299,30 +300,30 @@ pub plainly : (s new : CoreState) (held held2 : List Image) (c d : PlainImages) 
     → AppliesOver PlainDoes (record { core = record { kept = s; held = held }; cells = c; lent = lent }) (record { core = record { kept = new; held = held2 }; cells = d; lent = left }) who asked answer
     → Applies (whole s c.stamps held) (whole new d.stamps held2) who asked lent left answer
 plainly s new held held2 c d who asked lent left (Done answer) counts x =
-    let e : Entry = entry_of who (request_of asked) answer in
-    let q : CellReads = reads_of (whole s c.stamps held) e.request in
+    let e : Entry = entry_of who asked answer in
+    let q : CellReads = reads_of (whole s c.stamps held) e.call in
     let is = told_by s x.reads held e c d counts x.cells in
     let here : Agrees s x.reads q e = agree_of s x.reads q e x.own is in
-    let effects : effect s x.reads e ≡ effect s q e = same_of s x.reads q e x.own is (subst (λ (hs : List Image). AreTold hs e.request x.reads.stamps q.stamps) x.own (shown_by s x.reads e c d x.each x.cells)) in
+    let effects : effect s x.reads e ≡ effect s q e = same_of s x.reads q e x.own is (subst (λ (hs : List Image). AreTold hs e.call x.reads.stamps q.stamps) x.own (shown_by s x.reads e c d x.each x.cells)) in
     let stamps : d.stamps ≡ with_stamps (effect s x.reads e).did.stamped c.stamps = stamps_follow (cell_calls s x.reads e) c d x.cells ∙ stamps_done s x.reads e c.stamps in
     let a = x.applies in
     record {
       allowed = record {
-        handle = subst (λ (k : Option Kind). IsGiven (is_some k && is_success (decided_call s e.request (effect s q e)).1.reply.code) s.handles e.given) here.creates
-            (subst (λ (y : Effect). IsGiven (is_some (rule s x.reads e).creates && is_success (decided_call s e.request y).1.reply.code) s.handles e.given) effects a.allowed.handle);
+        handle = subst (λ (k : Option Kind). IsGiven (is_some k && is_success (decided_call s e.call (effect s q e)).1.reply.code) s.handles e.given) here.creates
+            (subst (λ (y : Effect). IsGiven (is_some (rule s x.reads e).creates && is_success (decided_call s e.call y).1.reply.code) s.handles e.given) effects a.allowed.handle);
         memory = λ short. let both = a.allowed.memory short in (sym here.takes ∙ both.0, sym here.first ∙ both.1);
         present = a.allowed.present;
       };
       is_ready = sym here.readies ∙ a.is_ready;
-      leads = subst (λ (y : Effect). whole new d.stamps held2 ≡ whole (decided_call s e.request y).0 (with_stamps y.did.stamped c.stamps) (held_after held y.did)) effects
-          (moves new (decided_call s e.request (effect s x.reads e)).0 d.stamps (with_stamps (effect s x.reads e).did.stamped c.stamps) held2 (held_after held (effect s x.reads e).did) a.leads stamps x.holds);
-      replies = subst (λ (y : Effect). answer ≡ (decided_call s e.request y).1.reply) effects a.replies;
-      writes = subst (λ (y : Effect). left ≡ left_in (decided_call s e.request y).1.text (decided_call s e.request y).1.shown lent) effects a.writes;
+      leads = subst (λ (y : Effect). whole new d.stamps held2 ≡ whole (decided_call s e.call y).0 (with_stamps y.did.stamped c.stamps) (held_after held y.did)) effects
+          (moves new (decided_call s e.call (effect s x.reads e)).0 d.stamps (with_stamps (effect s x.reads e).did.stamped c.stamps) held2 (held_after held (effect s x.reads e).did) a.leads stamps x.holds);
+      replies = subst (λ (y : Effect). answer ≡ (decided_call s e.call y).1.reply) effects a.replies;
+      writes = subst (λ (y : Effect). left ≡ left_in (decided_call s e.call y).1.text (decided_call s e.call y).1.shown lent) effects a.writes;
     }
 plainly s new held held2 c d who asked lent left NotReady counts x = λ given short.
-    let one : Entry = record { actor = who; request = request_of asked; given = 0; short = false } in
-    let e : Entry = record { actor = who; request = request_of asked; given = given; short = short } in
-    let q : CellReads = reads_of (whole s c.stamps held) e.request in
+    let one : Entry = record { actor = who; call = asked; given = 0; short = false } in
+    let e : Entry = record { actor = who; call = asked; given = given; short = short } in
+    let q : CellReads = reads_of (whole s c.stamps held) e.call in
     let here : Agrees s x.reads q e = agree_of s x.reads q e x.own (told_by s x.reads held one c d counts x.cells) in
     let stamps : d.stamps ≡ c.stamps = stamps_follow (cell_calls s x.reads one) c d x.cells ∙ stamps_done s x.reads one c.stamps ∙ ap (λ (xs : List Stamped). with_stamps xs c.stamps) (unstamped s x.reads one (waits_where s x.reads one (x.applies 0 false).not_ready)) in
     let w = x.applies given short in

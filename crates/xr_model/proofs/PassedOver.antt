@@ -9,7 +9,7 @@ use Rattle.xr_types.specs.declared.frames.Image.{Image}
 use Rattle.xr_types.specs.declared.scenario.Op.{Op}
 use Rattle.xr_types.specs.declared.scenario.Op.TheVariants as op
 use Rattle.xr_types.specs.declared.scenario.Scenario.{Scenario}
-use Rattle.xr_model.specs.machine.Request.{Entry, Outcome, is_actor}
+use Rattle.xr_model.specs.machine.Calls.{Entry, Outcome, is_actor}
 use Rattle.xr_model.specs.machine.State.{State, opening}
 use Rattle.xr_model.specs.machine.Machine.{step, reads_of}
 use Rattle.xr_model.specs.machine.History.{after}
@@ -115,17 +115,17 @@ aside_op : (values : List ℕ) (clock : ℤ) (o : Op) → IsAside (with_start cl
 aside_op values clock (op.CreateInstance major minor) = tt
 aside_op values clock _ = tt
 
-held_stays : (s : State) (e : Entry) → IsAside e.request → (step s e).0.cells.held ≡ s.cells.held
-held_stays s e aside = let l = leaves_held s.core (reads_of s e.request) e aside in rw (l.taken, l.returned) refl
+held_stays : (s : State) (e : Entry) → IsAside e.call → (step s e).0.cells.held ≡ s.cells.held
+held_stays s e aside = let l = leaves_held s.core (reads_of s e.call) e aside in rw (l.taken, l.returned) refl
 
 -- so what the compositor knows stays right
 module _ (s : State) (e : Entry) (passed behind : List Agenda) where
-  still_know : IsAside e.request → AllKnow (length s.cells.held) behind → AllKnow (length s.cells.held) passed
+  still_know : IsAside e.call → AllKnow (length s.cells.held) behind → AllKnow (length s.cells.held) passed
       → AllKnow (length (step s e).0.cells.held) (behind ++ passed)
   still_know aside later first =
       subst (λ hs. AllKnow (length hs) (behind ++ passed)) (sym (held_stays s e aside)) (know_joined (length s.cells.held) behind passed later first)
 
-  rest_know : (x : Agenda) → e.request ≡ next_call x → AllKnow (length s.cells.held) passed → AllKnow (length s.cells.held) behind
+  rest_know : (x : Agenda) → e.call ≡ next_call x → AllKnow (length s.cells.held) passed → AllKnow (length s.cells.held) behind
       → count_of Compositor (map actor_of (passed ++ x ∷ behind)) ≤ 1 → AllKnow (length (step s e).0.cells.held) (behind ++ passed)
   rest_know (script app place [] values clock) is first later few = still_know (subst IsAside (sym is) tt) later first
   rest_know (script app place (o ∷ os) values clock) is first later few = still_know (subst IsAside (sym is) (aside_op values clock o)) later first

@@ -6,7 +6,9 @@ use Rattle.xr_types.specs.Code.{is_success}
 use Rattle.xr_types.specs.declared.handles.Kind.{Kind}
 use Rattle.xr_types.specs.declared.handles.Kind.TheVariants.{Instance, Session, ActionSet, Action, Space, Swapchain}
 use Rattle.xr_types.specs.declared.handles.Slot.{Slot}
-use Rattle.xr_model.specs.machine.Request.{Entry, Request, create_instance, create_session, create_reference_space, create_action_set, create_action, destroy_instance, destroy_session, destroy_space, destroy_action_set, destroy_action, create_swapchain, destroy_swapchain, create_action_space}
+use Rattle.xr_model.specs.machine.Calls.{Entry}
+use Rattle.xr_types.specs.declared.calls.Call.{Call}
+use Rattle.xr_types.specs.declared.calls.Call.TheVariants as ask
 use Rattle.xr_model.specs.machine.Handles.{Handles, free, has, is_live, row_of, put_in, first_free, goes, cleared, destroyed_instances, destroyed_parents, with_handle, without, without_alone}
 use Rattle.xr_model.specs.machine.HandlePlaces.{kind_of, place_in, slot_in, place_of_kind, parent_of_kind}
 use Rattle.xr_model.specs.machine.Refusals.{Refusal}
@@ -140,17 +142,17 @@ refused_rows : (s : CoreState) (o : Option Refusal) (x : Effect) (p : ℕ) → (
 refused_rows s None x p rows = rows
 refused_rows s (Some r) x p rows = λ kind. (refl, refl)
 
-rows_created : (s : State) (e : Entry) (p : ℕ) → (p == 0) ≡ false → (p == e.given) ≡ false → is_some (rule s.core (reads_of s e.request) e).creates ≡ true → (kind : Kind) → RowSame p (row_of (step s e).0.core.handles kind) (row_of s.core.handles kind)
-rows_created s e p nz apart = by e.request
+rows_created : (s : State) (e : Entry) (p : ℕ) → (p == 0) ≡ false → (p == e.given) ≡ false → is_some (rule s.core (reads_of s e.call) e).creates ≡ true → (kind : Kind) → RowSame p (row_of (step s e).0.core.handles kind) (row_of s.core.handles kind)
+rows_created s e p nz apart = by e.call
   where
-    by : (r : Request) → is_some (rule s.core (reads_of s r) (record e { request = r })).creates ≡ true → (kind : Kind) → RowSame p (row_of (step s (record e { request = r })).0.core.handles kind) (row_of s.core.handles kind)
-    by (create_instance major minor) is = let f = rule s.core (reads_of s (create_instance major minor)) (record e { request = create_instance major minor }) in refused_rows s.core (refusal e.short f) (told_on f.on f.effect) p (instance_rows s.core.handles 0 e.given p nz apart)
-    by (create_session instance system) is = let f = rule s.core (reads_of s (create_session instance system)) (record e { request = create_session instance system }) in refused_rows s.core (refusal e.short f) (told_on f.on f.effect) p (session_rows s.core.handles instance e.given p nz apart)
-    by (create_reference_space session what offset) is = let f = rule s.core (reads_of s (create_reference_space session what offset)) (record e { request = create_reference_space session what offset }) in refused_rows s.core (refusal e.short f) (told_on f.on f.effect) p (space_rows s.core.handles session e.given p nz apart)
-    by (create_action_space session action sub offset) is = let f = rule s.core (reads_of s (create_action_space session action sub offset)) (record e { request = create_action_space session action sub offset }) in refused_rows s.core (refusal e.short f) (told_on f.on f.effect) p (space_rows s.core.handles session e.given p nz apart)
-    by (create_swapchain session format width height fixed) is = let f = rule s.core (reads_of s (create_swapchain session format width height fixed)) (record e { request = create_swapchain session format width height fixed }) in refused_rows s.core (refusal e.short f) (told_on f.on f.effect) p (chain_rows s.core.handles session e.given p nz apart)
-    by (create_action_set instance name localized priority) is = let f = rule s.core (reads_of s (create_action_set instance name localized priority)) (record e { request = create_action_set instance name localized priority }) in refused_rows s.core (refusal e.short f) (told_on f.on f.effect) p (set_rows s.core.handles instance e.given p nz apart)
-    by (create_action set name type subs localized) is = let f = rule s.core (reads_of s (create_action set name type subs localized)) (record e { request = create_action set name type subs localized }) in refused_rows s.core (refusal e.short f) (told_on f.on f.effect) p (action_rows s.core.handles set e.given p nz apart)
+    by : (r : Call) → is_some (rule s.core (reads_of s r) (record e { call = r })).creates ≡ true → (kind : Kind) → RowSame p (row_of (step s (record e { call = r })).0.core.handles kind) (row_of s.core.handles kind)
+    by (ask.CreateInstance major minor) is = let f = rule s.core (reads_of s (ask.CreateInstance major minor)) (record e { call = ask.CreateInstance major minor }) in refused_rows s.core (refusal e.short f) (told_on f.on f.effect) p (instance_rows s.core.handles 0 e.given p nz apart)
+    by (ask.CreateSession instance system) is = let f = rule s.core (reads_of s (ask.CreateSession instance system)) (record e { call = ask.CreateSession instance system }) in refused_rows s.core (refusal e.short f) (told_on f.on f.effect) p (session_rows s.core.handles instance e.given p nz apart)
+    by (ask.CreateReferenceSpace session what offset) is = let f = rule s.core (reads_of s (ask.CreateReferenceSpace session what offset)) (record e { call = ask.CreateReferenceSpace session what offset }) in refused_rows s.core (refusal e.short f) (told_on f.on f.effect) p (space_rows s.core.handles session e.given p nz apart)
+    by (ask.CreateActionSpace session action sub offset) is = let f = rule s.core (reads_of s (ask.CreateActionSpace session action sub offset)) (record e { call = ask.CreateActionSpace session action sub offset }) in refused_rows s.core (refusal e.short f) (told_on f.on f.effect) p (space_rows s.core.handles session e.given p nz apart)
+    by (ask.CreateSwapchain session format width height fixed) is = let f = rule s.core (reads_of s (ask.CreateSwapchain session format width height fixed)) (record e { call = ask.CreateSwapchain session format width height fixed }) in refused_rows s.core (refusal e.short f) (told_on f.on f.effect) p (chain_rows s.core.handles session e.given p nz apart)
+    by (ask.CreateActionSet instance name localized priority) is = let f = rule s.core (reads_of s (ask.CreateActionSet instance name localized priority)) (record e { call = ask.CreateActionSet instance name localized priority }) in refused_rows s.core (refusal e.short f) (told_on f.on f.effect) p (set_rows s.core.handles instance e.given p nz apart)
+    by (ask.CreateAction set name type subs localized) is = let f = rule s.core (reads_of s (ask.CreateAction set name type subs localized)) (record e { call = ask.CreateAction set name type subs localized }) in refused_rows s.core (refusal e.short f) (told_on f.on f.effect) p (action_rows s.core.handles set e.given p nz apart)
     by _ is = absurd (true≢false (sym is))
 
 pub creating_leaves_places : CreatingLeavesPlaces
@@ -222,17 +224,17 @@ module _ (h : Handles) (top p : ℕ) (once : StandOnce h) (nz : (p == 0) ≡ fal
 abbrev Rows : Handles → ℕ → Handles → Type 0
 Rows h p new = (kind : Kind) → has (row_of new kind) p ≡ true → RowSame p (row_of new kind) (row_of h kind)
 
-rows_destroyed : (s : State) (e : Entry) (handle p : ℕ) → StandOnce s.core.handles → (p == 0) ≡ false → destroys e.request handle ≡ true → is_success (step s e).1.reply.code ≡ true → Rows s.core.handles p (step s e).0.core.handles
-rows_destroyed s e handle p once nz = by e.request
+rows_destroyed : (s : State) (e : Entry) (handle p : ℕ) → StandOnce s.core.handles → (p == 0) ≡ false → destroys e.call handle ≡ true → is_success (step s e).1.reply.code ≡ true → Rows s.core.handles p (step s e).0.core.handles
+rows_destroyed s e handle p once nz = by e.call
   where
-    by : (r : Request) → destroys r handle ≡ true → is_success (step s (record e { request = r })).1.reply.code ≡ true → Rows s.core.handles p (step s (record e { request = r })).0.core.handles
-    by (destroy_instance instance) names good = destroyed (Rows s.core.handles p) s.core (is_live s.core.handles Instance instance) (rule s.core (reads_of s (destroy_instance instance)) (record e { request = destroy_instance instance })).effect good (λ live. without_rows s.core.handles instance p once nz)
-    by (destroy_session session) names good = destroyed (Rows s.core.handles p) s.core (is_live s.core.handles Session session) (rule s.core (reads_of s (destroy_session session)) (record e { request = destroy_session session })).effect good (λ live. without_rows s.core.handles session p once nz)
-    by (destroy_space space) names good = destroyed (Rows s.core.handles p) s.core (is_live s.core.handles Space space) (rule s.core (reads_of s (destroy_space space)) (record e { request = destroy_space space })).effect good (λ live. alone_rows s.core.handles space p once nz)
-    by (destroy_action_set set) names good = destroyed (Rows s.core.handles p) s.core (is_live s.core.handles ActionSet set) (rule s.core (reads_of s (destroy_action_set set)) (record e { request = destroy_action_set set })).effect good (λ live. without_rows s.core.handles set p once nz)
-    by (destroy_action action) names good = destroyed (Rows s.core.handles p) s.core (is_live s.core.handles Action action) (rule s.core (reads_of s (destroy_action action)) (record e { request = destroy_action action })).effect good (λ live. without_rows s.core.handles action p once nz)
-    by (destroy_swapchain chain) names good =
-        destroyed (Rows s.core.handles p) s.core (is_live s.core.handles Swapchain chain) (rule s.core (reads_of s (destroy_swapchain chain)) (record e { request = destroy_swapchain chain })).effect good
+    by : (r : Call) → destroys r handle ≡ true → is_success (step s (record e { call = r })).1.reply.code ≡ true → Rows s.core.handles p (step s (record e { call = r })).0.core.handles
+    by (ask.DestroyInstance instance) names good = destroyed (Rows s.core.handles p) s.core (is_live s.core.handles Instance instance) (rule s.core (reads_of s (ask.DestroyInstance instance)) (record e { call = ask.DestroyInstance instance })).effect good (λ live. without_rows s.core.handles instance p once nz)
+    by (ask.DestroySession session) names good = destroyed (Rows s.core.handles p) s.core (is_live s.core.handles Session session) (rule s.core (reads_of s (ask.DestroySession session)) (record e { call = ask.DestroySession session })).effect good (λ live. without_rows s.core.handles session p once nz)
+    by (ask.DestroySpace space) names good = destroyed (Rows s.core.handles p) s.core (is_live s.core.handles Space space) (rule s.core (reads_of s (ask.DestroySpace space)) (record e { call = ask.DestroySpace space })).effect good (λ live. alone_rows s.core.handles space p once nz)
+    by (ask.DestroyActionSet set) names good = destroyed (Rows s.core.handles p) s.core (is_live s.core.handles ActionSet set) (rule s.core (reads_of s (ask.DestroyActionSet set)) (record e { call = ask.DestroyActionSet set })).effect good (λ live. without_rows s.core.handles set p once nz)
+    by (ask.DestroyAction action) names good = destroyed (Rows s.core.handles p) s.core (is_live s.core.handles Action action) (rule s.core (reads_of s (ask.DestroyAction action)) (record e { call = ask.DestroyAction action })).effect good (λ live. without_rows s.core.handles action p once nz)
+    by (ask.DestroySwapchain chain) names good =
+        destroyed (Rows s.core.handles p) s.core (is_live s.core.handles Swapchain chain) (rule s.core (reads_of s (ask.DestroySwapchain chain)) (record e { call = ask.DestroySwapchain chain })).effect good
         (λ live. chain_alone_rows s.core.handles chain p once nz)
     by _ names good = absurd (true≢false (sym names))
 

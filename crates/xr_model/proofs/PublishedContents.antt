@@ -16,7 +16,9 @@ use Rattle.xr_model.specs.machine.Paths.{with_text}
 use Rattle.xr_model.specs.machine.Publication.{publication_of, first_seen, user_atom, atom_of_user}
 use Rattle.xr_model.specs.machine.Publishing.{publishes, is_published}
 use Rattle.xr_model.specs.machine.Refusals.{Refusal, when}
-use Rattle.xr_model.specs.machine.Request.{Request, Entry, create_session, destroy_session, create_action, destroy_action, destroy_action_set, destroy_instance, attach_sets, sync_actions, string_to_path, begin_session, end_session, request_exit_session, end_frame, device}
+use Rattle.xr_model.specs.machine.Calls.{Entry}
+use Rattle.xr_types.specs.declared.calls.Call.{Call}
+use Rattle.xr_types.specs.declared.calls.Call.TheVariants as ask
 use Rattle.xr_model.specs.machine.Rule.{Effect, refusal, unless_refused, told_on}
 use Rattle.xr_model.specs.machine.Rules.Device.{behind_event}
 use Rattle.xr_model.specs.machine.Rules.Session.{life_of, changed_in}
@@ -79,7 +81,7 @@ module _ (s : CoreState) where
       → publication_of (record s { sessions = changed_in (session_at s.sessions session) f s.sessions }) ≡ publication_of s
   changed session f same = sessions_alike (changed_in (session_at s.sessions session) f s.sessions) (change_seen s.sessions session f same)
 
-  events : (what : DeviceEvent) → publishes (device what) Success ≡ false → Alike (behind_event s what)
+  events : (what : DeviceEvent) → publishes (ask.Device what) Success ≡ false → Alike (behind_event s what)
   events (event.Wish wish) quiet = sessions_alike _ (each_seen (settled_session wish) s.sessions (settled_loss wish))
   events event.Loss quiet = absurd (true≢false quiet)
   events event.Lost quiet = absurd (true≢false quiet)
@@ -88,14 +90,14 @@ module _ (s : CoreState) where
   events _ quiet = refl
 
 -- a session that may end is stopping
-stops : (s : CoreState) (reads : CellReads) (e : Entry) (session : ℕ) → refusal e.short (rule s reads (record e { request = end_session session })) ≡ None → (x : Session) → session_at s.sessions session ≡ Some x → is_state x.life.state Stopping ≡ true
+stops : (s : CoreState) (reads : CellReads) (e : Entry) (session : ℕ) → refusal e.short (rule s reads (record e { call = ask.EndSession session })) ≡ None → (x : Session) → session_at s.sessions session ≡ Some x → is_state x.life.state Stopping ≡ true
 stops s reads e session none x there =
     let life = life_of s session in
     let behind = none_behind (no_handle s.handles kind.Session session ∷ is_lost life ∷ when (not life.running) SessionNotRunning ∷ []) (when (not (is_state life.state Stopping)) SessionNotStopping ∷ when false CallOrderInvalid ∷ []) none in
     ap (λ o. is_state (life_in o).state Stopping) (sym there) ∙ first_fails (is_state life.state Stopping) SessionNotStopping (when false CallOrderInvalid ∷ []) behind
 
 -- an event publishes whatever its code
-device_quiet : (what : DeviceEvent) (code : Code) → publishes (device what) code ≡ false → publishes (device what) Success ≡ false
+device_quiet : (what : DeviceEvent) (code : Code) → publishes (ask.Device what) code ≡ false → publishes (ask.Device what) Success ≡ false
 device_quiet event.Loss code quiet = quiet
 device_quiet event.Lost code quiet = quiet
 device_quiet event.Fault code quiet = quiet
@@ -103,50 +105,50 @@ device_quiet (event.Garbled line) code quiet = quiet
 device_quiet _ code quiet = refl
 
 -- what a state publishes behind a call that doesn't publish
-pub contents_stay : (s : CoreState) (reads : CellReads) (e : Entry) → KnowsDeclared s.atoms s.sets.actions → publishes e.request (effect s reads e).code ≡ false → Alike s (effect s reads e).state
-contents_stay s reads e known quiet = by e.request quiet
+pub contents_stay : (s : CoreState) (reads : CellReads) (e : Entry) → KnowsDeclared s.atoms s.sets.actions → publishes e.call (effect s reads e).code ≡ false → Alike s (effect s reads e).state
+contents_stay s reads e known quiet = by e.call quiet
   where
-    by : (r : Request) → publishes r (effect s reads (record e { request = r })).code ≡ false → Alike s (effect s reads (record e { request = r })).state
-    by (create_session instance system) quiet =
-        let f = rule s reads (record e { request = create_session instance system }) in
+    by : (r : Call) → publishes r (effect s reads (record e { call = r })).code ≡ false → Alike s (effect s reads (record e { call = r })).state
+    by (ask.CreateSession instance system) quiet =
+        let f = rule s reads (record e { call = ask.CreateSession instance system }) in
         silent s (refusal e.short f) (told_on f.on f.effect) refl quiet
-    by (destroy_session session) quiet =
-        let f = rule s reads (record e { request = destroy_session session }) in
+    by (ask.DestroySession session) quiet =
+        let f = rule s reads (record e { call = ask.DestroySession session }) in
         silent s (refusal e.short f) (told_on f.on f.effect) refl quiet
-    by (create_action set name type subs localized) quiet =
-        let f = rule s reads (record e { request = create_action set name type subs localized }) in
+    by (ask.CreateAction set name type subs localized) quiet =
+        let f = rule s reads (record e { call = ask.CreateAction set name type subs localized }) in
         silent s (refusal e.short f) (told_on f.on f.effect) refl quiet
-    by (destroy_action action) quiet =
-        let f = rule s reads (record e { request = destroy_action action }) in
+    by (ask.DestroyAction action) quiet =
+        let f = rule s reads (record e { call = ask.DestroyAction action }) in
         silent s (refusal e.short f) (told_on f.on f.effect) refl quiet
-    by (destroy_action_set set) quiet =
-        let f = rule s reads (record e { request = destroy_action_set set }) in
+    by (ask.DestroyActionSet set) quiet =
+        let f = rule s reads (record e { call = ask.DestroyActionSet set }) in
         silent s (refusal e.short f) (told_on f.on f.effect) refl quiet
-    by (destroy_instance instance) quiet =
-        let f = rule s reads (record e { request = destroy_instance instance }) in
+    by (ask.DestroyInstance instance) quiet =
+        let f = rule s reads (record e { call = ask.DestroyInstance instance }) in
         silent s (refusal e.short f) (told_on f.on f.effect) refl quiet
-    by (attach_sets session sets) quiet =
-        let f = rule s reads (record e { request = attach_sets session sets }) in
+    by (ask.AttachSets session sets) quiet =
+        let f = rule s reads (record e { call = ask.AttachSets session sets }) in
         silent s (refusal e.short f) (told_on f.on f.effect) (published_still (loss_of (life_of s session))) quiet
-    by (sync_actions session active) quiet =
-        let f = rule s reads (record e { request = sync_actions session active }) in
+    by (ask.SyncActions session active) quiet =
+        let f = rule s reads (record e { call = ask.SyncActions session active }) in
         silent s (refusal e.short f) (told_on f.on f.effect) (synced_publishes (loss_of (life_of s session)) (is_state (life_of s session).state Focused)) quiet
-    by (string_to_path instance text) quiet =
-        let f = rule s reads (record e { request = string_to_path instance text }) in
+    by (ask.StringToPath instance text) quiet =
+        let f = rule s reads (record e { call = ask.StringToPath instance text }) in
         kept s (refusal e.short f) (told_on f.on f.effect) (λ none. atoms_alike s text known)
-    by (begin_session session view) quiet =
-        let f = rule s reads (record e { request = begin_session session view }) in
+    by (ask.BeginSession session view) quiet =
+        let f = rule s reads (record e { call = ask.BeginSession session view }) in
         kept s (refusal e.short f) (told_on f.on f.effect) (λ none. changed s session (λ life. unchanged (begun_session life)) (λ x there. refl))
-    by (end_session session) quiet =
-        let f = rule s reads (record e { request = end_session session }) in
+    by (ask.EndSession session) quiet =
+        let f = rule s reads (record e { call = ask.EndSession session }) in
         kept s (refusal e.short f) (told_on f.on f.effect) (λ none. changed s session (ended_session s.device.wish) (λ x there. ended_loss s.device.wish x.life (stops s reads e session none x there)))
-    by (request_exit_session session) quiet =
-        let f = rule s reads (record e { request = request_exit_session session }) in
+    by (ask.RequestExitSession session) quiet =
+        let f = rule s reads (record e { call = ask.RequestExitSession session }) in
         kept s (refusal e.short f) (told_on f.on f.effect) (λ none. changed s session (exiting_session s.device.wish) (λ x there. exiting_loss s.device.wish x.life))
-    by (end_frame session time blend layers) quiet =
-        let f = rule s reads (record e { request = end_frame session time blend layers }) in
+    by (ask.EndFrame session time blend layers) quiet =
+        let f = rule s reads (record e { call = ask.EndFrame session time blend layers }) in
         kept s (refusal e.short f) (told_on f.on f.effect) (λ none. changed s session (synced_session s.device.wish) (λ x there. synced_loss s.device.wish x.life))
-    by (device what) quiet = events s what (device_quiet what (effect s reads (record e { request = device what })).code quiet)
+    by (ask.Device what) quiet = events s what (device_quiet what (effect s reads (record e { call = ask.Device what })).code quiet)
     by r quiet =
-        let f = rule s reads (record e { request = r }) in
+        let f = rule s reads (record e { call = r }) in
         kept s (refusal e.short f) (told_on f.on f.effect) (λ none. refl)

@@ -11,7 +11,9 @@ use Rattle.xr_model.specs.machine.Publication.{Publication, publication_of}
 use Rattle.xr_model.specs.machine.Publishing.{publishes}
 use Rattle.xr_model.specs.machine.Reads.{published_behind, published_from}
 use Rattle.xr_model.specs.machine.Refusals.{Refusal, when}
-use Rattle.xr_model.specs.machine.Request.{Request, Entry, create_action, destroy_session, destroy_action, destroy_action_set, destroy_instance, string_to_path, device}
+use Rattle.xr_model.specs.machine.Calls.{Entry}
+use Rattle.xr_types.specs.declared.calls.Call.{Call}
+use Rattle.xr_types.specs.declared.calls.Call.TheVariants as ask
 use Rattle.xr_model.specs.machine.Rule.{Effect, refusal, unless_refused, told_on}
 use Rattle.xr_model.specs.machine.Rules.Device.{behind_event}
 use Rattle.xr_model.specs.machine.Sets.{Action, is_declared, no_users, without_inputs}
@@ -96,34 +98,34 @@ module _ (s : CoreState) (reads : CellReads) (e : Entry) (sound : IsSound s) whe
   instance_gone instance live = none_declared [] (without_inputs s.sets (destroyed_by s.handles instance)).actions (none_left s instance sound.one live sound.under sound.once sound.kept)
 
   declared_step : Knows (core_step s reads e).0
-  declared_step = by e.request
+  declared_step = by e.call
     where
-      by : (r : Request) → Knows (core_step s reads (record e { request = r })).0
-      by (string_to_path instance text) =
-          let f = rule s reads (record e { request = string_to_path instance text }) in
+      by : (r : Call) → Knows (core_step s reads (record e { call = r })).0
+      by (ask.StringToPath instance text) =
+          let f = rule s reads (record e { call = ask.StringToPath instance text }) in
           kept Knows s (refusal e.short f) (told_on f.on f.effect) sound.declared (λ none who is. rw (known_user s.atoms text who (sound.declared who is)) (sound.declared who is))
-      by (create_action set name type subs localized) =
-          let f = rule s reads (record e { request = create_action set name type subs localized }) in
+      by (ask.CreateAction set name type subs localized) =
+          let f = rule s reads (record e { call = ask.CreateAction set name type subs localized }) in
           kept Knows s (refusal e.short f) (told_on f.on f.effect) sound.declared (λ none who is.
           elim (any_more (λ x. is_declared x.declared who) s.sets.actions _ is) [
             | inl before ↦ sound.declared who before
             | inr new ↦ declared_known s.atoms subs no_users who (λ bad. absurd (undeclared who bad)) new
           ])
-      by (destroy_instance instance) =
-          let f = rule s reads (record e { request = destroy_instance instance }) in
+      by (ask.DestroyInstance instance) =
+          let f = rule s reads (record e { call = ask.DestroyInstance instance }) in
           kept Knows s (refusal e.short f) (told_on f.on f.effect) sound.declared (λ none. instance_gone instance (handles.first_fails (is_live s.handles kind.Instance instance) HandleInvalid (when false CallOrderInvalid ∷ []) none))
-      by (destroy_session session) =
-          let f = rule s reads (record e { request = destroy_session session }) in
+      by (ask.DestroySession session) =
+          let f = rule s reads (record e { call = ask.DestroySession session }) in
           kept Knows s (refusal e.short f) (told_on f.on f.effect) sound.declared (λ none. left session)
-      by (destroy_action_set set) =
-          let f = rule s reads (record e { request = destroy_action_set set }) in
+      by (ask.DestroyActionSet set) =
+          let f = rule s reads (record e { call = ask.DestroyActionSet set }) in
           kept Knows s (refusal e.short f) (told_on f.on f.effect) sound.declared (λ none. left set)
-      by (destroy_action action) =
-          let f = rule s reads (record e { request = destroy_action action }) in
+      by (ask.DestroyAction action) =
+          let f = rule s reads (record e { call = ask.DestroyAction action }) in
           kept Knows s (refusal e.short f) (told_on f.on f.effect) sound.declared (λ none. left action)
-      by (device what) = events_know s what sound.declared
+      by (ask.Device what) = events_know s what sound.declared
       by r =
-          let f = rule s reads (record e { request = r }) in
+          let f = rule s reads (record e { call = r }) in
           kept Knows s (refusal e.short f) (told_on f.on f.effect) sound.declared (λ none. sound.declared)
 
   -- there is one place for an instance
@@ -143,12 +145,12 @@ module _ (s : CoreState) (reads : CellReads) (e : Entry) (sound : IsSound s) whe
 
 pub sound_step : (s : State) (e : Entry) → IsAllowed s e → IsSound s.core → IsSound (step s e).0.core
 sound_step s e allowed sound = record {
-  one = one_step s.core (reads_of s e.request) e sound;
+  one = one_step s.core (reads_of s e.call) e sound;
   under = under_step s e sound.under;
   known = known_step s e sound.known;
   once = once_step s e allowed sound.known sound.once;
   kept = kept_step s e allowed sound.known sound.once sound.kept;
-  declared = declared_step s.core (reads_of s e.request) e sound;
+  declared = declared_step s.core (reads_of s e.call) e sound;
 }
 
 pub sound_opening : (settings : Settings) → IsSound (opening settings).core
@@ -168,15 +170,15 @@ sound_after s clocks (e ∷ es) legal sound = sound_after (step s e).0 (clocks_a
 -- ---- over a history
 
 -- behind an entry that doesn't publish
-pub stays_published : (s : State) (e : Entry) → IsSound s.core → publishes e.request (step s e).1.reply.code ≡ false → publication_of (step s e).0.core ≡ publication_of s.core
+pub stays_published : (s : State) (e : Entry) → IsSound s.core → publishes e.call (step s e).1.reply.code ≡ false → publication_of (step s e).0.core ≡ publication_of s.core
 stays_published s e sound quiet =
-    let t = (effect s.core (reads_of s e.request) e).state in
-    subst (λ (n : ℕ). publication_of (record t { published = n }) ≡ publication_of s.core) (sym (ap (λ b. if b then s.core.locked + 1 else s.core.published) quiet)) (contents_stay s.core (reads_of s e.request) e sound.declared quiet)
+    let t = (effect s.core (reads_of s e.call) e).state in
+    subst (λ (n : ℕ). publication_of (record t { published = n }) ≡ publication_of s.core) (sym (ap (λ b. if b then s.core.locked + 1 else s.core.published) quiet)) (contents_stay s.core (reads_of s e.call) e sound.declared quiet)
 
 behind : (s : State) (e : Entry) → IsSound s.core → published_behind (publication_of s.core) s e ≡ publication_of (step s e).0.core
-behind s e sound = by (publishes e.request (step s e).1.reply.code) refl
+behind s e sound = by (publishes e.call (step s e).1.reply.code) refl
   where
-    by : (b : Bool) → publishes e.request (step s e).1.reply.code ≡ b → (if b then publication_of (step s e).0.core else publication_of s.core) ≡ publication_of (step s e).0.core
+    by : (b : Bool) → publishes e.call (step s e).1.reply.code ≡ b → (if b then publication_of (step s e).0.core else publication_of s.core) ≡ publication_of (step s e).0.core
     by true eb = refl
     by false eb = sym (stays_published s e sound eb)
 

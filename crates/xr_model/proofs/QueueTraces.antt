@@ -5,7 +5,8 @@ use Rattle.std.specs.List.{filter, list_any}
 use Rattle.std.proofs.lemmas.List.{length-append}
 use Rattle.xr_types.specs.declared.session.Event.{Event}
 use Rattle.xr_types.specs.declared.session.Event.TheVariants.{Lost, State}
-use Rattle.xr_model.specs.machine.Events.{oldest, capacity, most_lost}
+use Rattle.xr_types.specs.declared.limits.TheConstants.{EVENTS}
+use Rattle.xr_model.specs.machine.Events.{oldest, most_lost}
 use Rattle.xr_model.specs.laws.EventLaws.{QueueStep, push, poll, pushes_of, is_count, event_told, losses_told, Trace, with_push, with_poll, traced, no_trace, Gone, EventsAddUp}
 use Rattle.xr_model.proofs.Rows.{neither_of, same_key}
 
@@ -57,8 +58,8 @@ record Holds (came : List Event) (t : Trace) : Type 0 where
   order : came ≡ map (λ g. g.event) gone ++ t.queue.waiting
   told : t.told ≡ map (λ g. g.event) (filter (λ g. g.was_told) gone)
   lost : length (filter (λ g. not g.was_told) gone) ≡ t.losses + t.queue.lost
-  few : length t.queue.waiting ≤ capacity
-  full : (t.queue.lost == 0) ≡ false → length t.queue.waiting ≡ capacity
+  few : length t.queue.waiting ≤ EVENTS
+  full : (t.queue.lost == 0) ≡ false → length t.queue.waiting ≡ EVENTS
 
 sum_of : (gone : List Gone) → length gone ≡ length (filter (λ g. g.was_told) gone) + length (filter (λ g. not g.was_told) gone)
 sum_of [] = omega arith
@@ -85,22 +86,22 @@ module _ (came : List Event) (t : Trace) (h : Holds came t) where
 
   -- an event comes
   push_holds : (event : Event) → length came + 1 ≤ most_lost → Holds (came ++ event ∷ []) (with_push t event)
-  push_holds event small = by (nat_lt (length t.queue.waiting) capacity) refl
+  push_holds event small = by (nat_lt (length t.queue.waiting) EVENTS) refl
     where
-      drops : (w : List Event) → t.queue.waiting ≡ w → nat_lt (length t.queue.waiting) capacity ≡ false → Holds (came ++ event ∷ []) (record t { queue = record { waiting = drop 1 t.queue.waiting ++ event ∷ []; lost = min (t.queue.lost + 1) most_lost } })
+      drops : (w : List Event) → t.queue.waiting ≡ w → nat_lt (length t.queue.waiting) EVENTS ≡ false → Holds (came ++ event ∷ []) (record t { queue = record { waiting = drop 1 t.queue.waiting ++ event ∷ []; lost = min (t.queue.lost + 1) most_lost } })
       drops [] same full =
           let none = ap (λ (l : List Event). length l) same in
-          let many = not_below (length t.queue.waiting) capacity full in
+          let many = not_below (length t.queue.waiting) EVENTS full in
           absurd (omega (arith, none, many))
       drops (w ∷ ws) same full =
           let few = h.few in
           let all = sum in
-          let many = not_below (length t.queue.waiting) capacity full in
+          let many = not_below (length t.queue.waiting) EVENTS full in
           let one : length t.queue.waiting ≡ suc (length ws) = ap (λ (l : List Event). length l) same in
           let more = length-append (drop 1 t.queue.waiting) (event ∷ []) in
           let left : drop 1 t.queue.waiting ≡ ws = ap (λ (l : List Event). drop 1 l) same in
           let rest = ap (λ (l : List Event). length l) left in
-          let exact : length (drop 1 t.queue.waiting ++ event ∷ []) ≡ capacity = omega (arith, few, many, one, more, rest) in
+          let exact : length (drop 1 t.queue.waiting ++ event ∷ []) ≡ EVENTS = omega (arith, few, many, one, more, rest) in
           let counts : min (t.queue.lost + 1) most_lost ≡ t.queue.lost + 1 = least (t.queue.lost + 1) most_lost (omega (arith, small, all)) in
           let lost = lost_append h.gone (one_gone w false) in
           let before = h.lost in
@@ -114,15 +115,15 @@ module _ (came : List Event) (t : Trace) (h : Holds came t) where
             full = λ some. exact;
           }
 
-      by : (b : Bool) → nat_lt (length t.queue.waiting) capacity ≡ b
+      by : (b : Bool) → nat_lt (length t.queue.waiting) EVENTS ≡ b
           → Holds (came ++ event ∷ []) (record t { queue = if b then record t.queue { waiting = t.queue.waiting ++ event ∷ [] } else record { waiting = drop 1 t.queue.waiting ++ event ∷ []; lost = min (t.queue.lost + 1) most_lost } })
       by true room = record {
         gone = h.gone;
         order = ap (λ (l : List Event). l ++ event ∷ []) h.order ∙ append_assoc (map (λ g. g.event) h.gone) t.queue.waiting (event ∷ []);
         told = h.told;
         lost = h.lost;
-        few = let more = length-append t.queue.waiting (event ∷ []) in let fits = below (length t.queue.waiting) capacity room in omega (arith, more, fits);
-        full = λ some. let all = h.full some in let fits = below (length t.queue.waiting) capacity room in absurd (omega (arith, all, fits));
+        few = let more = length-append t.queue.waiting (event ∷ []) in let fits = below (length t.queue.waiting) EVENTS room in omega (arith, more, fits);
+        full = λ some. let all = h.full some in let fits = below (length t.queue.waiting) EVENTS room in absurd (omega (arith, all, fits));
       }
       by false full = drops t.queue.waiting refl full
 

@@ -6,7 +6,10 @@ use Rattle.xr_types.specs.declared.calls.Actor.{Actor}
 use Rattle.xr_types.specs.declared.calls.Actor.TheVariants.{App, Compositor, Device}
 use Rattle.xr_types.specs.declared.device.DeviceEvent.{DeviceEvent}
 use Rattle.xr_types.specs.declared.scenario.Op.{Op}
-use Rattle.xr_model.specs.machine.Request.{Request, create_instance, wait_image, Entry, Outcome, is_actor, is_locked}
+use Rattle.xr_types.specs.CallKinds.{is_locked}
+use Rattle.xr_model.specs.machine.Calls.{Entry, Outcome, is_actor}
+use Rattle.xr_types.specs.declared.calls.Call.{Call}
+use Rattle.xr_types.specs.declared.calls.Call.TheVariants as ask
 use Rattle.xr_model.specs.machine.State.{State, opening}
 use Rattle.xr_model.specs.machine.Machine.{step, ready}
 use Rattle.xr_model.specs.machine.History.{opening_clocks, clock_of, with_clock, clocks_after, StartsAt}
@@ -78,8 +81,8 @@ others clocks who time b (x ∷ xs) is none each = by (is_actor who (actor_of x)
     by true own none more = absurd (omega arith)
     by false other none more = (another clocks who time b x is other each.0, more (omega arith))
 
-as_locked : (r : Request) (clock : ℤ) → is_locked (with_start clock r) ≡ is_locked r
-as_locked (create_instance major minor) clock = refl
+as_locked : (r : Call) (clock : ℤ) → is_locked (with_start clock r) ≡ is_locked r
+as_locked (ask.CreateInstance major minor) clock = refl
 as_locked _ clock = refl
 
 -- the compositor has no clock
@@ -116,8 +119,8 @@ own clocks (compositor (suc held)) t o knows = turns_on clocks t (is_ended o.rep
 
 -- ---- one call
 
-starts : (c clock : ℤ) (r : Request) → c ≡ clock → StartsAt c (with_start clock r)
-starts c clock (wait_image chain timeout start) e = sym e
+starts : (c clock : ℤ) (r : Call) → c ≡ clock → StartsAt c (with_start clock r)
+starts c clock (ask.WaitImage chain timeout start) e = sym e
 starts c clock _ e = tt
 
 starts_at : (clocks : List ℤ) (x : Agenda) → Knows clocks x → StartsAt (clock_of clocks (actor_of x)) (next_call x)
@@ -128,10 +131,10 @@ starts_at clocks (compositor zero) knows = tt
 starts_at clocks (compositor (suc held)) knows = tt
 
 -- neither a handle nor want of memory decides whether a call is ready
-ready_alike : (s : State) (r : Request) (who : Actor) (given : ℕ) (short : Bool)
-    → ready s (record { actor = who; request = r; given = given; short = short })
-    ≡ ready s (record { actor = who; request = r; given = 0; short = false })
-ready_alike s (create_instance major minor) who given short = refl
+ready_alike : (s : State) (r : Call) (who : Actor) (given : ℕ) (short : Bool)
+    → ready s (record { actor = who; call = r; given = given; short = short })
+    ≡ ready s (record { actor = who; call = r; given = 0; short = false })
+ready_alike s (ask.CreateInstance major minor) who given short = refl
 ready_alike s _ who given short = refl
 
 knows_after : (clocks : List ℤ) (m : NextMove) (t : State) (o : Outcome)
@@ -164,21 +167,21 @@ are_ready s clocks agendas (e ∷ es) goes once each =
     let t = (step s e).0 in
     let o = (step s e).1 in
     let next = agendas_behind (next_move s [] agendas) t o in
-    let call : e.request ≡ next_call x = (subst (λ n. IsCallOf n e) m.is goes.0).1 in
+    let call : e.call ≡ next_call x = (subst (λ n. IsCallOf n e) m.is goes.0).1 in
     let all = subst (Each (Knows clocks)) m.stand each in
     let knows = (each_parts (Knows clocks) m.move.passed (x ∷ m.move.behind) all).1.0 in
     let after = knows_after clocks m.move t o (subst (λ l. count_of (actor_of x) (map actor_of l) ≤ 1) m.stand (once (actor_of x))) all in
-    let told = subst (λ a. Each (Knows (if is_locked e.request then with_clock clocks a t.core.device.clock else clocks))
+    let told = subst (λ a. Each (Knows (if is_locked e.call then with_clock clocks a t.core.device.clock else clocks))
     (agendas_after m.move t o)) (sym m.actor)
     (subst (λ r. Each (Knows (if is_locked r then with_clock clocks (actor_of x) t.core.device.clock else clocks)) (agendas_after m.move t o))
     (sym call) after) in
     let later = subst (λ n. Each (Knows (clocks_after clocks e t)) (agendas_behind n t o)) (sym m.is) told in
     let still = λ (who : Actor). at_most (falls who (map actor_of agendas) _ (map actor_of next) (one_call s t agendas e o goes.0)) (once who) in (
-      subst (λ a. StartsAt (clock_of clocks a) e.request) (sym m.actor)
+      subst (λ a. StartsAt (clock_of clocks a) e.call) (sym m.actor)
           (subst (λ r. StartsAt (clock_of clocks (actor_of x)) r) (sym call) (starts_at clocks x knows)),
-      ready_alike s e.request e.actor e.given e.short
-          ∙ (subst (λ a. ready s (record { actor = a; request = e.request; given = 0; short = false }) ≡ true) (sym m.actor)
-          (subst (λ r. ready s (record { actor = actor_of x; request = r; given = 0; short = false }) ≡ true) (sym call)
+      ready_alike s e.call e.actor e.given e.short
+          ∙ (subst (λ a. ready s (record { actor = a; call = e.call; given = 0; short = false }) ≡ true) (sym m.actor)
+          (subst (λ r. ready s (record { actor = actor_of x; call = r; given = 0; short = false }) ≡ true) (sym call)
           (turns_make_ready_calls s agendas m.move m.is).called)),
       are_ready t (clocks_after clocks e t) next es goes.1 still later,
     )

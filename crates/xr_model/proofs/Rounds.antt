@@ -3,7 +3,7 @@ use Rattle.std.proofs.Common.{arith, ◌≡◌, ◌≤◌, ◌⊎◌, inl, inr, 
 use Rattle.std.specs.List.{list_all}
 use Rattle.std.proofs.lemmas.List.{append_assoc, append-nil}
 use Rattle.xr_types.specs.declared.calls.Actor.{Actor}
-use Rattle.xr_model.specs.machine.Request.{is_actor}
+use Rattle.xr_model.specs.machine.Calls.{is_actor}
 use Rattle.xr_model.specs.machine.State.{opening}
 use Rattle.xr_model.specs.runs.Robin.{actor_of, first_agendas, agendas_left}
 use Rattle.xr_model.specs.laws.RunLaws.{count_of, comes_before}

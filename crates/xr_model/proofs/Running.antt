@@ -7,7 +7,9 @@ use Rattle.xr_types.specs.declared.device.DeviceEvent.TheVariants as event
 use Rattle.xr_types.specs.declared.device.Wish.{Wish}
 use Rattle.xr_types.specs.declared.handles.Kind.TheVariants as kind
 use Rattle.xr_types.specs.declared.session.SessionState.TheVariants.{Ready, Synchronized, Exiting, LossPending}
-use Rattle.xr_model.specs.machine.Request.{Entry, Request, create_session, begin_session, end_session, request_exit_session, end_frame, device}
+use Rattle.xr_model.specs.machine.Calls.{Entry}
+use Rattle.xr_types.specs.declared.calls.Call.{Call}
+use Rattle.xr_types.specs.declared.calls.Call.TheVariants as ask
 use Rattle.xr_model.specs.machine.Handles.{is_live, was_given}
 use Rattle.xr_model.specs.machine.SessionLife.{Life, is_state, unchanged, begun_session, ended_session, exiting_session, losing_session, started_session, entered}
 use Rattle.xr_model.specs.machine.LiveSessions.{Session, session_at}
@@ -39,7 +41,7 @@ losing_runs life = by (is_state life.state Exiting || is_state life.state LossPe
     by true = refl
     by false = refl
 
-runs_after : (w : Wish) (r : Request) (handle : ℕ) (good : Bool) (life : Life)
+runs_after : (w : Wish) (r : Call) (handle : ℕ) (good : Bool) (life : Life)
     → (life_after w r handle good life).running ≡ runs (begins r handle && good) (ends r handle && good) life.running
 runs_after w r handle good life = by r
   where
@@ -64,17 +66,17 @@ runs_after w r handle good life = by r
     synced true false = refl
     synced false b = refl
 
-    events : (what : DeviceEvent) → (life_after w (device what) handle good life).running ≡ life.running
+    events : (what : DeviceEvent) → (life_after w (ask.Device what) handle good life).running ≡ life.running
     events event.Loss = losing_runs life
     events (event.Wish wish) = refl
     events _ = refl
 
-    by : (r : Request) → (life_after w r handle good life).running ≡ runs (begins r handle && good) (ends r handle && good) life.running
-    by (begin_session session view) = begun good (session == handle)
-    by (end_session session) = ended good (session == handle)
-    by (request_exit_session session) = asked (good && (session == handle))
-    by (end_frame session time blend layers) = synced (good && (session == handle)) (is_state life.state Ready)
-    by (device what) = events what
+    by : (r : Call) → (life_after w r handle good life).running ≡ runs (begins r handle && good) (ends r handle && good) life.running
+    by (ask.BeginSession session view) = begun good (session == handle)
+    by (ask.EndSession session) = ended good (session == handle)
+    by (ask.RequestExitSession session) = asked (good && (session == handle))
+    by (ask.EndFrame session time blend layers) = synced (good && (session == handle)) (is_state life.state Ready)
+    by (ask.Device what) = events what
     by _ = refl
 
 -- ---- a listed session isn't created
@@ -100,21 +102,21 @@ unlisted s e session allowed known listed x found = by (creates_session e sessio
     is_nonzero true ez = absurd (true≢false (sym (subst (λ (n : ℕ). is_live s.core.handles kind.Session n ≡ true) (same_key session 0 ez) live)))
     is_nonzero false ez = refl
 
-    good : Request → Bool
-    good r = is_success (step s (record e { request = r })).1.reply.code
+    good : Call → Bool
+    good r = is_success (step s (record e { call = r })).1.reply.code
 
-    none_given : (r : Request) → IsGiven (is_some (rule s.core (reads_of s r) (record e { request = r })).creates && good r) s.core.handles e.given
+    none_given : (r : Call) → IsGiven (is_some (rule s.core (reads_of s r) (record e { call = r })).creates && good r) s.core.handles e.given
         → is_session_creation r ≡ true → good r ≡ false → e.given ≡ 0
-    none_given (create_session instance system) is creates failed = rw failed at is
+    none_given (ask.CreateSession instance system) is creates failed = rw failed at is
     none_given _ is creates failed = absurd (true≢false (sym creates))
 
-    never : is_session_creation e.request ≡ true → (e.given == session) ≡ true → (b : Bool) → is_success (step s e).1.reply.code ≡ b → ⊥
+    never : is_session_creation e.call ≡ true → (e.given == session) ≡ true → (b : Bool) → is_success (step s e).1.reply.code ≡ b → ⊥
     never creates mine true eb = fresh (new_session_given s e allowed creates eb).1 mine (is_nonzero (session == 0) refl)
-    never creates mine false eb = not_zero (none_given e.request allowed.handle creates eb) mine
+    never creates mine false eb = not_zero (none_given e.call allowed.handle creates eb) mine
 
     by : (b : Bool) → creates_session e session ≡ b → b ≡ false
     by true eb =
-        let two = both_of (is_session_creation e.request) (e.given == session) eb in
+        let two = both_of (is_session_creation e.call) (e.given == session) eb in
         absurd (never two.0 two.1 (is_success (step s e).1.reply.code) refl)
     by false eb = refl
 
@@ -127,13 +129,13 @@ running_step : (s : State) (e : Entry) → IsAllowed s e → AreKnown s.core.han
     → (before : ℕ → Bool) → AreRunning before s.core.sessions
     → AreRunning (λ session. begun_after s e session (before session)) (step s e).0.core.sessions
 running_step s e allowed known listed before running session y found =
-    by (session_at s.core.sessions session) refl (session_at (step s e).0.core.sessions session) found (lived s.core (reads_of s e.request) e session)
+    by (session_at s.core.sessions session) refl (session_at (step s e).0.core.sessions session) found (lived s.core (reads_of s e.call) e session)
   where
     some_is : (a b : Session) → Some a ≡ Some b → a ≡ b
     some_is a b same = cc
 
     by : (o : Option Session) → session_at s.core.sessions session ≡ o → (n : Option Session) → n ≡ Some y
-        → Follows (life_after s.core.device.wish e.request session (is_success (step s e).1.reply.code)) (creates_session e session)
+        → Follows (life_after s.core.device.wish e.call session (is_success (step s e).1.reply.code)) (creates_session e session)
         (started_session s.core.device.wish).life o n
         → y.life.running ≡ begun_after s e session (before session)
     by o eo None found follows = cc
@@ -141,7 +143,7 @@ running_step s e allowed known listed before running session y found =
     by (Some x) eo (Some z) found follows =
         let old = unlisted s e session allowed known listed x eo in
         rw (ap (λ (x : Session). x.life) (sym (some_is z y found)), old, follows, sym (running session x eo))
-        (runs_after s.core.device.wish e.request session (is_success (step s e).1.reply.code) x.life)
+        (runs_after s.core.device.wish e.call session (is_success (step s e).1.reply.code) x.life)
 
 running_after : (s : State) (clocks : List ℤ) (es : List Entry) → IsLegalFrom s clocks es
     → AreKnown s.core.handles → AreListed s.core.handles s.core.sessions

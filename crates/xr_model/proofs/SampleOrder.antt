@@ -4,7 +4,7 @@ use Rattle.std.specs.Prelude.{int_le, int_lt, slice_get, unwrap_or, if◌then◌
 use Rattle.std.specs.List.{list_all, find}
 use Rattle.xr_types.specs.declared.spaces.Origin.{Origin}
 use Rattle.xr_types.specs.declared.spaces.TheConstants.{SAMPLES}
-use Rattle.xr_model.specs.machine.Request.{Entry}
+use Rattle.xr_model.specs.machine.Calls.{Entry}
 use Rattle.xr_model.specs.machine.Spaces.{Sample, is_later, with_sample, samples_of, with_sample_of, origin_place, pose_at}
 use Rattle.xr_model.specs.machine.State.{State, opening}
 use Rattle.xr_model.specs.machine.Machine.{step, reads_of}
@@ -81,7 +81,7 @@ sampled_falls samples what time pose fall =
     by false later = before
 
 falls_step : (s : State) (e : Entry) → list_all times_fall s.core.spaces.samples ≡ true → list_all times_fall (step s e).0.core.spaces.samples ≡ true
-falls_step s e fall = kept_by_step (λ h sp st su. list_all times_fall sp.samples ≡ true) s.core (reads_of s e.request) e (record {
+falls_step s e fall = kept_by_step (λ h sp st su. list_all times_fall sp.samples ≡ true) s.core (reads_of s e.call) e (record {
   same = fall;
   instance = λ gives. fall;
   session = λ gives instance. fall;

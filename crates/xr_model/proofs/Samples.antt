@@ -3,7 +3,7 @@ use Rattle.std.proofs.Common.{arith, ◌≤◌, ◌≡◌, ℕ, ℤ, zero, suc, 
 use Rattle.std.specs.Prelude.{slice_get, unwrap_or, if◌then◌else◌}
 use Rattle.xr_types.specs.declared.spaces.Origin.{Origin}
 use Rattle.xr_types.specs.declared.spaces.TheConstants.{SAMPLES}
-use Rattle.xr_model.specs.machine.Request.{Entry}
+use Rattle.xr_model.specs.machine.Calls.{Entry}
 use Rattle.xr_model.specs.machine.Spaces.{Sample, is_later, with_sample, samples_of, with_sample_of, origin_place}
 use Rattle.xr_model.specs.machine.State.{State, opening}
 use Rattle.xr_model.specs.machine.Machine.{step, reads_of}
@@ -38,7 +38,7 @@ sampled_few samples what time pose few =
     by false = found_few samples (origin_place what) few
 
 few_step : (s : State) (e : Entry) → are_few s.core.spaces.samples ≡ true → are_few (step s e).0.core.spaces.samples ≡ true
-few_step s e few = kept_by_step (λ h sp st su. are_few sp.samples ≡ true) s.core (reads_of s e.request) e (record {
+few_step s e few = kept_by_step (λ h sp st su. are_few sp.samples ≡ true) s.core (reads_of s e.call) e (record {
   same = few;
   instance = λ gives. few;
   session = λ gives instance. few;

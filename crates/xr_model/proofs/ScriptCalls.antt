@@ -8,7 +8,7 @@ use Rattle.xr_types.specs.declared.device.DeviceEvent.{DeviceEvent}
 use Rattle.xr_types.specs.declared.scenario.Op.{Op}
 use Rattle.xr_types.specs.declared.scenario.Op.TheVariants as op
 use Rattle.xr_types.specs.declared.scenario.Scenario.{Scenario}
-use Rattle.xr_model.specs.machine.Request.{Entry, Outcome, Exchange, is_actor}
+use Rattle.xr_model.specs.machine.Calls.{Entry, Outcome, Exchange, is_actor}
 use Rattle.xr_model.specs.machine.State.{State, opening}
 use Rattle.xr_model.specs.machine.Machine.{step}
 use Rattle.xr_model.specs.machine.History.{calls_from}
@@ -70,7 +70,7 @@ not_started (op.CreateInstance major minor) values clock = refl
 not_started _ values clock = refl
 
 -- a call, and then what is left to do
-one_more : (x : Agenda) (s : State) (t : Exchange) (ts : List Exchange) → t.request ≡ next_call x → DoAll (agenda_after x s t.outcome) ts
+one_more : (x : Agenda) (s : State) (t : Exchange) (ts : List Exchange) → t.call ≡ next_call x → DoAll (agenda_after x s t.outcome) ts
     → Does x (t ∷ ts)
 one_more (script app place [] values clock) s t ts is more = subst (λ l. FollowsFrom false place values [] (t ∷ l)) (sym more) is
 one_more (script app place (o ∷ os) values clock) s t ts is more = (ap unstarted is ∙ not_started o values clock, more)
@@ -148,22 +148,22 @@ module _ (who : Actor) (s t : State) (o : Outcome) (m : NextMove) (once : count_
       (own_after m.agenda t o)))
 
 called : (s : State) (agendas : List Agenda) (e : Entry) (m : NextMove) → next_move s [] agendas ≡ Some m → IsCallOf (next_move s [] agendas) e
-    → e.request ≡ next_call m.agenda
+    → e.call ≡ next_call m.agenda
 called s agendas e m is calls = (subst (λ n. IsCallOf n e) is calls).1
 
 -- one call, told of those after it
 one_follows : (who : Actor) (t : State) (e : Entry) (o : Outcome) (m : NextMove) (rest : List Exchange)
     → count_of who (map actor_of (m.passed ++ m.agenda ∷ m.behind)) ≤ 1
-    → e.request ≡ next_call m.agenda → DoAll (agendas_of who (agendas_after m t o)) rest
+    → e.call ≡ next_call m.agenda → DoAll (agendas_of who (agendas_after m t o)) rest
     → DoAll (agendas_of who (m.passed ++ m.agenda ∷ m.behind))
-    (if is_actor who (actor_of m.agenda) then record { request = e.request; outcome = o } ∷ rest else rest)
+    (if is_actor who (actor_of m.agenda) then record { call = e.call; outcome = o } ∷ rest else rest)
 one_follows who t e o m rest once is more = by (is_actor who (actor_of m.agenda)) refl
   where
     by : (b : Bool) → is_actor who (actor_of m.agenda) ≡ b
-        → DoAll (agendas_of who (m.passed ++ m.agenda ∷ m.behind)) (if b then record { request = e.request; outcome = o } ∷ rest else rest)
+        → DoAll (agendas_of who (m.passed ++ m.agenda ∷ m.behind)) (if b then record { call = e.call; outcome = o } ∷ rest else rest)
     by true own =
-        subst (λ l. DoAll l (record { request = e.request; outcome = o } ∷ rest)) (sym (by_it who t t o m once own))
-        (one_more m.agenda t (record { request = e.request; outcome = o }) rest is (subst (λ l. DoAll l rest) (after_it who t t o m once own) more))
+        subst (λ l. DoAll l (record { call = e.call; outcome = o } ∷ rest)) (sym (by_it who t t o m once own))
+        (one_more m.agenda t (record { call = e.call; outcome = o }) rest is (subst (λ l. DoAll l rest) (after_it who t t o m once own) more))
     by false other = subst (λ l. DoAll l rest) (sym (by_other who t t o m once other)) more
 
 follow : (who : Actor) (s : State) (agendas : List Agenda) (es : List Entry) → AreCalls s agendas es → count_of who (map actor_of agendas) ≤ 1
@@ -179,7 +179,7 @@ follow who s agendas (e ∷ es) goes once =
     let rest = calls_from t who es in
     subst (λ l. DoAll (agendas_of who l) (calls_from s who (e ∷ es))) (sym m.stand)
     (subst (λ a. DoAll (agendas_of who (m.move.passed ++ m.move.agenda ∷ m.move.behind))
-    (if is_actor who a then record { request = e.request; outcome = o } ∷ rest else rest)) (sym m.actor)
+    (if is_actor who a then record { call = e.call; outcome = o } ∷ rest else rest)) (sym m.actor)
     (one_follows who t e o m.move rest (subst (λ l. count_of who (map actor_of l) ≤ 1) m.stand once) (called s agendas e m.move m.is goes.0)
     (subst (λ n. DoAll (agendas_of who (agendas_behind n t o)) rest) m.is more)))
 

@@ -16,7 +16,9 @@ use Rattle.xr_model.specs.machine.SessionLife.{is_state}
 use Rattle.xr_model.specs.machine.Rules.Sync.{item_checks, synced_code}
 use Rattle.xr_model.specs.machine.Layers.{Look, layer_checks}
 use Rattle.xr_model.specs.machine.Rules.Frames.{look_of}
-use Rattle.xr_model.specs.machine.Request.{Entry, Request, begin_session, end_session, request_exit_session, create_reference_space, locate_space, attach_sets, wait_frame, begin_frame, end_frame, create_action, suggest_bindings, create_swapchain, acquire_image, wait_image, paint, release_image, sync_actions, create_action_space}
+use Rattle.xr_model.specs.machine.Calls.{Entry}
+use Rattle.xr_types.specs.declared.calls.Call.{Call}
+use Rattle.xr_types.specs.declared.calls.Call.TheVariants as ask
 use Rattle.xr_model.specs.machine.Handles.{Handles, is_live, no_handle}
 use Rattle.xr_model.specs.machine.HandlePlaces.{parent_of}
 use Rattle.xr_model.specs.machine.Refusals.{Refusal, when, first_of}
@@ -185,15 +187,15 @@ synced_sessionless true = refl
 synced_sessionless false = refl
 
 pub sessionless : (s : CoreState) (reads : CellReads) (e : Entry) → Sessionless (rule s reads e)
-sessionless s reads e = by e.request
+sessionless s reads e = by e.call
   where
-    by : (r : Request) → Sessionless (rule s reads (record e { request = r }))
-    by (create_action set name type subs localized) = record { handles = refl; before = refl; behind = none_more is_session (sub_checks s.atoms no_users subs) _ (none_subs s.atoms no_users subs) refl; code = refl }
-    by (suggest_bindings instance profile list) = record { handles = refl; before = refl; behind = none_bindings s (profile_at s.atoms profile) list; code = refl }
-    by (attach_sets session handles) = record { handles = refl; before = refl; behind = none_handles s.handles kind.ActionSet handles; code = refl }
-    by (sync_actions session active) = record { handles = refl; before = refl; behind = none_items s session active; code = synced_sessionless (is_state (life_of s session).state Focused) }
-    by (begin_frame session) = record { handles = refl; before = refl; behind = refl; code = begun_sessionless s.frames.frame_loop }
-    by (end_frame session time blend layers) = record { handles = refl; before = refl; behind = none_layers (look_of s) layers; code = refl }
+    by : (r : Call) → Sessionless (rule s reads (record e { call = r }))
+    by (ask.CreateAction set name type subs localized) = record { handles = refl; before = refl; behind = none_more is_session (sub_checks s.atoms no_users subs) _ (none_subs s.atoms no_users subs) refl; code = refl }
+    by (ask.SuggestBindings instance profile list) = record { handles = refl; before = refl; behind = none_bindings s (profile_at s.atoms profile) list; code = refl }
+    by (ask.AttachSets session handles) = record { handles = refl; before = refl; behind = none_handles s.handles kind.ActionSet handles; code = refl }
+    by (ask.SyncActions session active) = record { handles = refl; before = refl; behind = none_items s session active; code = synced_sessionless (is_state (life_of s session).state Focused) }
+    by (ask.BeginFrame session) = record { handles = refl; before = refl; behind = refl; code = begun_sessionless s.frames.frame_loop }
+    by (ask.EndFrame session time blend layers) = record { handles = refl; before = refl; behind = none_layers (look_of s) layers; code = refl }
     by _ = record { handles = refl; before = refl; behind = refl; code = refl }
 
 -- ---- the code of a call on a session
@@ -293,31 +295,31 @@ module _ (s : CoreState) (session : ℕ) where
   life_is other same = ap (λ (n : ℕ). Some (loss_of (life_of s n))) same
 
   -- its rule is one on that session
-  pub named_on : (reads : CellReads) (e : Entry) → session_of s.handles e.request ≡ Some session → (rule s reads e).on ≡ Some (loss_of (life_of s session))
-  named_on reads e = by e.request
+  pub named_on : (reads : CellReads) (e : Entry) → session_of s.handles e.call ≡ Some session → (rule s reads e).on ≡ Some (loss_of (life_of s session))
+  named_on reads e = by e.call
     where
-      by : (r : Request) → session_of s.handles r ≡ Some session → (rule s reads (record e { request = r })).on ≡ Some (loss_of (life_of s session))
-      by (begin_session other view) named = life_is other (named_is other session named)
-      by (end_session other) named = life_is other (named_is other session named)
-      by (request_exit_session other) named = life_is other (named_is other session named)
-      by (create_reference_space other what offset) named = life_is other (named_is other session named)
-      by (attach_sets other handles) named = life_is other (named_is other session named)
-      by (sync_actions other active) named = life_is other (named_is other session named)
-      by (create_action_space other action sub offset) named = life_is other (named_if (is_live s.handles kind.Action action) other session named)
-      by (wait_frame other) named = life_is other (named_is other session named)
-      by (begin_frame other) named = life_is other (named_is other session named)
-      by (end_frame other time blend layers) named = life_is other (named_is other session named)
-      by (wait_image chain timeout start) named = life_is (session_above s.handles chain) (above_is (is_live s.handles kind.Swapchain chain) chain named)
-      by (acquire_image chain) named = life_is (session_above s.handles chain) (above_is (is_live s.handles kind.Swapchain chain) chain named)
-      by (paint chain stamp) named = life_is (session_above s.handles chain) (above_is (is_live s.handles kind.Swapchain chain) chain named)
-      by (release_image chain) named = life_is (session_above s.handles chain) (above_is (is_live s.handles kind.Swapchain chain) chain named)
-      by (create_swapchain other format width height fixed) named = life_is other (named_is other session named)
-      by (locate_space space base time) named = life_is (session_above s.handles space) (above_is (is_live s.handles kind.Space space && is_live s.handles kind.Space base) space named)
+      by : (r : Call) → session_of s.handles r ≡ Some session → (rule s reads (record e { call = r })).on ≡ Some (loss_of (life_of s session))
+      by (ask.BeginSession other view) named = life_is other (named_is other session named)
+      by (ask.EndSession other) named = life_is other (named_is other session named)
+      by (ask.RequestExitSession other) named = life_is other (named_is other session named)
+      by (ask.CreateReferenceSpace other what offset) named = life_is other (named_is other session named)
+      by (ask.AttachSets other handles) named = life_is other (named_is other session named)
+      by (ask.SyncActions other active) named = life_is other (named_is other session named)
+      by (ask.CreateActionSpace other action sub offset) named = life_is other (named_if (is_live s.handles kind.Action action) other session named)
+      by (ask.WaitFrame other) named = life_is other (named_is other session named)
+      by (ask.BeginFrame other) named = life_is other (named_is other session named)
+      by (ask.EndFrame other time blend layers) named = life_is other (named_is other session named)
+      by (ask.WaitImage chain timeout start) named = life_is (session_above s.handles chain) (above_is (is_live s.handles kind.Swapchain chain) chain named)
+      by (ask.AcquireImage chain) named = life_is (session_above s.handles chain) (above_is (is_live s.handles kind.Swapchain chain) chain named)
+      by (ask.Paint chain stamp) named = life_is (session_above s.handles chain) (above_is (is_live s.handles kind.Swapchain chain) chain named)
+      by (ask.ReleaseImage chain) named = life_is (session_above s.handles chain) (above_is (is_live s.handles kind.Swapchain chain) chain named)
+      by (ask.CreateSwapchain other format width height fixed) named = life_is other (named_is other session named)
+      by (ask.LocateSpace space base time) named = life_is (session_above s.handles space) (above_is (is_live s.handles kind.Space space && is_live s.handles kind.Space base) space named)
       by _ named = cc
 
 pub pending_losses : PendingLosses
 pending_losses s e session named =
-    answered_pending s.core e.short (rule s.core (reads_of s e.request) e) (loss_of (life_of s.core session)) (named_on s.core session (reads_of s e.request) e named) (sessionless s.core (reads_of s e.request) e)
+    answered_pending s.core e.short (rule s.core (reads_of s e.call) e) (loss_of (life_of s.core session)) (named_on s.core session (reads_of s e.call) e named) (sessionless s.core (reads_of s e.call) e)
 
 -- handles that are live are not refused
 live_first : (live : Bool) → ((first_of (when (not live) HandleInvalid ∷ []) ≡ None) ↔ (live ≡ true))
@@ -330,15 +332,15 @@ live_then true = ((λ e. refl), (λ e. refl))
 live_then false = ((λ e. cc), (λ e. absurd (true≢false (sym e))))
 
 -- its handles are refused but where the session is live
-abbrev AsLive : Settings → List Entry → Entry → ℕ → Request → Type 0
+abbrev AsLive : Settings → List Entry → Entry → ℕ → Call → Type 0
 AsLive settings es e session r =
-    (first_of (rule (after (opening settings) es).core (reads_of (after (opening settings) es) r) (record e { request = r })).handles ≡ None) ↔ (is_live (after (opening settings) es).core.handles kind.Session session ≡ true)
+    (first_of (rule (after (opening settings) es).core (reads_of (after (opening settings) es) r) (record e { call = r })).handles ≡ None) ↔ (is_live (after (opening settings) es).core.handles kind.Session session ≡ true)
 
 pub lost_sessions : LostSessions
 lost_sessions settings es e session legal named =
     let s = after (opening settings) es in
-    let answer = answered_lost s.core e.short (rule s.core (reads_of s e.request) e) (loss_of (life_of s.core session)) (named_on s.core session (reads_of s e.request) e named) (sessionless s.core (reads_of s e.request) e) in
-    let handles = by_handles e.request named in
+    let answer = answered_lost s.core e.short (rule s.core (reads_of s e.call) e) (loss_of (life_of s.core session)) (named_on s.core session (reads_of s e.call) e named) (sessionless s.core (reads_of s e.call) e) in
+    let handles = by_handles e.call named in
     ((λ code. let two = answer.0 code in let live = handles.0 two.0 in (live, sym (known_loss settings es session legal live) ∙ two.1)), (λ two. answer.1 (handles.1 two.0, known_loss settings es session legal two.0 ∙ two.1)))
   where
     one : (other : ℕ) → other ≡ session → (first_of (no_handle (after (opening settings) es).core.handles kind.Session other ∷ []) ≡ None) ↔ (is_live (after (opening settings) es).core.handles kind.Session session ≡ true)
@@ -351,14 +353,14 @@ lost_sessions settings es e session legal named =
         let live = live_chain_parent (after (opening settings) es).core.handles (handles_stand_once settings es legal) (no_orphans settings es) (roots_after (opening settings) es refl) chain session ea found in
         ((λ none. live), (λ there. rw ea refl))
 
-    by_handles : (r : Request) → session_of (after (opening settings) es).core.handles r ≡ Some session → AsLive settings es e session r
-    by_handles (begin_session other view) named = one other (named_is other session named)
-    by_handles (end_session other) named = one other (named_is other session named)
-    by_handles (request_exit_session other) named = one other (named_is other session named)
-    by_handles (create_reference_space other what offset) named = one other (named_is other session named)
-    by_handles (attach_sets other handles) named = one other (named_is other session named)
-    by_handles (sync_actions other active) named = one other (named_is other session named)
-    by_handles (create_action_space other action sub offset) named = both (is_live (after (opening settings) es).core.handles kind.Action action) refl named
+    by_handles : (r : Call) → session_of (after (opening settings) es).core.handles r ≡ Some session → AsLive settings es e session r
+    by_handles (ask.BeginSession other view) named = one other (named_is other session named)
+    by_handles (ask.EndSession other) named = one other (named_is other session named)
+    by_handles (ask.RequestExitSession other) named = one other (named_is other session named)
+    by_handles (ask.CreateReferenceSpace other what offset) named = one other (named_is other session named)
+    by_handles (ask.AttachSets other handles) named = one other (named_is other session named)
+    by_handles (ask.SyncActions other active) named = one other (named_is other session named)
+    by_handles (ask.CreateActionSpace other action sub offset) named = both (is_live (after (opening settings) es).core.handles kind.Action action) refl named
       where
         both : (a : Bool) → is_live (after (opening settings) es).core.handles kind.Action action ≡ a → (if a then Some other else None) ≡ Some session
             → (first_of (no_handle (after (opening settings) es).core.handles kind.Session other ∷ no_handle (after (opening settings) es).core.handles kind.Action action ∷ []) ≡ None) ↔ (is_live (after (opening settings) es).core.handles kind.Session session ≡ true)
@@ -366,15 +368,15 @@ lost_sessions settings es e session legal named =
         both true ea found =
             subst (λ (n : ℕ). (first_of (no_handle (after (opening settings) es).core.handles kind.Session other ∷ no_handle (after (opening settings) es).core.handles kind.Action action ∷ []) ≡ None) ↔ (is_live (after (opening settings) es).core.handles kind.Session n ≡ true))
             (named_is other session found) (rw ea (live_then (is_live (after (opening settings) es).core.handles kind.Session other)))
-    by_handles (wait_frame other) named = one other (named_is other session named)
-    by_handles (begin_frame other) named = one other (named_is other session named)
-    by_handles (end_frame other time blend layers) named = one other (named_is other session named)
-    by_handles (create_swapchain other format width height fixed) named = one other (named_is other session named)
-    by_handles (acquire_image chain) named = above chain (is_live (after (opening settings) es).core.handles kind.Swapchain chain) refl named
-    by_handles (wait_image chain timeout start) named = above chain (is_live (after (opening settings) es).core.handles kind.Swapchain chain) refl named
-    by_handles (paint chain stamp) named = above chain (is_live (after (opening settings) es).core.handles kind.Swapchain chain) refl named
-    by_handles (release_image chain) named = above chain (is_live (after (opening settings) es).core.handles kind.Swapchain chain) refl named
-    by_handles (locate_space space base time) named = cases (is_live (after (opening settings) es).core.handles kind.Space space) refl (is_live (after (opening settings) es).core.handles kind.Space base) refl named
+    by_handles (ask.WaitFrame other) named = one other (named_is other session named)
+    by_handles (ask.BeginFrame other) named = one other (named_is other session named)
+    by_handles (ask.EndFrame other time blend layers) named = one other (named_is other session named)
+    by_handles (ask.CreateSwapchain other format width height fixed) named = one other (named_is other session named)
+    by_handles (ask.AcquireImage chain) named = above chain (is_live (after (opening settings) es).core.handles kind.Swapchain chain) refl named
+    by_handles (ask.WaitImage chain timeout start) named = above chain (is_live (after (opening settings) es).core.handles kind.Swapchain chain) refl named
+    by_handles (ask.Paint chain stamp) named = above chain (is_live (after (opening settings) es).core.handles kind.Swapchain chain) refl named
+    by_handles (ask.ReleaseImage chain) named = above chain (is_live (after (opening settings) es).core.handles kind.Swapchain chain) refl named
+    by_handles (ask.LocateSpace space base time) named = cases (is_live (after (opening settings) es).core.handles kind.Space space) refl (is_live (after (opening settings) es).core.handles kind.Space base) refl named
       where
         cases : (a : Bool) → is_live (after (opening settings) es).core.handles kind.Space space ≡ a → (b : Bool) → is_live (after (opening settings) es).core.handles kind.Space base ≡ b → (if a && b then parent_of (after (opening settings) es).core.handles space else None) ≡ Some session
             → (first_of (no_handle (after (opening settings) es).core.handles kind.Space space ∷ no_handle (after (opening settings) es).core.handles kind.Space base ∷ []) ≡ None) ↔ (is_live (after (opening settings) es).core.handles kind.Session session ≡ true)

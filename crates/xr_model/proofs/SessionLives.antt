@@ -7,7 +7,9 @@ use Rattle.xr_types.specs.declared.device.DeviceEvent.{DeviceEvent}
 use Rattle.xr_types.specs.declared.device.DeviceEvent.TheVariants as event
 use Rattle.xr_types.specs.declared.device.Wish.{Wish}
 use Rattle.xr_types.specs.declared.handles.Kind.TheVariants as kind
-use Rattle.xr_model.specs.machine.Request.{Entry, Request, destroy_instance, create_session, destroy_session, begin_session, end_session, request_exit_session, destroy_action_set, destroy_action, attach_sets, end_frame, device}
+use Rattle.xr_model.specs.machine.Calls.{Entry}
+use Rattle.xr_types.specs.declared.calls.Call.{Call}
+use Rattle.xr_types.specs.declared.calls.Call.TheVariants as ask
 use Rattle.xr_model.specs.machine.Handles.{is_live, destroyed_by, without}
 use Rattle.xr_model.specs.machine.Refusals.{Refusal}
 use Rattle.xr_model.specs.machine.State.{CoreState, CellReads}
@@ -122,16 +124,16 @@ found_more z k (y ∷ ys) = by (y.handle == k) (found_more z k ys)
 -- ---- what an entry does to a life
 
 -- the life of the session with a handle after a request, told whether it succeeds
-abbrev pub life_after : Wish → Request → ℕ → Bool → Life → Life
-life_after w (begin_session session view) handle good life = if good && (session == handle) then begun_session life else life
-life_after w (end_session session) handle good life = if good && (session == handle) then (ended_session w life).life else life
-life_after w (request_exit_session session) handle good life = if good && (session == handle) then (exiting_session w life).life else life
-life_after w (end_frame session time blend layers) handle good life = if good && (session == handle) then (synced_session w life).life else life
-life_after w (device (event.Wish wish)) handle good life = (settled_session wish life).life
-life_after w (device event.Loss) handle good life = (losing_session life).life
-life_after w (device event.Lost) handle good life = lost_session life
-life_after w (device event.Fault) handle good life = lost_session life
-life_after w (device (event.Garbled line)) handle good life = lost_session life
+abbrev pub life_after : Wish → Call → ℕ → Bool → Life → Life
+life_after w (ask.BeginSession session view) handle good life = if good && (session == handle) then begun_session life else life
+life_after w (ask.EndSession session) handle good life = if good && (session == handle) then (ended_session w life).life else life
+life_after w (ask.RequestExitSession session) handle good life = if good && (session == handle) then (exiting_session w life).life else life
+life_after w (ask.EndFrame session time blend layers) handle good life = if good && (session == handle) then (synced_session w life).life else life
+life_after w (ask.Device (event.Wish wish)) handle good life = (settled_session wish life).life
+life_after w (ask.Device event.Loss) handle good life = (losing_session life).life
+life_after w (ask.Device event.Lost) handle good life = lost_session life
+life_after w (ask.Device event.Fault) handle good life = lost_session life
+life_after w (ask.Device (event.Garbled line)) handle good life = lost_session life
 life_after w _ handle good life = life
 
 -- What is found after is what was found before, with a life that follows so from the life before; or it is new.
@@ -229,21 +231,21 @@ module _ (s : CoreState) (reads : CellReads) (e : Entry) (handle : ℕ) where
   fresh = (started_session s.device.wish).life
 
   -- what is found after the request, told what is listed then and whether it succeeds
-  abbrev Lives : Request → List Session → Bool → Type 0
+  abbrev Lives : Call → List Session → Bool → Type 0
   Lives r xs good =
-      Follows (life_after s.device.wish r handle good) (creates_session (record e { request = r }) handle) fresh
+      Follows (life_after s.device.wish r handle good) (creates_session (record e { call = r }) handle) fresh
       (session_at s.sessions handle) (session_at xs handle)
 
-  abbrev good : Request → Bool
-  good r = is_success (core_step s reads (record e { request = r })).1.reply.code
+  abbrev good : Call → Bool
+  good r = is_success (core_step s reads (record e { call = r })).1.reply.code
 
-  gone : (r : Request) → ((life : Life) → life_after s.device.wish r handle (good r) life ≡ life) → (top : ℕ)
+  gone : (r : Call) → ((life : Life) → life_after s.device.wish r handle (good r) life ≡ life) → (top : ℕ)
       → Lives r (sessions_left (without s.handles top) (destroyed_by s.handles top) s.sessions) (good r)
   gone r same top =
       let left = without s.handles top in
       let sets = destroyed_by s.handles top in
       rw (found_without sets handle (still_live left s.sessions), found_left (λ n. is_live left kind.Session n) handle s.sessions)
-      (follows_left (life_after s.device.wish r handle (good r)) (creates_session (record e { request = r }) handle) fresh same
+      (follows_left (life_after s.device.wish r handle (good r)) (creates_session (record e { call = r }) handle) fresh same
       sets (is_live left kind.Session handle) (session_at s.sessions handle))
 
   each : (f : Life → Changed)
@@ -253,7 +255,7 @@ module _ (s : CoreState) (reads : CellReads) (e : Entry) (handle : ℕ) where
   all_same : Follows (λ life. life) false fresh (session_at s.sessions handle) (session_at s.sessions handle)
   all_same = follows_same (λ life. life) false fresh (λ life. refl) (session_at s.sessions handle)
 
-  events : (what : DeviceEvent) → Lives (device what) (behind_event s what).sessions true
+  events : (what : DeviceEvent) → Lives (ask.Device what) (behind_event s what).sessions true
   events (event.Wish wish) = each (settled_session wish)
   events event.Loss = each losing_session
   events event.Lost = each (λ life. unchanged (lost_session life))
@@ -261,72 +263,72 @@ module _ (s : CoreState) (reads : CellReads) (e : Entry) (handle : ℕ) where
   events (event.Garbled line) = each (λ life. unchanged (lost_session life))
   events _ = all_same
 
-  pub lived : Follows (life_after s.device.wish e.request handle (is_success (core_step s reads e).1.reply.code)) (creates_session e handle)
+  pub lived : Follows (life_after s.device.wish e.call handle (is_success (core_step s reads e).1.reply.code)) (creates_session e handle)
       (started_session s.device.wish).life (session_at s.sessions handle) (session_at (core_step s reads e).0.sessions handle)
-  lived = by e.request
+  lived = by e.call
     where
-      by : (r : Request) → Lives r (core_step s reads (record e { request = r })).0.sessions (good r)
-      by (create_session instance system) =
-          let f = rule s reads (record e { request = create_session instance system }) in
+      by : (r : Call) → Lives r (core_step s reads (record e { call = r })).0.sessions (good r)
+      by (ask.CreateSession instance system) =
+          let f = rule s reads (record e { call = ask.CreateSession instance system }) in
           let new = new_session s e.given fresh in
-          kept (λ xs. Lives (create_session instance system) xs true) s (refusal e.short f) (told_on f.on f.effect)
+          kept (λ xs. Lives (ask.CreateSession instance system) xs true) s (refusal e.short f) (told_on f.on f.effect)
           (follows_same (λ life. life) (e.given == handle) new.life (λ life. refl) (session_at s.sessions handle))
           (rw (found_more new handle s.sessions) (follows_more (λ life. life) new handle (λ life. refl) (session_at s.sessions handle)))
-      by (begin_session session view) =
-          let f = rule s reads (record e { request = begin_session session view }) in
-          carried (Lives (begin_session session view)) s (refusal e.short f) (told_on f.on f.effect) (first_none is_success (refusals f) refl)
+      by (ask.BeginSession session view) =
+          let f = rule s reads (record e { call = ask.BeginSession session view }) in
+          carried (Lives (ask.BeginSession session view)) s (refusal e.short f) (told_on f.on f.effect) (first_none is_success (refusals f) refl)
           (success_succeeds (loss_of (life_of s session))) all_same
           (follows_changed (λ life. unchanged (begun_session life)) false fresh s.sessions session handle)
-      by (end_session session) =
-          let f = rule s reads (record e { request = end_session session }) in
-          carried (Lives (end_session session)) s (refusal e.short f) (told_on f.on f.effect) (first_none is_success (refusals f) refl)
+      by (ask.EndSession session) =
+          let f = rule s reads (record e { call = ask.EndSession session }) in
+          carried (Lives (ask.EndSession session)) s (refusal e.short f) (told_on f.on f.effect) (first_none is_success (refusals f) refl)
           (success_succeeds (loss_of (life_of s session))) all_same
           (follows_changed (ended_session s.device.wish) false fresh s.sessions session handle)
-      by (request_exit_session session) =
-          let f = rule s reads (record e { request = request_exit_session session }) in
-          carried (Lives (request_exit_session session)) s (refusal e.short f) (told_on f.on f.effect) (first_none is_success (refusals f) refl)
+      by (ask.RequestExitSession session) =
+          let f = rule s reads (record e { call = ask.RequestExitSession session }) in
+          carried (Lives (ask.RequestExitSession session)) s (refusal e.short f) (told_on f.on f.effect) (first_none is_success (refusals f) refl)
           (success_succeeds (loss_of (life_of s session))) all_same
           (follows_changed (exiting_session s.device.wish) false fresh s.sessions session handle)
-      by (end_frame session time blend layers) =
-          let f = rule s reads (record e { request = end_frame session time blend layers }) in
-          carried (Lives (end_frame session time blend layers)) s (refusal e.short f) (told_on f.on f.effect) (first_none is_success (refusals f) (layers_fail (look_of s) layers))
+      by (ask.EndFrame session time blend layers) =
+          let f = rule s reads (record e { call = ask.EndFrame session time blend layers }) in
+          carried (Lives (ask.EndFrame session time blend layers)) s (refusal e.short f) (told_on f.on f.effect) (first_none is_success (refusals f) (layers_fail (look_of s) layers))
           (success_succeeds (loss_of (life_of s session))) all_same
           (follows_changed (synced_session s.device.wish) false fresh s.sessions session handle)
-      by (attach_sets session sets) =
-          let f = rule s reads (record e { request = attach_sets session sets }) in
-          kept (λ xs. Lives (attach_sets session sets) xs true) s (refusal e.short f) (told_on f.on f.effect) all_same
+      by (ask.AttachSets session sets) =
+          let f = rule s reads (record e { call = ask.AttachSets session sets }) in
+          kept (λ xs. Lives (ask.AttachSets session sets) xs true) s (refusal e.short f) (told_on f.on f.effect) all_same
           (rw (found_at session handle (with_attached (sets_named s.sets sets)) (λ x. refl) s.sessions)
           (follows_attached false fresh (sets_named s.sets sets) (session == handle) (session_at s.sessions handle)))
-      by (destroy_instance instance) =
-          let f = rule s reads (record e { request = destroy_instance instance }) in
-          kept (λ xs. Lives (destroy_instance instance) xs true) s (refusal e.short f) (told_on f.on f.effect) all_same
-          (gone (destroy_instance instance) (λ life. refl) instance)
-      by (destroy_session session) =
-          let f = rule s reads (record e { request = destroy_session session }) in
-          kept (λ xs. Lives (destroy_session session) xs true) s (refusal e.short f) (told_on f.on f.effect) all_same
-          (gone (destroy_session session) (λ life. refl) session)
-      by (destroy_action_set set) =
-          let f = rule s reads (record e { request = destroy_action_set set }) in
-          kept (λ xs. Lives (destroy_action_set set) xs true) s (refusal e.short f) (told_on f.on f.effect) all_same
-          (gone (destroy_action_set set) (λ life. refl) set)
-      by (destroy_action action) =
-          let f = rule s reads (record e { request = destroy_action action }) in
-          kept (λ xs. Lives (destroy_action action) xs true) s (refusal e.short f) (told_on f.on f.effect) all_same
-          (gone (destroy_action action) (λ life. refl) action)
-      by (device what) = events what
+      by (ask.DestroyInstance instance) =
+          let f = rule s reads (record e { call = ask.DestroyInstance instance }) in
+          kept (λ xs. Lives (ask.DestroyInstance instance) xs true) s (refusal e.short f) (told_on f.on f.effect) all_same
+          (gone (ask.DestroyInstance instance) (λ life. refl) instance)
+      by (ask.DestroySession session) =
+          let f = rule s reads (record e { call = ask.DestroySession session }) in
+          kept (λ xs. Lives (ask.DestroySession session) xs true) s (refusal e.short f) (told_on f.on f.effect) all_same
+          (gone (ask.DestroySession session) (λ life. refl) session)
+      by (ask.DestroyActionSet set) =
+          let f = rule s reads (record e { call = ask.DestroyActionSet set }) in
+          kept (λ xs. Lives (ask.DestroyActionSet set) xs true) s (refusal e.short f) (told_on f.on f.effect) all_same
+          (gone (ask.DestroyActionSet set) (λ life. refl) set)
+      by (ask.DestroyAction action) =
+          let f = rule s reads (record e { call = ask.DestroyAction action }) in
+          kept (λ xs. Lives (ask.DestroyAction action) xs true) s (refusal e.short f) (told_on f.on f.effect) all_same
+          (gone (ask.DestroyAction action) (λ life. refl) action)
+      by (ask.Device what) = events what
       by r =
-          let f = rule s reads (record e { request = r }) in
+          let f = rule s reads (record e { call = r }) in
           kept (λ xs. Lives r xs true) s (refusal e.short f) (told_on f.on f.effect) all_same all_same
 
 -- of a session that is found before and after
 pub lived_on : (s : CoreState) (reads : CellReads) (e : Entry) (handle : ℕ) (x y : Session)
     → session_at s.sessions handle ≡ Some x → session_at (core_step s reads e).0.sessions handle ≡ Some y
-    → y.life ≡ life_after s.device.wish e.request handle (is_success (core_step s reads e).1.reply.code) x.life
+    → y.life ≡ life_after s.device.wish e.call handle (is_success (core_step s reads e).1.reply.code) x.life
 lived_on s reads e handle x y before later =
     by (session_at s.sessions handle) (session_at (core_step s reads e).0.sessions handle) before later (lived s reads e handle)
   where
     f : Life → Life
-    f = life_after s.device.wish e.request handle (is_success (core_step s reads e).1.reply.code)
+    f = life_after s.device.wish e.call handle (is_success (core_step s reads e).1.reply.code)
 
     by : (o n : Option Session) → o ≡ Some x → n ≡ Some y
         → Follows f (creates_session e handle) (started_session s.device.wish).life o n → y.life ≡ f x.life

@@ -5,7 +5,9 @@ use Rattle.xr_types.specs.Code.{is_success}
 use Rattle.xr_types.specs.declared.device.DeviceEvent.{DeviceEvent}
 use Rattle.xr_types.specs.declared.device.DeviceEvent.TheVariants as event
 use Rattle.xr_types.specs.declared.handles.Kind.TheVariants as kind
-use Rattle.xr_model.specs.machine.Request.{Entry, Request, create_instance, destroy_instance, create_session, destroy_session, begin_session, end_session, request_exit_session, create_reference_space, destroy_space, create_action_set, destroy_action_set, create_action, destroy_action, create_swapchain, destroy_swapchain, attach_sets, end_frame, device, create_action_space}
+use Rattle.xr_model.specs.machine.Calls.{Entry}
+use Rattle.xr_types.specs.declared.calls.Call.{Call}
+use Rattle.xr_types.specs.declared.calls.Call.TheVariants as ask
 use Rattle.xr_model.specs.machine.Handles.{Handles, is_live, has_room, with_handle, without, without_alone, destroyed_by}
 use Rattle.xr_model.specs.machine.Sets.{sets_named}
 use Rattle.xr_model.specs.machine.Refusals.{Refusal}
@@ -24,21 +26,21 @@ use Rattle.xr_types.specs.declared.session.SessionState.TheVariants.{Ready, Sync
 
 -- a property that the handles and the sessions have before an entry, and that each thing that it may do keeps
 pub record Keeps (P : Handles → List Session → Type 0) (s : CoreState) (reads : CellReads) (e : Entry) : Type 0 where
-  pub same : is_device_lost e.request ≡ false → is_session_creation e.request && is_success (core_step s reads e).1.reply.code ≡ false → P s.handles s.sessions
-  pub instance : is_device_lost e.request ≡ false → is_session_creation e.request ≡ false → P (with_handle s.handles kind.Instance 0 e.given) s.sessions
-  pub session : is_device_lost e.request ≡ false → is_session_creation e.request ≡ true → is_success (core_step s reads e).1.reply.code ≡ true → has_room s.handles kind.Session ≡ true
+  pub same : is_device_lost e.call ≡ false → is_session_creation e.call && is_success (core_step s reads e).1.reply.code ≡ false → P s.handles s.sessions
+  pub instance : is_device_lost e.call ≡ false → is_session_creation e.call ≡ false → P (with_handle s.handles kind.Instance 0 e.given) s.sessions
+  pub session : is_device_lost e.call ≡ false → is_session_creation e.call ≡ true → is_success (core_step s reads e).1.reply.code ≡ true → has_room s.handles kind.Session ≡ true
       → (instance : ℕ) → P (with_handle s.handles kind.Session instance e.given) (s.sessions ++ new_session s e.given (started_session s.device.wish).life ∷ [])
-  pub set : is_device_lost e.request ≡ false → is_session_creation e.request ≡ false → (instance : ℕ) → P (with_handle s.handles kind.ActionSet instance e.given) s.sessions
-  pub action : is_device_lost e.request ≡ false → is_session_creation e.request ≡ false → (set : ℕ) → P (with_handle s.handles kind.Action set e.given) s.sessions
-  pub space : is_device_lost e.request ≡ false → is_session_creation e.request ≡ false → (session : ℕ) → P (with_handle s.handles kind.Space session e.given) s.sessions
-  pub chain : is_device_lost e.request ≡ false → is_session_creation e.request ≡ false → (session : ℕ) → P (with_handle s.handles kind.Swapchain session e.given) s.sessions
-  pub without : is_device_lost e.request ≡ false → is_session_creation e.request ≡ false → (handle : ℕ) → P (without s.handles handle) (sessions_left (without s.handles handle) (destroyed_by s.handles handle) s.sessions)
-  pub alone : is_device_lost e.request ≡ false → is_session_creation e.request ≡ false → (space : ℕ) → P (without_alone s.handles kind.Space space) s.sessions
-  pub chain_alone : is_device_lost e.request ≡ false → is_session_creation e.request ≡ false → (chain : ℕ) → P (without_alone s.handles kind.Swapchain chain) s.sessions
-  pub lives : is_device_lost e.request ≡ false → is_session_creation e.request ≡ false → (session : ℕ) (f : Session → Session) → ((x : Session) → (f x).handle ≡ x.handle) → ((x : Session) → session_at s.sessions session ≡ Some x → (f x).life.lost ≡ x.life.lost) → ((x : Session) → (f x).attached ≡ x.attached) → P s.handles (with_session_at session f s.sessions)
-  pub attach : is_device_lost e.request ≡ false → is_session_creation e.request ≡ false → (session : ℕ) (sets : List ℕ) → P s.handles (with_session_at session (with_attached (sets_named s.sets sets)) s.sessions)
-  pub each : is_device_lost e.request ≡ false → is_session_creation e.request ≡ false → (f : Life → Changed) → ((life : Life) → (f life).life.lost ≡ life.lost) → P s.handles (each_changed f s.sessions)
-  pub lost : is_device_lost e.request ≡ true → is_session_creation e.request ≡ false → P s.handles (each_changed (λ life. unchanged (lost_session life)) s.sessions)
+  pub set : is_device_lost e.call ≡ false → is_session_creation e.call ≡ false → (instance : ℕ) → P (with_handle s.handles kind.ActionSet instance e.given) s.sessions
+  pub action : is_device_lost e.call ≡ false → is_session_creation e.call ≡ false → (set : ℕ) → P (with_handle s.handles kind.Action set e.given) s.sessions
+  pub space : is_device_lost e.call ≡ false → is_session_creation e.call ≡ false → (session : ℕ) → P (with_handle s.handles kind.Space session e.given) s.sessions
+  pub chain : is_device_lost e.call ≡ false → is_session_creation e.call ≡ false → (session : ℕ) → P (with_handle s.handles kind.Swapchain session e.given) s.sessions
+  pub without : is_device_lost e.call ≡ false → is_session_creation e.call ≡ false → (handle : ℕ) → P (without s.handles handle) (sessions_left (without s.handles handle) (destroyed_by s.handles handle) s.sessions)
+  pub alone : is_device_lost e.call ≡ false → is_session_creation e.call ≡ false → (space : ℕ) → P (without_alone s.handles kind.Space space) s.sessions
+  pub chain_alone : is_device_lost e.call ≡ false → is_session_creation e.call ≡ false → (chain : ℕ) → P (without_alone s.handles kind.Swapchain chain) s.sessions
+  pub lives : is_device_lost e.call ≡ false → is_session_creation e.call ≡ false → (session : ℕ) (f : Session → Session) → ((x : Session) → (f x).handle ≡ x.handle) → ((x : Session) → session_at s.sessions session ≡ Some x → (f x).life.lost ≡ x.life.lost) → ((x : Session) → (f x).attached ≡ x.attached) → P s.handles (with_session_at session f s.sessions)
+  pub attach : is_device_lost e.call ≡ false → is_session_creation e.call ≡ false → (session : ℕ) (sets : List ℕ) → P s.handles (with_session_at session (with_attached (sets_named s.sets sets)) s.sessions)
+  pub each : is_device_lost e.call ≡ false → is_session_creation e.call ≡ false → (f : Life → Changed) → ((life : Life) → (f life).life.lost ≡ life.lost) → P s.handles (each_changed f s.sessions)
+  pub lost : is_device_lost e.call ≡ true → is_session_creation e.call ≡ false → P s.handles (each_changed (λ life. unchanged (lost_session life)) s.sessions)
 
 abbrev Has : (Handles → List Session → Type 0) → CoreState → Type 0
 Has P s = P s.handles s.sessions
@@ -67,7 +69,7 @@ module _ (P : Handles → List Session → Type 0) (s : CoreState) (reads : Cell
   changed session f None found same lives = same
   changed session f (Some x) found same lives = lives x found
 
-  events : (what : DeviceEvent) → Keeps P s reads (record e { request = device what }) → Has P (behind_event s what)
+  events : (what : DeviceEvent) → Keeps P s reads (record e { call = ask.Device what }) → Has P (behind_event s what)
   events (event.Clock time) k = k.same refl refl
   events (event.Grid base period) k = k.same refl refl
   events (event.Wish wish) k = k.each refl refl (settled_session wish) (λ life. refl)
@@ -83,10 +85,10 @@ module _ (P : Handles → List Session → Type 0) (s : CoreState) (reads : Cell
   events (event.Pose origin time pose) k = k.same refl refl
 
   -- the creation of a session, by what refuses it
-  created : (instance system : ℕ) → Keeps P s reads (record e { request = create_session instance system }) → Has P (core_step s reads (record e { request = create_session instance system })).0
+  created : (instance system : ℕ) → Keeps P s reads (record e { call = ask.CreateSession instance system }) → Has P (core_step s reads (record e { call = ask.CreateSession instance system })).0
   created instance system k = by (is_live s.handles kind.Instance instance) refl (system == the_system) refl (has_room s.handles kind.Session) refl
     where
-      by : (a : Bool) → is_live s.handles kind.Instance instance ≡ a → (b : Bool) → (system == the_system) ≡ b → (c : Bool) → has_room s.handles kind.Session ≡ c → Has P (core_step s reads (record e { request = create_session instance system })).0
+      by : (a : Bool) → is_live s.handles kind.Instance instance ≡ a → (b : Bool) → (system == the_system) ≡ b → (c : Bool) → has_room s.handles kind.Session ≡ c → Has P (core_step s reads (record e { call = ask.CreateSession instance system })).0
       by false ea b eb c ec = rw ea (k.same refl (rw ea refl))
       by true ea false eb c ec = rw (ea, eb) (k.same refl (rw (ea, eb) refl))
       by true ea true eb false ec = rw (ea, eb, ec) (k.same refl (rw (ea, eb, ec) refl))
@@ -94,60 +96,60 @@ module _ (P : Handles → List Session → Type 0) (s : CoreState) (reads : Cell
 
 -- the property holds after the entry
 pub kept_by_step : (P : Handles → List Session → Type 0) (s : CoreState) (reads : CellReads) (e : Entry) → Keeps P s reads e → Has P (core_step s reads e).0
-kept_by_step P s reads e = by e.request
+kept_by_step P s reads e = by e.call
   where
-    by : (r : Request) → Keeps P s reads (record e { request = r }) → Has P (core_step s reads (record e { request = r })).0
-    by (create_instance major minor) k =
-        let f = rule s reads (record e { request = create_instance major minor }) in
+    by : (r : Call) → Keeps P s reads (record e { call = r }) → Has P (core_step s reads (record e { call = r })).0
+    by (ask.CreateInstance major minor) k =
+        let f = rule s reads (record e { call = ask.CreateInstance major minor }) in
         kept P s (refusal e.short f) (told_on f.on f.effect) (k.same refl refl) (λ none. k.instance refl refl)
-    by (create_session instance system) k = created P s reads e instance system k
-    by (destroy_instance instance) k =
-        let f = rule s reads (record e { request = destroy_instance instance }) in
+    by (ask.CreateSession instance system) k = created P s reads e instance system k
+    by (ask.DestroyInstance instance) k =
+        let f = rule s reads (record e { call = ask.DestroyInstance instance }) in
         kept P s (refusal e.short f) (told_on f.on f.effect) (k.same refl refl) (λ none. k.without refl refl instance)
-    by (create_reference_space session what offset) k =
-        let f = rule s reads (record e { request = create_reference_space session what offset }) in
+    by (ask.CreateReferenceSpace session what offset) k =
+        let f = rule s reads (record e { call = ask.CreateReferenceSpace session what offset }) in
         kept P s (refusal e.short f) (told_on f.on f.effect) (k.same refl refl) (λ none. k.space refl refl session)
-    by (create_action_space session action sub offset) k =
-        let f = rule s reads (record e { request = create_action_space session action sub offset }) in
+    by (ask.CreateActionSpace session action sub offset) k =
+        let f = rule s reads (record e { call = ask.CreateActionSpace session action sub offset }) in
         kept P s (refusal e.short f) (told_on f.on f.effect) (k.same refl refl) (λ none. k.space refl refl session)
-    by (create_swapchain session format width height fixed) k =
-        let f = rule s reads (record e { request = create_swapchain session format width height fixed }) in
+    by (ask.CreateSwapchain session format width height fixed) k =
+        let f = rule s reads (record e { call = ask.CreateSwapchain session format width height fixed }) in
         kept P s (refusal e.short f) (told_on f.on f.effect) (k.same refl refl) (λ none. k.chain refl refl session)
-    by (destroy_swapchain chain) k =
-        let f = rule s reads (record e { request = destroy_swapchain chain }) in
+    by (ask.DestroySwapchain chain) k =
+        let f = rule s reads (record e { call = ask.DestroySwapchain chain }) in
         kept P s (refusal e.short f) (told_on f.on f.effect) (k.same refl refl) (λ none. k.chain_alone refl refl chain)
-    by (destroy_space space) k =
-        let f = rule s reads (record e { request = destroy_space space }) in
+    by (ask.DestroySpace space) k =
+        let f = rule s reads (record e { call = ask.DestroySpace space }) in
         kept P s (refusal e.short f) (told_on f.on f.effect) (k.same refl refl) (λ none. k.alone refl refl space)
-    by (create_action_set instance name localized priority) k =
-        let f = rule s reads (record e { request = create_action_set instance name localized priority }) in
+    by (ask.CreateActionSet instance name localized priority) k =
+        let f = rule s reads (record e { call = ask.CreateActionSet instance name localized priority }) in
         kept P s (refusal e.short f) (told_on f.on f.effect) (k.same refl refl) (λ none. k.set refl refl instance)
-    by (destroy_action_set set) k =
-        let f = rule s reads (record e { request = destroy_action_set set }) in
+    by (ask.DestroyActionSet set) k =
+        let f = rule s reads (record e { call = ask.DestroyActionSet set }) in
         kept P s (refusal e.short f) (told_on f.on f.effect) (k.same refl refl) (λ none. k.without refl refl set)
-    by (create_action set name type subs localized) k =
-        let f = rule s reads (record e { request = create_action set name type subs localized }) in
+    by (ask.CreateAction set name type subs localized) k =
+        let f = rule s reads (record e { call = ask.CreateAction set name type subs localized }) in
         kept P s (refusal e.short f) (told_on f.on f.effect) (k.same refl refl) (λ none. k.action refl refl set)
-    by (destroy_action action) k =
-        let f = rule s reads (record e { request = destroy_action action }) in
+    by (ask.DestroyAction action) k =
+        let f = rule s reads (record e { call = ask.DestroyAction action }) in
         kept P s (refusal e.short f) (told_on f.on f.effect) (k.same refl refl) (λ none. k.without refl refl action)
-    by (destroy_session session) k =
-        let f = rule s reads (record e { request = destroy_session session }) in
+    by (ask.DestroySession session) k =
+        let f = rule s reads (record e { call = ask.DestroySession session }) in
         kept P s (refusal e.short f) (told_on f.on f.effect) (k.same refl refl) (λ none. k.without refl refl session)
-    by (begin_session session view) k =
-        let f = rule s reads (record e { request = begin_session session view }) in
+    by (ask.BeginSession session view) k =
+        let f = rule s reads (record e { call = ask.BeginSession session view }) in
         kept P s (refusal e.short f) (told_on f.on f.effect) (k.same refl refl) (λ none. changed P s reads e session (λ life. unchanged (begun_session life)) (session_at s.sessions session) refl (k.same refl refl) (λ x found. k.lives refl refl x.handle (with_life _) (λ y. refl) (λ y there. ap (λ (z : Session). z.life.lost) (found_once s.sessions session x y found there)) (λ y. refl)))
-    by (end_session session) k =
-        let f = rule s reads (record e { request = end_session session }) in
+    by (ask.EndSession session) k =
+        let f = rule s reads (record e { call = ask.EndSession session }) in
         kept P s (refusal e.short f) (told_on f.on f.effect) (k.same refl refl) (λ none. changed P s reads e session (ended_session s.device.wish) (session_at s.sessions session) refl (k.same refl refl) (λ x found. k.lives refl refl x.handle (with_life _) (λ y. refl) (λ y there. ap (λ (z : Session). z.life.lost) (found_once s.sessions session x y found there)) (λ y. refl)))
-    by (request_exit_session session) k =
-        let f = rule s reads (record e { request = request_exit_session session }) in
+    by (ask.RequestExitSession session) k =
+        let f = rule s reads (record e { call = ask.RequestExitSession session }) in
         kept P s (refusal e.short f) (told_on f.on f.effect) (k.same refl refl) (λ none. changed P s reads e session (exiting_session s.device.wish) (session_at s.sessions session) refl (k.same refl refl) (λ x found. k.lives refl refl x.handle (with_life _) (λ y. refl) (λ y there. ap (λ (z : Session). z.life.lost) (found_once s.sessions session x y found there)) (λ y. refl)))
-    by (attach_sets session handles) k =
-        let f = rule s reads (record e { request = attach_sets session handles }) in
+    by (ask.AttachSets session handles) k =
+        let f = rule s reads (record e { call = ask.AttachSets session handles }) in
         kept P s (refusal e.short f) (told_on f.on f.effect) (k.same refl refl) (λ none. k.attach refl refl session handles)
-    by (end_frame session time blend layers) k =
-        let f = rule s reads (record e { request = end_frame session time blend layers }) in
+    by (ask.EndFrame session time blend layers) k =
+        let f = rule s reads (record e { call = ask.EndFrame session time blend layers }) in
         kept P s (refusal e.short f) (told_on f.on f.effect) (k.same refl refl) (λ none. changed P s reads e session (synced_session s.device.wish) (session_at s.sessions session) refl (k.same refl refl) (λ x found. k.lives refl refl x.handle (with_life _) (λ y. refl) (λ y there. synced_keeps s.device.wish x.life ∙ ap (λ (z : Session). z.life.lost) (found_once s.sessions session x y found there)) (λ y. refl)))
-    by (device what) k = events P s reads e what k
-    by r k = let f = rule s reads (record e { request = r }) in kept P s (refusal e.short f) (told_on f.on f.effect) (k.same refl refl) (λ none. k.same refl refl)
+    by (ask.Device what) k = events P s reads e what k
+    by r k = let f = rule s reads (record e { call = r }) in kept P s (refusal e.short f) (told_on f.on f.effect) (k.same refl refl) (λ none. k.same refl refl)

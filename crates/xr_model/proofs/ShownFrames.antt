@@ -19,7 +19,9 @@ use Rattle.xr_model.specs.machine.Images.{Stamped, is_image, slot_of, times_in, 
 use Rattle.xr_model.specs.machine.Chains.{Chain, is_chain, chain_at, place_of_chain, first_place, oldest_image, oldest_index, oldest_of, has_place, has_free_place, is_format, is_size, no_place, is_paint_wrong}
 use Rattle.xr_model.specs.machine.Handles.{no_room}
 use Rattle.xr_model.specs.machine.Refusals.{Refusal, when}
-use Rattle.xr_model.specs.machine.Request.{Entry, Request, create_swapchain, paint, end_frame, next_frame}
+use Rattle.xr_model.specs.machine.Calls.{Entry}
+use Rattle.xr_types.specs.declared.calls.Call.{Call}
+use Rattle.xr_types.specs.declared.calls.Call.TheVariants as ask
 use Rattle.xr_model.specs.machine.State.{CoreState, CellReads, State, opening}
 use Rattle.xr_model.specs.machine.Rule.{Rule, Effect, refusal, told_on, unless_refused}
 use Rattle.xr_model.specs.machine.Rules.Frames.{look_of, oldest_shown}
@@ -126,29 +128,29 @@ frames_stay_same xs stamps (f ∷ fs) aside among =
 -- ---- steps
 
 -- the calls that submit and show frames stamp nothing
-moves_stamp_none : (s : CoreState) (reads : CellReads) (e : Entry) → is_frame_move e.request ≡ true → (effect s reads e).did.stamped ≡ []
-moves_stamp_none s reads e is = by e.request is
+moves_stamp_none : (s : CoreState) (reads : CellReads) (e : Entry) → is_frame_move e.call ≡ true → (effect s reads e).did.stamped ≡ []
+moves_stamp_none s reads e is = by e.call is
   where
-    by : (r : Request) → is_frame_move r ≡ true → (effect s reads (record e { request = r })).did.stamped ≡ []
-    by (end_frame session time blend layers) is = did_kept (λ d. d.stamped ≡ []) s e.short (rule s reads (record e { request = end_frame session time blend layers })) refl refl
-    by next_frame is = did_kept (λ d. d.stamped ≡ []) s e.short (rule s reads (record e { request = next_frame })) refl refl
+    by : (r : Call) → is_frame_move r ≡ true → (effect s reads (record e { call = r })).did.stamped ≡ []
+    by (ask.EndFrame session time blend layers) is = did_kept (λ d. d.stamped ≡ []) s e.short (rule s reads (record e { call = ask.EndFrame session time blend layers })) refl refl
+    by ask.NextFrame is = did_kept (λ d. d.stamped ≡ []) s e.short (rule s reads (record e { call = ask.NextFrame })) refl refl
     by _ is = absurd (true≢false (sym is))
 
 -- the frames that are pending behind a step show with the stamps of then what they show with those of before
 pending_alike : (s : State) (e : Entry) → Untouched s.core.frames.pending (did_at s e).stamped → FramesAmong s.core.frames.pending
     → shown_now s (step s e).0.core.frames.pending ≡ shown_now (step s e).0 (step s e).0.core.frames.pending
-pending_alike s e aside among = by (is_frame_move e.request) refl
+pending_alike s e aside among = by (is_frame_move e.call) refl
   where
-    by : (b : Bool) → is_frame_move e.request ≡ b → shown_now s (step s e).0.core.frames.pending ≡ shown_now (step s e).0 (step s e).0.core.frames.pending
-    by true is = sym (ap (λ (xs : List Stamped). map (shown_with (stamp_in (with_stamps xs s.cells.stamps))) (step s e).0.core.frames.pending) (moves_stamp_none s.core (reads_of s e.request) e is))
+    by : (b : Bool) → is_frame_move e.call ≡ b → shown_now s (step s e).0.core.frames.pending ≡ shown_now (step s e).0 (step s e).0.core.frames.pending
+    by true is = sym (ap (λ (xs : List Stamped). map (shown_with (stamp_in (with_stamps xs s.cells.stamps))) (step s e).0.core.frames.pending) (moves_stamp_none s.core (reads_of s e.call) e is))
     by false is =
-        subst (λ (fs : List PendingFrame). shown_now s fs ≡ shown_now (step s e).0 fs) (sym (frames_stay s.core (reads_of s e.request) e is).pending)
+        subst (λ (fs : List PendingFrame). shown_now s fs ≡ shown_now (step s e).0 fs) (sym (frames_stay s.core (reads_of s e.call) e is).pending)
         (frames_stay_same (did_at s e).stamped s.cells.stamps s.core.frames.pending aside among)
 
 -- what is shown is the frame that is taken, with the stamps that its images have
 taken_alike : (s : State) (e : Entry) → FramesAmong s.core.frames.pending
-    → shown_now s (taken_if (effect s.core (reads_of s e.request) e).shown s.core.frames.pending) ≡ shown_if (effect s.core (reads_of s e.request) e).shown
-taken_alike s e among = by e.request
+    → shown_now s (taken_if (effect s.core (reads_of s e.call) e).shown s.core.frames.pending) ≡ shown_if (effect s.core (reads_of s e.call) e).shown
+taken_alike s e among = by e.call
   where
     none : (x : Effect) → x.shown ≡ None → shown_now s (taken_if x.shown s.core.frames.pending) ≡ shown_if x.shown
     none x is = rw is refl
@@ -166,25 +168,25 @@ taken_alike s e among = by e.request
     oldest (Some r) x is = refl
     oldest None x is = rw is (one s.core.frames.pending among)
 
-    by : (r : Request) → shown_now s (taken_if (effect s.core (reads_of s r) (record e { request = r })).shown s.core.frames.pending) ≡ shown_if (effect s.core (reads_of s r) (record e { request = r })).shown
-    by next_frame = let f = rule s.core (reads_of s next_frame) (record e { request = next_frame }) in oldest (refusal e.short f) f.effect refl
-    by (end_frame session time blend layers) =
-        let f = rule s.core (reads_of s (end_frame session time blend layers)) (record e { request = end_frame session time blend layers }) in
+    by : (r : Call) → shown_now s (taken_if (effect s.core (reads_of s r) (record e { call = r })).shown s.core.frames.pending) ≡ shown_if (effect s.core (reads_of s r) (record e { call = r })).shown
+    by ask.NextFrame = let f = rule s.core (reads_of s ask.NextFrame) (record e { call = ask.NextFrame }) in oldest (refusal e.short f) f.effect refl
+    by (ask.EndFrame session time blend layers) =
+        let f = rule s.core (reads_of s (ask.EndFrame session time blend layers)) (record e { call = ask.EndFrame session time blend layers }) in
         none (unless_refused s.core (refusal e.short f) (told_on f.on f.effect)) (unshown (refusal e.short f) (told_on f.on f.effect) refl)
-    by r = none (effect s.core (reads_of s r) (record e { request = r })) (frames_stay s.core (reads_of s r) (record e { request = r }) refl).shown
+    by r = none (effect s.core (reads_of s r) (record e { call = r })) (frames_stay s.core (reads_of s r) (record e { call = r }) refl).shown
 
 -- the frame that an entry adds, as it would be shown now, is the one that was asked for
 layers_as_asked : (s : State) (layers : List Layer) → map (asked_layer s) layers ≡ map (shown_layer (stamp_in s.cells.stamps)) (layers_of (look_of s.core) layers)
 layers_as_asked s [] = refl
 layers_as_asked s (l ∷ layers) = ap (λ (ls : List ShownLayer). asked_layer s l ∷ ls) (layers_as_asked s layers)
 
-as_asked : (s : State) (b : Bool) (r : Request) → submitted_if b s r ≡ shown_now s (frame_if b s.core r)
+as_asked : (s : State) (b : Bool) (r : Call) → submitted_if b s r ≡ shown_now s (frame_if b s.core r)
 as_asked s false r = refl
-as_asked s true (end_frame session time blend layers) = ap (λ (ls : List ShownLayer). record { number = s.core.ended + 1; time = time; layers = ls } ∷ []) (layers_as_asked s layers)
+as_asked s true (ask.EndFrame session time blend layers) = ap (λ (ls : List ShownLayer). record { number = s.core.ended + 1; time = time; layers = ls } ∷ []) (layers_as_asked s layers)
 as_asked s true _ = refl
 
 abbrev frames_by : State → Entry → List PendingFrame
-frames_by s e = frame_if (is_success (step s e).1.reply.code) s.core e.request
+frames_by s e = frame_if (is_success (step s e).1.reply.code) s.core e.call
 
 -- what is pending and what is submitted is what is shown and what is pending then
 step_alike : (s : State) (e : Entry) → Untouched s.core.frames.pending (did_at s e).stamped → FramesAmong s.core.frames.pending
@@ -194,7 +196,7 @@ step_alike s e aside among =
     let t = (step s e).0 in
     let taken = taken_if (step s e).1.shown s.core.frames.pending in
     sym (map-append show s.core.frames.pending (frames_by s e))
-    ∙ ap (λ (fs : List PendingFrame). map show fs) (moves s.core (reads_of s e.request) e).pending
+    ∙ ap (λ (fs : List PendingFrame). map show fs) (moves s.core (reads_of s e.call) e).pending
     ∙ map-append show taken t.core.frames.pending
     ∙ ap (λ (shown : List Shown). shown ++ map show t.core.frames.pending) (taken_alike s e among)
     ∙ ap (λ (more : List Shown). shown_if (step s e).1.shown ++ more) (pending_alike s e aside among)
@@ -221,13 +223,13 @@ painted_aside pending held place c free idle = let none = idle (not_false c.has_
 
 -- No entry that is allowed and ready stamps an image of a pending frame: a new chain gets a free place, and what is painted was waited for.
 stamps_aside : (s : State) (e : Entry) → StateIsSound s → Untouched s.core.frames.pending (did_at s e).stamped
-stamps_aside s e sound = by e.request
+stamps_aside s e sound = by e.call
   where
-    by : (r : Request) → Untouched s.core.frames.pending (did_at s (record e { request = r })).stamped
-    by (create_swapchain session format width height fixed) = effect_kept (λ t did. Untouched s.core.frames.pending did.stamped) s.core e.short f tt made
+    by : (r : Call) → Untouched s.core.frames.pending (did_at s (record e { call = r })).stamped
+    by (ask.CreateSwapchain session format width height fixed) = effect_kept (λ t did. Untouched s.core.frames.pending did.stamped) s.core e.short f tt made
       where
         f : Rule
-        f = rule s.core (reads_of s (create_swapchain session format width height fixed)) (record e { request = create_swapchain session format width height fixed })
+        f = rule s.core (reads_of s (ask.CreateSwapchain session format width height fixed)) (record e { call = ask.CreateSwapchain session format width height fixed })
 
         made : refusal e.short f ≡ None → Untouched s.core.frames.pending (unstamped (first_place s.core.chains))
         made none =
@@ -239,10 +241,10 @@ stamps_aside s e sound = by e.request
             let used = (neither_of (list_any (λ x. has_place (first_place s.core.chains) x.images) s.core.frames.pending) (has_place (first_place s.core.chains) s.core.shown_images) (sound.unused (first_place s.core.chains) free)).0 in
             let each : (n : ℕ) → n < 3 → uses_of s.core.frames.pending (3 * first_place s.core.chains + n) ≡ 0 = λ n less. uses_elsewhere (first_place s.core.chains) n less s.core.frames.pending sound.frames used in
             (each 0 (omega arith), (each 1 (omega arith), (each 2 (omega arith), tt)))
-    by (paint chain stamped) = effect_kept (λ t did. Untouched s.core.frames.pending did.stamped) s.core e.short f tt made
+    by (ask.Paint chain stamped) = effect_kept (λ t did. Untouched s.core.frames.pending did.stamped) s.core e.short f tt made
       where
         f : Rule
-        f = rule s.core (reads_of s (paint chain stamped)) (record e { request = paint chain stamped })
+        f = rule s.core (reads_of s (ask.Paint chain stamped)) (record e { call = ask.Paint chain stamped })
 
         made : refusal e.short f ≡ None → Untouched s.core.frames.pending (record { image = oldest_image s.core.chains chain; stamp = stamped } ∷ [])
         made none =
@@ -251,7 +253,7 @@ stamps_aside s e sound = by e.request
             let place = place_of_chain s.core.chains chain in
             let here : IsIdle s.core.frames.pending s.cells.held place (Some some.0) = subst (IsIdle s.core.frames.pending s.cells.held place) (found_at (is_chain chain) s.core.chains some.0 some.1) (sound.idle place) in
             (subst (λ (o : Option Chain). uses_of s.core.frames.pending (3 * place + oldest_index o) ≡ 0) (sym some.1) (painted_aside s.core.frames.pending s.cells.held place some.0 (sym (ap is_paint_wrong some.1) ∙ free.order) here), tt)
-    by r = effect_kept (λ t did. Untouched s.core.frames.pending did.stamped) s.core e.short (rule s.core (reads_of s r) (record e { request = r })) tt (λ none. tt)
+    by r = effect_kept (λ t did. Untouched s.core.frames.pending did.stamped) s.core e.short (rule s.core (reads_of s r) (record e { call = r })) tt (λ none. tt)
 
 -- ---- over a history
 
@@ -267,7 +269,7 @@ as_submitted s clocks (e ∷ es) legal sound =
     ∙ sym (append_assoc now (shown_now t t.core.frames.pending) (submitted_from t es))
     ∙ ap (λ (l : List Shown). l ++ submitted_from t es) (sym (step_alike s e (stamps_aside s e sound) (frames_among s.core.frames.pending sound.frames)))
     ∙ append_assoc (shown_now s s.core.frames.pending) (shown_now s (frames_by s e)) (submitted_from t es)
-    ∙ ap (λ (l : List Shown). shown_now s s.core.frames.pending ++ (l ++ submitted_from t es)) (sym (as_asked s (is_success (step s e).1.reply.code) e.request))
+    ∙ ap (λ (l : List Shown). shown_now s s.core.frames.pending ++ (l ++ submitted_from t es)) (sym (as_asked s (is_success (step s e).1.reply.code) e.call))
 
 pub frames_as_submitted : FramesAsSubmitted
 frames_as_submitted settings es legal = as_submitted (opening settings) (opening_clocks settings) es legal (sound_opening settings)

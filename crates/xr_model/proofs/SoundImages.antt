@@ -20,7 +20,9 @@ use Rattle.xr_model.specs.machine.Handles.{Handles, no_room, has_room, is_live, 
 use Rattle.xr_model.specs.machine.Images.{slot_of, times_in, uses_of, count_of, first_images}
 use Rattle.xr_model.specs.machine.Layers.{frame_checks, form_checks, layer_checks, layers_of}
 use Rattle.xr_model.specs.machine.Refusals.{Refusal, when, first_of}
-use Rattle.xr_model.specs.machine.Request.{Request, Entry, destroy_instance, destroy_session, destroy_action_set, destroy_action, create_swapchain, destroy_swapchain, acquire_image, wait_image, release_image, end_frame, next_frame, image_done, device}
+use Rattle.xr_model.specs.machine.Calls.{Entry}
+use Rattle.xr_types.specs.declared.calls.Call.{Call}
+use Rattle.xr_types.specs.declared.calls.Call.TheVariants as ask
 use Rattle.xr_model.specs.machine.State.{CoreState, Settings, State, opening}
 use Rattle.xr_model.specs.machine.Rule.{Rule, Effect, Did, nothing_done, refusal, told_on, unless_refused, carried_out}
 use Rattle.xr_model.specs.machine.SessionRule.{Loss, loss_of}
@@ -364,16 +366,16 @@ events_leave s held _ sound = sound
 
 -- Every entry that is allowed and ready keeps it.
 pub sound_step : (s : State) (e : Entry) → IsAllowed s e → ready s e ≡ true → StateIsSound s → StateIsSound (step s e).0
-sound_step s e allowed is_ready sound = by e.request allowed is_ready
+sound_step s e allowed is_ready sound = by e.call allowed is_ready
   where
-    by : (r : Request) → IsAllowed s (record e { request = r }) → ready s (record e { request = r }) ≡ true → StateIsSound (step s (record e { request = r })).0
-    by (create_swapchain session format width height fixed) allowed is_ready = effect_kept (KeptBy s.core s.cells.held) s.core e.short f sound made
+    by : (r : Call) → IsAllowed s (record e { call = r }) → ready s (record e { call = r }) ≡ true → StateIsSound (step s (record e { call = r })).0
+    by (ask.CreateSwapchain session format width height fixed) allowed is_ready = effect_kept (KeptBy s.core s.cells.held) s.core e.short f sound made
       where
         x : Entry
-        x = record e { request = create_swapchain session format width height fixed }
+        x = record e { call = ask.CreateSwapchain session format width height fixed }
 
         f : Rule
-        f = rule s.core (reads_of s (create_swapchain session format width height fixed)) x
+        f = rule s.core (reads_of s (ask.CreateSwapchain session format width height fixed)) x
 
         made : refusal e.short f ≡ None → KeptBy s.core s.cells.held f.effect.state f.effect.did
         made none =
@@ -386,61 +388,61 @@ sound_step s e allowed is_ready sound = by e.request allowed is_ready
             let done_is = goes s.core (refusal e.short f) (told_on f.on f.effect) none in
             let new = given_one (is_some f.creates && is_success (step s x).1.reply.code) s.core.handles e.given (ap (λ (y : Effect). is_success y.code) done_is ∙ good) allowed.handle in
             sound_created s.core s.cells.held sound session e.given width height fixed (is_false (e.given == 0) (λ eb. new.0 (same_key e.given 0 eb))) (not_false (has_free_place s.core.chains) three.0) (not_false (has_room s.core.handles Swapchain) four.0)
-    by (acquire_image chain) allowed is_ready =
-        let f = rule s.core (reads_of s (acquire_image chain)) (record e { request = acquire_image chain }) in
+    by (ask.AcquireImage chain) allowed is_ready =
+        let f = rule s.core (reads_of s (ask.AcquireImage chain)) (record e { call = ask.AcquireImage chain }) in
         effect_kept (KeptBy s.core s.cells.held) s.core e.short f sound (λ none.
         let free = clear f e.short none in
         let some = acquire_some (chain_at s.core.chains chain) free.order in
         sound_chain s.core s.cells.held sound chain acquiring some.0 some.1 (is_live_by (is_live s.core.handles Swapchain chain) free.handles) refl
         (λ live good. acquired_is_sound s.core.handles.chains some.0 live good (sym (ap is_acquire_wrong some.1) ∙ free.order))
         (λ good idle waited. subst (λ (n : ℕ). count_of s.core.frames.pending s.cells.held (3 * place_of_chain s.core.chains chain + n) ≡ 0) (sym (oldest_stays s.core.handles.chains some.0 some.0.next good waited)) (idle waited)))
-    by (wait_image chain timeout start) allowed is_ready =
-        let x = record e { request = wait_image chain timeout start } in
-        let f = rule s.core (reads_of s (wait_image chain timeout start)) x in
+    by (ask.WaitImage chain timeout start) allowed is_ready =
+        let x = record e { call = ask.WaitImage chain timeout start } in
+        let f = rule s.core (reads_of s (ask.WaitImage chain timeout start)) x in
         effect_kept (KeptBy s.core s.cells.held) s.core e.short f sound (λ none.
         let free = clear f e.short none in
         let some = wait_some (chain_at s.core.chains chain) free.order in
-        let unused = (reads_of s (wait_image chain timeout start)).unused in
+        let unused = (reads_of s (ask.WaitImage chain timeout start)).unused in
         let up = is_up s.core.device.clock timeout start in
-        let zero_count = is_unused unused up (is_ready_to s.core (reads_of s (wait_image chain timeout start)) x is_ready free.whole) (none_first (not unused && up) TimeoutExpired [] free.behind).0 in
+        let zero_count = is_unused unused up (is_ready_to s.core (reads_of s (ask.WaitImage chain timeout start)) x is_ready free.whole) (none_first (not unused && up) TimeoutExpired [] free.behind).0 in
         sound_chain s.core s.cells.held sound chain waiting some.0 some.1 (is_live_by (is_live s.core.handles Swapchain chain) free.handles) refl
         (λ live good. waited_is_sound s.core.handles.chains some.0 live good (sym (ap is_wait_wrong some.1) ∙ free.order))
         (λ good idle waited. subst (λ (o : Option Chain). count_of s.core.frames.pending s.cells.held (3 * place_of_chain s.core.chains chain + oldest_index o) ≡ 0) some.1 (same_key (count_of s.core.frames.pending s.cells.held (slot_of (oldest_image s.core.chains chain))) 0 zero_count)))
-    by (release_image chain) allowed is_ready =
-        let f = rule s.core (reads_of s (release_image chain)) (record e { request = release_image chain }) in
+    by (ask.ReleaseImage chain) allowed is_ready =
+        let f = rule s.core (reads_of s (ask.ReleaseImage chain)) (record e { call = ask.ReleaseImage chain }) in
         effect_kept (KeptBy s.core s.cells.held) s.core e.short f sound (λ none.
         let free = clear f e.short none in
         let some = paint_some (chain_at s.core.chains chain) free.order in
         sound_chain s.core s.cells.held sound chain releasing some.0 some.1 (is_live_by (is_live s.core.handles Swapchain chain) free.handles) refl
         (λ live good. released_is_sound s.core.handles.chains some.0 live good (sym (ap is_paint_wrong some.1) ∙ free.order))
         (λ good idle waited. absurd (true≢false (sym waited))))
-    by (end_frame session time blend layers) allowed is_ready =
-        let f = rule s.core (reads_of s (end_frame session time blend layers)) (record e { request = end_frame session time blend layers }) in
+    by (ask.EndFrame session time blend layers) allowed is_ready =
+        let f = rule s.core (reads_of s (ask.EndFrame session time blend layers)) (record e { call = ask.EndFrame session time blend layers }) in
         effect_kept (KeptBy s.core s.cells.held) s.core e.short f sound (λ none.
         let once = submitted_images s.core s.cells.held sound time blend layers (clear f e.short none).behind in
         sound_ended s.core.handles.chains s.core.chains s.core.frames.pending s.core.shown_images s.cells.held (new_frame s.core time layers)
         (record { images = record { each = each_so (IsLast s.core.chains) IsBelow (λ i last. last.below) (new_frame s.core time layers).images once.each; once = once.once }; among = are_among [] (layers_of (look_of s.core) layers) }) once.each sound)
-    by next_frame allowed is_ready =
-        let f = rule s.core (reads_of s next_frame) (record e { request = next_frame }) in
+    by ask.NextFrame allowed is_ready =
+        let f = rule s.core (reads_of s ask.NextFrame) (record e { call = ask.NextFrame }) in
         effect_kept (KeptBy s.core s.cells.held) s.core e.short f sound (λ none. taken (none_is_empty s.cells.held (not_false (is_empty s.cells.held) (clear f e.short none).order)))
       where
-        taken : s.cells.held ≡ [] → KeptBy s.core s.cells.held (rule s.core (reads_of s next_frame) (record e { request = next_frame })).effect.state (rule s.core (reads_of s next_frame) (record e { request = next_frame })).effect.did
+        taken : s.cells.held ≡ [] → KeptBy s.core s.cells.held (rule s.core (reads_of s ask.NextFrame) (record e { call = ask.NextFrame })).effect.state (rule s.core (reads_of s ask.NextFrame) (record e { call = ask.NextFrame })).effect.did
         taken none = sound_next s.core.handles s.core.chains s.core.frames.pending s.core.shown_images s.cells.held none sound
-    by image_done allowed is_ready =
-        let f = rule s.core (reads_of s image_done) (record e { request = image_done }) in
+    by ask.ImageDone allowed is_ready =
+        let f = rule s.core (reads_of s ask.ImageDone) (record e { call = ask.ImageDone }) in
         effect_kept (KeptBy s.core s.cells.held) s.core e.short f sound (λ none. sound_returned s.core s.cells.held sound (length (take 1 s.cells.held)))
-    by (destroy_instance instance) allowed is_ready =
-        effect_kept (KeptBy s.core s.cells.held) s.core e.short (rule s.core (reads_of s (destroy_instance instance)) (record e { request = destroy_instance instance })) sound (λ none. sound_without s.core s.cells.held sound (without s.core.handles instance))
-    by (destroy_session session) allowed is_ready =
-        effect_kept (KeptBy s.core s.cells.held) s.core e.short (rule s.core (reads_of s (destroy_session session)) (record e { request = destroy_session session })) sound (λ none. sound_without s.core s.cells.held sound (without s.core.handles session))
-    by (destroy_action_set set) allowed is_ready =
-        effect_kept (KeptBy s.core s.cells.held) s.core e.short (rule s.core (reads_of s (destroy_action_set set)) (record e { request = destroy_action_set set })) sound (λ none. sound_without s.core s.cells.held sound (without s.core.handles set))
-    by (destroy_action action) allowed is_ready =
-        effect_kept (KeptBy s.core s.cells.held) s.core e.short (rule s.core (reads_of s (destroy_action action)) (record e { request = destroy_action action })) sound (λ none. sound_without s.core s.cells.held sound (without s.core.handles action))
-    by (destroy_swapchain chain) allowed is_ready =
-        effect_kept (KeptBy s.core s.cells.held) s.core e.short (rule s.core (reads_of s (destroy_swapchain chain)) (record e { request = destroy_swapchain chain })) sound (λ none. sound_without s.core s.cells.held sound (without_alone s.core.handles Swapchain chain))
-    by (device what) allowed is_ready = effect_kept (KeptBy s.core s.cells.held) s.core e.short (rule s.core (reads_of s (device what)) (record e { request = device what })) sound (λ none. events_leave s.core s.cells.held what sound)
-    by r allowed is_ready = effect_kept (KeptBy s.core s.cells.held) s.core e.short (rule s.core (reads_of s r) (record e { request = r })) sound (λ none. sound)
+    by (ask.DestroyInstance instance) allowed is_ready =
+        effect_kept (KeptBy s.core s.cells.held) s.core e.short (rule s.core (reads_of s (ask.DestroyInstance instance)) (record e { call = ask.DestroyInstance instance })) sound (λ none. sound_without s.core s.cells.held sound (without s.core.handles instance))
+    by (ask.DestroySession session) allowed is_ready =
+        effect_kept (KeptBy s.core s.cells.held) s.core e.short (rule s.core (reads_of s (ask.DestroySession session)) (record e { call = ask.DestroySession session })) sound (λ none. sound_without s.core s.cells.held sound (without s.core.handles session))
+    by (ask.DestroyActionSet set) allowed is_ready =
+        effect_kept (KeptBy s.core s.cells.held) s.core e.short (rule s.core (reads_of s (ask.DestroyActionSet set)) (record e { call = ask.DestroyActionSet set })) sound (λ none. sound_without s.core s.cells.held sound (without s.core.handles set))
+    by (ask.DestroyAction action) allowed is_ready =
+        effect_kept (KeptBy s.core s.cells.held) s.core e.short (rule s.core (reads_of s (ask.DestroyAction action)) (record e { call = ask.DestroyAction action })) sound (λ none. sound_without s.core s.cells.held sound (without s.core.handles action))
+    by (ask.DestroySwapchain chain) allowed is_ready =
+        effect_kept (KeptBy s.core s.cells.held) s.core e.short (rule s.core (reads_of s (ask.DestroySwapchain chain)) (record e { call = ask.DestroySwapchain chain })) sound (λ none. sound_without s.core s.cells.held sound (without_alone s.core.handles Swapchain chain))
+    by (ask.Device what) allowed is_ready = effect_kept (KeptBy s.core s.cells.held) s.core e.short (rule s.core (reads_of s (ask.Device what)) (record e { call = ask.Device what })) sound (λ none. events_leave s.core s.cells.held what sound)
+    by r allowed is_ready = effect_kept (KeptBy s.core s.cells.held) s.core e.short (rule s.core (reads_of s r) (record e { call = r })) sound (λ none. sound)
 
 -- ---- histories
 

@@ -5,7 +5,9 @@ use Rattle.xr_types.specs.declared.handles.Kind.{Kind}
 use Rattle.xr_types.specs.declared.handles.Kind.TheVariants.{Instance, Session, ActionSet, Action, Space, Swapchain}
 use Rattle.xr_types.specs.declared.handles.Slot.{Slot}
 use Rattle.xr_types.specs.declared.handles.TheConstants.{INSTANCES, SESSIONS, ACTION_SETS, ACTIONS, SPACES, SWAPCHAINS}
-use Rattle.xr_model.specs.machine.Request.{Entry, Request, create_instance, create_session, create_reference_space, create_action_set, create_action, create_swapchain, create_action_space}
+use Rattle.xr_model.specs.machine.Calls.{Entry}
+use Rattle.xr_types.specs.declared.calls.Call.{Call}
+use Rattle.xr_types.specs.declared.calls.Call.TheVariants as ask
 use Rattle.xr_model.specs.machine.Handles.{Handles, free, has, is_live, was_given, row_of, with_row, first_free, put_in, cleared, goes, destroyed_instances, destroyed_parents, with_handle, without, without_alone, no_handles}
 use Rattle.xr_model.specs.laws.HandleLaws.{count_in, places_with, StandOnce, HandlesStandOnce, CreatingAdds}
 use Rattle.xr_model.specs.machine.Refusals.{Refusal}
@@ -161,14 +163,14 @@ once_alone h kind gone once k nz =
     omega (arith, all, fewer)
 
 pub once_step : (s : State) (e : Entry) → IsAllowed s e → AreKnown s.core.handles → StandOnce s.core.handles → StandOnce (step s e).0.core.handles
-once_step s e allowed known once = kept_by_step StandOnce s.core (reads_of s e.request) e (record {
+once_step s e allowed known once = kept_by_step StandOnce s.core (reads_of s e.call) e (record {
   same = once;
-  instance = λ gives. once_put s.core.handles Instance 0 e.given (given_one (gives_handle s.core (reads_of s e.request) e) s.core.handles e.given gives allowed.handle) known once;
-  session = λ gives instance live. once_put s.core.handles Session instance e.given (given_one (gives_handle s.core (reads_of s e.request) e) s.core.handles e.given gives allowed.handle) known once;
-  set = λ gives instance live. once_put s.core.handles ActionSet instance e.given (given_one (gives_handle s.core (reads_of s e.request) e) s.core.handles e.given gives allowed.handle) known once;
-  action = λ gives set live. once_put s.core.handles Action set e.given (given_one (gives_handle s.core (reads_of s e.request) e) s.core.handles e.given gives allowed.handle) known once;
-  space = λ gives session live. once_put s.core.handles Space session e.given (given_one (gives_handle s.core (reads_of s e.request) e) s.core.handles e.given gives allowed.handle) known once;
-  chain = λ is gives session live. once_put s.core.handles Swapchain session e.given (given_one (gives_handle s.core (reads_of s e.request) e) s.core.handles e.given gives allowed.handle) known once;
+  instance = λ gives. once_put s.core.handles Instance 0 e.given (given_one (gives_handle s.core (reads_of s e.call) e) s.core.handles e.given gives allowed.handle) known once;
+  session = λ gives instance live. once_put s.core.handles Session instance e.given (given_one (gives_handle s.core (reads_of s e.call) e) s.core.handles e.given gives allowed.handle) known once;
+  set = λ gives instance live. once_put s.core.handles ActionSet instance e.given (given_one (gives_handle s.core (reads_of s e.call) e) s.core.handles e.given gives allowed.handle) known once;
+  action = λ gives set live. once_put s.core.handles Action set e.given (given_one (gives_handle s.core (reads_of s e.call) e) s.core.handles e.given gives allowed.handle) known once;
+  space = λ gives session live. once_put s.core.handles Space session e.given (given_one (gives_handle s.core (reads_of s e.call) e) s.core.handles e.given gives allowed.handle) known once;
+  chain = λ is gives session live. once_put s.core.handles Swapchain session e.given (given_one (gives_handle s.core (reads_of s e.call) e) s.core.handles e.given gives allowed.handle) known once;
   without = λ top. once_without s.core.handles top once;
   alone = λ space. once_alone s.core.handles Space space once;
   chain_alone = λ chain. once_alone s.core.handles Swapchain chain once;
@@ -260,28 +262,28 @@ refused_same s None x kind other same = same
 refused_same s (Some r) x kind other same = refl
 
 pub creating_adds : CreatingAdds
-creating_adds s e creates kind other apart = by e.request creates
+creating_adds s e creates kind other apart = by e.call creates
   where
-    by : (r : Request) → is_some (rule s.core (reads_of s r) (record e { request = r })).creates ≡ true → is_live (step s (record e { request = r })).0.core.handles kind other ≡ is_live s.core.handles kind other
-    by (create_instance major minor) creates =
-        let f = rule s.core (reads_of s (create_instance major minor)) (record e { request = create_instance major minor }) in
+    by : (r : Call) → is_some (rule s.core (reads_of s r) (record e { call = r })).creates ≡ true → is_live (step s (record e { call = r })).0.core.handles kind other ≡ is_live s.core.handles kind other
+    by (ask.CreateInstance major minor) creates =
+        let f = rule s.core (reads_of s (ask.CreateInstance major minor)) (record e { call = ask.CreateInstance major minor }) in
         refused_same s.core (refusal e.short f) (told_on f.on f.effect) kind other (instance_same s.core.handles e.given kind other apart)
-    by (create_session instance system) creates =
-        let f = rule s.core (reads_of s (create_session instance system)) (record e { request = create_session instance system }) in
+    by (ask.CreateSession instance system) creates =
+        let f = rule s.core (reads_of s (ask.CreateSession instance system)) (record e { call = ask.CreateSession instance system }) in
         refused_same s.core (refusal e.short f) (told_on f.on f.effect) kind other (session_same s.core.handles instance e.given kind other apart)
-    by (create_reference_space session what offset) creates =
-        let f = rule s.core (reads_of s (create_reference_space session what offset)) (record e { request = create_reference_space session what offset }) in
+    by (ask.CreateReferenceSpace session what offset) creates =
+        let f = rule s.core (reads_of s (ask.CreateReferenceSpace session what offset)) (record e { call = ask.CreateReferenceSpace session what offset }) in
         refused_same s.core (refusal e.short f) (told_on f.on f.effect) kind other (space_same s.core.handles session e.given kind other apart)
-    by (create_action_space session action sub offset) creates =
-        let f = rule s.core (reads_of s (create_action_space session action sub offset)) (record e { request = create_action_space session action sub offset }) in
+    by (ask.CreateActionSpace session action sub offset) creates =
+        let f = rule s.core (reads_of s (ask.CreateActionSpace session action sub offset)) (record e { call = ask.CreateActionSpace session action sub offset }) in
         refused_same s.core (refusal e.short f) (told_on f.on f.effect) kind other (space_same s.core.handles session e.given kind other apart)
-    by (create_action_set instance name localized priority) creates =
-        let f = rule s.core (reads_of s (create_action_set instance name localized priority)) (record e { request = create_action_set instance name localized priority }) in
+    by (ask.CreateActionSet instance name localized priority) creates =
+        let f = rule s.core (reads_of s (ask.CreateActionSet instance name localized priority)) (record e { call = ask.CreateActionSet instance name localized priority }) in
         refused_same s.core (refusal e.short f) (told_on f.on f.effect) kind other (set_same s.core.handles instance e.given kind other apart)
-    by (create_action set name type subs localized) creates =
-        let f = rule s.core (reads_of s (create_action set name type subs localized)) (record e { request = create_action set name type subs localized }) in
+    by (ask.CreateAction set name type subs localized) creates =
+        let f = rule s.core (reads_of s (ask.CreateAction set name type subs localized)) (record e { call = ask.CreateAction set name type subs localized }) in
         refused_same s.core (refusal e.short f) (told_on f.on f.effect) kind other (action_same s.core.handles set e.given kind other apart)
-    by (create_swapchain session format width height fixed) creates =
-        let f = rule s.core (reads_of s (create_swapchain session format width height fixed)) (record e { request = create_swapchain session format width height fixed }) in
+    by (ask.CreateSwapchain session format width height fixed) creates =
+        let f = rule s.core (reads_of s (ask.CreateSwapchain session format width height fixed)) (record e { call = ask.CreateSwapchain session format width height fixed }) in
         refused_same s.core (refusal e.short f) (told_on f.on f.effect) kind other (chain_same s.core.handles session e.given kind other apart)
     by _ creates = absurd (true≢false (sym creates))

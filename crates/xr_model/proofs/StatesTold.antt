@@ -5,7 +5,9 @@ use Rattle.xr_types.specs.declared.device.DeviceEvent.{DeviceEvent}
 use Rattle.xr_types.specs.declared.device.DeviceEvent.TheVariants as event
 use Rattle.xr_types.specs.declared.handles.Kind.TheVariants as kind
 use Rattle.xr_types.specs.declared.session.SessionState.TheVariants.{Ready, Synchronized, Exiting, LossPending, Idle}
-use Rattle.xr_model.specs.machine.Request.{Entry, Request, destroy_instance, poll_event, create_session, destroy_session, begin_session, end_session, request_exit_session, destroy_action_set, destroy_action, attach_sets, end_frame, device}
+use Rattle.xr_model.specs.machine.Calls.{Entry}
+use Rattle.xr_types.specs.declared.calls.Call.{Call}
+use Rattle.xr_types.specs.declared.calls.Call.TheVariants as ask
 use Rattle.xr_types.specs.declared.session.Event.{Event}
 use Rattle.xr_types.specs.declared.device.Wish.{Wish}
 use Rattle.xr_types.specs.declared.session.SessionState.{SessionState}
@@ -41,7 +43,7 @@ unlisted s given known listed fresh =
     listed_state s.core.sessions given ∙ listed given ∙ rw (nz, (known given nz fresh.1).sessions) refl
 
 pub apart_step : (s : State) (e : Entry) → IsAllowed s e → AreKnown s.core.handles → AreListed s.core.handles s.core.sessions → AreApart s.core.sessions → AreApart (step s e).0.core.sessions
-apart_step s e allowed known listed apart = kept_by_step (λ h xs. AreApart xs) s.core (reads_of s e.request) e (record {
+apart_step s e allowed known listed apart = kept_by_step (λ h xs. AreApart xs) s.core (reads_of s e.call) e (record {
   same = λ d c. apart;
   instance = λ d c. apart;
   session = λ d c good room instance. apart_more s.core.sessions (new_session s.core e.given (started_session s.core.device.wish).life) apart (unlisted s e.given known listed (new_session_given s e allowed c good));
@@ -173,54 +175,54 @@ module _ (s : State) (apart : AreApart s.core.sessions) where
 
 pub told_step : (s : State) (e : Entry) → IsAllowed s e → AreKnown s.core.handles → AreListed s.core.handles s.core.sessions → AreApart s.core.sessions → polls s e ≡ false → ends s e ≡ false
     → Tells s.core.events (step s e).0.core.events s.core.sessions (step s e).0.core.sessions
-told_step s e allowed known listed apart = by e.request allowed
+told_step s e allowed known listed apart = by e.call allowed
   where
-    by : (r : Request) → IsAllowed s (record e { request = r }) → polls s (record e { request = r }) ≡ false → ends s (record e { request = r }) ≡ false → Tells s.core.events (step s (record e { request = r })).0.core.events s.core.sessions (step s (record e { request = r })).0.core.sessions
-    by (poll_event instance) allowed no_poll no_end =
-        let f = rule s.core (reads_of s (poll_event instance)) (record e { request = poll_event instance }) in
+    by : (r : Call) → IsAllowed s (record e { call = r }) → polls s (record e { call = r }) ≡ false → ends s (record e { call = r }) ≡ false → Tells s.core.events (step s (record e { call = r })).0.core.events s.core.sessions (step s (record e { call = r })).0.core.sessions
+    by (ask.PollEvent instance) allowed no_poll no_end =
+        let f = rule s.core (reads_of s (ask.PollEvent instance)) (record e { call = ask.PollEvent instance }) in
         unless (λ q ys. Tells s.core.events q s.core.sessions ys) s.core (refusal e.short f) (told_on f.on f.effect) (as_before s apart)
         (λ none. absurd (true≢false (sym (succeeds s.core (refusal e.short f) (told_on f.on f.effect) refl none) ∙ no_poll)))
-    by (destroy_instance instance) allowed no_poll no_end =
-        let f = rule s.core (reads_of s (destroy_instance instance)) (record e { request = destroy_instance instance }) in
+    by (ask.DestroyInstance instance) allowed no_poll no_end =
+        let f = rule s.core (reads_of s (ask.DestroyInstance instance)) (record e { call = ask.DestroyInstance instance }) in
         unless (λ q ys. Tells s.core.events q s.core.sessions ys) s.core (refusal e.short f) (told_on f.on f.effect) (as_before s apart)
         (λ none. absurd (true≢false (sym (succeeds s.core (refusal e.short f) (told_on f.on f.effect) refl none) ∙ no_end)))
-    by (create_session instance system) allowed no_poll no_end =
-        let e' : Entry = record e { request = create_session instance system } in
-        let f = rule s.core (reads_of s (create_session instance system)) e' in
+    by (ask.CreateSession instance system) allowed no_poll no_end =
+        let e' : Entry = record e { call = ask.CreateSession instance system } in
+        let f = rule s.core (reads_of s (ask.CreateSession instance system)) e' in
         unless (λ q ys. Tells s.core.events q s.core.sessions ys) s.core (refusal e.short f) (told_on f.on f.effect) (as_before s apart)
         (λ none. created s.core e.given (unlisted s e.given known listed (new_session_given s e' allowed refl (succeeds s.core (refusal e.short f) (told_on f.on f.effect) refl none))))
-    by (begin_session session view) allowed no_poll no_end =
-        let f = rule s.core (reads_of s (begin_session session view)) (record e { request = begin_session session view }) in
+    by (ask.BeginSession session view) allowed no_poll no_end =
+        let f = rule s.core (reads_of s (ask.BeginSession session view)) (record e { call = ask.BeginSession session view }) in
         unless (λ q ys. Tells s.core.events q s.core.sessions ys) s.core (refusal e.short f) (told_on f.on f.effect) (as_before s apart)
         (λ none. changed s.core.events s.core.sessions (λ life. unchanged (begun_session life)) (λ life. refl) session (session_at s.core.sessions session) refl)
-    by (end_session session) allowed no_poll no_end =
-        let f = rule s.core (reads_of s (end_session session)) (record e { request = end_session session }) in
+    by (ask.EndSession session) allowed no_poll no_end =
+        let f = rule s.core (reads_of s (ask.EndSession session)) (record e { call = ask.EndSession session }) in
         unless (λ q ys. Tells s.core.events q s.core.sessions ys) s.core (refusal e.short f) (told_on f.on f.effect) (as_before s apart)
         (λ none. changed s.core.events s.core.sessions (ended_session s.core.device.wish) (λ life. refl) session (session_at s.core.sessions session) refl)
-    by (request_exit_session session) allowed no_poll no_end =
-        let f = rule s.core (reads_of s (request_exit_session session)) (record e { request = request_exit_session session }) in
+    by (ask.RequestExitSession session) allowed no_poll no_end =
+        let f = rule s.core (reads_of s (ask.RequestExitSession session)) (record e { call = ask.RequestExitSession session }) in
         unless (λ q ys. Tells s.core.events q s.core.sessions ys) s.core (refusal e.short f) (told_on f.on f.effect) (as_before s apart)
         (λ none. changed s.core.events s.core.sessions (exiting_session s.core.device.wish) (λ life. refl) session (session_at s.core.sessions session) refl)
-    by (end_frame session time blend layers) allowed no_poll no_end =
-        let f = rule s.core (reads_of s (end_frame session time blend layers)) (record e { request = end_frame session time blend layers }) in
+    by (ask.EndFrame session time blend layers) allowed no_poll no_end =
+        let f = rule s.core (reads_of s (ask.EndFrame session time blend layers)) (record e { call = ask.EndFrame session time blend layers }) in
         unless (λ q ys. Tells s.core.events q s.core.sessions ys) s.core (refusal e.short f) (told_on f.on f.effect) (as_before s apart)
         (λ none. changed s.core.events s.core.sessions (synced_session s.core.device.wish) (synced_truly s.core.device.wish) session (session_at s.core.sessions session) refl)
-    by (attach_sets session handles) allowed no_poll no_end =
-        let f = rule s.core (reads_of s (attach_sets session handles)) (record e { request = attach_sets session handles }) in
+    by (ask.AttachSets session handles) allowed no_poll no_end =
+        let f = rule s.core (reads_of s (ask.AttachSets session handles)) (record e { call = ask.AttachSets session handles }) in
         unless (λ q ys. Tells s.core.events q s.core.sessions ys) s.core (refusal e.short f) (told_on f.on f.effect) (as_before s apart)
         (λ none. nothing s.core.events s.core.sessions (with_session_at session (with_attached (sets_named s.core.sets handles)) s.core.sessions) (λ k there. sym (state_attached session (sets_named s.core.sets handles) s.core.sessions k)))
-    by (destroy_session handle) allowed no_poll no_end =
-        let f = rule s.core (reads_of s (destroy_session handle)) (record e { request = destroy_session handle }) in
+    by (ask.DestroySession handle) allowed no_poll no_end =
+        let f = rule s.core (reads_of s (ask.DestroySession handle)) (record e { call = ask.DestroySession handle }) in
         unless (λ q ys. Tells s.core.events q s.core.sessions ys) s.core (refusal e.short f) (told_on f.on f.effect) (as_before s apart) (λ none. gone s apart handle)
-    by (destroy_action_set handle) allowed no_poll no_end =
-        let f = rule s.core (reads_of s (destroy_action_set handle)) (record e { request = destroy_action_set handle }) in
+    by (ask.DestroyActionSet handle) allowed no_poll no_end =
+        let f = rule s.core (reads_of s (ask.DestroyActionSet handle)) (record e { call = ask.DestroyActionSet handle }) in
         unless (λ q ys. Tells s.core.events q s.core.sessions ys) s.core (refusal e.short f) (told_on f.on f.effect) (as_before s apart) (λ none. gone s apart handle)
-    by (destroy_action handle) allowed no_poll no_end =
-        let f = rule s.core (reads_of s (destroy_action handle)) (record e { request = destroy_action handle }) in
+    by (ask.DestroyAction handle) allowed no_poll no_end =
+        let f = rule s.core (reads_of s (ask.DestroyAction handle)) (record e { call = ask.DestroyAction handle }) in
         unless (λ q ys. Tells s.core.events q s.core.sessions ys) s.core (refusal e.short f) (told_on f.on f.effect) (as_before s apart) (λ none. gone s apart handle)
-    by (device what) allowed no_poll no_end = events s apart what
+    by (ask.Device what) allowed no_poll no_end = events s apart what
     by r allowed no_poll no_end =
-        let f = rule s.core (reads_of s r) (record e { request = r }) in
+        let f = rule s.core (reads_of s r) (record e { call = r }) in
         unless (λ q ys. Tells s.core.events q s.core.sessions ys) s.core (refusal e.short f) (told_on f.on f.effect) (as_before s apart) (λ none. as_before s apart)
 
 pub states_are_told : StatesAreTold

@@ -15,13 +15,13 @@ use Rattle.xr_types.specs.declared.names.CallName.TheVariants as call
 use Rattle.xr_types.specs.declared.scenario.Op.{Op}
 use Rattle.xr_types.specs.declared.scenario.Op.TheVariants as op
 use Rattle.xr_types.specs.declared.scenario.Scenario.{Scenario}
-use Rattle.xr_model.specs.machine.Request.{Entry, Outcome, is_actor}
+use Rattle.xr_model.specs.machine.Calls.{Entry, Outcome, is_actor}
 use Rattle.xr_model.specs.machine.State.{Settings, State, opening}
 use Rattle.xr_model.specs.machine.Machine.{step}
 use Rattle.xr_model.specs.machine.History.{calls_of}
 use Rattle.xr_model.specs.runs.Scripts.{request_for}
 use Rattle.xr_model.specs.runs.Robin.{Agenda, script, events, compositor, actor_of, with_start, is_ended, agenda_after, next_move, agendas_behind, script_agendas, device_agendas, first_agendas, agendas_left, agendas_of, scripts_to, in_round}
-use Rattle.xr_model.specs.runs.Lists.{name_of_request, mark_awaited, waiting_of}
+use Rattle.xr_model.specs.runs.Lists.{listed_name, mark_awaited, waiting_of}
 use Rattle.xr_model.specs.laws.RunLaws.{script_of, name_of_op, mark_behind, is_unfinished, has_turns, count_of, apps_to, next_of, StuckNamesTheUnfinished}
 use Rattle.xr_model.proofs.Turns.{bit, falls, same_actor}
 use Rattle.xr_model.proofs.RobinTurns.{AreCalls, moved, all_calls, all_turned, once_in_order, first_ordered}
@@ -89,7 +89,7 @@ module _ (scripts : List (List Op)) (calls : List DeviceEvent) where
 
 -- ---- the next call
 
-name_is : (o : Op) (values : List ℕ) (clock : ℤ) → name_of_request (with_start clock (request_for values o)) ≡ call_name o
+name_is : (o : Op) (values : List ℕ) (clock : ℤ) → listed_name (with_start clock (request_for values o)) ≡ call_name o
 name_is (op.CreateInstance major minor) values clock = refl
 name_is _ values clock = refl
 

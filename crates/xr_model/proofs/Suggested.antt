@@ -11,7 +11,9 @@ use Rattle.xr_types.specs.declared.input.Binding.{Binding}
 use Rattle.xr_types.specs.declared.input.Bound.{Bound}
 use Rattle.xr_types.specs.declared.input.Profile.{Profile}
 use Rattle.xr_types.specs.declared.input.Profile.TheVariants as profile
-use Rattle.xr_model.specs.machine.Request.{Entry, Request, create_instance, destroy_instance, create_session, destroy_session, create_reference_space, destroy_space, create_action_set, destroy_action_set, create_action, destroy_action, suggest_bindings, device, create_swapchain, destroy_swapchain}
+use Rattle.xr_model.specs.machine.Calls.{Entry}
+use Rattle.xr_types.specs.declared.calls.Call.{Call}
+use Rattle.xr_types.specs.declared.calls.Call.TheVariants as ask
 use Rattle.xr_model.specs.machine.Bindings.{profile_place, suggestions_of}
 use Rattle.xr_model.specs.machine.Handles.{Handles, has, is_live, was_given}
 use Rattle.xr_model.specs.machine.Refusals.{Refusal, first_of}
@@ -104,7 +106,7 @@ found_live p (bs ∷ su) (suc place) each = found_live p su place (both_of (list
 
 -- a handle that was given stays so
 given_step : (s : State) (e : Entry) (k : ℕ) → was_given s.core.handles k ≡ true → was_given (step s e).0.core.handles k ≡ true
-given_step s e k given = handles.kept_by_step (λ h. was_given h k ≡ true) s.core (reads_of s e.request) e (record {
+given_step s e k given = handles.kept_by_step (λ h. was_given h k ≡ true) s.core (reads_of s e.call) e (record {
   same = given;
   instance = λ gives. rw given (or_true (e.given == k));
   session = λ gives instance live. rw given (or_true (e.given == k));
@@ -123,7 +125,7 @@ suggested_four s (Some which) list four = length_set s.suggestions (profile_plac
 
 -- there are lists for four profiles
 four_step : (s : State) (e : Entry) → length s.core.suggestions ≡ 4 → length (step s e).0.core.suggestions ≡ 4
-four_step s e four = lists.kept_by_step (λ h sp st su. length su ≡ 4) s.core (reads_of s e.request) e (record {
+four_step s e four = lists.kept_by_step (λ h sp st su. length su ≡ 4) s.core (reads_of s e.call) e (record {
   same = four;
   instance = λ gives. four;
   session = λ gives instance. four;
@@ -188,7 +190,7 @@ module _ (settings : Settings) (es : List Entry) (front : IsLegal settings es) (
 
   -- ---- a call that destroys
 
-  gone : (e : Entry) (handle : ℕ) → destroys e.request handle ≡ true → is_success (step there e).1.reply.code ≡ true → IsLeft which (step there e).0.core.handles (step there e).0.core.suggestions taken
+  gone : (e : Entry) (handle : ℕ) → destroys e.call handle ≡ true → is_success (step there e).1.reply.code ≡ true → IsLeft which (step there e).0.core.handles (step there e).0.core.suggestions taken
   gone e handle names good =
       ap (λ (su : List (List Bound)). suggestions_of su which) (destroying_filters settings es e handle front names good).suggestions
       ∙ found_filtered (λ b. not (is_within 2 there.core.handles b.action handle)) there.core.suggestions (profile_place which)
@@ -203,15 +205,15 @@ module _ (settings : Settings) (es : List Entry) (front : IsLegal settings es) (
   apart h new true given k fresh known same = absurd (true≢false (sym known ∙ subst (λ (n : ℕ). was_given h n ≡ false) (sym (same_key k given same)) fresh.1))
   apart h new false given k none known same = subst (λ (n : ℕ). is_live new Action n ≡ is_live h Action n) (sym (same_key k given same ∙ none)) refl
 
-  still_live : (e : Entry) → IsAllowed there e → is_some (rule there.core (reads_of there e.request) e).creates ≡ true → (k : ℕ) → was_given there.core.handles k ≡ true
+  still_live : (e : Entry) → IsAllowed there e → is_some (rule there.core (reads_of there e.call) e).creates ≡ true → (k : ℕ) → was_given there.core.handles k ≡ true
       → is_live (step there e).0.core.handles Action k ≡ is_live there.core.handles Action k
   still_live e allowed creates k known = by (k == e.given) refl
     where
       by : (b : Bool) → (k == e.given) ≡ b → is_live (step there e).0.core.handles Action k ≡ is_live there.core.handles Action k
-      by true eb = apart there.core.handles (step there e).0.core.handles (gives_handle there.core (reads_of there e.request) e) e.given k allowed.handle known eb
+      by true eb = apart there.core.handles (step there e).0.core.handles (gives_handle there.core (reads_of there e.call) e) e.given k allowed.handle known eb
       by false eb = creating_adds there e creates Action k eb
 
-  grown : (e : Entry) → IsAllowed there e → is_some (rule there.core (reads_of there e.request) e).creates ≡ true → (step there e).0.core.suggestions ≡ there.core.suggestions → IsLeft which (step there e).0.core.handles (step there e).0.core.suggestions taken
+  grown : (e : Entry) → IsAllowed there e → is_some (rule there.core (reads_of there e.call) e).creates ≡ true → (step there e).0.core.suggestions ≡ there.core.suggestions → IsLeft which (step there e).0.core.handles (step there e).0.core.suggestions taken
   grown e allowed creates same =
       ap (λ (su : List (List Bound)). suggestions_of su which) same ∙ told.left
       ∙ filters_agree (λ b. is_live there.core.handles Action b.action) (λ b. is_live (step there e).0.core.handles Action b.action) (λ b. was_given there.core.handles b.action) taken told.given (λ b known. sym (still_live e allowed creates b.action known))
@@ -277,48 +279,48 @@ module _ (settings : Settings) (es : List Entry) (front : IsLegal settings es) (
   P h su = IsLeft which h su taken
 
   both : (e : Entry) → IsLegal settings (es ++ e ∷ []) → Comes e (taken_by there which taken e)
-  both e = by e.request
+  both e = by e.call
     where
       open_at : (e : Entry) → IsLegal settings (es ++ e ∷ []) → IsAllowed there e
       open_at e legal = (legal_behind (opening settings) (opening_clocks settings) es (e ∷ []) legal).0
 
-      creates : (r : Request) → IsLegal settings (es ++ record e { request = r } ∷ []) → is_some (rule there.core (reads_of there r) (record e { request = r })).creates ≡ true
-          → (told_on (rule there.core (reads_of there r) (record e { request = r })).on (rule there.core (reads_of there r) (record e { request = r })).effect).state.suggestions ≡ there.core.suggestions
-          → Comes (record e { request = r }) (if is_success (step there (record e { request = r })).1.reply.code then taken else taken)
+      creates : (r : Call) → IsLegal settings (es ++ record e { call = r } ∷ []) → is_some (rule there.core (reads_of there r) (record e { call = r })).creates ≡ true
+          → (told_on (rule there.core (reads_of there r) (record e { call = r })).on (rule there.core (reads_of there r) (record e { call = r })).effect).state.suggestions ≡ there.core.suggestions
+          → Comes (record e { call = r }) (if is_success (step there (record e { call = r })).1.reply.code then taken else taken)
       creates r legal gives same =
-          let f = rule there.core (reads_of there r) (record e { request = r }) in
-          calm (record e { request = r }) (grown (record e { request = r }) (open_at (record e { request = r }) legal) gives (so (λ h su. su ≡ there.core.suggestions) there.core (refusal e.short f) (told_on f.on f.effect) refl same))
+          let f = rule there.core (reads_of there r) (record e { call = r }) in
+          calm (record e { call = r }) (grown (record e { call = r }) (open_at (record e { call = r }) legal) gives (so (λ h su. su ≡ there.core.suggestions) there.core (refusal e.short f) (told_on f.on f.effect) refl same))
 
-      by : (r : Request) → IsLegal settings (es ++ record e { request = r } ∷ []) → Comes (record e { request = r }) (taken_by there which taken (record e { request = r }))
-      by (suggest_bindings instance profile list) legal =
-          let e' : Entry = record e { request = suggest_bindings instance profile list } in
-          let f = rule there.core (reads_of there (suggest_bindings instance profile list)) e' in
+      by : (r : Call) → IsLegal settings (es ++ record e { call = r } ∷ []) → Comes (record e { call = r }) (taken_by there which taken (record e { call = r }))
+      by (ask.SuggestBindings instance profile list) legal =
+          let e' : Entry = record e { call = ask.SuggestBindings instance profile list } in
+          let f = rule there.core (reads_of there (ask.SuggestBindings instance profile list)) e' in
           let none = none_short (f.takes_memory && e.short) (first_of (refusals f)) (first_none is_success (refusals f) (none_bindings there.core (profile_at there.core.atoms profile) list)) in
           let all = all_kept settings (es ++ e' ∷ []) legal in
           let live = subst (λ (t : State). list_all (list_all (λ b. is_live t.core.handles Action b.action)) t.core.suggestions ≡ true) (after_is_in_turn (opening settings) es (e' ∷ [])) all.suggested in
           answered list profile (refusal e.short f) none live
-      by (destroy_instance handle) legal = let f = rule there.core (reads_of there (destroy_instance handle)) (record e { request = destroy_instance handle }) in
-          calm (record e { request = destroy_instance handle }) (kept P there.core (refusal e.short f) (told_on f.on f.effect) told.left (λ good. gone (record e { request = destroy_instance handle }) handle (itself handle) good) refl)
-      by (destroy_session handle) legal = let f = rule there.core (reads_of there (destroy_session handle)) (record e { request = destroy_session handle }) in
-          calm (record e { request = destroy_session handle }) (kept P there.core (refusal e.short f) (told_on f.on f.effect) told.left (λ good. gone (record e { request = destroy_session handle }) handle (itself handle) good) refl)
-      by (destroy_space handle) legal = let f = rule there.core (reads_of there (destroy_space handle)) (record e { request = destroy_space handle }) in
-          calm (record e { request = destroy_space handle }) (kept P there.core (refusal e.short f) (told_on f.on f.effect) told.left (λ good. gone (record e { request = destroy_space handle }) handle (itself handle) good) refl)
-      by (destroy_action_set handle) legal = let f = rule there.core (reads_of there (destroy_action_set handle)) (record e { request = destroy_action_set handle }) in
-          calm (record e { request = destroy_action_set handle }) (kept P there.core (refusal e.short f) (told_on f.on f.effect) told.left (λ good. gone (record e { request = destroy_action_set handle }) handle (itself handle) good) refl)
-      by (destroy_action handle) legal = let f = rule there.core (reads_of there (destroy_action handle)) (record e { request = destroy_action handle }) in
-          calm (record e { request = destroy_action handle }) (kept P there.core (refusal e.short f) (told_on f.on f.effect) told.left (λ good. gone (record e { request = destroy_action handle }) handle (itself handle) good) refl)
-      by (destroy_swapchain handle) legal = let f = rule there.core (reads_of there (destroy_swapchain handle)) (record e { request = destroy_swapchain handle }) in
-          calm (record e { request = destroy_swapchain handle }) (kept P there.core (refusal e.short f) (told_on f.on f.effect) told.left (λ good. gone (record e { request = destroy_swapchain handle }) handle (itself handle) good) refl)
-      by (create_instance major minor) legal = creates (create_instance major minor) legal refl refl
-      by (create_session instance system) legal = creates (create_session instance system) legal refl refl
-      by (create_reference_space session kind offset) legal = creates (create_reference_space session kind offset) legal refl refl
-      by (create_swapchain session format width height fixed) legal = creates (create_swapchain session format width height fixed) legal refl refl
-      by (create_action_set instance name localized priority) legal = creates (create_action_set instance name localized priority) legal refl refl
-      by (create_action set name kind subs localized) legal = creates (create_action set name kind subs localized) legal refl refl
-      by (device what) legal = calm (record e { request = device what }) (events what)
+      by (ask.DestroyInstance handle) legal = let f = rule there.core (reads_of there (ask.DestroyInstance handle)) (record e { call = ask.DestroyInstance handle }) in
+          calm (record e { call = ask.DestroyInstance handle }) (kept P there.core (refusal e.short f) (told_on f.on f.effect) told.left (λ good. gone (record e { call = ask.DestroyInstance handle }) handle (itself handle) good) refl)
+      by (ask.DestroySession handle) legal = let f = rule there.core (reads_of there (ask.DestroySession handle)) (record e { call = ask.DestroySession handle }) in
+          calm (record e { call = ask.DestroySession handle }) (kept P there.core (refusal e.short f) (told_on f.on f.effect) told.left (λ good. gone (record e { call = ask.DestroySession handle }) handle (itself handle) good) refl)
+      by (ask.DestroySpace handle) legal = let f = rule there.core (reads_of there (ask.DestroySpace handle)) (record e { call = ask.DestroySpace handle }) in
+          calm (record e { call = ask.DestroySpace handle }) (kept P there.core (refusal e.short f) (told_on f.on f.effect) told.left (λ good. gone (record e { call = ask.DestroySpace handle }) handle (itself handle) good) refl)
+      by (ask.DestroyActionSet handle) legal = let f = rule there.core (reads_of there (ask.DestroyActionSet handle)) (record e { call = ask.DestroyActionSet handle }) in
+          calm (record e { call = ask.DestroyActionSet handle }) (kept P there.core (refusal e.short f) (told_on f.on f.effect) told.left (λ good. gone (record e { call = ask.DestroyActionSet handle }) handle (itself handle) good) refl)
+      by (ask.DestroyAction handle) legal = let f = rule there.core (reads_of there (ask.DestroyAction handle)) (record e { call = ask.DestroyAction handle }) in
+          calm (record e { call = ask.DestroyAction handle }) (kept P there.core (refusal e.short f) (told_on f.on f.effect) told.left (λ good. gone (record e { call = ask.DestroyAction handle }) handle (itself handle) good) refl)
+      by (ask.DestroySwapchain handle) legal = let f = rule there.core (reads_of there (ask.DestroySwapchain handle)) (record e { call = ask.DestroySwapchain handle }) in
+          calm (record e { call = ask.DestroySwapchain handle }) (kept P there.core (refusal e.short f) (told_on f.on f.effect) told.left (λ good. gone (record e { call = ask.DestroySwapchain handle }) handle (itself handle) good) refl)
+      by (ask.CreateInstance major minor) legal = creates (ask.CreateInstance major minor) legal refl refl
+      by (ask.CreateSession instance system) legal = creates (ask.CreateSession instance system) legal refl refl
+      by (ask.CreateReferenceSpace session kind offset) legal = creates (ask.CreateReferenceSpace session kind offset) legal refl refl
+      by (ask.CreateSwapchain session format width height fixed) legal = creates (ask.CreateSwapchain session format width height fixed) legal refl refl
+      by (ask.CreateActionSet instance name localized priority) legal = creates (ask.CreateActionSet instance name localized priority) legal refl refl
+      by (ask.CreateAction set name kind subs localized) legal = creates (ask.CreateAction set name kind subs localized) legal refl refl
+      by (ask.Device what) legal = calm (record e { call = ask.Device what }) (events what)
       by r legal =
-          let f = rule there.core (reads_of there r) (record e { request = r }) in
-          calm (record e { request = r }) (so P there.core (refusal e.short f) (told_on f.on f.effect) told.left told.left)
+          let f = rule there.core (reads_of there r) (record e { call = r }) in
+          calm (record e { call = r }) (so P there.core (refusal e.short f) (told_on f.on f.effect) told.left told.left)
 
 told_after : (settings : Settings) (es fs : List Entry) (which : Profile) (taken : List Bound) → IsLegal settings (es ++ fs) → Told which (after (opening settings) es).core taken
     → Told which (after (opening settings) (es ++ fs)).core (last_taken (after (opening settings) es) which taken fs)

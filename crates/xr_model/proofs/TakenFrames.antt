@@ -2,7 +2,9 @@
 use Rattle.std.proofs.Common.{◌≡◌, ◌+◌, ◌*◌, ◌≤◌, ◌++◌, ◌∙◌, ℕ, Bool, true, false, List, [], ◌∷◌, length, Option, Some, None, refl, sym, ap, arith}
 use Rattle.xr_types.specs.Code.{is_success}
 use Rattle.xr_types.specs.Frames.{PendingFrame}
-use Rattle.xr_model.specs.machine.Request.{Entry, Request, create_session, begin_session, end_session, wait_frame, begin_frame, end_frame, next_frame}
+use Rattle.xr_model.specs.machine.Calls.{Entry}
+use Rattle.xr_types.specs.declared.calls.Call.{Call}
+use Rattle.xr_types.specs.declared.calls.Call.TheVariants as ask
 use Rattle.xr_model.specs.machine.Frames.{one_if}
 use Rattle.xr_model.specs.machine.Refusals.{Refusal}
 use Rattle.xr_model.specs.machine.State.{CoreState, CellReads, State, opening}
@@ -21,11 +23,11 @@ abbrev begun : CoreState → ℕ
 begun s = one_if s.frames.frame_loop.has_begun
 
 -- twice the frames that it submits, and the one that is begun behind it, are at most the one begun before and the call itself
-abbrev Weighs : CoreState → Request → Effect → Type 0
+abbrev Weighs : CoreState → Call → Effect → Type 0
 Weighs s r x = 2 * length (frame_if (is_success x.code) s r) + begun x.state ≤ begun s + frame_call r
 
 -- a call that submits none
-submits_none : (s : CoreState) (r : Request) (x : Effect) → frame_if true s r ≡ [] → begun x.state ≤ begun s + frame_call r → Weighs s r x
+submits_none : (s : CoreState) (r : Call) (x : Effect) → frame_if true s r ≡ [] → begun x.state ≤ begun s + frame_call r → Weighs s r x
 submits_none s r x none few = by (is_success x.code)
   where
     by : (b : Bool) → 2 * length (frame_if b s r) + begun x.state ≤ begun s + frame_call r
@@ -36,48 +38,48 @@ begun_kept : (s : CoreState) (o : Option Refusal) (x : Effect) (n : ℕ) → beg
 begun_kept s None x n same done = done
 begun_kept s (Some y) x n same done = same
 
-weighs : (s : CoreState) (reads : CellReads) (e : Entry) → Weighs s e.request (effect s reads e)
-weighs s reads e = by e.request
+weighs : (s : CoreState) (reads : CellReads) (e : Entry) → Weighs s e.call (effect s reads e)
+weighs s reads e = by e.call
   where
-    by : (r : Request) → Weighs s r (effect s reads (record e { request = r }))
-    by (create_session instance system) =
-        let f = rule s reads (record e { request = create_session instance system }) in
-        submits_none s (create_session instance system) (unless_refused s (refusal e.short f) (told_on f.on f.effect)) refl
+    by : (r : Call) → Weighs s r (effect s reads (record e { call = r }))
+    by (ask.CreateSession instance system) =
+        let f = rule s reads (record e { call = ask.CreateSession instance system }) in
+        submits_none s (ask.CreateSession instance system) (unless_refused s (refusal e.short f) (told_on f.on f.effect)) refl
         (begun_kept s (refusal e.short f) (told_on f.on f.effect) (begun s + 0) (omega arith) (omega arith))
-    by (begin_session session view) =
-        let f = rule s reads (record e { request = begin_session session view }) in
-        submits_none s (begin_session session view) (unless_refused s (refusal e.short f) (told_on f.on f.effect)) refl
+    by (ask.BeginSession session view) =
+        let f = rule s reads (record e { call = ask.BeginSession session view }) in
+        submits_none s (ask.BeginSession session view) (unless_refused s (refusal e.short f) (told_on f.on f.effect)) refl
         (begun_kept s (refusal e.short f) (told_on f.on f.effect) (begun s + 0) (omega arith) (omega arith))
-    by (end_session session) =
-        let f = rule s reads (record e { request = end_session session }) in
-        submits_none s (end_session session) (unless_refused s (refusal e.short f) (told_on f.on f.effect)) refl
+    by (ask.EndSession session) =
+        let f = rule s reads (record e { call = ask.EndSession session }) in
+        submits_none s (ask.EndSession session) (unless_refused s (refusal e.short f) (told_on f.on f.effect)) refl
         (begun_kept s (refusal e.short f) (told_on f.on f.effect) (begun s + 0) (omega arith) (omega arith))
-    by (wait_frame session) =
-        let f = rule s reads (record e { request = wait_frame session }) in
-        submits_none s (wait_frame session) (unless_refused s (refusal e.short f) (told_on f.on f.effect)) refl
+    by (ask.WaitFrame session) =
+        let f = rule s reads (record e { call = ask.WaitFrame session }) in
+        submits_none s (ask.WaitFrame session) (unless_refused s (refusal e.short f) (told_on f.on f.effect)) refl
         (begun_kept s (refusal e.short f) (told_on f.on f.effect) (begun s + 0) (omega arith) (omega arith))
-    by (begin_frame session) =
-        let f = rule s reads (record e { request = begin_frame session }) in
-        submits_none s (begin_frame session) (unless_refused s (refusal e.short f) (told_on f.on f.effect)) refl
+    by (ask.BeginFrame session) =
+        let f = rule s reads (record e { call = ask.BeginFrame session }) in
+        submits_none s (ask.BeginFrame session) (unless_refused s (refusal e.short f) (told_on f.on f.effect)) refl
         (begun_kept s (refusal e.short f) (told_on f.on f.effect) (begun s + 1) (omega arith) (omega arith))
-    by (end_frame session time blend layers) =
-        by_rule (Weighs s (end_frame session time blend layers)) s f e.short (layers_fail (look_of s) layers) refused ended
+    by (ask.EndFrame session time blend layers) =
+        by_rule (Weighs s (ask.EndFrame session time blend layers)) s f e.short (layers_fail (look_of s) layers) refused ended
       where
         f : Rule
-        f = rule s reads (record e { request = end_frame session time blend layers })
+        f = rule s reads (record e { call = ask.EndFrame session time blend layers })
 
-        refused : (x : Refusal) → is_success x.code ≡ false → Weighs s (end_frame session time blend layers) (unless_refused s (Some x) (told_on f.on f.effect))
+        refused : (x : Refusal) → is_success x.code ≡ false → Weighs s (ask.EndFrame session time blend layers) (unless_refused s (Some x) (told_on f.on f.effect))
         refused x failed = rw failed (omega arith)
 
-        one : (b : Bool) → s.frames.frame_loop.has_begun ≡ true → 2 * length (frame_if b s (end_frame session time blend layers)) + 0 ≤ begun s + 1
+        one : (b : Bool) → s.frames.frame_loop.has_begun ≡ true → 2 * length (frame_if b s (ask.EndFrame session time blend layers)) + 0 ≤ begun s + 1
         one true had = rw had (omega arith)
         one false had = rw had (omega arith)
 
-        ended : refusal e.short f ≡ None → Weighs s (end_frame session time blend layers) (told_on f.on f.effect)
+        ended : refusal e.short f ≡ None → Weighs s (ask.EndFrame session time blend layers) (told_on f.on f.effect)
         ended none = one (is_success (told_on f.on f.effect).code) (not_false s.frames.frame_loop.has_begun (clear f e.short none).order)
     by r =
-        let same = loop_stays s reads (record e { request = r }) refl in
-        submits_none s r (effect s reads (record e { request = r })) refl (rw same (omega arith))
+        let same = loop_stays s reads (record e { call = r }) refl in
+        submits_none s r (effect s reads (record e { call = r })) refl (rw same (omega arith))
 
 -- ---- over a history
 
@@ -91,7 +93,7 @@ taken_or_none s x added m =
     sym (length_both s.frames.pending added) ∙ ap (λ (l : List PendingFrame). length l) m.pending ∙ length_both (taken_if x.shown s.frames.pending) x.state.frames.pending
 
 shown_is_taken : (s : CoreState) (reads : CellReads) (e : Entry) → length (shown_if (effect s reads e).shown) ≡ length (taken_if (effect s reads e).shown s.frames.pending)
-shown_is_taken s reads e = by e.request
+shown_is_taken s reads e = by e.call
   where
     none : (x : Effect) → x.shown ≡ None → length (shown_if x.shown) ≡ length (taken_if x.shown s.frames.pending)
     none x is = rw is refl
@@ -108,23 +110,23 @@ shown_is_taken s reads e = by e.request
     refused_shows None x is = is
     refused_shows (Some r) x is = refl
 
-    by : (r : Request) → length (shown_if (effect s reads (record e { request = r })).shown) ≡ length (taken_if (effect s reads (record e { request = r })).shown s.frames.pending)
-    by next_frame = let f = rule s reads (record e { request = next_frame }) in oldest (refusal e.short f) f.effect refl
-    by (end_frame session time blend layers) =
-        let f = rule s reads (record e { request = end_frame session time blend layers }) in
-        none (effect s reads (record e { request = end_frame session time blend layers })) (refused_shows (refusal e.short f) (told_on f.on f.effect) refl)
-    by r = none (effect s reads (record e { request = r })) (frames_stay s reads (record e { request = r }) refl).shown
+    by : (r : Call) → length (shown_if (effect s reads (record e { call = r })).shown) ≡ length (taken_if (effect s reads (record e { call = r })).shown s.frames.pending)
+    by ask.NextFrame = let f = rule s reads (record e { call = ask.NextFrame }) in oldest (refusal e.short f) f.effect refl
+    by (ask.EndFrame session time blend layers) =
+        let f = rule s reads (record e { call = ask.EndFrame session time blend layers }) in
+        none (effect s reads (record e { call = ask.EndFrame session time blend layers })) (refused_shows (refusal e.short f) (told_on f.on f.effect) refl)
+    by r = none (effect s reads (record e { call = r })) (frames_stay s reads (record e { call = r }) refl).shown
 
 taken_from : (s : State) (es : List Entry)
     → 2 * length (shown_from s es) ≤ (2 * length s.core.frames.pending + begun s.core) + frame_calls es
 taken_from s [] = omega arith
 taken_from s (e ∷ es) =
     let t = (step s e).0 in
-    let x = effect s.core (reads_of s e.request) e in
-    let added = frame_if (is_success x.code) s.core e.request in
-    let weight = weighs s.core (reads_of s e.request) e in
-    let moved = taken_or_none s.core x added (moves s.core (reads_of s e.request) e) in
-    let same = shown_is_taken s.core (reads_of s e.request) e in
+    let x = effect s.core (reads_of s e.call) e in
+    let added = frame_if (is_success x.code) s.core e.call in
+    let weight = weighs s.core (reads_of s e.call) e in
+    let moved = taken_or_none s.core x added (moves s.core (reads_of s e.call) e) in
+    let same = shown_is_taken s.core (reads_of s e.call) e in
     let here = length_both (shown_if (step s e).1.shown) (shown_from t es) in
     let rest = taken_from t es in
     omega (arith, weight, moved, same, here, rest)

@@ -4,7 +4,7 @@ use Rattle.std.specs.Prelude.{if◌then◌else◌}
 use Rattle.std.proofs.lemmas.List.{append-nil}
 use Rattle.xr_types.specs.declared.calls.Actor.{Actor}
 use Rattle.xr_types.specs.declared.calls.Actor.TheVariants.{App, Compositor, Device}
-use Rattle.xr_model.specs.machine.Request.{is_actor}
+use Rattle.xr_model.specs.machine.Calls.{is_actor}
 use Rattle.xr_model.specs.laws.RunLaws.{count_of}
 use Rattle.xr_model.proofs.Rows.{itself, same_key}
 

@@ -3,7 +3,7 @@ use Rattle.std.proofs.Common.{arith, ◌≡◌, ◌+◌, ◌==◌, ◌⊎◌, in
 use Rattle.std.proofs.lemmas.List.{append_assoc}
 use Rattle.xr_types.specs.declared.calls.Actor.{Actor}
 use Rattle.xr_types.specs.declared.calls.Actor.TheVariants.{App, Compositor, Device}
-use Rattle.xr_model.specs.machine.Request.{is_actor}
+use Rattle.xr_model.specs.machine.Calls.{is_actor}
 use Rattle.xr_model.specs.laws.RunLaws.{count_of, comes_before, TakeTurns, OneTurnBetween}
 use Rattle.xr_model.proofs.Turns.{bit, count_more, actor_itself, same_actor}
 use Rattle.xr_model.proofs.Unfinished.{each_has_its_turn}

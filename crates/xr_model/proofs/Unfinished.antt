@@ -6,7 +6,7 @@ use Rattle.xr_types.specs.declared.calls.Actor.TheVariants.{App, Compositor, Dev
 use Rattle.xr_types.specs.declared.device.DeviceEvent.{DeviceEvent}
 use Rattle.xr_types.specs.declared.scenario.Op.{Op}
 use Rattle.xr_types.specs.declared.scenario.Scenario.{Scenario}
-use Rattle.xr_model.specs.machine.Request.{Entry, Exchange, is_actor}
+use Rattle.xr_model.specs.machine.Calls.{Entry, Exchange, is_actor}
 use Rattle.xr_model.specs.machine.State.{Settings, State, opening}
 use Rattle.xr_model.specs.machine.Machine.{step}
 use Rattle.xr_model.specs.machine.History.{calls_from}
@@ -88,7 +88,7 @@ pub all_done : (who : Actor) (s : State) (agendas : List Agenda) (es : List Entr
 all_done who s agendas [] calls = omega arith
 all_done who s agendas (e ∷ es) calls =
     let m = moved s agendas e calls.0 in
-    let t : Exchange = record { request = e.request; outcome = (step s e).1 } in
+    let t : Exchange = record { call = e.call; outcome = (step s e).1 } in
     let next = agendas_behind (next_move s [] agendas) (step s e).0 (step s e).1 in
     let more = all_done who (step s e).0 next es calls.1 in
     let first = did_more who (is_actor who e.actor) t (calls_from (step s e).0 who es) in

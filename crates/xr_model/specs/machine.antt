@@ -1,5 +1,5 @@
 -- The machine of one thread: what it is asked, what it keeps, what each call does, and histories.
-pub mod Request
+pub mod Calls
 pub mod Refusals
 pub mod PartAnswers
 pub mod Handles

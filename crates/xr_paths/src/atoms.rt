@@ -40,9 +40,7 @@ impl Paths {
     pub fn start(alloc: Global) -> Result<Paths, NoMemory>
         ensures { IfOk result (λ paths. paths ≡ []) }
     {
-        let Ok(texts) = IndexSet::with_capacity(alloc, ATOMS) else {
-            return Err(NoMemory);
-        };
+        let texts = IndexSet::with_capacity(alloc, ATOMS)?;
         Ok(Paths { texts })
     }
 

@@ -153,8 +153,6 @@ pub fn report(alloc: Global, lists: &Lists, places: bool) -> Result<Vec<u8>, NoM
     ensures { IfOk result (λ text. text.items ≡ report_of lists.now places) }
 {
     let mut out = Vec::new(alloc);
-    match push_report(&mut out, places, lists) {
-        Ok(()) => Ok(out),
-        Err(_) => Err(NoMemory),
-    }
+    push_report(&mut out, places, lists)?;
+    Ok(out)
 }

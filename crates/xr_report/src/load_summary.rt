@@ -136,8 +136,6 @@ pub fn summary(alloc: Global, n: u32, lists: &Lists) -> Result<Vec<u8>, NoMemory
     ensures { IfOk result (λ text. text.items ≡ summary_of n lists.now) }
 {
     let mut out = Vec::new(alloc);
-    match push_summary(&mut out, n, lists) {
-        Ok(()) => Ok(out),
-        Err(_) => Err(NoMemory),
-    }
+    push_summary(&mut out, n, lists)?;
+    Ok(out)
 }

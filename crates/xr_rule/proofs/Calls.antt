@@ -2,7 +2,7 @@
 use Rattle.std.proofs.Common.{◌≡◌, ℕ, ◌+◌, ◌%◌, ◌^◌, ◌<◌, List, [], ◌∷◌, length, sym, subst, Option, Some}
 use mathlib.Core.Option.{none}
 use Rattle.atomic_table.specs.Table.{Me, step, Allows}
-use Rattle.xr_model.specs.machine.Request.{Entry}
+use Rattle.xr_model.specs.machine.Calls.{Entry}
 use Rattle.xr_model.specs.laws.Moments.{Moment, opening_moment, moment_after}
 use Rattle.xr_rule.specs.View.{Know, Hold, View, Idle, Waiting, Holding, view, history_with}
 use Rattle.xr_rule.specs.Rule.{MayNote, FollowsRule}

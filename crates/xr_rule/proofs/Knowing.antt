@@ -7,7 +7,7 @@ use native.Mathlib.Decide.{ℕ_discrete, dec_le}
 use lib.ListN.{get_elem?}
 use Rattle.atomic_table.proofs.Lists.{at_set, at_snoc, at_longer, set_here, set_else}
 use Rattle.xr_model.specs.machine.CoreCalls.{asked}
-use Rattle.xr_model.specs.machine.Request.{Entry, Exchange}
+use Rattle.xr_model.specs.machine.Calls.{Entry, Exchange}
 use Rattle.xr_model.specs.machine.Rule.{is_by}
 use Rattle.xr_model.specs.laws.FewCalls.{HasFew}
 use Rattle.xr_model.specs.laws.Moments.{opening_moment, exchange_at, moment_after, IsLegalAt, calls_by}
@@ -60,10 +60,10 @@ few_more key log e o os s all may zero p at =
     subst (λ (q : Own). HasFew q.number q.calls) (some-injective (own_of o.number (o.calls ++ x ∷ []) o.saw) p at) (few_grow o.number (moment_after (opening_moment key) log) e o.calls may.by_own may.caller (all 0 o refl) may.few)
 few_more key log e o os s all may (suc i) p at = all (suc i) p at
 
-callers_more : (log : List Entry) (e : Entry) → are_by_callers log ≡ true → is_by (asked e.actor e.request).caller e.actor ≡ true → are_by_callers (log ++ e ∷ []) ≡ true
+callers_more : (log : List Entry) (e : Entry) → are_by_callers log ≡ true → is_by (asked e.actor e.call).caller e.actor ≡ true → are_by_callers (log ++ e ∷ []) ≡ true
 callers_more [] e all one = rw one refl
 callers_more (x ∷ xs) e all one =
-    let two = both_of (is_by (asked x.actor x.request).caller x.actor) (are_by_callers xs) all in
+    let two = both_of (is_by (asked x.actor x.call).caller x.actor) (are_by_callers xs) all in
     rw two.0 (callers_more xs e two.1 one)
 
 pub history_decides : (key : ℕ) (log : List Entry) (ks : List Know) (id : ℕ) (e : Entry) (o : Own) (os : List Own) (s : List Entry) → OneHistory key log ks → get_elem? ks id ≡ some (know key (o ∷ os) s)

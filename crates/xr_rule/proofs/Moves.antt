@@ -8,7 +8,7 @@ use lib.ListN.{get_elem?}
 use lib.Seq.{map-set}
 use Rattle.atomic_table.specs.Table.{State, opening, Splits, Joins, Seen, Final}
 use Rattle.atomic_table.proofs.Lists.{at_set, at_snoc, at_map, at_longer, set_again, set_else}
-use Rattle.xr_model.specs.machine.Request.{Entry}
+use Rattle.xr_model.specs.machine.Calls.{Entry}
 use Rattle.xr_model.specs.laws.Moments.{Moment, opening_moment, moment_after}
 use Rattle.xr_rule.specs.View.{Own, Know, Turn, View, Idle, Waiting, Holding, view, know, know_of, turn_of, out, has_ticket, is_holder, newcomer, spent_know, spent_view, staying_view, cut_view, keepsake, joined_view}
 use Rattle.xr_rule.specs.Rule.{OneHistory, Tickets, HoldsIf, SlotStands, MayNote, Fits, FollowsRule, HasAll}

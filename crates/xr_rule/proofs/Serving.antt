@@ -4,7 +4,7 @@ use mathlib.Core.Option.{some, none}
 use lib.ListN.{get_elem?}
 use Rattle.atomic_table.specs.Table.{State, step, gives, Allows}
 use Rattle.atomic_table.proofs.Lists.{at_set, at_map, set_here}
-use Rattle.xr_model.specs.machine.Request.{Entry, Exchange}
+use Rattle.xr_model.specs.machine.Calls.{Entry, Exchange}
 use Rattle.xr_model.specs.laws.Moments.{Moment, opening_moment, moment_after, exchange_at}
 use Rattle.xr_rule.specs.View.{Own, Know, Hold, Turn, View, Idle, Waiting, Holding, view, know, know_of, turn_of, out, has_ticket, with_call, history_with, know_after}
 use Rattle.xr_rule.specs.Rule.{OneHistory, Tickets, HoldsIf, SlotStands, MayNote, FollowsRule}

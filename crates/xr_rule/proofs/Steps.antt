@@ -8,7 +8,7 @@ use lib.Seq.{set-get_or, map-set}
 use Rattle.atomic_table.specs.Table.{State, Me, step, keeps, takes, Allows}
 use Rattle.atomic_table.proofs.Lists.{at_set, at_map, set_again, set_here, set_else}
 use Rattle.xr_model.specs.machine.History.{after}
-use Rattle.xr_model.specs.machine.Request.{Entry}
+use Rattle.xr_model.specs.machine.Calls.{Entry}
 use Rattle.xr_model.specs.machine.State.{with_apps, opening}
 use Rattle.xr_model.specs.laws.Moments.{Moment, opening_moment, moment_after, IsLegalAt, calls_by}
 use Rattle.xr_rule.specs.Sums.{total}

@@ -2,7 +2,8 @@
 use Rattle.std.specs.Prelude.{◌≡◌, ◌≢◌, ℕ, ◌%◌, ◌^◌, ◌<◌, true, false, List, [], ◌∷◌, ◌++◌, Option, Some, MatchOption}
 use Rattle.atomic_table.specs.Table.{Me, Step}
 use Rattle.xr_model.specs.machine.History.{after}
-use Rattle.xr_model.specs.machine.Request.{Entry, leave}
+use Rattle.xr_model.specs.machine.Calls.{Entry}
+use Rattle.xr_types.specs.declared.calls.Call.TheVariants as ask
 use Rattle.xr_model.specs.machine.State.{with_apps, opening}
 use Rattle.xr_model.specs.laws.Moments.{Moment, opening_moment, moment_after, IsLegalAt, actor_at, calls_by}
 use Rattle.xr_model.specs.laws.PublicationLaws.{none_is_by}
@@ -24,7 +25,7 @@ pub record Sees (k : Know) (look : List Entry) : Type 0 where
 
 -- no entry of any history, for a note that isn't told which
 abbrev pub no_entry : Entry
-no_entry = record { actor = actor_at 0; request = leave; given = 0; short = false }
+no_entry = record { actor = actor_at 0; call = ask.Leave; given = 0; short = false }
 
 -- The seat has decided the entry: what it knows has the entry last.
 pub record Decides (k : Know) (look : List Entry) (e : Entry) (n : View) : Type 0 where

@@ -6,7 +6,7 @@ use mathlib.Core.List.{IsPrefix}
 use lib.ListN.{get_elem?}
 use Rattle.atomic_table.specs.Table.{State}
 use Rattle.xr_model.specs.machine.CoreCalls.{asked}
-use Rattle.xr_model.specs.machine.Request.{Entry}
+use Rattle.xr_model.specs.machine.Calls.{Entry}
 use Rattle.xr_model.specs.machine.Rule.{is_by}
 use Rattle.xr_model.specs.laws.Moments.{Moment, opening_moment, moment_after, MayCome, IsLegalAt, actor_at, calls_by}
 use Rattle.xr_model.specs.laws.MomentLaws.{IsByActors}
@@ -18,7 +18,7 @@ use Rattle.xr_rule.specs.View.{Own, Know, Hold, Turn, View, Idle, Waiting, Holdi
 
 -- each of these was asked by one who may ask for it
 abbrev pub are_by_callers : List Entry → Bool
-are_by_callers es = list_all (λ e. is_by (asked e.actor e.request).caller e.actor) es
+are_by_callers es = list_all (λ e. is_by (asked e.actor e.call).caller e.actor) es
 
 -- What one seat knows: what it has seen is the history's front, each of its numbers has the calls that it keeps, and these are few.
 pub record Knows (apps : ℕ) (log : List Entry) (k : Know) : Type 0 where
@@ -73,8 +73,8 @@ pub record SlotStands {S : Type 0} (stands : S → Moment → Type 0) (apps : �
 -- the actor's calls stay few.
 pub record MayNote (k : Know) (look : List Entry) (e : Entry) : Type 0 where
   pub by_own : e.actor ≡ actor_at (number_in k.own)
-  pub caller : is_by (asked e.actor e.request).caller e.actor ≡ true
-  pub numbers : (asked e.actor e.request).in_range ≡ true
+  pub caller : is_by (asked e.actor e.call).caller e.actor ≡ true
+  pub numbers : (asked e.actor e.call).in_range ≡ true
   pub comes : MayCome (moment_after (opening_moment k.apps) look) e
   pub few : MayAdd (number_in k.own) (moment_after (opening_moment k.apps) look) e (calls_in k.own)
 

@@ -1,6 +1,6 @@
 -- What a seat knows, and how views are cut in two and joined.
 use Rattle.std.specs.Prelude.{ℕ, zero, suc, ◌+◌, ◌==◌, nat_le, Bool, true, false, List, [], ◌∷◌, ◌++◌, length, Option, Some, None, if◌then◌else◌}
-use Rattle.xr_model.specs.machine.Request.{Entry, Exchange}
+use Rattle.xr_model.specs.machine.Calls.{Entry, Exchange}
 use Rattle.xr_model.specs.laws.Moments.{opening_moment, moment_after, exchange_at}
 use Rattle.xr_rule.specs.Sums.{total}
 

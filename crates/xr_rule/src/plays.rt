@@ -1,5 +1,5 @@
 //! What each step tells, and how views are cut and joined.
-ghost use Rattle.xr_model.specs.machine.Request.{Entry};
+ghost use Rattle.xr_model.specs.machine.Calls.{Entry};
 ghost use Rattle.xr_rule.specs.Plays.{no_entry, Draws, Looks, Notes, Serves};
 ghost use Rattle.xr_rule.specs.Seats.{stands_in};
 ghost use Rattle.xr_rule.specs.View.{staying_view, cut_view, keepsake, joined_view, spent_view};

@@ -3,7 +3,7 @@ use Rattle.std.proofs.Common.{◌≡◌, ℕ, zero, suc, ◌+◌, ◌<◌, List,
 use mathlib.Core.Option.{some}
 use lib.ListN.{get_elem?}
 use Rattle.atomic_table.proofs.Lists.{at_longer}
-use Rattle.xr_model.specs.machine.Request.{Entry}
+use Rattle.xr_model.specs.machine.Calls.{Entry}
 use Rattle.xr_rule.specs.Rule.{HasAll}
 use Rattle.xr_rule.specs.View.{Own, Know, own_of, with_seen, number_in, calls_in}
 use Rattle.xr_runtime.specs.Closing.{Holds}

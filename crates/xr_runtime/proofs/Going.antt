@@ -5,7 +5,9 @@ use Rattle.xr_types.specs.declared.calls.Actor.TheVariants.{App, Compositor, Dev
 use Rattle.xr_model.specs.machine.CoreCalls.{asked}
 use Rattle.xr_model.specs.machine.History.{after, clock_of, clocks_after, IsLegalFrom}
 use Rattle.xr_model.specs.machine.Machine.{IsPresent, step}
-use Rattle.xr_model.specs.machine.Request.{Request, next_frame, image_done, Entry, is_actor}
+use Rattle.xr_model.specs.machine.Calls.{Entry, is_actor}
+use Rattle.xr_types.specs.declared.calls.Call.{Call}
+use Rattle.xr_types.specs.declared.calls.Call.TheVariants as ask
 use Rattle.xr_model.specs.machine.Rule.{is_by}
 use Rattle.xr_model.specs.machine.State.{State}
 use Rattle.xr_model.specs.laws.ImageLaws.{is_compositor_call}
@@ -43,28 +45,28 @@ pub others_dont_leave : (who : Actor) (es : List Entry) → none_is_by who es �
 others_dont_leave who [] none = refl
 others_dont_leave who (e ∷ es) none =
     let two = both_of (not (is_actor who e.actor)) (none_is_by who es) none in
-    rw (and_false (is_actor who e.actor) (is_leave e.request) (not_true (is_actor who e.actor) two.0)) (others_dont_leave who es two.1)
+    rw (and_false (is_actor who e.actor) (is_leave e.call) (not_true (is_actor who e.actor) two.0)) (others_dont_leave who es two.1)
 
 -- of what callers may ask, only the compositor's calls change what is held
-aside : (who : Actor) (what : Request) → is_by (asked who what).caller who ≡ true → is_actor Compositor who ≡ false → is_compositor_call what ≡ false
-aside (App k) next_frame by other = absurd (true≢false (sym by))
-aside (App k) image_done by other = absurd (true≢false (sym by))
-aside Compositor next_frame by other = absurd (true≢false other)
-aside Compositor image_done by other = absurd (true≢false other)
-aside Device next_frame by other = absurd (true≢false (sym by))
-aside Device image_done by other = absurd (true≢false (sym by))
+aside : (who : Actor) (what : Call) → is_by (asked who what).caller who ≡ true → is_actor Compositor who ≡ false → is_compositor_call what ≡ false
+aside (App k) ask.NextFrame by other = absurd (true≢false (sym by))
+aside (App k) ask.ImageDone by other = absurd (true≢false (sym by))
+aside Compositor ask.NextFrame by other = absurd (true≢false other)
+aside Compositor ask.ImageDone by other = absurd (true≢false other)
+aside Device ask.NextFrame by other = absurd (true≢false (sym by))
+aside Device ask.ImageDone by other = absurd (true≢false (sym by))
 aside who what by other = refl
 
 held_over : (s : State) (es : List Entry) → none_is_by Compositor es ≡ true → are_by_callers es ≡ true → (after s es).cells.held ≡ s.cells.held
 held_over s [] none own = refl
 held_over s (e ∷ es) none own =
     let two = both_of (not (is_actor Compositor e.actor)) (none_is_by Compositor es) none in
-    let callers = both_of (is_by (asked e.actor e.request).caller e.actor) (are_by_callers es) own in
-    held_over (step s e).0 es two.1 callers.1 ∙ held_images_stay s e (aside e.actor e.request callers.0 (not_true (is_actor Compositor e.actor) two.0))
+    let callers = both_of (is_by (asked e.actor e.call).caller e.actor) (are_by_callers es) own in
+    held_over (step s e).0 es two.1 callers.1 ∙ held_images_stay s e (aside e.actor e.call callers.0 (not_true (is_actor Compositor e.actor) two.0))
 
 callers_behind : (es fs : List Entry) → are_by_callers (es ++ fs) ≡ true → are_by_callers fs ≡ true
 callers_behind [] fs own = own
-callers_behind (e ∷ es) fs own = callers_behind es fs (both_of (is_by (asked e.actor e.request).caller e.actor) (are_by_callers (es ++ fs)) own).1
+callers_behind (e ∷ es) fs own = callers_behind es fs (both_of (is_by (asked e.actor e.call).caller e.actor) (are_by_callers (es ++ fs)) own).1
 
 -- at a look the compositor's images are as they were
 pub held_at_look : (k : Know) (look : List Entry) (sees : Sees k look) → actor_of k ≡ Compositor → (behind k look).state.cells.held ≡ (seen_by k).state.cells.held

@@ -3,3 +3,4 @@ pub mod Making
 pub mod Passing
 pub mod Gathering
 pub mod Starting
+pub mod Begun

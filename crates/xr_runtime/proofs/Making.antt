@@ -11,7 +11,8 @@ use Rattle.xr_model.specs.machine.CoreCalls as core
 use Rattle.xr_model.specs.machine.CoreCalls.{Lent, asked, MayAsk, Applies, entry_of, left_in, WaitsBy}
 use Rattle.xr_model.specs.machine.History.{StartsAt, clock_of}
 use Rattle.xr_model.specs.machine.Machine.{IsPresent, step}
-use Rattle.xr_model.specs.machine.Request.{Request, next_frame, Entry, Exchange, request_of}
+use Rattle.xr_model.specs.machine.Calls.{Entry, Exchange}
+use Rattle.xr_types.specs.declared.calls.Call.TheVariants as ask
 use Rattle.xr_model.specs.machine.Rule.{is_by}
 use Rattle.xr_model.specs.machine.State.{State}
 use Rattle.xr_model.specs.laws.FewCalls.{MayAdd}
@@ -38,7 +39,7 @@ at_rest m b = λ i. (view m.0.know (b.idle i), b.carries i)
 
 -- ---- what the core asks
 
-pub may_make : (m n : Has) (held : Held State) (who : Actor) (what : Request) (size : ℕ) → MayMake m who what size → Taken stands m.0.know n held → core.MayMake held.value.core who what size
+pub may_make : (m n : Has) (held : Held State) (who : Actor) (what : Call) (size : ℕ) → MayMake m who what size → Taken stands m.0.know n held → core.MayMake held.value.core who what size
 may_make m n held who what size may taken = record {
   asks = may.asks;
   present = subst (λ (s : State). IsPresent s.core who) (sym taken.stands_now) (subst (λ (a : Actor). IsPresent (behind m.0.know taken.look).state.core a) (sym may.is_own) (here_at_look m.0.know taken.look taken.sees (subst (λ (a : Actor). IsPresent (seen_by m.0.know).state.core a) may.is_own may.here)));
@@ -60,35 +61,35 @@ gave_back m n w held between taken given =
 -- ---- the call was ready
 
 -- the request for a frame is answered as out of order only where images are held
-asks_frame : (r : Request) → is_next_frame r ≡ true → r ≡ next_frame
-asks_frame next_frame is = refl
+asks_frame : (r : Call) → is_next_frame r ≡ true → r ≡ ask.NextFrame
+asks_frame ask.NextFrame is = refl
 asks_frame r is = absurd (true≢false (sym is))
 
 -- and by the compositor alone
-pub asks_as_compositor : (who : Actor) (what : Request) → is_by (asked who what).caller who ≡ true → is_next_frame what ≡ true → who ≡ Compositor
+pub asks_as_compositor : (who : Actor) (what : Call) → is_by (asked who what).caller who ≡ true → is_next_frame what ≡ true → who ≡ Compositor
 asks_as_compositor Compositor what by asks = refl
-asks_as_compositor (App k) next_frame by asks = absurd (true≢false (sym by))
+asks_as_compositor (App k) ask.NextFrame by asks = absurd (true≢false (sym by))
 asks_as_compositor (App k) what by asks = absurd (true≢false (sym asks))
-asks_as_compositor Device next_frame by asks = absurd (true≢false (sym by))
+asks_as_compositor Device ask.NextFrame by asks = absurd (true≢false (sym by))
 asks_as_compositor Device what by asks = absurd (true≢false (sym asks))
 
-frame_in_order : (s : State) (e : Entry) → s.cells.held ≡ [] → e.request ≡ next_frame → (step s e).1.reply.code ≡ Success
-frame_in_order s e none asks = subst (λ (r : Request). (step s (record e { request = r })).1.reply.code ≡ Success) (sym asks) (by s.cells.held none)
+frame_in_order : (s : State) (e : Entry) → s.cells.held ≡ [] → e.call ≡ ask.NextFrame → (step s e).1.reply.code ≡ Success
+frame_in_order s e none asks = subst (λ (r : Call). (step s (record e { call = r })).1.reply.code ≡ Success) (sym asks) (by s.cells.held none)
   where
-    by : (held : List Image) → held ≡ [] → (step (record s { cells = record s.cells { held = held } }) (record e { request = next_frame })).1.reply.code ≡ Success
+    by : (held : List Image) → held ≡ [] → (step (record s { cells = record s.cells { held = held } }) (record e { call = ask.NextFrame })).1.reply.code ≡ Success
     by [] is = refl
     by (x ∷ xs) is = absurd (cc is)
 
-pub may_add : (n : ℕ) (m : Moment) (e : Entry) (calls : List Exchange) → HasRoom n calls → (is_next_frame e.request ≡ true → m.state.cells.held ≡ []) → MayAdd n m e calls
+pub may_add : (n : ℕ) (m : Moment) (e : Entry) (calls : List Exchange) → HasRoom n calls → (is_next_frame e.call ≡ true → m.state.cells.held ≡ []) → MayAdd n m e calls
 unfolding exchange_at
-may_add (suc zero) m e calls room none = record { in_order = λ asks is. wrong_code (sym (frame_in_order m.state e (none asks) (asks_frame e.request asks)) ∙ is); unended = room }
+may_add (suc zero) m e calls room none = record { in_order = λ asks is. wrong_code (sym (frame_in_order m.state e (none asks) (asks_frame e.call asks)) ∙ is); unended = room }
   where
     wrong_code : Success ≡ CallOrderInvalid → ⊥
     wrong_code is = cc
 may_add zero m e calls room none = room
 may_add (suc (suc n)) m e calls room none = room
 
-module _ (m n : Has) (held new : Held State) (who : Actor) (call : Call) (reply : Reply) (size : ℕ) (before after : Lent) (may : MayMake m who (request_of call) size) (taken : Taken stands m.0.know n held)
+module _ (m n : Has) (held new : Held State) (who : Actor) (call : Call) (reply : Reply) (size : ℕ) (before after : Lent) (may : MayMake m who call size) (taken : Taken stands m.0.know n held)
     (done : Applies held.value new.value who call before after (Done reply)) where
   abbrev k : Know
   k = m.0.know
@@ -102,17 +103,17 @@ module _ (m n : Has) (held new : Held State) (who : Actor) (call : Call) (reply 
   here : IsPresent (seen_by k).state.core (actor_of k)
   here = subst (λ (a : Actor). IsPresent (seen_by k).state.core a) may.is_own may.here
 
-  starts : StartsAt (clock_of now.clocks (actor_of k)) (request_of call)
-  starts = subst (λ (c : ℤ). StartsAt c (request_of call)) (sym (clock_at_look k taken.look taken.sees here)) (subst (λ (a : Actor). StartsAt (clock_of (seen_by k).clocks a) (request_of call)) may.is_own may.starts)
+  starts : StartsAt (clock_of now.clocks (actor_of k)) call
+  starts = subst (λ (c : ℤ). StartsAt c call) (sym (clock_at_look k taken.look taken.sees here)) (subst (λ (a : Actor). StartsAt (clock_of (seen_by k).clocks a) call) may.is_own may.starts)
 
-  none_held : is_next_frame (request_of call) ≡ true → now.state.cells.held ≡ []
+  none_held : is_next_frame call ≡ true → now.state.cells.held ≡ []
   none_held asks =
-      let caller = subst (λ (a : Actor). is_by (asked a (request_of call)).caller a ≡ true) may.is_own may.asks.caller in
-      held_at_look k taken.look taken.sees (asks_as_compositor (actor_of k) (request_of call) caller asks) ∙ may.none_held asks
+      let caller = subst (λ (a : Actor). is_by (asked a call).caller a ≡ true) may.is_own may.asks.caller in
+      held_at_look k taken.look taken.sees (asks_as_compositor (actor_of k) call caller asks) ∙ may.none_held asks
 
   pub may_note : NotesCall stands n new call reply
   may_note = answered_notes stands k (hold_from taken.ticket taken.look) n new call reply size before after new.value taken.is refl
-      (subst (λ (a : Actor). MayAsk a (request_of call) size) may.is_own may.asks)
+      (subst (λ (a : Actor). MayAsk a call size) may.is_own may.asks)
       starts
       (may_add (number_in k.own) now (noted_entry k call reply) (calls_in k.own) may.has_room none_held)
       done_now
@@ -132,7 +133,7 @@ module _ (m n : Has) (held new : Held State) (who : Actor) (call : Call) (reply 
     stands_so = leads;
   }
 
-  pub call_made : (p w : Has) → Noted n (noted_entry n.0.know call reply) p → Given p w → Called m (request_of call) reply before after w
+  pub call_made : (p w : Has) → Noted n (noted_entry n.0.know call reply) p → Given p w → Called m call reply before after w
   call_made p w noted given =
       let g = subst (λ (z : Has). Given z w) (noted_is p noted) given (record (hold_from taken.ticket taken.look) { noted = Some (noted_entry k call reply) }) refl in
       record { look = taken.look; decides = g.1; carries = g.0; replies = sym done_now.replies; writes = done_now.writes }

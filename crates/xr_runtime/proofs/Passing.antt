@@ -10,7 +10,10 @@ use Rattle.xr_types.specs.declared.frames.Image.{Image}
 use Rattle.xr_model.specs.machine.CoreCalls.{Lent, MayAsk}
 use Rattle.xr_model.specs.machine.History.{after, clock_of, with_clock, clocks_after, opening_clocks, StartsAt}
 use Rattle.xr_model.specs.machine.Machine.{IsPresent, step}
-use Rattle.xr_model.specs.machine.Request.{Entry, Exchange, Request, next_frame, image_done, is_actor, is_locked}
+use Rattle.xr_types.specs.CallKinds.{is_locked}
+use Rattle.xr_model.specs.machine.Calls.{Entry, Exchange, is_actor}
+use Rattle.xr_types.specs.declared.calls.Call.{Call}
+use Rattle.xr_types.specs.declared.calls.Call.TheVariants as ask
 use Rattle.xr_model.specs.machine.State.{State, opening, with_apps}
 use Rattle.xr_model.specs.laws.FewCalls.{how_many, is_end, tells_end}
 use Rattle.xr_model.specs.laws.ImageLaws.{is_compositor_call, is_next_frame}
@@ -39,7 +42,7 @@ one_more : (x : Exchange) (os : List Own) → 0 < length os → OneMore x os (wi
 one_more x [] some = absurd (omega arith)
 one_more x (o ∷ os) some = record { number = refl; calls = refl; parts = refl }
 
-module _ (m n : Has) (what : Request) (reply : Reply) (before after : Lent) (between : IsBetween m) (c : Called m what reply before after n) where
+module _ (m n : Has) (what : Call) (reply : Reply) (before after : Lent) (between : IsBetween m) (c : Called m what reply before after n) where
   abbrev k : Know
   k = m.0.know
 
@@ -70,7 +73,7 @@ module _ (m n : Has) (what : Request) (reply : Reply) (before after : Lent) (bet
 -- clocks are as many as applications
 as_many : (s : State) (clocks : List ℤ) (es : List Entry) → length (clocks_over s clocks es) ≡ length clocks
 as_many s clocks [] = refl
-as_many s clocks (e ∷ es) = as_many (step s e).0 (clocks_after clocks e (step s e).0) es ∙ kept (is_locked e.request) e.actor
+as_many s clocks (e ∷ es) = as_many (step s e).0 (clocks_after clocks e (step s e).0) es ∙ kept (is_locked e.call) e.actor
   where
     kept : (b : Bool) (who : Actor) → length (if b then with_clock clocks who (step s e).0.core.device.clock else clocks) ≡ length clocks
     kept false who = refl
@@ -98,14 +101,14 @@ and_false : (a b : Bool) → b ≡ false → not (a && b) ≡ true
 and_false true b is = rw is refl
 and_false false b is = refl
 
-stays_by : (who : Actor) (e : Entry) → is_leave e.request ≡ false → leaves_by_none who (e ∷ []) ≡ true
-stays_by who e is = rw (and_false (is_actor who e.actor) (is_leave e.request) is) refl
+stays_by : (who : Actor) (e : Entry) → is_leave e.call ≡ false → leaves_by_none who (e ∷ []) ≡ true
+stays_by who e is = rw (and_false (is_actor who e.actor) (is_leave e.call) is) refl
 
 begun_still : (b : Bool) (clock old : ℤ) → pos 0 ≤ℤ clock → pos 0 ≤ℤ old → pos 0 ≤ℤ (if b then clock else old)
 begun_still true clock old now before = now
 begun_still false clock old now before = before
 
-module _ (table : TableId) (old new : AppPass) (what : Request) (reply : Reply) (before after : Lent) (may : MayCall table old) (c : Called old.seat.me what reply before after new.seat.me) where
+module _ (table : TableId) (old new : AppPass) (what : Call) (reply : Reply) (before after : Lent) (may : MayCall table old) (c : Called old.seat.me what reply before after new.seat.me) where
   abbrev m : Has
   m = old.seat.me
 
@@ -177,9 +180,9 @@ module _ (table : TableId) (old new : AppPass) (what : Request) (reply : Reply) 
 
 -- ---- the compositor and the device
 
-starts_alone : (clock : ℤ) (what : Request) → is_compositor_call what ≡ true → StartsAt clock what
-starts_alone clock next_frame its_own = tt
-starts_alone clock image_done its_own = tt
+starts_alone : (clock : ℤ) (what : Call) → is_compositor_call what ≡ true → StartsAt clock what
+starts_alone clock ask.NextFrame its_own = tt
+starts_alone clock ask.ImageDone its_own = tt
 starts_alone clock what its_own = absurd (true≢false (sym its_own))
 
 none_left : (held : List Image) → length held ≡ 0 → held ≡ []
@@ -189,7 +192,7 @@ none_left (x ∷ xs) none = absurd (omega (arith, none))
 no_device : Device ≡ Compositor → ⊥
 no_device is = cc
 
-pub may_compose : (table : TableId) (p : CompositorPass) (what : Request) (size : ℕ) → IsCompositor table p → p.ended ≡ false → MayAsk Compositor what size → is_compositor_call what ≡ true → (is_next_frame what ≡ true → p.held ≡ 0) → MayMake p.seat.me Compositor what size
+pub may_compose : (table : TableId) (p : CompositorPass) (what : Call) (size : ℕ) → IsCompositor table p → p.ended ≡ false → MayAsk Compositor what size → is_compositor_call what ≡ true → (is_next_frame what ≡ true → p.held ≡ 0) → MayMake p.seat.me Compositor what size
 may_compose table p what size is unended asks its_own none_held = record {
   between = is.rests.between;
   is_own = sym (ap actor_at is.is_own);
@@ -200,7 +203,7 @@ may_compose table p what size is unended asks its_own none_held = record {
   none_held = λ asks_it. none_left (seen_by p.seat.me.0.know).state.cells.held (sym is.held_is ∙ none_held asks_it);
 }
 
-pub may_tell : (table : TableId) (p : DevicePass) (what : Request) (size : ℕ) → IsDevice table p → p.calls < 2 ^ 40 → MayAsk Device what size → StartsAt (pos 0) what → MayMake p.seat.me Device what size
+pub may_tell : (table : TableId) (p : DevicePass) (what : Call) (size : ℕ) → IsDevice table p → p.calls < 2 ^ 40 → MayAsk Device what size → StartsAt (pos 0) what → MayMake p.seat.me Device what size
 may_tell table p what size is few asks starts = record {
   between = is.rests.between;
   is_own = sym (ap actor_at is.is_own);
@@ -215,7 +218,7 @@ how_many_more : (xs : List Exchange) (x : Exchange) → tells_end x ≡ false �
 how_many_more [] x untold = rw untold refl
 how_many_more (y ∷ ys) x untold = ap (λ (n : ℕ). if tells_end y then n + 1 else n) (how_many_more ys x untold)
 
-module _ (table : TableId) (old new : CompositorPass) (what : Request) (reply : Reply) (before after : Lent) (is : IsCompositor table old) (c : Called old.seat.me what reply before after new.seat.me) where
+module _ (table : TableId) (old new : CompositorPass) (what : Call) (reply : Reply) (before after : Lent) (is : IsCompositor table old) (c : Called old.seat.me what reply before after new.seat.me) where
   not_told : is_end reply.gives ≡ false → tells_end (exchange_at (behind old.seat.me.0.know c.look) (entry_by old.seat.me.0.know what reply)) ≡ false
   unfolding exchange_at
   not_told untold = ap (λ (r : Reply). is_end r.gives) c.replies ∙ untold
@@ -237,7 +240,7 @@ module _ (table : TableId) (old new : CompositorPass) (what : Request) (reply : 
         held_before = is.held_is ∙ ap length (sym (held_at_look old.seat.me.0.know c.look c.decides.saw (ap actor_at is.is_own)));
       }
 
-pub told : (table : TableId) (old new : DevicePass) (what : Request) (reply : Reply) (before after : Lent) → IsDevice table old → Called old.seat.me what reply before after new.seat.me → new.seat.table_id ≡ old.seat.table_id → new.calls ≡ old.calls + 1
+pub told : (table : TableId) (old new : DevicePass) (what : Call) (reply : Reply) (before after : Lent) → IsDevice table old → Called old.seat.me what reply before after new.seat.me → new.seat.table_id ≡ old.seat.table_id → new.calls ≡ old.calls + 1
     → Tells table old what reply new
 told table old new what reply before after is c id calls_are =
     let between = is.rests.between in

@@ -6,7 +6,8 @@ use Rattle.xr_types.specs.declared.calls.Reply.{Reply}
 use Rattle.xr_model.specs.machine.CoreCalls.{Lent, MayAsk, entry_of, left_in}
 use Rattle.xr_model.specs.machine.History.{StartsAt, clock_of}
 use Rattle.xr_model.specs.machine.Machine.{IsPresent, step}
-use Rattle.xr_model.specs.machine.Request.{Request, Entry, Exchange}
+use Rattle.xr_model.specs.machine.Calls.{Entry, Exchange}
+use Rattle.xr_types.specs.declared.calls.Call.{Call}
 use Rattle.xr_model.specs.machine.State.{State}
 use Rattle.xr_model.specs.laws.FewCalls.{how_many, tells_end}
 use Rattle.xr_model.specs.laws.ImageLaws.{is_next_frame}
@@ -33,7 +34,7 @@ abbrev pub seen_by : Know → Moment
 seen_by k = behind k k.seen
 
 -- the entry of a call of a seat that is answered so
-abbrev pub entry_by : Know → Request → Reply → Entry
+abbrev pub entry_by : Know → Call → Reply → Entry
 entry_by k what reply = entry_of (actor_of k) what reply
 
 -- A number may make one more call: it has made fewer than 2^40, and the compositor was not told the end.
@@ -43,7 +44,7 @@ HasRoom _ calls = length calls < 2 ^ 40
 
 -- A seat may make this call: none is under way, it is the actor's own, the actor is there, and it has room for one more; a wait
 -- for an image begins at the clock that the seat has seen, and a frame is asked for where no image is held.
-pub record MayMake (m : Has) (who : Actor) (what : Request) (size : ℕ) : Type 0 where
+pub record MayMake (m : Has) (who : Actor) (what : Call) (size : ℕ) : Type 0 where
   pub between : IsBetween m
   pub is_own : who ≡ actor_of m.0.know
   pub here : IsPresent (seen_by m.0.know).state.core who
@@ -54,7 +55,7 @@ pub record MayMake (m : Has) (who : Actor) (what : Request) (size : ℕ) : Type 
 
 -- The call is the last entry of a legal history that goes on from what the seat had seen, with nothing of the seat's own between;
 -- the reply, and what is put into what the call was lent, are the machine's at that place.
-pub record Called (m : Has) (what : Request) (reply : Reply) (before after : Lent) (n : Has) : Type 0 where
+pub record Called (m : Has) (what : Call) (reply : Reply) (before after : Lent) (n : Has) : Type 0 where
   pub look : List Entry
   pub decides : Decides m.0.know look (entry_by m.0.know what reply) n.0
   pub carries : n.1 ≡ []

@@ -1,13 +1,14 @@
 -- What passes promise between calls, and what a call of a pass asks and tells.
-use Rattle.std.specs.Prelude.{◌≡◌, ◌+◌, ◌^◌, ◌<◌, ◌≤ℤ◌, ℕ, pos, false, List, length, Option, slice_get, Some}
+use Rattle.std.specs.Prelude.{◌≡◌, ◌+◌, ◌^◌, ◌<◌, ◌≤ℤ◌, ℕ, pos, false, List, [], length, Option, slice_get, Some}
 use Rattle.atomic_table.specs.Seated.{TableId}
 use Rattle.atomic_table.specs.declared.shared.Seat.{Seat}
 use Rattle.xr_types.specs.declared.calls.Actor.TheVariants.{App}
 use Rattle.xr_types.specs.declared.calls.Reply.{Reply}
-use Rattle.xr_model.specs.machine.CoreCalls.{Lent}
+use Rattle.xr_types.specs.declared.frames.Shown.{Shown}
+use Rattle.xr_model.specs.machine.CoreCalls.{Lent, MayAsk}
 use Rattle.xr_model.specs.machine.History.{clock_of}
 use Rattle.xr_model.specs.machine.Machine.{IsPresent}
-use Rattle.xr_model.specs.machine.Request.{Request}
+use Rattle.xr_types.specs.declared.calls.Call.{Call}
 use Rattle.xr_model.specs.machine.State.{State}
 use Rattle.xr_model.specs.laws.FewCalls.{how_many, is_end, tells_end}
 use Rattle.xr_model.specs.laws.MomentLaws.{is_leave}
@@ -54,15 +55,26 @@ pub record MayCall (table : TableId) (p : AppPass) : Type 0 where
   pub few : p.calls < 2 ^ 40
 
 -- The call was made by its seat, which had so much lent, and the pass keeps its promise; it has left where the call says so.
-pub record AppCalls (table : TableId) (old : AppPass) (what : Request) (before after : Lent) (reply : Reply) (new : AppPass) : Type 0 where
+pub record AppCalls (table : TableId) (old : AppPass) (what : Call) (before after : Lent) (reply : Reply) (new : AppPass) : Type 0 where
   pub is : IsApp table new
   pub same : new.app ≡ old.app
   pub left_is : new.left ≡ is_leave what
   pub called : Called old.seat.me what reply before after new.seat.me
 
+-- It may make this call over a buffer of this size: the call is an application's own, its numbers are in range, and it has the buffer
+-- that it asks for.
+pub record AppMay (table : TableId) (p : AppPass) (what : Call) (size : ℕ) : Type 0 where
+  pub may : MayCall table p
+  pub asks : MayAsk (App p.app) what size
+
+-- The call was made over this text, which left that one, and no frame is shown to it.
+abbrev pub AnswersText : TableId → AppPass → Call → List ℕ → List ℕ → Reply → AppPass → Type 0
+AnswersText table old what before after reply new =
+    (frame : Shown) × (left : Shown) × AppCalls table old what (record { text = before; frame = frame }) (record { text = after; frame = left }) reply new
+
 -- the same of a call that is lent nothing
-abbrev pub AppAnswers : TableId → AppPass → Request → Reply → AppPass → Type 0
-AppAnswers table old what reply new = (before : Lent) × (after : Lent) × AppCalls table old what before after reply new
+abbrev pub AppAnswers : TableId → AppPass → Call → Reply → AppPass → Type 0
+AppAnswers table old what reply new = (after : List ℕ) × AnswersText table old what [] after reply new
 
 -- ---- the compositor and the device
 
@@ -77,7 +89,7 @@ pub record IsCompositor (table : TableId) (p : CompositorPass) : Type 0 where
 
 -- The call was made by the compositor's seat, at a place where as many images are held as the pass knew, and the pass keeps its
 -- promise; it is told the end where the reply says so.
-pub record Composes (table : TableId) (old : CompositorPass) (what : Request) (before after : Lent) (reply : Reply) (new : CompositorPass) : Type 0 where
+pub record Composes (table : TableId) (old : CompositorPass) (what : Call) (before after : Lent) (reply : Reply) (new : CompositorPass) : Type 0 where
   pub is : IsCompositor table new
   pub ended_is : new.ended ≡ is_end reply.gives
   pub called : Called old.seat.me what reply before after new.seat.me
@@ -90,7 +102,7 @@ pub record IsDevice (table : TableId) (p : DevicePass) : Type 0 where
   pub counts : p.calls ≡ length (calls_in p.seat.me.0.know.own)
 
 -- The call was made by the device's seat, and the pass keeps its promise.
-pub record Tells (table : TableId) (old : DevicePass) (what : Request) (reply : Reply) (new : DevicePass) : Type 0 where
+pub record Tells (table : TableId) (old : DevicePass) (what : Call) (reply : Reply) (new : DevicePass) : Type 0 where
   pub is : IsDevice table new
   pub before : Lent
   pub after : Lent

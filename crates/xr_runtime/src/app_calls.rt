@@ -1,11 +1,12 @@
-// The private calls of an application's pass.
+//! The call of an application, which every named one is a line over.
 ghost use Rattle.std.specs.Prelude.{◌≡◌, if◌then◌else◌, length};
 ghost use Rattle.xr_types.specs.declared.calls.Actor.TheVariants.{App};
 ghost use Rattle.xr_model.specs.laws.MomentLaws.{is_leave};
 ghost use Rattle.xr_model.specs.machine.CoreCalls.{MayAsk};
 ghost use Rattle.xr_model.specs.machine.History.{StartsAt};
-ghost use Rattle.xr_model.specs.machine.Request.{is_locked, request_of};
-ghost use Rattle.xr_runtime.specs.Passes.{table_of, MayCall, AppCalls, AppAnswers};
+ghost use Rattle.xr_types.specs.CallKinds.{is_locked};
+ghost use Rattle.xr_model.specs.runs.Robin.{with_start};
+ghost use Rattle.xr_runtime.specs.Passes.{table_of, MayCall, AppMay, AppCalls, AnswersText};
 
 use crate::calling::{Answered, Runtime};
 use crate::passes::AppPass;
@@ -14,28 +15,25 @@ use xr_types::{Actor, Call, Reply, Shown};
 
 // whether the application leaves by it
 fn leaves(call: &Call<'_>) -> bool
-    ensures { result ≡ is_leave (request_of call.now) }
+    ensures { result ≡ is_leave call.now }
 {
     matches!(call, Call::Leave)
 }
 
 // the clock at which a wait begins behind a call: a call that is counted moves it
 fn next_clock(call: &Call<'_>, pass: &AppPass, answered: &Answered) -> i64
-    ensures { result ≡ (if is_locked (request_of call.now) then answered.now.clock else pass.now.clock) }
+    ensures { result ≡ (if is_locked call.now then answered.now.clock else pass.now.clock) }
 {
-    match call {
-        Call::GetBoolean { .. }
-        | Call::GetFloat { .. }
-        | Call::GetVector { .. }
-        | Call::GetPoseActive { .. }
-        | Call::ImageDone => pass.clock,
-        _ => answered.clock,
+    if call.is_locked() {
+        answered.clock
+    } else {
+        pass.clock
     }
 }
 
 impl Runtime {
     // Makes a call of an application, which is lent so much.
-    pub(crate) fn lent<R: Wait>(
+    fn lent<R: Wait>(
         &self,
         rt: &R,
         pass: &mut AppPass,
@@ -44,9 +42,9 @@ impl Runtime {
         shown: &mut Shown,
     ) -> Reply
         requires may { MayCall (table_of self.now) pass.old }
-        requires asks { MayAsk (App pass.old.app) (request_of call.now) (length text.old) }
-        requires starts { StartsAt pass.old.clock (request_of call.now) }
-        ensures called { AppCalls (table_of self.now) pass.old (request_of call.now) (record { text = text.old; frame = shown.old }) (record { text = text.new; frame = shown.new }) result pass.new }
+        requires asks { MayAsk (App pass.old.app) call.now (length text.old) }
+        requires starts { StartsAt pass.old.clock call.now }
+        ensures called { AppCalls (table_of self.now) pass.old call.now (record { text = text.old; frame = shown.old }) (record { text = text.new; frame = shown.new }) result pass.new }
     {
         let answered = self.make(rt, &mut pass.seat, Actor::App(pass.app), call, text, shown);
         pass.calls += 1;
@@ -55,14 +53,30 @@ impl Runtime {
         answered.reply
     }
 
-    // Makes a call of an application that is lent nothing.
-    pub(crate) fn call<R: Wait>(&self, rt: &R, pass: &mut AppPass, call: &Call<'_>) -> Reply
-        requires may { MayCall (table_of self.now) pass.old }
-        requires asks { MayAsk (App pass.old.app) (request_of call.now) 0 }
-        requires starts { StartsAt pass.old.clock (request_of call.now) }
-        ensures called { AppAnswers (table_of self.now) pass.old (request_of call.now) result pass.new }
+    /// Makes any call of an application over the buffer that the call asks for: `path_to_string` is lent as many bytes as its capacity,
+    /// and any other call may be lent none. A wait for an image begins at the pass's clock, whatever start the call has.
+    pub fn call<R: Wait>(
+        &self,
+        rt: &R,
+        pass: &mut AppPass,
+        call: &Call<'_>,
+        text: &mut [u8],
+    ) -> Reply
+        requires may { AppMay (table_of self.now) pass.old call.now (length text.old) }
+        ensures called { AnswersText (table_of self.now) pass.old (with_start pass.old.clock call.now) text.old text.new result pass.new }
     {
         let mut shown = Shown::default();
-        self.lent(rt, pass, call, &mut [], &mut shown)
+        match call {
+            Call::WaitImage { chain, timeout, .. } => {
+                let start = pass.clock;
+                let begun = Call::WaitImage {
+                    chain: *chain,
+                    timeout: *timeout,
+                    start,
+                };
+                self.lent(rt, pass, &begun, text, &mut shown)
+            }
+            _ => self.lent(rt, pass, call, text, &mut shown),
+        }
     }
 }

@@ -1,11 +1,11 @@
 //! The calls of actions.
-ghost use Rattle.xr_model.specs.machine.Request as request;
+ghost use Rattle.xr_types.specs.declared.calls.Call.TheVariants as ask;
 ghost use Rattle.xr_runtime.specs.Passes.{table_of, MayCall, AppAnswers};
 
 use crate::calling::Runtime;
 use crate::passes::AppPass;
 use std::sync::Wait;
-use xr_types::{ActionType, ActiveSet, Binding, Call, Reply};
+use xr_types::{ActionType, ActiveSet, Binding, Call, Items, Reply};
 
 impl Runtime {
     /// Asks for an action set (OpenXR 1.0 chapter 11, xrCreateActionSet).
@@ -19,26 +19,27 @@ impl Runtime {
         priority: u32,
     ) -> Reply
         requires may { MayCall (table_of self.now) pass.old }
-        ensures called { AppAnswers (table_of self.now) pass.old (request.create_action_set instance name.now localized.now priority) result pass.new }
+        ensures called { AppAnswers (table_of self.now) pass.old (ask.CreateActionSet instance name.now localized.now priority) result pass.new }
     {
         self.call(
             rt,
             pass,
             &Call::CreateActionSet {
                 instance,
-                name,
-                localized,
+                name: Items::new(name),
+                localized: Items::new(localized),
                 priority,
             },
+            &mut [],
         )
     }
 
     /// Ends an action set with its actions (chapter 11, xrDestroyActionSet).
     pub fn destroy_action_set<R: Wait>(&self, rt: &R, pass: &mut AppPass, set: u64) -> Reply
         requires may { MayCall (table_of self.now) pass.old }
-        ensures called { AppAnswers (table_of self.now) pass.old (request.destroy_action_set set) result pass.new }
+        ensures called { AppAnswers (table_of self.now) pass.old (ask.DestroyActionSet set) result pass.new }
     {
-        self.call(rt, pass, &Call::DestroyActionSet { set })
+        self.call(rt, pass, &Call::DestroyActionSet { set }, &mut [])
     }
 
     /// Asks for an action that tells the listed user paths apart (chapter 11, xrCreateAction).
@@ -53,27 +54,28 @@ impl Runtime {
         localized: &[u8],
     ) -> Reply
         requires may { MayCall (table_of self.now) pass.old }
-        ensures called { AppAnswers (table_of self.now) pass.old (request.create_action set name.now kind subs.now localized.now) result pass.new }
+        ensures called { AppAnswers (table_of self.now) pass.old (ask.CreateAction set name.now kind subs.now localized.now) result pass.new }
     {
         self.call(
             rt,
             pass,
             &Call::CreateAction {
                 set,
-                name,
+                name: Items::new(name),
                 kind,
-                subs,
-                localized,
+                subs: Items::new(subs),
+                localized: Items::new(localized),
             },
+            &mut [],
         )
     }
 
     /// Ends an action (chapter 11, xrDestroyAction).
     pub fn destroy_action<R: Wait>(&self, rt: &R, pass: &mut AppPass, action: u64) -> Reply
         requires may { MayCall (table_of self.now) pass.old }
-        ensures called { AppAnswers (table_of self.now) pass.old (request.destroy_action action) result pass.new }
+        ensures called { AppAnswers (table_of self.now) pass.old (ask.DestroyAction action) result pass.new }
     {
-        self.call(rt, pass, &Call::DestroyAction { action })
+        self.call(rt, pass, &Call::DestroyAction { action }, &mut [])
     }
 
     /// Suggests all bindings for a profile (chapter 11, xrSuggestInteractionProfileBindings).
@@ -86,7 +88,7 @@ impl Runtime {
         list: &[Binding],
     ) -> Reply
         requires may { MayCall (table_of self.now) pass.old }
-        ensures called { AppAnswers (table_of self.now) pass.old (request.suggest_bindings instance profile list.now) result pass.new }
+        ensures called { AppAnswers (table_of self.now) pass.old (ask.SuggestBindings instance profile list.now) result pass.new }
     {
         self.call(
             rt,
@@ -94,8 +96,9 @@ impl Runtime {
             &Call::SuggestBindings {
                 instance,
                 profile,
-                list,
+                list: Items::new(list),
             },
+            &mut [],
         )
     }
 
@@ -108,9 +111,10 @@ impl Runtime {
         sets: &[u64],
     ) -> Reply
         requires may { MayCall (table_of self.now) pass.old }
-        ensures called { AppAnswers (table_of self.now) pass.old (request.attach_sets session sets.now) result pass.new }
+        ensures called { AppAnswers (table_of self.now) pass.old (ask.AttachSets session sets.now) result pass.new }
     {
-        self.call(rt, pass, &Call::AttachSets { session, sets })
+        let sets = Items::new(sets);
+        self.call(rt, pass, &Call::AttachSets { session, sets }, &mut [])
     }
 
     /// Takes the inputs' values for the listed sets (chapter 11, xrSyncActions).
@@ -122,9 +126,10 @@ impl Runtime {
         active: &[ActiveSet],
     ) -> Reply
         requires may { MayCall (table_of self.now) pass.old }
-        ensures called { AppAnswers (table_of self.now) pass.old (request.sync_actions session active.now) result pass.new }
+        ensures called { AppAnswers (table_of self.now) pass.old (ask.SyncActions session active.now) result pass.new }
     {
-        self.call(rt, pass, &Call::SyncActions { session, active })
+        let active = Items::new(active);
+        self.call(rt, pass, &Call::SyncActions { session, active }, &mut [])
     }
 
     /// Asks for a boolean action's state (chapter 11, xrGetActionStateBoolean).
@@ -137,7 +142,7 @@ impl Runtime {
         sub: u64,
     ) -> Reply
         requires may { MayCall (table_of self.now) pass.old }
-        ensures called { AppAnswers (table_of self.now) pass.old (request.get_boolean session action sub) result pass.new }
+        ensures called { AppAnswers (table_of self.now) pass.old (ask.GetBoolean session action sub) result pass.new }
     {
         self.call(
             rt,
@@ -147,6 +152,7 @@ impl Runtime {
                 action,
                 sub,
             },
+            &mut [],
         )
     }
 
@@ -160,7 +166,7 @@ impl Runtime {
         sub: u64,
     ) -> Reply
         requires may { MayCall (table_of self.now) pass.old }
-        ensures called { AppAnswers (table_of self.now) pass.old (request.get_float session action sub) result pass.new }
+        ensures called { AppAnswers (table_of self.now) pass.old (ask.GetFloat session action sub) result pass.new }
     {
         self.call(
             rt,
@@ -170,6 +176,7 @@ impl Runtime {
                 action,
                 sub,
             },
+            &mut [],
         )
     }
 
@@ -183,7 +190,7 @@ impl Runtime {
         sub: u64,
     ) -> Reply
         requires may { MayCall (table_of self.now) pass.old }
-        ensures called { AppAnswers (table_of self.now) pass.old (request.get_vector session action sub) result pass.new }
+        ensures called { AppAnswers (table_of self.now) pass.old (ask.GetVector session action sub) result pass.new }
     {
         self.call(
             rt,
@@ -193,6 +200,7 @@ impl Runtime {
                 action,
                 sub,
             },
+            &mut [],
         )
     }
 
@@ -206,7 +214,7 @@ impl Runtime {
         sub: u64,
     ) -> Reply
         requires may { MayCall (table_of self.now) pass.old }
-        ensures called { AppAnswers (table_of self.now) pass.old (request.get_pose_active session action sub) result pass.new }
+        ensures called { AppAnswers (table_of self.now) pass.old (ask.GetPoseActive session action sub) result pass.new }
     {
         self.call(
             rt,
@@ -216,6 +224,7 @@ impl Runtime {
                 action,
                 sub,
             },
+            &mut [],
         )
     }
 }

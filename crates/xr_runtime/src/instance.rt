@@ -1,13 +1,12 @@
 //! The calls of instances, paths and events.
 ghost use Rattle.std.specs.Prelude.{length};
-ghost use Rattle.xr_types.specs.declared.frames.Shown.{Shown};
-ghost use Rattle.xr_model.specs.machine.Request as request;
-ghost use Rattle.xr_runtime.specs.Passes.{table_of, MayCall, AppCalls, AppAnswers};
+ghost use Rattle.xr_types.specs.declared.calls.Call.TheVariants as ask;
+ghost use Rattle.xr_runtime.specs.Passes.{table_of, MayCall, AnswersText, AppAnswers};
 
 use crate::calling::Runtime;
 use crate::passes::AppPass;
 use std::sync::Wait;
-use xr_types::{Call, Form, Reply, Shown};
+use xr_types::{Call, Form, Items, Reply};
 
 impl Runtime {
     /// Asks for an instance of this version of the API (OpenXR 1.0 section 4.2, xrCreateInstance).
@@ -19,17 +18,17 @@ impl Runtime {
         minor: u32,
     ) -> Reply
         requires may { MayCall (table_of self.now) pass.old }
-        ensures called { AppAnswers (table_of self.now) pass.old (request.create_instance major minor) result pass.new }
+        ensures called { AppAnswers (table_of self.now) pass.old (ask.CreateInstance major minor) result pass.new }
     {
-        self.call(rt, pass, &Call::CreateInstance { major, minor })
+        self.call(rt, pass, &Call::CreateInstance { major, minor }, &mut [])
     }
 
     /// Ends an instance with all below it (section 4.2, xrDestroyInstance).
     pub fn destroy_instance<R: Wait>(&self, rt: &R, pass: &mut AppPass, instance: u64) -> Reply
         requires may { MayCall (table_of self.now) pass.old }
-        ensures called { AppAnswers (table_of self.now) pass.old (request.destroy_instance instance) result pass.new }
+        ensures called { AppAnswers (table_of self.now) pass.old (ask.DestroyInstance instance) result pass.new }
     {
-        self.call(rt, pass, &Call::DestroyInstance { instance })
+        self.call(rt, pass, &Call::DestroyInstance { instance }, &mut [])
     }
 
     /// Asks for the system of a form (chapter 5, xrGetSystem).
@@ -41,9 +40,9 @@ impl Runtime {
         form: Form,
     ) -> Reply
         requires may { MayCall (table_of self.now) pass.old }
-        ensures called { AppAnswers (table_of self.now) pass.old (request.get_system instance form) result pass.new }
+        ensures called { AppAnswers (table_of self.now) pass.old (ask.GetSystem instance form) result pass.new }
     {
-        self.call(rt, pass, &Call::GetSystem { instance, form })
+        self.call(rt, pass, &Call::GetSystem { instance, form }, &mut [])
     }
 
     /// Asks for the atom of a path text (section 6.2, xrStringToPath).
@@ -55,17 +54,18 @@ impl Runtime {
         text: &[u8],
     ) -> Reply
         requires may { MayCall (table_of self.now) pass.old }
-        ensures called { AppAnswers (table_of self.now) pass.old (request.string_to_path instance text.now) result pass.new }
+        ensures called { AppAnswers (table_of self.now) pass.old (ask.StringToPath instance text.now) result pass.new }
     {
-        self.call(rt, pass, &Call::StringToPath { instance, text })
+        let text = Items::new(text);
+        self.call(rt, pass, &Call::StringToPath { instance, text }, &mut [])
     }
 
     /// Asks for the next event (chapter 2, xrPollEvent).
     pub fn poll_event<R: Wait>(&self, rt: &R, pass: &mut AppPass, instance: u64) -> Reply
         requires may { MayCall (table_of self.now) pass.old }
-        ensures called { AppAnswers (table_of self.now) pass.old (request.poll_event instance) result pass.new }
+        ensures called { AppAnswers (table_of self.now) pass.old (ask.PollEvent instance) result pass.new }
     {
-        self.call(rt, pass, &Call::PollEvent { instance })
+        self.call(rt, pass, &Call::PollEvent { instance }, &mut [])
     }
 
     /// Asks for the text of an atom, which is put in front of `out` where that has room for it and its terminating zero (section 6.2,
@@ -79,15 +79,14 @@ impl Runtime {
         out: &mut [u8],
     ) -> Reply
         requires may { MayCall (table_of self.now) pass.old }
-        ensures called { (before : Shown) × (after : Shown) × AppCalls (table_of self.now) pass.old (request.path_to_string instance path (length out.old)) (record { text = out.old; frame = before }) (record { text = out.new; frame = after }) result pass.new }
+        ensures called { AnswersText (table_of self.now) pass.old (ask.PathToString instance path (length out.old)) out.old out.new result pass.new }
     {
-        let mut shown = Shown::default();
         let capacity = out.len() as u64;
         let call = Call::PathToString {
             instance,
             path,
             capacity,
         };
-        self.lent(rt, pass, &call, out, &mut shown)
+        self.call(rt, pass, &call, out)
     }
 }

@@ -4,9 +4,8 @@ ghost use Rattle.xr_types.specs.Device.{checks};
 ghost use Rattle.xr_model.specs.laws.FewCalls.{is_end};
 ghost use Rattle.xr_model.specs.laws.ImageLaws.{is_compositor_call, is_next_frame};
 ghost use Rattle.xr_model.specs.machine.CoreCalls.{Lent, MayAsk};
-ghost use Rattle.xr_model.specs.machine.Request as request;
+ghost use Rattle.xr_types.specs.declared.calls.Call.TheVariants as ask;
 ghost use Rattle.xr_types.specs.declared.calls.Actor.TheVariants.{Compositor};
-ghost use Rattle.xr_model.specs.machine.Request.{request_of};
 ghost use Rattle.xr_runtime.specs.Passes.{table_of, IsCompositor, Composes, IsDevice, Tells};
 
 use crate::calling::Runtime;
@@ -33,10 +32,10 @@ impl Runtime {
         requires is { IsCompositor (table_of self.now) pass.old }
         requires unended { pass.old.ended ≡ false }
         requires few { pass.old.calls < 2 ^ 63 }
-        requires asks { MayAsk Compositor (request_of call.now) 0 }
-        requires its_own { is_compositor_call (request_of call.now) ≡ true }
-        requires none_held { is_next_frame (request_of call.now) ≡ true → pass.old.held ≡ 0 }
-        ensures called { (text : List ℕ) × Composes (table_of self.now) pass.old (request_of call.now) (record { text = []; frame = shown.old }) (record { text = text; frame = shown.new }) result pass.new }
+        requires asks { MayAsk Compositor call.now 0 }
+        requires its_own { is_compositor_call call.now ≡ true }
+        requires none_held { is_next_frame call.now ≡ true → pass.old.held ≡ 0 }
+        ensures called { (text : List ℕ) × Composes (table_of self.now) pass.old call.now (record { text = []; frame = shown.old }) (record { text = text; frame = shown.new }) result pass.new }
     {
         let answered = self.make(rt, &mut pass.seat, Actor::Compositor, call, &mut [], shown);
         pass.calls += 1;
@@ -51,7 +50,7 @@ impl Runtime {
         requires unended { pass.old.ended ≡ false }
         requires few { pass.old.calls < 2 ^ 63 }
         requires none_held { pass.old.held ≡ 0 }
-        ensures called { (text : List ℕ) × Composes (table_of self.now) pass.old request.next_frame (record { text = []; frame = out.old }) (record { text = text; frame = out.new }) result pass.new }
+        ensures called { (text : List ℕ) × Composes (table_of self.now) pass.old ask.NextFrame (record { text = []; frame = out.old }) (record { text = text; frame = out.new }) result pass.new }
     {
         self.compose(rt, pass, &Call::NextFrame, out)
     }
@@ -62,7 +61,7 @@ impl Runtime {
         requires unended { pass.old.ended ≡ false }
         requires few { pass.old.calls < 2 ^ 63 }
         requires some_held { 0 < pass.old.held }
-        ensures called { (before : Lent) × (after : Lent) × Composes (table_of self.now) pass.old request.image_done before after result pass.new }
+        ensures called { (before : Lent) × (after : Lent) × Composes (table_of self.now) pass.old ask.ImageDone before after result pass.new }
     {
         let mut shown = Shown::default();
         self.compose(rt, pass, &Call::ImageDone, &mut shown)
@@ -73,7 +72,7 @@ impl Runtime {
         requires is { IsDevice (table_of self.now) pass.old }
         requires few { pass.old.calls < 2 ^ 40 }
         requires checks { checks event ≡ true }
-        ensures called { Tells (table_of self.now) pass.old (request.device event) result pass.new }
+        ensures called { Tells (table_of self.now) pass.old (ask.Device event) result pass.new }
     {
         let mut shown = Shown::default();
         let answered = self.make(

@@ -1,7 +1,7 @@
 //! The calls of sessions, and an application's own.
 ghost use Rattle.std.specs.Prelude.{◌≡◌, true};
 ghost use Rattle.xr_types.specs.Device.{is_mark};
-ghost use Rattle.xr_model.specs.machine.Request as request;
+ghost use Rattle.xr_types.specs.declared.calls.Call.TheVariants as ask;
 ghost use Rattle.xr_runtime.specs.Passes.{table_of, MayCall, AppAnswers};
 
 use crate::calling::Runtime;
@@ -19,17 +19,17 @@ impl Runtime {
         system: u64,
     ) -> Reply
         requires may { MayCall (table_of self.now) pass.old }
-        ensures called { AppAnswers (table_of self.now) pass.old (request.create_session instance system) result pass.new }
+        ensures called { AppAnswers (table_of self.now) pass.old (ask.CreateSession instance system) result pass.new }
     {
-        self.call(rt, pass, &Call::CreateSession { instance, system })
+        self.call(rt, pass, &Call::CreateSession { instance, system }, &mut [])
     }
 
     /// Ends a session with all below it (chapter 9, xrDestroySession).
     pub fn destroy_session<R: Wait>(&self, rt: &R, pass: &mut AppPass, session: u64) -> Reply
         requires may { MayCall (table_of self.now) pass.old }
-        ensures called { AppAnswers (table_of self.now) pass.old (request.destroy_session session) result pass.new }
+        ensures called { AppAnswers (table_of self.now) pass.old (ask.DestroySession session) result pass.new }
     {
-        self.call(rt, pass, &Call::DestroySession { session })
+        self.call(rt, pass, &Call::DestroySession { session }, &mut [])
     }
 
     /// Starts a session that is ready (chapter 9, xrBeginSession).
@@ -41,50 +41,50 @@ impl Runtime {
         view: ViewConfig,
     ) -> Reply
         requires may { MayCall (table_of self.now) pass.old }
-        ensures called { AppAnswers (table_of self.now) pass.old (request.begin_session session view) result pass.new }
+        ensures called { AppAnswers (table_of self.now) pass.old (ask.BeginSession session view) result pass.new }
     {
-        self.call(rt, pass, &Call::BeginSession { session, view })
+        self.call(rt, pass, &Call::BeginSession { session, view }, &mut [])
     }
 
     /// Ends a session that is stopping (chapter 9, xrEndSession).
     pub fn end_session<R: Wait>(&self, rt: &R, pass: &mut AppPass, session: u64) -> Reply
         requires may { MayCall (table_of self.now) pass.old }
-        ensures called { AppAnswers (table_of self.now) pass.old (request.end_session session) result pass.new }
+        ensures called { AppAnswers (table_of self.now) pass.old (ask.EndSession session) result pass.new }
     {
-        self.call(rt, pass, &Call::EndSession { session })
+        self.call(rt, pass, &Call::EndSession { session }, &mut [])
     }
 
     /// Asks for a session's end (chapter 9, xrRequestExitSession).
     pub fn request_exit_session<R: Wait>(&self, rt: &R, pass: &mut AppPass, session: u64) -> Reply
         requires may { MayCall (table_of self.now) pass.old }
-        ensures called { AppAnswers (table_of self.now) pass.old (request.request_exit_session session) result pass.new }
+        ensures called { AppAnswers (table_of self.now) pass.old (ask.RequestExitSession session) result pass.new }
     {
-        self.call(rt, pass, &Call::RequestExitSession { session })
+        self.call(rt, pass, &Call::RequestExitSession { session }, &mut [])
     }
 
     /// Sets a mark with a value. This project's own.
     pub fn mark<R: Wait>(&self, rt: &R, pass: &mut AppPass, mark: u8, value: u64) -> Reply
         requires may { MayCall (table_of self.now) pass.old }
         requires in_range { is_mark mark ≡ true }
-        ensures called { AppAnswers (table_of self.now) pass.old (request.mark mark value) result pass.new }
+        ensures called { AppAnswers (table_of self.now) pass.old (ask.Mark mark value) result pass.new }
     {
-        self.call(rt, pass, &Call::Mark { mark, value })
+        self.call(rt, pass, &Call::Mark { mark, value }, &mut [])
     }
 
     /// Waits for a mark and asks for its value. This project's own.
     pub fn await_mark<R: Wait>(&self, rt: &R, pass: &mut AppPass, mark: u8) -> Reply
         requires may { MayCall (table_of self.now) pass.old }
         requires in_range { is_mark mark ≡ true }
-        ensures called { AppAnswers (table_of self.now) pass.old (request.await_mark mark) result pass.new }
+        ensures called { AppAnswers (table_of self.now) pass.old (ask.AwaitMark mark) result pass.new }
     {
-        self.call(rt, pass, &Call::AwaitMark { mark })
+        self.call(rt, pass, &Call::AwaitMark { mark }, &mut [])
     }
 
     /// Says that the application makes no further call. This project's own.
     pub fn leave<R: Wait>(&self, rt: &R, pass: &mut AppPass) -> Reply
         requires may { MayCall (table_of self.now) pass.old }
-        ensures called { AppAnswers (table_of self.now) pass.old request.leave result pass.new }
+        ensures called { AppAnswers (table_of self.now) pass.old ask.Leave result pass.new }
     {
-        self.call(rt, pass, &Call::Leave)
+        self.call(rt, pass, &Call::Leave, &mut [])
     }
 }

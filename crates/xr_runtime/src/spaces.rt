@@ -1,5 +1,5 @@
 //! The calls of spaces.
-ghost use Rattle.xr_model.specs.machine.Request as request;
+ghost use Rattle.xr_types.specs.declared.calls.Call.TheVariants as ask;
 ghost use Rattle.xr_runtime.specs.Passes.{table_of, MayCall, AppAnswers};
 
 use crate::calling::Runtime;
@@ -18,7 +18,7 @@ impl Runtime {
         offset: u64,
     ) -> Reply
         requires may { MayCall (table_of self.now) pass.old }
-        ensures called { AppAnswers (table_of self.now) pass.old (request.create_reference_space session kind offset) result pass.new }
+        ensures called { AppAnswers (table_of self.now) pass.old (ask.CreateReferenceSpace session kind offset) result pass.new }
     {
         self.call(
             rt,
@@ -28,6 +28,7 @@ impl Runtime {
                 kind,
                 offset,
             },
+            &mut [],
         )
     }
 
@@ -43,7 +44,7 @@ impl Runtime {
         offset: u64,
     ) -> Reply
         requires may { MayCall (table_of self.now) pass.old }
-        ensures called { AppAnswers (table_of self.now) pass.old (request.create_action_space session action sub offset) result pass.new }
+        ensures called { AppAnswers (table_of self.now) pass.old (ask.CreateActionSpace session action sub offset) result pass.new }
     {
         self.call(
             rt,
@@ -54,15 +55,16 @@ impl Runtime {
                 sub,
                 offset,
             },
+            &mut [],
         )
     }
 
     /// Ends a space (chapter 7, xrDestroySpace).
     pub fn destroy_space<R: Wait>(&self, rt: &R, pass: &mut AppPass, space: u64) -> Reply
         requires may { MayCall (table_of self.now) pass.old }
-        ensures called { AppAnswers (table_of self.now) pass.old (request.destroy_space space) result pass.new }
+        ensures called { AppAnswers (table_of self.now) pass.old (ask.DestroySpace space) result pass.new }
     {
-        self.call(rt, pass, &Call::DestroySpace { space })
+        self.call(rt, pass, &Call::DestroySpace { space }, &mut [])
     }
 
     /// Asks where a space is in a base at a time (chapter 7, xrLocateSpace).
@@ -75,8 +77,8 @@ impl Runtime {
         time: i64,
     ) -> Reply
         requires may { MayCall (table_of self.now) pass.old }
-        ensures called { AppAnswers (table_of self.now) pass.old (request.locate_space space base time) result pass.new }
+        ensures called { AppAnswers (table_of self.now) pass.old (ask.LocateSpace space base time) result pass.new }
     {
-        self.call(rt, pass, &Call::LocateSpace { space, base, time })
+        self.call(rt, pass, &Call::LocateSpace { space, base, time }, &mut [])
     }
 }

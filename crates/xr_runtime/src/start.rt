@@ -19,9 +19,7 @@ impl Runtime {
         ensures started { IfOk result (λ r. IsStarted r.0 apps r.1) }
     {
         let core = PlainCore::start(alloc, apps)?;
-        let Ok(mut passes) = Vec::with_capacity(alloc, apps as usize) else {
-            return Err(NoMemory);
-        };
+        let mut passes = Vec::with_capacity(alloc, apps as usize)?;
         let (table, mut seats) = XrTable::start(alloc, core, apps)?;
         let Some(device) = seats.pop() else {
             unreachable!()

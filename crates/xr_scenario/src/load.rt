@@ -23,10 +23,8 @@ const CHAIN: Use = Use::Of(6);
 fn push(ops: &mut Vec<Op>, op: Op) -> Result<(), NoMemory>
     ensures { OnOk result (ops.new.items ≡ ops.old.items ++ op ∷ []) }
 {
-    match ops.push(op) {
-        Ok(()) => Ok(()),
-        Err(_) => Err(NoMemory),
-    }
+    ops.push(op)?;
+    Ok(())
 }
 
 fn push_instance(ops: &mut Vec<Op>) -> Result<(), NoMemory>
@@ -133,9 +131,7 @@ fn push_wrong_end(alloc: Global, ops: &mut Vec<Op>, seventh: bool) -> Result<(),
 fn whole_quad(alloc: Global) -> Result<Several<LayerUse>, NoMemory>
     ensures { IfOk result (λ layers. layers ≡ whole_quad ∷ []) }
 {
-    let Ok(mut layers) = Vec::with_capacity(alloc, 1) else {
-        return Err(NoMemory);
-    };
+    let mut layers = Vec::with_capacity(alloc, 1)?;
     let image = SubImageUse {
         chain: CHAIN,
         x: 0,
@@ -148,10 +144,8 @@ fn whole_quad(alloc: Global) -> Result<Several<LayerUse>, NoMemory>
         image,
         pose: 1,
     };
-    match layers.push(quad) {
-        Ok(()) => Ok(Several::new(layers)),
-        Err(_) => Err(NoMemory),
-    }
+    layers.push(quad)?;
+    Ok(Several::new(layers))
 }
 
 /// The end of a frame at the time that the wait at a place gave.
@@ -205,9 +199,7 @@ fn load_script(alloc: Global, n: u32) -> Result<Script, NoMemory>
     requires { n ≤ MOST_LOAD }
     ensures { IfOk result (λ ops. ops ≡ load_script n) }
 {
-    let Ok(mut ops) = Vec::with_capacity(alloc, op_count(n)) else {
-        return Err(NoMemory);
-    };
+    let mut ops = Vec::with_capacity(alloc, op_count(n))?;
     push_opening(&mut ops)?;
     push_frames(alloc, &mut ops, n)?;
     Ok(Several::new(ops))
@@ -221,14 +213,10 @@ pub fn generate(alloc: Global, n: u32) -> Result<Scenario, NoMemory>
     ensures fits { IfOk result (λ scenario. IsOneShortScript scenario) }
 {
     let script = load_script(alloc, n)?;
-    let Ok(mut scripts) = Vec::with_capacity(alloc, 1) else {
-        return Err(NoMemory);
-    };
-    match scripts.push(script) {
-        Ok(()) => Ok(Scenario {
-            version: VERSION,
-            scripts: Several::new(scripts),
-        }),
-        Err(_) => Err(NoMemory),
-    }
+    let mut scripts = Vec::with_capacity(alloc, 1)?;
+    scripts.push(script)?;
+    Ok(Scenario {
+        version: VERSION,
+        scripts: Several::new(scripts),
+    })
 }

@@ -1,18 +1,17 @@
 // The call that an op asks for: a function for each group of ops.
 ghost use Rattle.std.specs.Prelude.{◌≡◌};
 ghost use Rattle.xr_model.specs.scenario.ScriptForm.{IsInRange};
-ghost use Rattle.xr_model.specs.machine.Request.{request_of};
 ghost use Rattle.xr_model.specs.runs.Scripts.{request_for};
 ghost use Rattle.xr_scenario_calls.specs.inside.Groups.{IsInstanceOp, IsSessionOp, IsSpaceOp, IsActionOp, IsStateOp, IsImageOp, IsFrameOp};
 
 use crate::lists::{layers_for, list_for};
 use crate::{Names, Scratch};
-use xr_types::{Call, Op};
+use xr_types::{Call, Items, Op};
 
 /// The call of an op on an instance, its system, its paths or its events.
 fn instance_call<'a>(op: &'a Op, names: &Names) -> Call<'a>
     requires group { IsInstanceOp op.now }
-    ensures { request_of result ≡ request_for names.now op.now }
+    ensures { result ≡ request_for names.now op.now }
 {
     match op {
         Op::CreateInstance { major, minor } => Call::CreateInstance {
@@ -31,7 +30,7 @@ fn instance_call<'a>(op: &'a Op, names: &Names) -> Call<'a>
         },
         Op::StringToPath { instance, text } => Call::StringToPath {
             instance: names.value_of(*instance),
-            text: text.as_slice(),
+            text: Items::new(text.as_slice()),
         },
         Op::PathToString {
             instance,
@@ -49,7 +48,7 @@ fn instance_call<'a>(op: &'a Op, names: &Names) -> Call<'a>
 /// The call of an op on a session.
 fn session_call<'a>(op: &'a Op, names: &Names) -> Call<'a>
     requires group { IsSessionOp op.now }
-    ensures { request_of result ≡ request_for names.now op.now }
+    ensures { result ≡ request_for names.now op.now }
 {
     match op {
         Op::CreateSession { instance, system } => Call::CreateSession {
@@ -76,7 +75,7 @@ fn session_call<'a>(op: &'a Op, names: &Names) -> Call<'a>
 /// The call of an op on a space.
 fn space_call<'a>(op: &'a Op, names: &Names) -> Call<'a>
     requires group { IsSpaceOp op.now }
-    ensures { request_of result ≡ request_for names.now op.now }
+    ensures { result ≡ request_for names.now op.now }
 {
     match op {
         Op::CreateReferenceSpace {
@@ -115,7 +114,7 @@ fn space_call<'a>(op: &'a Op, names: &Names) -> Call<'a>
 fn action_call<'a>(op: &'a Op, names: &Names, scratch: &'a mut Scratch) -> Call<'a>
     requires group { IsActionOp op.now }
     requires ranged { IsInRange op.now }
-    ensures { request_of result ≡ request_for names.now op.now }
+    ensures { result ≡ request_for names.now op.now }
 {
     match op {
         Op::CreateActionSet {
@@ -125,8 +124,8 @@ fn action_call<'a>(op: &'a Op, names: &Names, scratch: &'a mut Scratch) -> Call<
             priority,
         } => Call::CreateActionSet {
             instance: names.value_of(*instance),
-            name: name.as_slice(),
-            localized: localized.as_slice(),
+            name: Items::new(name.as_slice()),
+            localized: Items::new(localized.as_slice()),
             priority: *priority,
         },
         Op::DestroyActionSet { set } => Call::DestroyActionSet {
@@ -140,10 +139,10 @@ fn action_call<'a>(op: &'a Op, names: &Names, scratch: &'a mut Scratch) -> Call<
             localized,
         } => Call::CreateAction {
             set: names.value_of(*set),
-            name: name.as_slice(),
+            name: Items::new(name.as_slice()),
             kind: *kind,
-            subs: list_for(&mut scratch.numbers, names, subactions.as_slice()),
-            localized: localized.as_slice(),
+            subs: Items::new(list_for(&mut scratch.numbers, names, subactions.as_slice())),
+            localized: Items::new(localized.as_slice()),
         },
         Op::DestroyAction { action } => Call::DestroyAction {
             action: names.value_of(*action),
@@ -155,15 +154,15 @@ fn action_call<'a>(op: &'a Op, names: &Names, scratch: &'a mut Scratch) -> Call<
         } => Call::SuggestBindings {
             instance: names.value_of(*instance),
             profile: names.value_of(*profile),
-            list: list_for(&mut scratch.bindings, names, bindings.as_slice()),
+            list: Items::new(list_for(&mut scratch.bindings, names, bindings.as_slice())),
         },
         Op::AttachSets { session, sets } => Call::AttachSets {
             session: names.value_of(*session),
-            sets: list_for(&mut scratch.numbers, names, sets.as_slice()),
+            sets: Items::new(list_for(&mut scratch.numbers, names, sets.as_slice())),
         },
         Op::SyncActions { session, active } => Call::SyncActions {
             session: names.value_of(*session),
-            active: list_for(&mut scratch.active, names, active.as_slice()),
+            active: Items::new(list_for(&mut scratch.active, names, active.as_slice())),
         },
         _ => unreachable!(),
     }
@@ -172,7 +171,7 @@ fn action_call<'a>(op: &'a Op, names: &Names, scratch: &'a mut Scratch) -> Call<
 /// The call of an op on an action's state.
 fn state_call<'a>(op: &'a Op, names: &Names) -> Call<'a>
     requires group { IsStateOp op.now }
-    ensures { request_of result ≡ request_for names.now op.now }
+    ensures { result ≡ request_for names.now op.now }
 {
     match op {
         Op::GetBoolean {
@@ -218,7 +217,7 @@ fn state_call<'a>(op: &'a Op, names: &Names) -> Call<'a>
 /// The call of an op on a swapchain or its images.
 fn image_call<'a>(op: &'a Op, names: &Names) -> Call<'a>
     requires group { IsImageOp op.now }
-    ensures { request_of result ≡ request_for names.now op.now }
+    ensures { result ≡ request_for names.now op.now }
 {
     match op {
         Op::CreateSwapchain {
@@ -260,7 +259,7 @@ fn image_call<'a>(op: &'a Op, names: &Names) -> Call<'a>
 fn frame_call<'a>(op: &'a Op, names: &Names, scratch: &'a mut Scratch) -> Call<'a>
     requires group { IsFrameOp op.now }
     requires ranged { IsInRange op.now }
-    ensures { request_of result ≡ request_for names.now op.now }
+    ensures { result ≡ request_for names.now op.now }
 {
     match op {
         Op::WaitFrame { session } => Call::WaitFrame {
@@ -278,7 +277,7 @@ fn frame_call<'a>(op: &'a Op, names: &Names, scratch: &'a mut Scratch) -> Call<'
             session: names.value_of(*session),
             time: names.time_of(*time),
             blend: *blend,
-            layers: layers_for(&mut scratch.layers, names, layers.as_slice()),
+            layers: Items::new(layers_for(&mut scratch.layers, names, layers.as_slice())),
         },
         _ => unreachable!(),
     }
@@ -289,7 +288,7 @@ fn frame_call<'a>(op: &'a Op, names: &Names, scratch: &'a mut Scratch) -> Call<'
 #[inline(always)]
 pub fn call_of<'a>(op: &'a Op, names: &Names, scratch: &'a mut Scratch) -> Call<'a>
     requires { IsInRange op.now }
-    ensures { request_of result ≡ request_for names.now op.now }
+    ensures { result ≡ request_for names.now op.now }
 {
     match op {
         Op::Mark { mark, value } => Call::Mark {

@@ -48,10 +48,8 @@ impl Names {
     pub fn start(alloc: Global, ops: usize) -> Result<Names, NoMemory>
         ensures { IfOk result (λ names. names ≡ no_values ops) }
     {
-        match vec![in alloc; 0u64; ops] {
-            Ok(values) => Ok(Names { values }),
-            Err(_) => Err(NoMemory),
-        }
+        let values = vec![in alloc; 0u64; ops]?;
+        Ok(Names { values })
     }
 
     /// Keeps what the op at this place, from 1, was answered. Takes no memory.

@@ -26,10 +26,8 @@ impl<T: Drop, const N: usize> Room<T, N> {
     pub(crate) fn start(alloc: Global) -> Result<Room<T, N>, NoMemory>
         ensures { IfOk result (λ room. room ≡ []) }
     {
-        match Vec::with_capacity(alloc, N) {
-            Ok(list) => Ok(Room { list }),
-            Err(_) => Err(NoMemory),
-        }
+        let list = Vec::with_capacity(alloc, N)?;
+        Ok(Room { list })
     }
 
     pub(crate) fn clear(&mut self)

@@ -9,8 +9,10 @@ use Rattle.xr_types.specs.declared.calls.Actor.TheVariants.{App, Device}
 use Rattle.xr_types.specs.declared.device.DeviceEvent.{DeviceEvent}
 use Rattle.xr_types.specs.declared.scenario.Op.{Op}
 use Rattle.xr_types.specs.declared.scenario.Scenario.{Scenario}
-use Rattle.xr_model.specs.machine.Request as request
-use Rattle.xr_model.specs.machine.Request.{Request, Outcome, leave, is_locked}
+use Rattle.xr_types.specs.CallKinds.{is_locked}
+use Rattle.xr_model.specs.machine.Calls.{Outcome, Exchange}
+use Rattle.xr_types.specs.declared.calls.Call.{Call}
+use Rattle.xr_types.specs.declared.calls.Call.TheVariants as ask
 use Rattle.xr_model.specs.machine.CoreCalls.{entry_of}
 use Rattle.xr_model.specs.machine.State.{State}
 use Rattle.xr_model.specs.machine.History.{clock_of, StartsAt}
@@ -36,7 +38,7 @@ use Rattle.xr_serial.proofs.Work.{work_set, getters_set, getters_more, one_of_bo
 use Rattle.xr_serial.proofs.KeptApplications.{op_more, leave_more, one_more}
 
 -- the lists of a run that is kept have the lengths of its scenario
-pub all_of : (scenario : Scenario) (s : State) (run : RunState) (calls : Actor → List request.Exchange) (start now : Prospect) → RunKept scenario s run calls start now → AreAll scenario run
+pub all_of : (scenario : Scenario) (s : State) (run : RunState) (calls : Actor → List Exchange) (start now : Prospect) → RunKept scenario s run calls start now → AreAll scenario run
 all_of scenario s run calls start now kept = kept.apps.count
 
 pub are_so : (scenario : Scenario) (turn idle : ℕ) (s : State) (run : RunState) → AreAll scenario run → turn < actors_of scenario → idle < actors_of scenario → AreSo (actors_of scenario) turn idle (parts_of scenario s run)
@@ -77,7 +79,7 @@ module _ (scenario : Scenario) (place idle : ℕ) (s after : State) (run : RunSt
 
   -- what of a call is the same for an op and for `leave`: it is counted as a locked one or as a getter, its application knows the
   -- clock after its last locked one, at which a wait begins, and as many images are held as before
-  record Asks (what : Request) (app : AppState) : Type 0 where
+  record Asks (what : Call) (app : AppState) : Type 0 where
     counts : getters_in app.calls ≡ getters_in old.calls + (if not (is_locked what) then 1 else 0)
     starts : StartsAt old.clock what
     timed : app.clock ≡ (if is_locked what then after.core.device.clock else old.clock)
@@ -85,12 +87,12 @@ module _ (scenario : Scenario) (place idle : ℕ) (s after : State) (run : RunSt
     holds : after.cells.held ≡ s.cells.held
 
   -- the clock that the application knows
-  clock_is : (calls : Actor → List request.Exchange) → length run.apps ≡ length scenario.scripts → clock_of (trace_of run calls).clocks (App (place + 1)) ≡ old.clock
+  clock_is : (calls : Actor → List Exchange) → length run.apps ≡ length scenario.scripts → clock_of (trace_of run calls).clocks (App (place + 1)) ≡ old.clock
   clock_is calls size =
       rw own
       (ap (λ (o : Option ℤ). unwrap_or o (pos 0)) (slice_get-map (λ (a : AppState). a.clock) run.apps place ∙ ap (option_map (λ (a : AppState). a.clock)) (slice_get-get_or run.apps place old (omega (arith, within, size)) ∙ ap Some (here old))))
 
-  app_trace : (calls : Actor → List request.Exchange) (what : Request) (outcome : Outcome) (app : AppState) → Asks what app
+  app_trace : (calls : Actor → List Exchange) (what : Call) (outcome : Outcome) (app : AppState) → Asks what app
       → trace_behind s after (trace_of run calls) (App (place + 1)) what outcome ≡ trace_of (record run { apps = set run.apps place app }) (calls_with calls (App (place + 1)) (exchange_of what outcome))
   app_trace calls what outcome app asks = by (is_locked what) refl asks.timed
     where
@@ -105,12 +107,12 @@ module _ (scenario : Scenario) (place idle : ℕ) (s after : State) (run : RunSt
           (ap with_clocks (sym (map-set_same (λ (a : AppState). a.clock) run.apps place app old (timed ∙ ap (λ (a : AppState). a.clock) (sym (here old))))))
 
   -- it makes a call
-  goes_on : (what : Request) (outcome : Outcome) (app : AppState) (agenda : Agenda) (kept : RunInvariant scenario place idle s run start now) → IsAnswered s after (App (place + 1)) what outcome → Asks what app
+  goes_on : (what : Call) (outcome : Outcome) (app : AppState) (agenda : Agenda) (kept : RunInvariant scenario place idle s run start now) → IsAnswered s after (App (place + 1)) what outcome → Asks what app
       → script_part (place + 1) ops old ≡ agenda ∷ [] → IsAgendaOf (App (place + 1)) what agenda → agenda_after agenda after outcome ≡ script_part (place + 1) ops app
       → AppKept ops app (kept.calls (App (place + 1)) ++ exchange_of what outcome ∷ []) → after.core.left ≡ map (λ (a : AppState). a.has_left) (set run.apps place app)
       → app_work ops app + frames_work after.core.frames.pending + 1 ≤ app_work ops old + frames_work s.core.frames.pending → RunInvariant scenario (turn_behind place (actors_of scenario)) 0 after (record run { apps = set run.apps place app }) start now
   goes_on what outcome app agenda kept call asks alone of next more left less =
-      let t : request.Exchange = exchange_of what outcome in
+      let t : Exchange = exchange_of what outcome in
       let all : AreAll scenario run = all_of scenario s run kept.calls start now kept.kept in
       let goes : Goes place (parts_of scenario s run) s after (trace_of run kept.calls) (App (place + 1)) what outcome = record {
         agenda = λ rest. agenda;
@@ -154,9 +156,9 @@ module _ (scenario : Scenario) (place idle : ℕ) (s after : State) (run : RunSt
   pub op_made : (app : AppState) → OpMade (place + 1) ops old app s after → old.made < length ops → old.has_left ≡ false → RunInvariant scenario place idle s run start now
       → RunInvariant scenario (turn_behind place (actors_of scenario)) 0 after (record run { apps = set run.apps place app }) start now
   op_made app m more stays kept =
-      let what : Request = op_request old m.op in
+      let what : Call = op_request old m.op in
       let clock : ℤ = clock_behind old.clock (request_for old.names m.op) after in
-      let t : request.Exchange = exchange_of what m.outcome in
+      let t : Exchange = exchange_of what m.outcome in
       let e = entry_of (App (place + 1)) what m.outcome.reply in
       let brought : frames_work after.core.frames.pending ≤ frames_work s.core.frames.pending + 65 = rw m.call.leads (op_brings s e old.clock old.names m.op refl m.ranged) in
       let same_left : after.core.left ≡ s.core.left = rw m.call.leads (call_keeps s e (op_stays old.clock old.names m.op)) in
@@ -181,13 +183,13 @@ module _ (scenario : Scenario) (place idle : ℕ) (s after : State) (run : RunSt
       → RunInvariant scenario (turn_behind place (actors_of scenario)) 0 after (record run { apps = set run.apps place app }) start now
   leaves app m all stays kept =
       let clock : ℤ = after.core.device.clock in
-      let t : request.Exchange = exchange_of leave m.outcome in
-      let e = entry_of (App (place + 1)) leave m.outcome.reply in
+      let t : Exchange = exchange_of ask.Leave m.outcome in
+      let e = entry_of (App (place + 1)) ask.Leave m.outcome.reply in
       let none : drop old.made ops ≡ [] = none_left ops old.made all in
       let same_left : after.core.left ≡ set s.core.left place true = rw (m.call.leads, own) refl in
       let brought : frames_work after.core.frames.pending ≤ frames_work s.core.frames.pending + 0 = rw m.call.leads (brings s e tt) in
       rw m.app
-      (goes_on leave m.outcome (app_left old t clock) (script (place + 1) (old.made + 1) (drop old.made ops) old.names old.clock) kept m.call
+      (goes_on ask.Leave m.outcome (app_left old t clock) (script (place + 1) (old.made + 1) (drop old.made ops) old.names old.clock) kept m.call
       (record { counts = getters_more old.calls (made_at (old.made + 1) t); starts = tt; timed = refl; returns = refl; holds = rw m.call.leads (call_holds s e tt) })
       (rw stays refl)
       (record { actor = refl; call = rw none refl })
@@ -281,8 +283,8 @@ in_form_at (ops ∷ scripts) (suc place) all within = in_form_at scripts place a
 
 op_counts : (number : ℕ) (ops : List Op) (old app : AppState) (s after : State) (went : Bool) → OpTurn number ops old app s after went → after.core.locked + getters_in app.calls ≡ s.core.locked + getters_in old.calls + (if went then 1 else 0)
 op_counts number ops old app s after true m =
-    let what : Request = op_request old m.op in
-    let t : request.Exchange = exchange_of what m.outcome in
+    let what : Call = op_request old m.op in
+    let t : Exchange = exchange_of what m.outcome in
     let locks : after.core.locked ≡ (if is_locked what then s.core.locked + 1 else s.core.locked) = rw m.call.leads refl in
     let more : getters_in app.calls ≡ getters_in old.calls + (if not (is_locked what) then 1 else 0) =
     rw m.app (getters_more old.calls (made_at (old.made + 1) t) ∙ ap (λ (b : Bool). getters_in old.calls + (if b then 1 else 0)) (getter_name old.clock old.names m.op)) in
@@ -292,7 +294,7 @@ op_counts number ops old app s after false m = rw (m.same, m.app) (omega arith)
 leave_counts : (number : ℕ) (old app : AppState) (s after : State) → Leaves number old app s after → after.core.locked + getters_in app.calls ≡ s.core.locked + getters_in old.calls + 1
 leave_counts number old app s after m =
     let locks : after.core.locked ≡ s.core.locked + 1 = rw m.call.leads refl in
-    let more : getters_in app.calls ≡ getters_in old.calls + 0 = rw m.app (getters_more old.calls (made_at (old.made + 1) (exchange_of leave m.outcome))) in
+    let more : getters_in app.calls ≡ getters_in old.calls + 0 = rw m.app (getters_more old.calls (made_at (old.made + 1) (exchange_of ask.Leave m.outcome))) in
     omega (arith, locks, more)
 
 -- of all, where one application has gone on

@@ -13,8 +13,8 @@ use Rattle.xr_types.specs.declared.made.Waiting.{Waiting}
 use Rattle.xr_types.specs.declared.scenario.Op.{Op}
 use Rattle.xr_types.specs.declared.scenario.Scenario.{Scenario}
 use Rattle.xr_io.specs.Outside.{Rose}
-use Rattle.xr_model.specs.machine.Request as request
-use Rattle.xr_model.specs.machine.Request.{next_frame, Entry, Outcome, is_actor}
+use Rattle.xr_model.specs.machine.Calls.{Entry, Outcome, is_actor, Exchange}
+use Rattle.xr_types.specs.declared.calls.Call.TheVariants as ask
 use Rattle.xr_model.specs.machine.State.{State, opening}
 use Rattle.xr_model.specs.machine.History.{shown_if, calls_from, calls_of}
 use Rattle.xr_model.specs.runs.Scripts.{FollowsSoFar}
@@ -46,7 +46,7 @@ filled w ws h = cc
 
 -- ---- an application
 
-follows_so_far : (ops : List Op) (app : AppState) (calls : List request.Exchange) → AppKept ops app calls → FollowsSoFar ops calls
+follows_so_far : (ops : List Op) (app : AppState) (calls : List Exchange) → AppKept ops app calls → FollowsSoFar ops calls
 follows_so_far ops app calls kept = by app.has_left refl
   where
     by : (left : Bool) → app.has_left ≡ left → FollowsSoFar ops calls
@@ -56,28 +56,28 @@ follows_so_far ops app calls kept = by app.has_left refl
 -- ---- the compositor
 
 -- behind such a call it isn't told the end
-not_the_end : (t : request.Exchange) → GoesOn t → is_ended t.outcome.reply.gives ≡ false
+not_the_end : (t : Exchange) → GoesOn t → is_ended t.outcome.reply.gives ≡ false
 not_the_end t (a_frame is gives) = rw gives refl
 not_the_end t (an_image is good gives) = rw gives refl
 
-none_ended : (calls : List request.Exchange) → AllGoOn calls → end_of calls ≡ None
+none_ended : (calls : List Exchange) → AllGoOn calls → end_of calls ≡ None
 none_ended [] were = refl
 none_ended (t ∷ calls) were = rw (not_the_end t were.0) (none_ended calls were.1)
 
-last_ended : (front : List request.Exchange) (last : Outcome) → AllGoOn front → last.reply.gives ≡ Ended → end_of (front ++ exchange_of next_frame last ∷ []) ≡ Some last.reply
+last_ended : (front : List Exchange) (last : Outcome) → AllGoOn front → last.reply.gives ≡ Ended → end_of (front ++ exchange_of ask.NextFrame last ∷ []) ≡ Some last.reply
 last_ended [] last were ends = rw ends refl
 last_ended (t ∷ front) last were ends = rw (not_the_end t were.0) (last_ended front last were.1 ends)
 
-ends_so : (ended : Option Reply) (calls : List request.Exchange) → EndKept ended calls → end_of calls ≡ ended
+ends_so : (ended : Option Reply) (calls : List Exchange) → EndKept ended calls → end_of calls ≡ ended
 ends_so None calls were = none_ended calls were
 ends_so (Some reply) calls end = rw end.2 (last_ended end.0 end.1 end.3 (ap (λ (r : Reply). r.gives) end.4 ∙ end.5) ∙ ap Some end.4)
 
-ends_last : (front : List request.Exchange) (last : Outcome) → AllGoOn front → last.reply.gives ≡ Ended → IsEnd (front ++ exchange_of next_frame last ∷ [])
+ends_last : (front : List Exchange) (last : Outcome) → AllGoOn front → last.reply.gives ≡ Ended → IsEnd (front ++ exchange_of ask.NextFrame last ∷ [])
 ends_last [] last were ends = (refl, ends)
 ends_last (t ∷ []) last were ends = (were.0, (refl, ends))
 ends_last (t ∷ u ∷ front) last were ends = (were.0, ends_last (u ∷ front) last were.1 ends)
 
-ends_once : (ended : Option Reply) (calls : List request.Exchange) → EndKept ended calls → map waiting_of (compositor_part ended 0) ≡ [] → IsEnd calls
+ends_once : (ended : Option Reply) (calls : List Exchange) → EndKept ended calls → map waiting_of (compositor_part ended 0) ≡ [] → IsEnd calls
 ends_once None calls none h = absurd (filled _ [] h)
 ends_once (Some reply) calls end none = rw end.2 (ends_last end.0 end.1 end.3 (ap (λ (r : Reply). r.gives) end.4 ∙ end.5))
 
@@ -92,7 +92,7 @@ robin_shows s agendas (e ∷ es) robin = by (next_move s [] agendas) robin.0 (ro
     rest = shown_from (step s e).0 es
 
     -- a call of another is hidden
-    hidden : is_actor Compositor e.actor ≡ false → IsHidden e.request → frames_in (calls_from (step s e).0 Compositor es) ≡ rest → frames_in (calls_from s Compositor (e ∷ es)) ≡ shown_from s (e ∷ es)
+    hidden : is_actor Compositor e.actor ≡ false → IsHidden e.call → frames_in (calls_from (step s e).0 Compositor es) ≡ rest → frames_in (calls_from s Compositor (e ∷ es)) ≡ shown_from s (e ∷ es)
     hidden other still more = rw (other, shows_none s e still) more
 
     own : is_actor Compositor e.actor ≡ true → frames_in (calls_from (step s e).0 Compositor es) ≡ rest → frames_in (calls_from s Compositor (e ∷ es)) ≡ shown_from s (e ∷ es)
@@ -102,7 +102,7 @@ robin_shows s agendas (e ∷ es) robin = by (next_move s [] agendas) robin.0 (ro
     by None is more = absurd is
     by (Some m) is more = of m.agenda is.0 is.1
       where
-        of : (x : Agenda) → e.actor ≡ actor_of x → e.request ≡ next_call x → frames_in (calls_from s Compositor (e ∷ es)) ≡ shown_from s (e ∷ es)
+        of : (x : Agenda) → e.actor ≡ actor_of x → e.call ≡ next_call x → frames_in (calls_from s Compositor (e ∷ es)) ≡ shown_from s (e ∷ es)
         of (script app place [] values clock) who what = hidden (rw who refl) (rw what tt) more
         of (script app place (o ∷ os) values clock) who what = hidden (rw who refl) (subst IsHidden (sym what) (op_hidden clock values o)) more
         of (events event later) who what = hidden (rw who refl) (rw what tt) more

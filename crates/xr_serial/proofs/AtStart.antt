@@ -6,7 +6,7 @@ use Rattle.xr_types.specs.declared.calls.Actor.{Actor}
 use Rattle.xr_types.specs.declared.device.DeviceEvent.{DeviceEvent}
 use Rattle.xr_types.specs.declared.scenario.Op.{Op}
 use Rattle.xr_types.specs.declared.scenario.Scenario.{Scenario}
-use Rattle.xr_model.specs.machine.Request as request
+use Rattle.xr_model.specs.machine.Calls.{Exchange}
 use Rattle.xr_model.specs.machine.State.{opening}
 use Rattle.xr_model.specs.machine.History.{IsLegalFrom}
 use Rattle.xr_model.specs.device_text.DeviceText.{DeviceStream}
@@ -29,7 +29,7 @@ gives_all : (told : Option DeviceStream) → GivesMore told told []
 gives_all None = tt
 gives_all (Some t) = refl
 
-abbrev no_calls : Actor → List request.Exchange
+abbrev no_calls : Actor → List Exchange
 no_calls who = []
 
 -- the clock that each application knows

@@ -10,8 +10,8 @@ use Rattle.xr_types.specs.declared.calls.Reply.{Reply}
 use Rattle.xr_types.specs.declared.scenario.Scenario.{Scenario}
 use Rattle.xr_types.specs.Frames.{PendingFrame}
 use Rattle.xr_types.specs.declared.frames.Shown as frames
-use Rattle.xr_model.specs.machine.Request as request
-use Rattle.xr_model.specs.machine.Request.{Outcome, next_frame, image_done}
+use Rattle.xr_model.specs.machine.Calls.{Outcome, Exchange}
+use Rattle.xr_types.specs.declared.calls.Call.TheVariants as ask
 use Rattle.xr_model.specs.machine.CoreCalls.{entry_of}
 use Rattle.xr_model.specs.machine.Frames.{is_empty}
 use Rattle.xr_model.specs.machine.History.{shown_if}
@@ -48,10 +48,10 @@ pub data Told (s after : State) (o : Outcome) : Type 0 where
 
 -- where no image is held its call isn't refused
 goes_so : (k : CoreState) (stamps : List ℕ) (reply : Reply) (held : List Image) → held ≡ []
-    → ((step (whole k stamps held) (entry_of Compositor next_frame reply)).1.shown ≡ oldest_shown k.frames.pending (reads_of (whole k stamps held) next_frame).stamps)
-    × ((step (whole k stamps held) (entry_of Compositor next_frame reply)).1.reply.gives ≡ told_frame k.frames.pending)
-    × ((step (whole k stamps held) (entry_of Compositor next_frame reply)).0.core.frames.pending ≡ drop 1 k.frames.pending)
-    × ((step (whole k stamps held) (entry_of Compositor next_frame reply)).0.cells.held ≡ first_images k.frames.pending ++ [])
+    → ((step (whole k stamps held) (entry_of Compositor ask.NextFrame reply)).1.shown ≡ oldest_shown k.frames.pending (reads_of (whole k stamps held) ask.NextFrame).stamps)
+    × ((step (whole k stamps held) (entry_of Compositor ask.NextFrame reply)).1.reply.gives ≡ told_frame k.frames.pending)
+    × ((step (whole k stamps held) (entry_of Compositor ask.NextFrame reply)).0.core.frames.pending ≡ drop 1 k.frames.pending)
+    × ((step (whole k stamps held) (entry_of Compositor ask.NextFrame reply)).0.cells.held ≡ first_images k.frames.pending ++ [])
 goes_so k stamps reply [] unheld = (refl, refl, refl, refl)
 goes_so k stamps reply (i ∷ held) unheld = cc
 
@@ -59,13 +59,13 @@ goes_so k stamps reply (i ∷ held) unheld = cc
 work_is : (after : State) (fs : List PendingFrame) (images : List Image) → after.core.frames.pending ≡ fs → after.cells.held ≡ images → shown_work after ≡ frames_work fs + length images
 work_is after fs images pending held = rw (pending, held) refl
 
-pub told : (s after : State) (o : Outcome) → s.cells.held ≡ [] → IsAnswered s after Compositor next_frame o → Told s after o
+pub told : (s after : State) (o : Outcome) → s.cells.held ≡ [] → IsAnswered s after Compositor ask.NextFrame o → Told s after o
 told s after o unheld call =
     let went = goes_so s.core s.cells.stamps o.reply s.cells.held unheld in
     by s.core.frames.pending refl (sym (ap (λ (x : Outcome). x.shown) call.comes) ∙ went.0) (sym (ap (λ (x : Outcome). x.reply.gives) call.comes) ∙ went.1) (ap (λ (t : State). t.core.frames.pending) call.leads ∙ went.2) (ap (λ (t : State). t.cells.held) call.leads ∙ went.3)
   where
     seen : List ℕ
-    seen = (reads_of s next_frame).stamps
+    seen = (reads_of s ask.NextFrame).stamps
 
     by : (fs : List PendingFrame) → s.core.frames.pending ≡ fs → o.shown ≡ oldest_shown s.core.frames.pending seen → o.reply.gives ≡ told_frame s.core.frames.pending → after.core.frames.pending ≡ drop 1 s.core.frames.pending
         → after.cells.held ≡ first_images s.core.frames.pending ++ [] → Told s after o
@@ -85,10 +85,10 @@ pub record Returned (s after : State) (o : Outcome) : Type 0 where
   pub gives : o.reply.gives ≡ Nothing
   pub less : shown_work after + 1 ≡ shown_work s
 
-pub returned : (s after : State) (o : Outcome) → is_empty s.cells.held ≡ false → IsAnswered s after Compositor image_done o → Returned s after o
+pub returned : (s after : State) (o : Outcome) → is_empty s.cells.held ≡ false → IsAnswered s after Compositor ask.ImageDone o → Returned s after o
 returned s after o holds call = by s.core s.cells.stamps s.cells.held holds call.leads call.comes
   where
-    by : (k : CoreState) (stamps : List ℕ) (held : List Image) → is_empty held ≡ false → after ≡ (step (whole k stamps held) (entry_of Compositor image_done o.reply)).0 → (step (whole k stamps held) (entry_of Compositor image_done o.reply)).1 ≡ o → Returned (whole k stamps held) after o
+    by : (k : CoreState) (stamps : List ℕ) (held : List Image) → is_empty held ≡ false → after ≡ (step (whole k stamps held) (entry_of Compositor ask.ImageDone o.reply)).0 → (step (whole k stamps held) (entry_of Compositor ask.ImageDone o.reply)).1 ≡ o → Returned (whole k stamps held) after o
     by k stamps [] holds leads comes = absurd (true≢false holds)
     by k stamps (i ∷ held) holds leads comes = record {
       shown = sym (ap (λ (x : Outcome). x.shown) comes);
@@ -98,10 +98,10 @@ returned s after o holds call = by s.core s.cells.stamps s.cells.held holds call
     }
 
 -- the call of one that holds so many images
-asks_a_frame : (held : List Image) → held ≡ [] → next_call (compositor (length held)) ≡ next_frame
+asks_a_frame : (held : List Image) → held ≡ [] → next_call (compositor (length held)) ≡ ask.NextFrame
 asks_a_frame held none = rw none refl
 
-gives_back : (held : List Image) → is_empty held ≡ false → next_call (compositor (length held)) ≡ image_done
+gives_back : (held : List Image) → is_empty held ≡ false → next_call (compositor (length held)) ≡ ask.ImageDone
 gives_back [] holds = absurd (true≢false holds)
 gives_back (i ∷ held) holds = refl
 
@@ -111,66 +111,66 @@ none_held (i ∷ held) none = absurd (true≢false none)
 
 -- ---- its calls
 
-pub frames_snoc : (calls : List request.Exchange) (t : request.Exchange) → frames_in (calls ++ t ∷ []) ≡ frames_in calls ++ shown_if t.outcome.shown
+pub frames_snoc : (calls : List Exchange) (t : Exchange) → frames_in (calls ++ t ∷ []) ≡ frames_in calls ++ shown_if t.outcome.shown
 frames_snoc [] t = append-nil (shown_if t.outcome.shown)
 frames_snoc (u ∷ calls) t = ap (λ (l : List frames.Shown). shown_if u.outcome.shown ++ l) (frames_snoc calls t) ∙ sym (append_assoc (shown_if u.outcome.shown) (frames_in calls) (shown_if t.outcome.shown))
 
-replies_snoc : (calls : List request.Exchange) (t : request.Exchange) → replies_in (calls ++ t ∷ []) ≡ replies_in calls ++ reply_if_shown t.outcome.shown t.outcome.reply
+replies_snoc : (calls : List Exchange) (t : Exchange) → replies_in (calls ++ t ∷ []) ≡ replies_in calls ++ reply_if_shown t.outcome.shown t.outcome.reply
 replies_snoc [] t = append-nil (reply_if_shown t.outcome.shown t.outcome.reply)
 replies_snoc (u ∷ calls) t =
     ap (λ (l : List Reply). reply_if_shown u.outcome.shown u.outcome.reply ++ l) (replies_snoc calls t)
     ∙ sym (append_assoc (reply_if_shown u.outcome.shown u.outcome.reply) (replies_in calls) (reply_if_shown t.outcome.shown t.outcome.reply))
 
-goes_on_snoc : (calls : List request.Exchange) (t : request.Exchange) → AllGoOn calls → GoesOn t → AllGoOn (calls ++ t ∷ [])
+goes_on_snoc : (calls : List Exchange) (t : Exchange) → AllGoOn calls → GoesOn t → AllGoOn (calls ++ t ∷ [])
 goes_on_snoc [] t were goes = (goes, tt)
 goes_on_snoc (u ∷ calls) t were goes = (were.0, goes_on_snoc calls t were.1 goes)
 
 -- none of its calls was told the end yet
-not_ended : (ended : Option Reply) (calls : List request.Exchange) → ended ≡ None → EndKept ended calls → AllGoOn calls
+not_ended : (ended : Option Reply) (calls : List Exchange) → ended ≡ None → EndKept ended calls → AllGoOn calls
 not_ended None calls unended kept = kept
 not_ended (Some reply) calls unended kept = absurd (true≢false (ap is_some unended))
 
 -- what is kept of them, with one more
-module _ (c : CompositorState) (calls : List request.Exchange) (o : Outcome) (unended : c.ended ≡ None) (kept : CompositorKept c calls) where
+module _ (c : CompositorState) (calls : List Exchange) (o : Outcome) (unended : c.ended ≡ None) (kept : CompositorKept c calls) where
   were : AllGoOn calls
   were = not_ended c.ended calls unended kept.end
 
   -- it goes on behind a call
-  end_more : (t : request.Exchange) → GoesOn t → EndKept c.ended (calls ++ t ∷ [])
+  end_more : (t : Exchange) → GoesOn t → EndKept c.ended (calls ++ t ∷ [])
   end_more t goes = subst (λ (ended : Option Reply). EndKept ended (calls ++ t ∷ [])) (sym unended) (goes_on_snoc calls t were goes)
 
   -- no frame is shown by it
-  frames_same : (t : request.Exchange) → t.outcome.shown ≡ None → c.frames ≡ frames_in (calls ++ t ∷ [])
+  frames_same : (t : Exchange) → t.outcome.shown ≡ None → c.frames ≡ frames_in (calls ++ t ∷ [])
   frames_same t shown = sym (frames_snoc calls t ∙ ap (λ (x : Option frames.Shown). frames_in calls ++ shown_if x) shown ∙ append-nil (frames_in calls) ∙ sym kept.frames_are)
 
-  replies_same : (t : request.Exchange) → t.outcome.shown ≡ None → c.replies ≡ replies_in (calls ++ t ∷ [])
+  replies_same : (t : Exchange) → t.outcome.shown ≡ None → c.replies ≡ replies_in (calls ++ t ∷ [])
   replies_same t shown = sym (replies_snoc calls t ∙ ap (λ (x : Option frames.Shown). replies_in calls ++ reply_if_shown x t.outcome.reply) shown ∙ append-nil (replies_in calls) ∙ sym kept.replies_are)
 
-  with_frame : (frame : frames.Shown) → o.shown ≡ Some frame → o.reply.gives ≡ Shown → CompositorKept (compositor_with c o.reply (Some frame)) (calls ++ exchange_of next_frame o ∷ [])
+  with_frame : (frame : frames.Shown) → o.shown ≡ Some frame → o.reply.gives ≡ Shown → CompositorKept (compositor_with c o.reply (Some frame)) (calls ++ exchange_of ask.NextFrame o ∷ [])
   with_frame frame shown gives =
-      let t : request.Exchange = exchange_of next_frame o in
+      let t : Exchange = exchange_of ask.NextFrame o in
       record {
         frames_are = sym (frames_snoc calls t ∙ ap (λ (x : Option frames.Shown). frames_in calls ++ shown_if x) shown ∙ ap (λ (l : List frames.Shown). l ++ frame ∷ []) (sym kept.frames_are));
         replies_are = sym (replies_snoc calls t ∙ ap (λ (x : Option frames.Shown). replies_in calls ++ reply_if_shown x o.reply) shown ∙ ap (λ (l : List Reply). l ++ o.reply ∷ []) (sym kept.replies_are));
         end = end_more t (a_frame refl gives);
       }
 
-  with_end : o.shown ≡ None → o.reply.gives ≡ Ended → CompositorKept (compositor_with c o.reply None) (calls ++ exchange_of next_frame o ∷ [])
+  with_end : o.shown ≡ None → o.reply.gives ≡ Ended → CompositorKept (compositor_with c o.reply None) (calls ++ exchange_of ask.NextFrame o ∷ [])
   with_end shown gives = record {
-    frames_are = frames_same (exchange_of next_frame o) shown;
-    replies_are = replies_same (exchange_of next_frame o) shown;
+    frames_are = frames_same (exchange_of ask.NextFrame o) shown;
+    replies_are = replies_same (exchange_of ask.NextFrame o) shown;
     end = (calls, o, refl, were, refl, gives);
   }
 
-  kept_more : (s after : State) → Told s after o → CompositorKept (compositor_with c o.reply o.shown) (calls ++ exchange_of next_frame o ∷ [])
-  kept_more s after (shows frame shown gives fewer) = subst (λ (x : Option frames.Shown). CompositorKept (compositor_with c o.reply x) (calls ++ exchange_of next_frame o ∷ [])) (sym shown) (with_frame frame shown gives)
-  kept_more s after (ends shown gives same) = subst (λ (x : Option frames.Shown). CompositorKept (compositor_with c o.reply x) (calls ++ exchange_of next_frame o ∷ [])) (sym shown) (with_end shown gives)
+  kept_more : (s after : State) → Told s after o → CompositorKept (compositor_with c o.reply o.shown) (calls ++ exchange_of ask.NextFrame o ∷ [])
+  kept_more s after (shows frame shown gives fewer) = subst (λ (x : Option frames.Shown). CompositorKept (compositor_with c o.reply x) (calls ++ exchange_of ask.NextFrame o ∷ [])) (sym shown) (with_frame frame shown gives)
+  kept_more s after (ends shown gives same) = subst (λ (x : Option frames.Shown). CompositorKept (compositor_with c o.reply x) (calls ++ exchange_of ask.NextFrame o ∷ [])) (sym shown) (with_end shown gives)
 
-  with_image : (done : List ℕ) → o.shown ≡ None → o.reply.code ≡ Success → o.reply.gives ≡ Nothing → CompositorKept (record c { done = done }) (calls ++ exchange_of image_done o ∷ [])
+  with_image : (done : List ℕ) → o.shown ≡ None → o.reply.code ≡ Success → o.reply.gives ≡ Nothing → CompositorKept (record c { done = done }) (calls ++ exchange_of ask.ImageDone o ∷ [])
   with_image done shown good gives = record {
-    frames_are = frames_same (exchange_of image_done o) shown;
-    replies_are = replies_same (exchange_of image_done o) shown;
-    end = end_more (exchange_of image_done o) (an_image refl good gives);
+    frames_are = frames_same (exchange_of ask.ImageDone o) shown;
+    replies_are = replies_same (exchange_of ask.ImageDone o) shown;
+    end = end_more (exchange_of ask.ImageDone o) (an_image refl good gives);
   }
 
 -- a frame, or the end, is no image given back
@@ -207,18 +207,18 @@ module _ (scenario : Scenario) (idle : ℕ) (s after : State) (run : RunState) (
   alone rest all unended = compositor_at scenario s run rest all ∙ ap (λ (ended : Option Reply). compositor_part ended (length s.cells.held)) unended
 
   -- its call moves no application's clock
-  frame_trace : (calls : Actor → List request.Exchange) (o : Outcome) → trace_behind s after (trace_of run calls) Compositor next_frame o
-      ≡ trace_of (record run { compositor = compositor_with run.compositor o.reply o.shown }) (calls_with calls Compositor (exchange_of next_frame o))
+  frame_trace : (calls : Actor → List Exchange) (o : Outcome) → trace_behind s after (trace_of run calls) Compositor ask.NextFrame o
+      ≡ trace_of (record run { compositor = compositor_with run.compositor o.reply o.shown }) (calls_with calls Compositor (exchange_of ask.NextFrame o))
   frame_trace calls o = rw (append-nil run.compositor.done, same_done run.compositor o.reply o.shown) refl
 
   frame_made : (c : CompositorState) → run.compositor.ended ≡ None → FrameMade run.compositor c s after → RunInvariant scenario last idle s run start now
       → RunInvariant scenario (turn_behind last (actors_of scenario)) 0 after (record run { compositor = c }) start now
   frame_made c unended m kept =
-      let t : request.Exchange = exchange_of next_frame m.outcome in
+      let t : Exchange = exchange_of ask.NextFrame m.outcome in
       let new : CompositorState = compositor_with run.compositor m.outcome.reply m.outcome.shown in
       let came : Told s after m.outcome = told s after m.outcome m.unheld m.call in
       let all : AreAll scenario run = all_of scenario s run kept.calls start now kept.kept in
-      let goes : Goes last (parts_of scenario s run) s after (trace_of run kept.calls) Compositor next_frame m.outcome = record {
+      let goes : Goes last (parts_of scenario s run) s after (trace_of run kept.calls) Compositor ask.NextFrame m.outcome = record {
         agenda = λ rest. compositor (length s.cells.held);
         alone = λ rest. alone rest all unended;
         of = λ rest. record { actor = refl; call = asks_a_frame s.cells.held m.unheld };
@@ -234,13 +234,13 @@ module _ (scenario : Scenario) (idle : ℕ) (s after : State) (run : RunState) (
         calls = calls_with kept.calls Compositor t;
         standing =
             subst (Standing scenario (turn_behind last (actors_of scenario)) 0 after run.side.over (events_told run.side (kept.calls Device)) (parts_of scenario after (record run { compositor = new }))) (frame_trace kept.calls m.outcome)
-            (same_parts scenario (turn_behind last (actors_of scenario)) 0 after after run.side.over (events_told run.side (kept.calls Device)) _ (trace_behind s after (trace_of run kept.calls) Compositor next_frame m.outcome)
+            (same_parts scenario (turn_behind last (actors_of scenario)) 0 after after run.side.over (events_told run.side (kept.calls Device)) _ (trace_behind s after (trace_of run kept.calls) Compositor ask.NextFrame m.outcome)
             (parts_of scenario after (record run { compositor = new }))
             (λ rest ok. rw (part_more s after run.compositor m.outcome (length after.cells.held) unended came) (compositor_set scenario s run rest all after new))
-            (made_turn scenario last idle s after run.side.over (events_told run.side (kept.calls Device)) (parts_of scenario s run) (actors_of scenario) (trace_of run kept.calls) Compositor next_frame m.outcome
+            (made_turn scenario last idle s after run.side.over (events_told run.side (kept.calls Device)) (parts_of scenario s run) (actors_of scenario) (trace_of run kept.calls) Compositor ask.NextFrame m.outcome
             (are_so scenario last idle s run all last_within few) goes kept.standing));
         kept = record {
-          apps = others_more scenario.scripts s after run.apps kept.calls (calls_with kept.calls Compositor t) kept.kept.apps (rw m.call.leads refl) (rw m.call.leads (call_keeps s (entry_of Compositor next_frame m.outcome.reply) tt)) (λ place. refl);
+          apps = others_more scenario.scripts s after run.apps kept.calls (calls_with kept.calls Compositor t) kept.kept.apps (rw m.call.leads refl) (rw m.call.leads (call_keeps s (entry_of Compositor ask.NextFrame m.outcome.reply) tt)) (λ place. refl);
           device = kept.kept.device;
           compositor = kept_more run.compositor (kept.calls Compositor) m.outcome unended kept.kept.compositor s after came;
           counted = omega (arith, counted, locks);
@@ -252,11 +252,11 @@ module _ (scenario : Scenario) (idle : ℕ) (s after : State) (run : RunState) (
   pub image_returned : (c : CompositorState) → run.compositor.ended ≡ None → ImageReturned run.compositor c s after → RunInvariant scenario last idle s run start now
       → RunInvariant scenario (turn_behind last (actors_of scenario)) 0 after (record run { compositor = c }) start now
   image_returned c unended m kept =
-      let t : request.Exchange = exchange_of image_done m.outcome in
+      let t : Exchange = exchange_of ask.ImageDone m.outcome in
       let new : CompositorState = record run.compositor { done = run.compositor.done ++ s.core.locked ∷ [] } in
       let came : Returned s after m.outcome = returned s after m.outcome m.holds m.call in
       let all : AreAll scenario run = all_of scenario s run kept.calls start now kept.kept in
-      let goes : Goes last (parts_of scenario s run) s after (trace_of run kept.calls) Compositor image_done m.outcome = record {
+      let goes : Goes last (parts_of scenario s run) s after (trace_of run kept.calls) Compositor ask.ImageDone m.outcome = record {
         agenda = λ rest. compositor (length s.cells.held);
         alone = λ rest. alone rest all unended;
         of = λ rest. record { actor = refl; call = gives_back s.cells.held m.holds };
@@ -274,10 +274,10 @@ module _ (scenario : Scenario) (idle : ℕ) (s after : State) (run : RunState) (
             same_parts scenario (turn_behind last (actors_of scenario)) 0 after after run.side.over (events_told run.side (kept.calls Device)) _ (trace_of (record run { compositor = new }) (calls_with kept.calls Compositor t))
             (parts_of scenario after (record run { compositor = new }))
             (λ rest ok. rw (came.gives, ← ap (λ (ended : Option Reply). compositor_part ended (length after.cells.held)) unended) (compositor_set scenario s run rest all after new))
-            (made_turn scenario last idle s after run.side.over (events_told run.side (kept.calls Device)) (parts_of scenario s run) (actors_of scenario) (trace_of run kept.calls) Compositor image_done m.outcome
+            (made_turn scenario last idle s after run.side.over (events_told run.side (kept.calls Device)) (parts_of scenario s run) (actors_of scenario) (trace_of run kept.calls) Compositor ask.ImageDone m.outcome
             (are_so scenario last idle s run all last_within few) goes kept.standing);
         kept = record {
-          apps = others_more scenario.scripts s after run.apps kept.calls (calls_with kept.calls Compositor t) kept.kept.apps (rw m.call.leads refl) (rw m.call.leads (call_keeps s (entry_of Compositor image_done m.outcome.reply) tt)) (λ place. refl);
+          apps = others_more scenario.scripts s after run.apps kept.calls (calls_with kept.calls Compositor t) kept.kept.apps (rw m.call.leads refl) (rw m.call.leads (call_keeps s (entry_of Compositor ask.ImageDone m.outcome.reply) tt)) (λ place. refl);
           device = kept.kept.device;
           compositor = with_image run.compositor (kept.calls Compositor) m.outcome unended kept.kept.compositor new.done came.shown came.good came.gives;
           counted = omega (arith, counted, locks);

@@ -6,8 +6,8 @@ use Rattle.std.proofs.lemmas.List.Folds.{list_any-append}
 use Rattle.xr_types.specs.declared.device.DeviceEvent.{DeviceEvent}
 use Rattle.xr_types.specs.declared.device.DeviceEvent.TheVariants as event
 use Rattle.xr_io.specs.Outside.{Rose}
-use Rattle.xr_model.specs.machine.Request as request
-use Rattle.xr_model.specs.machine.Request.{Outcome, device}
+use Rattle.xr_model.specs.machine.Calls.{Outcome, Exchange}
+use Rattle.xr_types.specs.declared.calls.Call.TheVariants as ask
 use Rattle.xr_model.specs.laws.DeviceLaws.{is_of_line}
 use Rattle.xr_model.specs.device_text.DeviceText.{DeviceStream, Ending, ends, garbled_at}
 use Rattle.xr_model.specs.report.RunEnding.{is_fault, is_garbled}
@@ -24,11 +24,11 @@ use Rattle.xr_serial.specs.inside.Turns.{pending_list}
 use Rattle.xr_serial.specs.inside.RunInvariant.{GivesMore, DeviceKept}
 use Rattle.xr_serial.proofs.KeptApplications.{made_snoc}
 
-pub events_snoc : (calls : List request.Exchange) (e : DeviceEvent) (outcome : Outcome) → events_in (calls ++ exchange_of (device e) outcome ∷ []) ≡ events_in calls ++ e ∷ []
+pub events_snoc : (calls : List Exchange) (e : DeviceEvent) (outcome : Outcome) → events_in (calls ++ exchange_of (ask.Device e) outcome ∷ []) ≡ events_in calls ++ e ∷ []
 events_snoc [] e outcome = refl
 events_snoc (t ∷ calls) e outcome = rw (events_snoc calls e outcome) (sym (append_assoc _ (events_in calls) (e ∷ [])))
 
-made_length : (place : ℕ) (calls : List request.Exchange) → length (made_from place calls) ≡ length calls
+made_length : (place : ℕ) (calls : List Exchange) → length (made_from place calls) ≡ length calls
 made_length place [] = refl
 made_length place (t ∷ calls) = ap suc (made_length (place + 1) calls)
 
@@ -81,7 +81,7 @@ gives_front (Some t) (Some before) given more = (before.events, rw more refl, re
 rose_later : (a b c : ℕ) → a ≤ b → Rose b c → Rose a c
 rose_later a b c h r = grind (arith, h, r)
 
-given_more : (given : List DeviceEvent) (calls : List request.Exchange) (e : DeviceEvent) → given ++ [] ≡ events_in calls ++ [] → given ++ e ∷ [] ≡ events_in calls ++ e ∷ []
+given_more : (given : List DeviceEvent) (calls : List Exchange) (e : DeviceEvent) → given ++ [] ≡ events_in calls ++ [] → given ++ e ∷ [] ≡ events_in calls ++ e ∷ []
 given_more given calls e same = ap (λ (l : List DeviceEvent). l ++ e ∷ []) (sym (append-nil given) ∙ same ∙ append-nil (events_in calls))
 
 -- ---- what is kept of it
@@ -90,7 +90,7 @@ given_more given calls e same = ap (λ (l : List DeviceEvent). l ++ e ∷ []) (s
 abbrev pub is_open : SideState → SideState
 is_open side = side_asked side None false
 
-module _ (side : SideState) (calls : List request.Exchange) (start now now2 : Prospect) (grew : now.faults ≤ now2.faults) (d : DeviceKept (is_open side) calls start now) where
+module _ (side : SideState) (calls : List Exchange) (start now now2 : Prospect) (grew : now.faults ≤ now2.faults) (d : DeviceKept (is_open side) calls start now) where
   open_begun : d.given ++ [] ≡ events_in calls ++ []
   open_begun = subst (λ (c : List DeviceEvent). d.given ++ c ≡ events_in calls ++ []) d.came.1 d.begun
 
@@ -163,10 +163,10 @@ module _ (side : SideState) (calls : List request.Exchange) (start now now2 : Pr
       closes event.Fault None (record { checked = refl }) count (gives_front start.remaining now.remaining d.given d.came.0) refl (λ e. rose_later start.faults now.faults now2.faults d.later rose) (λ e. absurd (true≢false e)) (λ e. lines)
 
 -- the call of its next event was made
-pub event_kept : (side : SideState) (calls : List request.Exchange) (start now : Prospect) (e : DeviceEvent) (outcome : Outcome) → side.pending ≡ Some e → DeviceKept side calls start now
-    → DeviceKept (side_with side e (exchange_of (device e) outcome)) (calls ++ exchange_of (device e) outcome ∷ []) start now
+pub event_kept : (side : SideState) (calls : List Exchange) (start now : Prospect) (e : DeviceEvent) (outcome : Outcome) → side.pending ≡ Some e → DeviceKept side calls start now
+    → DeviceKept (side_with side e (exchange_of (ask.Device e) outcome)) (calls ++ exchange_of (ask.Device e) outcome ∷ []) start now
 event_kept side calls start now e outcome this d =
-    let t : request.Exchange = exchange_of (device e) outcome in
+    let t : Exchange = exchange_of (ask.Device e) outcome in
     let size : length side.calls ≡ length calls = ap length d.list_is ∙ made_length 1 calls in
     let place : 1 + length calls ≡ length side.calls + 1 = omega (arith, size) in
     record {

@@ -6,8 +6,8 @@ use Rattle.xr_types.specs.declared.calls.Actor.TheVariants.{Device}
 use Rattle.xr_types.specs.declared.device.DeviceEvent.{DeviceEvent}
 use Rattle.xr_types.specs.declared.device.DeviceEvent.TheVariants as event
 use Rattle.xr_types.specs.declared.scenario.Scenario.{Scenario}
-use Rattle.xr_model.specs.machine.Request as request
-use Rattle.xr_model.specs.machine.Request.{Outcome, device, next_frame}
+use Rattle.xr_model.specs.machine.Calls.{Outcome, Exchange}
+use Rattle.xr_types.specs.declared.calls.Call.TheVariants as ask
 use Rattle.xr_model.specs.machine.CoreCalls.{entry_of}
 use Rattle.xr_model.specs.machine.State.{State}
 use Rattle.xr_model.specs.runs.Robin.{Agenda, events, device_agendas}
@@ -49,16 +49,16 @@ module _ (scenario : Scenario) (idle : ℕ) (s after : State) (run : RunState) (
   device_within = omega arith
 
   -- the device's call moves no application's clock, and gives back no image
-  event_trace : (calls : Actor → List request.Exchange) (e : DeviceEvent) (outcome : Outcome) → trace_behind s after (trace_of run calls) Device (device e) outcome ≡ trace_of run (calls_with calls Device (exchange_of (device e) outcome))
+  event_trace : (calls : Actor → List Exchange) (e : DeviceEvent) (outcome : Outcome) → trace_behind s after (trace_of run calls) Device (ask.Device e) outcome ≡ trace_of run (calls_with calls Device (exchange_of (ask.Device e) outcome))
   event_trace calls e outcome = rw (append-nil run.compositor.done) refl
 
   pub event_made : (side : SideState) (e : DeviceEvent) → run.side.pending ≡ Some e → EventMade e run.side side s after → RunInvariant scenario place idle s run start now
       → RunInvariant scenario (turn_behind place (actors_of scenario)) 0 after (with_side run side) start now
   event_made side e this m kept =
-      let t : request.Exchange = exchange_of (device e) m.outcome in
+      let t : Exchange = exchange_of (ask.Device e) m.outcome in
       let all : AreAll scenario run = all_of scenario s run kept.calls start now kept.kept in
       let new : SideState = side_with run.side e t in
-      let goes : Goes place (parts_of scenario s run) s after (trace_of run kept.calls) Device (device e) m.outcome = record {
+      let goes : Goes place (parts_of scenario s run) s after (trace_of run kept.calls) Device (ask.Device e) m.outcome = record {
         agenda = λ rest. events e rest;
         alone = λ rest. device_at scenario s run rest all ∙ ap (λ (p : Option DeviceEvent). device_part p rest) this;
         of = λ rest. record { actor = refl; call = refl };
@@ -67,11 +67,11 @@ module _ (scenario : Scenario) (idle : ℕ) (s after : State) (run : RunState) (
       } in
       let work = kept.kept.work in
       let counted = kept.kept.counted in
-      let holds : after.cells.held ≡ s.cells.held = rw m.call.leads (call_holds s (entry_of Device (device e) m.outcome.reply) tt) in
+      let holds : after.cells.held ≡ s.cells.held = rw m.call.leads (call_holds s (entry_of Device (ask.Device e) m.outcome.reply) tt) in
       let held : length after.cells.held ≡ length s.cells.held = ap length holds in
       let grown : length (run.side.calls ++ made_at (length run.side.calls + 1) t ∷ []) ≡ length run.side.calls + 1 = length-append run.side.calls (made_at (length run.side.calls + 1) t ∷ []) in
       let locks : after.core.locked ≡ s.core.locked + 1 = rw m.call.leads refl in
-      let pending : frames_work after.core.frames.pending ≤ frames_work s.core.frames.pending + 0 = rw m.call.leads (brings s (entry_of Device (device e) m.outcome.reply) tt) in
+      let pending : frames_work after.core.frames.pending ≤ frames_work s.core.frames.pending + 0 = rw m.call.leads (brings s (entry_of Device (ask.Device e) m.outcome.reply) tt) in
       let spent : side_work run.side now.bound ≡ side_work new now.bound + 1 = ap (λ (p : Option DeviceEvent). (if is_some p then 1 else 0) + (if run.side.over then 0 else now.bound + 1)) this ∙ one_spent (if run.side.over then 0 else now.bound + 1) in
       let told : events_told run.side (kept.calls Device) ≡ events_told new (kept.calls Device ++ t ∷ []) =
       ap (λ (p : Option DeviceEvent). events_in (kept.calls Device) ++ pending_list p) this ∙ sym (append-nil (events_in (kept.calls Device ++ t ∷ [])) ∙ events_snoc (kept.calls Device) e m.outcome) in
@@ -80,12 +80,12 @@ module _ (scenario : Scenario) (idle : ℕ) (s after : State) (run : RunState) (
         standing =
             begun_again scenario (turn_behind place (actors_of scenario)) 0 after run.side.over _ _ _ (trace_of run (calls_with kept.calls Device t)) told
             (subst (Standing scenario (turn_behind place (actors_of scenario)) 0 after run.side.over (events_told run.side (kept.calls Device)) (parts_of scenario after (with_side run new))) (event_trace kept.calls e m.outcome)
-            (same_parts scenario (turn_behind place (actors_of scenario)) 0 after after run.side.over (events_told run.side (kept.calls Device)) _ (trace_behind s after (trace_of run kept.calls) Device (device e) m.outcome) (parts_of scenario after (with_side run new))
+            (same_parts scenario (turn_behind place (actors_of scenario)) 0 after after run.side.over (events_told run.side (kept.calls Device)) _ (trace_behind s after (trace_of run kept.calls) Device (ask.Device e) m.outcome) (parts_of scenario after (with_side run new))
             (λ rest ok. device_set scenario s run rest all after new rest holds)
-            (made_turn scenario place idle s after run.side.over (events_told run.side (kept.calls Device)) (parts_of scenario s run) (actors_of scenario) (trace_of run kept.calls) Device (device e) m.outcome
+            (made_turn scenario place idle s after run.side.over (events_told run.side (kept.calls Device)) (parts_of scenario s run) (actors_of scenario) (trace_of run kept.calls) Device (ask.Device e) m.outcome
             (are_so scenario place idle s run all device_within few) goes kept.standing)));
         kept = record {
-          apps = others_more scenario.scripts s after run.apps kept.calls (calls_with kept.calls Device t) kept.kept.apps (rw m.call.leads refl) (rw m.call.leads (call_keeps s (entry_of Device (device e) m.outcome.reply) tt)) (λ place. refl);
+          apps = others_more scenario.scripts s after run.apps kept.calls (calls_with kept.calls Device t) kept.kept.apps (rw m.call.leads refl) (rw m.call.leads (call_keeps s (entry_of Device (ask.Device e) m.outcome.reply) tt)) (λ place. refl);
           device = event_kept run.side (kept.calls Device) start now e m.outcome this kept.kept.device;
           compositor = kept.kept.compositor;
           counted = omega (arith, counted, grown, locks);

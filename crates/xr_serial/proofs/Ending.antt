@@ -13,8 +13,7 @@ use Rattle.xr_types.specs.declared.device.DeviceEvent.TheVariants as event
 use Rattle.xr_types.specs.declared.scenario.Op.{Op}
 use Rattle.xr_types.specs.declared.scenario.Scenario.{Scenario}
 use Rattle.xr_io.specs.Outside.{Rose}
-use Rattle.xr_model.specs.machine.Request as request
-use Rattle.xr_model.specs.machine.Request.{is_actor}
+use Rattle.xr_model.specs.machine.Calls.{is_actor, Exchange}
 use Rattle.xr_model.specs.machine.State.{State}
 use Rattle.xr_model.specs.device_text.DeviceText.{DeviceStream, Ending, ends, garbled_at}
 use Rattle.xr_model.specs.report.RunEnding.{is_fault}
@@ -32,7 +31,7 @@ use Rattle.xr_serial.proofs.ActorParts.{AreAll, length-script_parts}
 -- ---- what the device gave
 
 -- all that the device does, of which this is still to come
-pub record Gives (side : SideState) (calls : List request.Exchange) (start now : Prospect) : Type 0 where
+pub record Gives (side : SideState) (calls : List Exchange) (start now : Prospect) : Type 0 where
   pub rest : List DeviceEvent
   pub none : IsRest side.over rest
   pub events : List DeviceEvent
@@ -56,7 +55,7 @@ open_calls : (given more last begun : List DeviceEvent) → given ++ [] ≡ begu
 open_calls given more last begun same = ap (λ (l : List DeviceEvent). (l ++ more) ++ last) (sym (append-nil given) ∙ same)
 
 -- a device that hasn't ended
-open_gives : (made : SideState) (calls : List request.Exchange) (start now : Prospect) (given : List DeviceEvent) → made.over ≡ false → GivesMore start.remaining now.remaining given → given ++ [] ≡ events_told made calls → list_any is_fault given ≡ false → now.given ≡ start.given + length given → Gives made calls start now
+open_gives : (made : SideState) (calls : List Exchange) (start now : Prospect) (given : List DeviceEvent) → made.over ≡ false → GivesMore start.remaining now.remaining given → given ++ [] ≡ events_told made calls → list_any is_fault given ≡ false → now.given ≡ start.given + length given → Gives made calls start now
 open_gives made calls start now given going more begun faultless counted = by start.remaining now.remaining refl more
   where
     no_fault : list_any is_fault (events_in calls) ≡ true → Rose start.faults now.faults
@@ -90,7 +89,7 @@ open_gives made calls start now given going more begun faultless counted = by st
       fault = no_fault;
     }
 
-pub gives : (side : SideState) (calls : List request.Exchange) (start now : Prospect) → DeviceKept side calls start now → Gives side calls start now
+pub gives : (side : SideState) (calls : List Exchange) (start now : Prospect) → DeviceKept side calls start now → Gives side calls start now
 gives side calls start now d = by side.over refl
   where
     by : (over : Bool) → side.over ≡ over → Gives side calls start now
@@ -141,7 +140,7 @@ front_sound (g ∷ given) (m ∷ made) more ending is all =
     let rest = front_sound given made more ending parts.1 all.1 in
     record { told = m ∷ rest.told; ending = rest.ending; events_are = ap (λ (l : List DeviceEvent). m ∷ l) rest.events_are; each = (subst IsLineEvent parts.0 all.0, rest.each) }
 
-pub events_sound : (side : SideState) (calls : List request.Exchange) (start now : Prospect) → DeviceKept side calls start now → AreSound side.events
+pub events_sound : (side : SideState) (calls : List Exchange) (start now : Prospect) → DeviceKept side calls start now → AreSound side.events
 events_sound side calls start now d = subst AreSound (sym d.events_are) (by side.over refl)
   where
     by : (over : Bool) → side.over ≡ over → AreSound (events_in calls)

@@ -4,7 +4,7 @@ use Rattle.std.specs.List.{list_any}
 use Rattle.std.proofs.lemmas.List.{take_at}
 use Rattle.xr_types.specs.declared.device.DeviceEvent.{DeviceEvent}
 use Rattle.xr_types.specs.declared.device.DeviceEvent.TheVariants as event
-use Rattle.xr_model.specs.machine.Request as request
+use Rattle.xr_model.specs.machine.Calls.{Exchange}
 use Rattle.xr_model.specs.device_text.DeviceText.{DeviceStream, Ending, ends, garbled_at}
 use Rattle.xr_model.specs.report.RunEnding.{is_fault}
 use Rattle.xr_model.specs.runs.Robin.{last_event}
@@ -50,7 +50,7 @@ all_made given made None begun none some = sym (begun ∙ append-nil made)
 all_made given made (Some e) begun none some =
     absurd (true≢false (sym some ∙ ap (list_any is_fault) (sym (same_front given made event.Fault e begun)) ∙ none))
 
-module _ (side : SideState) (calls : List request.Exchange) (start now : Prospect) (d : DeviceKept side calls start now) (h : list_any is_fault side.events ≡ true) where
+module _ (side : SideState) (calls : List Exchange) (start now : Prospect) (d : DeviceKept side calls start now) (h : list_any is_fault side.events ≡ true) where
   made : list_any is_fault (events_in calls) ≡ true
   made = subst (λ (l : List DeviceEvent). list_any is_fault l ≡ true) d.events_are h
 

@@ -3,7 +3,9 @@ use Rattle.std.proofs.Common.{◌≡◌, ℕ, ℤ, List, [], Option, Some, None,
 use Rattle.xr_types.specs.declared.scenario.Op.{Op}
 use Rattle.xr_types.specs.declared.scenario.Op.TheVariants as op
 use Rattle.xr_model.specs.machine.Refusals.{Refusal}
-use Rattle.xr_model.specs.machine.Request.{Request, Entry, create_instance, next_frame, image_done}
+use Rattle.xr_model.specs.machine.Calls.{Entry}
+use Rattle.xr_types.specs.declared.calls.Call.{Call}
+use Rattle.xr_types.specs.declared.calls.Call.TheVariants as ask
 use Rattle.xr_model.specs.machine.SessionRule.{Loss}
 use Rattle.xr_model.specs.machine.Rule.{Rule, Effect, refusal, told_on, unless_refused}
 use Rattle.xr_model.specs.runs.Robin.{with_start}
@@ -22,23 +24,23 @@ told_holds : (on : Option Loss) (e : Effect) → KeepsHeld e → KeepsHeld (told
 told_holds None e h = h
 told_holds (Some loss) e h = h
 
-abbrev pub IsHolding : Request → Type 0
-IsHolding next_frame = ⊥
-IsHolding image_done = ⊥
+abbrev pub IsHolding : Call → Type 0
+IsHolding ask.NextFrame = ⊥
+IsHolding ask.ImageDone = ⊥
 IsHolding _ = Unit {0}
 
-pub call_holds : (s : State) (e : Entry) → IsHolding e.request → (step s e).0.cells.held ≡ s.cells.held
+pub call_holds : (s : State) (e : Entry) → IsHolding e.call → (step s e).0.cells.held ≡ s.cells.held
 call_holds s e holds =
-    let still = refused_holds s.core (refusal e.short (rule_for e.request)) (told_on (rule_for e.request).on (rule_for e.request).effect) (told_holds (rule_for e.request).on (rule_for e.request).effect (by e.request holds)) in
+    let still = refused_holds s.core (refusal e.short (rule_for e.call)) (told_on (rule_for e.call).on (rule_for e.call).effect) (told_holds (rule_for e.call).on (rule_for e.call).effect (by e.call holds)) in
     rw (still.0, still.1) refl
   where
-    rule_for : Request → Rule
-    rule_for r = rule s.core (reads_of s r) (record e { request = r })
+    rule_for : Call → Rule
+    rule_for r = rule s.core (reads_of s r) (record e { call = r })
 
-    by : (r : Request) → IsHolding r → KeepsHeld (rule_for r).effect
-    by next_frame holds = absurd holds
-    by image_done holds = absurd holds
-    by (create_instance major minor) holds = (refl, refl)
+    by : (r : Call) → IsHolding r → KeepsHeld (rule_for r).effect
+    by ask.NextFrame holds = absurd holds
+    by ask.ImageDone holds = absurd holds
+    by (ask.CreateInstance major minor) holds = (refl, refl)
     by _ holds = (refl, refl)
 
 pub op_holds : (clock : ℤ) (values : List ℕ) (o : Op) → IsHolding (with_start clock (request_for values o))

@@ -8,8 +8,8 @@ use Rattle.xr_types.specs.declared.calls.Actor.{Actor}
 use Rattle.xr_types.specs.declared.calls.Actor.TheVariants.{App}
 use Rattle.xr_types.specs.declared.made.Made.{Made}
 use Rattle.xr_types.specs.declared.scenario.Op.{Op}
-use Rattle.xr_model.specs.machine.Request as request
-use Rattle.xr_model.specs.machine.Request.{Request, Outcome, leave}
+use Rattle.xr_model.specs.machine.Calls.{Outcome, Exchange}
+use Rattle.xr_types.specs.declared.calls.Call.TheVariants as ask
 use Rattle.xr_model.specs.machine.State.{State}
 use Rattle.xr_model.specs.runs.NameValues.{value_given}
 use Rattle.xr_model.specs.runs.Lists.{made_at, made_from}
@@ -19,7 +19,7 @@ use Rattle.xr_serial.specs.inside.Sides.{app_with, app_left, op_request}
 use Rattle.xr_serial.specs.inside.RunInvariant.{AppKept, AppsKept}
 use Rattle.xr_serial.proofs.Ops.{same_request}
 
-pub made_snoc : (place : ℕ) (calls : List request.Exchange) (t : request.Exchange) → made_from place (calls ++ t ∷ []) ≡ made_from place calls ++ made_at (place + length calls) t ∷ []
+pub made_snoc : (place : ℕ) (calls : List Exchange) (t : Exchange) → made_from place (calls ++ t ∷ []) ≡ made_from place calls ++ made_at (place + length calls) t ∷ []
 made_snoc place [] t = let same : place ≡ place + 0 = omega arith in rw (← same) refl
 made_snoc place (u ∷ calls) t = let same : place + suc (length calls) ≡ place + 1 + length calls = omega arith in rw same (ap (λ (ms : List Made). made_at place u ∷ ms) (made_snoc (place + 1) calls t))
 
@@ -36,13 +36,13 @@ same_app {a} {b} made names calls clock left = by b.made b.names b.calls b.clock
     by m n c t l em en ec et el = rw (← em, ← en, ← ec, ← et, ← el) refl
 
 -- it hasn't left yet
-left_no_calls : (app : AppState) (calls : List request.Exchange) → app.has_left ≡ false → length calls ≡ app.made + (if app.has_left then 1 else 0) → length calls ≡ app.made + 0
+left_no_calls : (app : AppState) (calls : List Exchange) → app.has_left ≡ false → length calls ≡ app.made + (if app.has_left then 1 else 0) → length calls ≡ app.made + 0
 left_no_calls app calls stays count = count ∙ rw stays refl
 
-pub op_more : (ops : List Op) (app : AppState) (calls : List request.Exchange) (o : Op) (outcome : Outcome) (clock : ℤ) → app.made < length ops → drop app.made ops ≡ o ∷ drop (app.made + 1) ops → app.has_left ≡ false → AppKept ops app calls
+pub op_more : (ops : List Op) (app : AppState) (calls : List Exchange) (o : Op) (outcome : Outcome) (clock : ℤ) → app.made < length ops → drop app.made ops ≡ o ∷ drop (app.made + 1) ops → app.has_left ≡ false → AppKept ops app calls
     → AppKept ops (app_with app o (exchange_of (op_request app o) outcome) clock) (calls ++ exchange_of (op_request app o) outcome ∷ [])
 op_more ops app calls o outcome clock within here stays kept =
-    let t : request.Exchange = exchange_of (op_request app o) outcome in
+    let t : Exchange = exchange_of (op_request app o) outcome in
     let count : length calls ≡ app.made + 0 = left_no_calls app calls stays kept.count in
     let place : 1 + length calls ≡ app.made + 1 = omega (arith, count) in
     record {
@@ -54,10 +54,10 @@ op_more ops app calls o outcome clock within here stays kept =
       whole = λ all e. absurd (true≢false (sym e ∙ stays));
     }
 
-pub leave_more : (ops : List Op) (app : AppState) (calls : List request.Exchange) (outcome : Outcome) (clock : ℤ) → app.made ≡ length ops → app.has_left ≡ false → AppKept ops app calls
-    → AppKept ops (app_left app (exchange_of leave outcome) clock) (calls ++ exchange_of leave outcome ∷ [])
+pub leave_more : (ops : List Op) (app : AppState) (calls : List Exchange) (outcome : Outcome) (clock : ℤ) → app.made ≡ length ops → app.has_left ≡ false → AppKept ops app calls
+    → AppKept ops (app_left app (exchange_of ask.Leave outcome) clock) (calls ++ exchange_of ask.Leave outcome ∷ [])
 leave_more ops app calls outcome clock all stays kept =
-    let t : request.Exchange = exchange_of leave outcome in
+    let t : Exchange = exchange_of ask.Leave outcome in
     let none : drop app.made ops ≡ [] = rw all (drop_all ops) in
     let count : length calls ≡ app.made + 0 = left_no_calls app calls stays kept.count in
     let place : 1 + length calls ≡ app.made + 1 = omega (arith, count) in
@@ -73,17 +73,17 @@ leave_more ops app calls outcome clock all stays kept =
 -- ---- all of them, where one has made a call
 
 -- the calls of the one
-own_calls : (calls : Actor → List request.Exchange) (place : ℕ) (t : request.Exchange) → calls_with calls (App (place + 1)) t (App (place + 1)) ≡ calls (App (place + 1)) ++ t ∷ []
+own_calls : (calls : Actor → List Exchange) (place : ℕ) (t : Exchange) → calls_with calls (App (place + 1)) t (App (place + 1)) ≡ calls (App (place + 1)) ++ t ∷ []
 own_calls calls place t = rw (eq-eqb (place + 1) (place + 1) refl) refl
 
 other_place : (i place : ℕ) → (i ≡ place → ⊥) → (i + 1 == place + 1) ≡ false
 other_place i place apart = ne_eqb (i + 1) (place + 1) (λ same. apart (omega (arith, same)))
 
 -- the calls of another
-other_calls : (calls : Actor → List request.Exchange) (i place : ℕ) (t : request.Exchange) → (i ≡ place → ⊥) → calls_with calls (App (place + 1)) t (App (i + 1)) ≡ calls (App (i + 1))
+other_calls : (calls : Actor → List Exchange) (i place : ℕ) (t : Exchange) → (i ≡ place → ⊥) → calls_with calls (App (place + 1)) t (App (i + 1)) ≡ calls (App (i + 1))
 other_calls calls i place t apart = rw (other_place i place apart) refl
 
-pub one_more : (scripts : List (List Op)) (s after : State) (apps : List AppState) (calls : Actor → List request.Exchange) (place : ℕ) (app : AppState) (t : request.Exchange) → place < length scripts → AppsKept scripts s apps calls
+pub one_more : (scripts : List (List Op)) (s after : State) (apps : List AppState) (calls : Actor → List Exchange) (place : ℕ) (app : AppState) (t : Exchange) → place < length scripts → AppsKept scripts s apps calls
     → after.core.apps ≡ s.core.apps → after.core.left ≡ map (λ (a : AppState). a.has_left) (set apps place app) → AppKept (get_or scripts place []) app (calls (App (place + 1)) ++ t ∷ [])
     → AppsKept scripts after (set apps place app) (calls_with calls (App (place + 1)) t)
 one_more scripts s after apps calls place app t within kept known left here = record {
@@ -103,7 +103,7 @@ one_more scripts s after apps calls place app t within kept known left here = re
         rw (get_or-set_other apps place i app none apart, other_calls calls i place t apart) (kept.each i none there)
 
 -- all, where somebody else has made a call
-pub others_more : (scripts : List (List Op)) (s after : State) (apps : List AppState) (calls more : Actor → List request.Exchange) → AppsKept scripts s apps calls
+pub others_more : (scripts : List (List Op)) (s after : State) (apps : List AppState) (calls more : Actor → List Exchange) → AppsKept scripts s apps calls
     → after.core.apps ≡ s.core.apps → after.core.left ≡ s.core.left → ((place : ℕ) → more (App (place + 1)) ≡ calls (App (place + 1))) → AppsKept scripts after apps more
 others_more scripts s after apps calls more kept known left same = record {
   count = kept.count;

@@ -7,7 +7,9 @@ use Rattle.std.proofs.lemmas.Option.{same_Some}
 use Rattle.xr_types.specs.declared.calls.Actor.{Actor}
 use Rattle.xr_types.specs.declared.calls.Gives.TheVariants.{Size, Nothing}
 use Rattle.xr_types.specs.declared.calls.Reply.{Reply}
-use Rattle.xr_model.specs.machine.Request.{Request, create_instance, destroy_instance, get_system, string_to_path, path_to_string, poll_event, create_session, destroy_session, begin_session, end_session, request_exit_session, create_reference_space, destroy_space, locate_space, create_action_set, destroy_action_set, create_action, destroy_action, suggest_bindings, attach_sets, sync_actions, get_boolean, get_float, get_vector, get_pose_active, create_action_space, create_swapchain, destroy_swapchain, acquire_image, wait_image, paint, release_image, wait_frame, begin_frame, end_frame, leave, next_frame, image_done, Entry, Outcome}
+use Rattle.xr_model.specs.machine.Calls.{Entry, Outcome}
+use Rattle.xr_types.specs.declared.calls.Call.{Call}
+use Rattle.xr_types.specs.declared.calls.Call.TheVariants as ask
 use Rattle.xr_types.specs.declared.frames.Image.{Image}
 use Rattle.xr_types.specs.declared.frames.Layer.{Layer}
 use Rattle.xr_types.specs.declared.frames.Layer.TheVariants.{Projection, Quad}
@@ -39,7 +41,7 @@ use Rattle.xr_types.specs.Frames.{PendingFrame}
 use Rattle.xr_types.specs.declared.frames.Shown.{Shown}
 use Rattle.xr_model.specs.machine.Rules.Frames.{look_of, told_frame, oldest_shown, next_frame_rule}
 use Rattle.xr_model.specs.machine.Machine.{reads_of, step, rule, ready, IsAllowed}
-use Rattle.xr_scenario_calls.specs.Lent.{lent_size, written_size}
+use Rattle.xr_types.specs.CallKinds.{lent_size, written_size}
 use Rattle.xr_serial.specs.inside.Made.{IsAnswered, frame_told, frame_shown}
 
 -- a refusal that holds gives nothing that fits the buffer
@@ -134,68 +136,68 @@ getter_writes_none Pose (Some c) = refl
 getter_writes_none Vibration (Some c) = refl
 
 -- the bytes that a call writes are as many as its reply says
-pub text_fits : (s : State) (e : Entry) → length (step s e).1.text ≡ written_size (step s e).1.reply.gives (lent_size e.request)
-text_fits s e = by e.request
+pub text_fits : (s : State) (e : Entry) → length (step s e).1.text ≡ written_size (step s e).1.reply.gives (lent_size e.call)
+text_fits s e = by e.call
   where
-    rule_for : Request → Rule
-    rule_for r = rule s.core (reads_of s r) (record e { request = r })
+    rule_for : Call → Rule
+    rule_for r = rule s.core (reads_of s r) (record e { call = r })
 
-    getter : (r : Request) (wanted : ActionType) (session action sub : ℕ) → rule_for r ≡ getter_rule s.core wanted session action sub → lent_size r ≡ 0 → WritesAsSaid (lent_size r) (carried_out s.core e.short (rule_for r))
+    getter : (r : Call) (wanted : ActionType) (session action sub : ℕ) → rule_for r ≡ getter_rule s.core wanted session action sub → lent_size r ≡ 0 → WritesAsSaid (lent_size r) (carried_out s.core e.short (rule_for r))
     getter r wanted session action sub is none =
         let p = publication_of s.core in
         let found = published_at p action in
         rw (is, none)
         (carried_writes s.core 0 e.short (getter_rule s.core wanted session action sub) ((λ h. refl), ((λ h. refl), ((λ h. refl), ((λ h. refl), ((λ h. refl), ((λ h. refl), ((λ h. refl), tt))))))) (getter_writes_none wanted (option_and_then (λ a. option_and_then (λ k. slice_get a.columns k) (column_by p a sub)) found)))
 
-    by : (r : Request) → WritesAsSaid (lent_size r) (carried_out s.core e.short (rule_for r))
-    by (create_instance major minor) = carried_writes s.core 0 e.short (rule_for (create_instance major minor)) ((λ h. refl), ((λ h. refl), ((λ h. refl), tt))) refl
-    by (destroy_instance instance) = carried_writes s.core 0 e.short (rule_for (destroy_instance instance)) ((λ h. refl), ((λ h. refl), tt)) refl
-    by (get_system instance form) = carried_writes s.core 0 e.short (rule_for (get_system instance form)) ((λ h. refl), ((λ h. refl), ((λ h. refl), tt))) refl
-    by (string_to_path instance text) = carried_writes s.core 0 e.short (rule_for (string_to_path instance text)) ((λ h. refl), ((λ h. refl), ((λ h. refl), ((λ h. refl), tt)))) refl
-    by (path_to_string instance path capacity) =
-        carried_writes s.core capacity e.short (rule_for (path_to_string instance path capacity))
+    by : (r : Call) → WritesAsSaid (lent_size r) (carried_out s.core e.short (rule_for r))
+    by (ask.CreateInstance major minor) = carried_writes s.core 0 e.short (rule_for (ask.CreateInstance major minor)) ((λ h. refl), ((λ h. refl), ((λ h. refl), tt))) refl
+    by (ask.DestroyInstance instance) = carried_writes s.core 0 e.short (rule_for (ask.DestroyInstance instance)) ((λ h. refl), ((λ h. refl), tt)) refl
+    by (ask.GetSystem instance form) = carried_writes s.core 0 e.short (rule_for (ask.GetSystem instance form)) ((λ h. refl), ((λ h. refl), ((λ h. refl), tt))) refl
+    by (ask.StringToPath instance text) = carried_writes s.core 0 e.short (rule_for (ask.StringToPath instance text)) ((λ h. refl), ((λ h. refl), ((λ h. refl), ((λ h. refl), tt)))) refl
+    by (ask.PathToString instance path capacity) =
+        carried_writes s.core capacity e.short (rule_for (ask.PathToString instance path capacity))
         ((λ h. refl), ((λ h. refl), ((λ h. refl), (copy_gives_none (text_at s.core.atoms path) capacity, tt)))) (copied_fits (text_at s.core.atoms path) capacity)
-    by (poll_event instance) = carried_writes s.core 0 e.short (rule_for (poll_event instance)) ((λ h. refl), ((λ h. refl), ((λ h. refl), tt))) (told_writes_none (polled s.core.events))
-    by (create_session instance system) = carried_writes s.core 0 e.short (rule_for (create_session instance system)) ((λ h. refl), ((λ h. refl), ((λ h. refl), ((λ h. refl), tt)))) refl
-    by (destroy_session session) = carried_writes s.core 0 e.short (rule_for (destroy_session session)) ((λ h. refl), ((λ h. refl), tt)) refl
-    by (begin_session session view) = carried_writes s.core 0 e.short (rule_for (begin_session session view)) ((λ h. refl), ((λ h. refl), ((λ h. refl), ((λ h. refl), ((λ h. refl), ((λ h. refl), tt)))))) refl
-    by (end_session session) = carried_writes s.core 0 e.short (rule_for (end_session session)) ((λ h. refl), ((λ h. refl), ((λ h. refl), ((λ h. refl), ((λ h. refl), tt))))) refl
-    by (request_exit_session session) = carried_writes s.core 0 e.short (rule_for (request_exit_session session)) ((λ h. refl), ((λ h. refl), ((λ h. refl), ((λ h. refl), tt)))) refl
-    by (create_reference_space session what offset) = carried_writes s.core 0 e.short (rule_for (create_reference_space session what offset)) ((λ h. refl), ((λ h. refl), ((λ h. refl), ((λ h. refl), ((λ h. refl), ((λ h. refl), tt)))))) refl
-    by (destroy_space space) = carried_writes s.core 0 e.short (rule_for (destroy_space space)) ((λ h. refl), ((λ h. refl), tt)) refl
-    by (locate_space space base time) = carried_writes s.core 0 e.short (rule_for (locate_space space base time)) ((λ h. refl), ((λ h. refl), ((λ h. refl), ((λ h. refl), ((λ h. refl), tt))))) refl
-    by (create_action_set instance name localized priority) = carried_writes s.core 0 e.short (rule_for (create_action_set instance name localized priority)) ((λ h. refl), ((λ h. refl), ((λ h. refl), ((λ h. refl), ((λ h. refl), ((λ h. refl), ((λ h. refl), ((λ h. refl), tt)))))))) refl
-    by (destroy_action_set set) = carried_writes s.core 0 e.short (rule_for (destroy_action_set set)) ((λ h. refl), ((λ h. refl), tt)) refl
-    by (create_action set name type subs localized) = carried_writes s.core 0 e.short (rule_for (create_action set name type subs localized)) ((λ h. refl), ((λ h. refl), ((λ h. refl), ((λ h. refl), ((λ h. refl), ((λ h. refl), subs_give_none s.core.atoms no_users subs (action_label_checks s.core.sets set localized ++ no_room s.core.handles kind.Action ∷ []) ((λ h. refl), ((λ h. refl), ((λ h. refl), tt))))))))) refl
-    by (destroy_action action) = carried_writes s.core 0 e.short (rule_for (destroy_action action)) ((λ h. refl), ((λ h. refl), tt)) refl
-    by (suggest_bindings instance profile list) = carried_writes s.core 0 e.short (rule_for (suggest_bindings instance profile list)) ((λ h. refl), ((λ h. refl), ((λ h. refl), ((λ h. refl), ((λ h. refl), ((λ h. refl), bindings_give_none s.core (profile_at s.core.atoms profile) list)))))) refl
-    by (attach_sets session handles) = carried_writes s.core 0 e.short (rule_for (attach_sets session handles)) ((λ h. refl), ((λ h. refl), ((λ h. refl), ((λ h. refl), ((λ h. refl), handles_give_none s.core.handles kind.ActionSet handles))))) refl
-    by (sync_actions session active) = carried_writes s.core 0 e.short (rule_for (sync_actions session active)) ((λ h. refl), ((λ h. refl), ((λ h. refl), ((λ h. refl), items_give_none s.core session active)))) refl
-    by (get_boolean session action sub) = getter (get_boolean session action sub) Boolean session action sub refl refl
-    by (get_float session action sub) = getter (get_float session action sub) Float session action sub refl refl
-    by (get_vector session action sub) = getter (get_vector session action sub) Vector session action sub refl refl
-    by (get_pose_active session action sub) = getter (get_pose_active session action sub) Pose session action sub refl refl
-    by (create_action_space session action sub offset) = carried_writes s.core 0 e.short (rule_for (create_action_space session action sub offset)) ((λ h. refl), ((λ h. refl), ((λ h. refl), ((λ h. refl), ((λ h. refl), ((λ h. refl), ((λ h. refl), ((λ h. refl), tt)))))))) refl
-    by (wait_frame session) = carried_writes s.core 0 e.short (rule_for (wait_frame session)) ((λ h. refl), ((λ h. refl), ((λ h. refl), ((λ h. refl), tt)))) refl
-    by (begin_frame session) = carried_writes s.core 0 e.short (rule_for (begin_frame session)) ((λ h. refl), ((λ h. refl), ((λ h. refl), ((λ h. refl), tt)))) refl
-    by (end_frame session time blend layers) =
-        carried_writes s.core 0 e.short (rule_for (end_frame session time blend layers))
+    by (ask.PollEvent instance) = carried_writes s.core 0 e.short (rule_for (ask.PollEvent instance)) ((λ h. refl), ((λ h. refl), ((λ h. refl), tt))) (told_writes_none (polled s.core.events))
+    by (ask.CreateSession instance system) = carried_writes s.core 0 e.short (rule_for (ask.CreateSession instance system)) ((λ h. refl), ((λ h. refl), ((λ h. refl), ((λ h. refl), tt)))) refl
+    by (ask.DestroySession session) = carried_writes s.core 0 e.short (rule_for (ask.DestroySession session)) ((λ h. refl), ((λ h. refl), tt)) refl
+    by (ask.BeginSession session view) = carried_writes s.core 0 e.short (rule_for (ask.BeginSession session view)) ((λ h. refl), ((λ h. refl), ((λ h. refl), ((λ h. refl), ((λ h. refl), ((λ h. refl), tt)))))) refl
+    by (ask.EndSession session) = carried_writes s.core 0 e.short (rule_for (ask.EndSession session)) ((λ h. refl), ((λ h. refl), ((λ h. refl), ((λ h. refl), ((λ h. refl), tt))))) refl
+    by (ask.RequestExitSession session) = carried_writes s.core 0 e.short (rule_for (ask.RequestExitSession session)) ((λ h. refl), ((λ h. refl), ((λ h. refl), ((λ h. refl), tt)))) refl
+    by (ask.CreateReferenceSpace session what offset) = carried_writes s.core 0 e.short (rule_for (ask.CreateReferenceSpace session what offset)) ((λ h. refl), ((λ h. refl), ((λ h. refl), ((λ h. refl), ((λ h. refl), ((λ h. refl), tt)))))) refl
+    by (ask.DestroySpace space) = carried_writes s.core 0 e.short (rule_for (ask.DestroySpace space)) ((λ h. refl), ((λ h. refl), tt)) refl
+    by (ask.LocateSpace space base time) = carried_writes s.core 0 e.short (rule_for (ask.LocateSpace space base time)) ((λ h. refl), ((λ h. refl), ((λ h. refl), ((λ h. refl), ((λ h. refl), tt))))) refl
+    by (ask.CreateActionSet instance name localized priority) = carried_writes s.core 0 e.short (rule_for (ask.CreateActionSet instance name localized priority)) ((λ h. refl), ((λ h. refl), ((λ h. refl), ((λ h. refl), ((λ h. refl), ((λ h. refl), ((λ h. refl), ((λ h. refl), tt)))))))) refl
+    by (ask.DestroyActionSet set) = carried_writes s.core 0 e.short (rule_for (ask.DestroyActionSet set)) ((λ h. refl), ((λ h. refl), tt)) refl
+    by (ask.CreateAction set name type subs localized) = carried_writes s.core 0 e.short (rule_for (ask.CreateAction set name type subs localized)) ((λ h. refl), ((λ h. refl), ((λ h. refl), ((λ h. refl), ((λ h. refl), ((λ h. refl), subs_give_none s.core.atoms no_users subs (action_label_checks s.core.sets set localized ++ no_room s.core.handles kind.Action ∷ []) ((λ h. refl), ((λ h. refl), ((λ h. refl), tt))))))))) refl
+    by (ask.DestroyAction action) = carried_writes s.core 0 e.short (rule_for (ask.DestroyAction action)) ((λ h. refl), ((λ h. refl), tt)) refl
+    by (ask.SuggestBindings instance profile list) = carried_writes s.core 0 e.short (rule_for (ask.SuggestBindings instance profile list)) ((λ h. refl), ((λ h. refl), ((λ h. refl), ((λ h. refl), ((λ h. refl), ((λ h. refl), bindings_give_none s.core (profile_at s.core.atoms profile) list)))))) refl
+    by (ask.AttachSets session handles) = carried_writes s.core 0 e.short (rule_for (ask.AttachSets session handles)) ((λ h. refl), ((λ h. refl), ((λ h. refl), ((λ h. refl), ((λ h. refl), handles_give_none s.core.handles kind.ActionSet handles))))) refl
+    by (ask.SyncActions session active) = carried_writes s.core 0 e.short (rule_for (ask.SyncActions session active)) ((λ h. refl), ((λ h. refl), ((λ h. refl), ((λ h. refl), items_give_none s.core session active)))) refl
+    by (ask.GetBoolean session action sub) = getter (ask.GetBoolean session action sub) Boolean session action sub refl refl
+    by (ask.GetFloat session action sub) = getter (ask.GetFloat session action sub) Float session action sub refl refl
+    by (ask.GetVector session action sub) = getter (ask.GetVector session action sub) Vector session action sub refl refl
+    by (ask.GetPoseActive session action sub) = getter (ask.GetPoseActive session action sub) Pose session action sub refl refl
+    by (ask.CreateActionSpace session action sub offset) = carried_writes s.core 0 e.short (rule_for (ask.CreateActionSpace session action sub offset)) ((λ h. refl), ((λ h. refl), ((λ h. refl), ((λ h. refl), ((λ h. refl), ((λ h. refl), ((λ h. refl), ((λ h. refl), tt)))))))) refl
+    by (ask.WaitFrame session) = carried_writes s.core 0 e.short (rule_for (ask.WaitFrame session)) ((λ h. refl), ((λ h. refl), ((λ h. refl), ((λ h. refl), tt)))) refl
+    by (ask.BeginFrame session) = carried_writes s.core 0 e.short (rule_for (ask.BeginFrame session)) ((λ h. refl), ((λ h. refl), ((λ h. refl), ((λ h. refl), tt)))) refl
+    by (ask.EndFrame session time blend layers) =
+        carried_writes s.core 0 e.short (rule_for (ask.EndFrame session time blend layers))
         ((λ h. refl), ((λ h. refl), ((λ h. refl), ((λ h. refl), ((λ h. refl), ((λ h. refl), ((λ h. refl), layers_give_none (look_of s.core) layers))))))) refl
-    by (create_swapchain session format width height fixed) =
-        carried_writes s.core 0 e.short (rule_for (create_swapchain session format width height fixed)) ((λ h. refl), ((λ h. refl), ((λ h. refl), ((λ h. refl), ((λ h. refl), ((λ h. refl), ((λ h. refl), tt))))))) refl
-    by (destroy_swapchain chain) = carried_writes s.core 0 e.short (rule_for (destroy_swapchain chain)) ((λ h. refl), ((λ h. refl), tt)) refl
-    by (acquire_image chain) = carried_writes s.core 0 e.short (rule_for (acquire_image chain)) ((λ h. refl), ((λ h. refl), ((λ h. refl), tt))) refl
-    by (wait_image chain timeout start) = carried_writes s.core 0 e.short (rule_for (wait_image chain timeout start)) ((λ h. refl), ((λ h. refl), ((λ h. refl), ((λ h. refl), tt)))) refl
-    by (paint chain stamp) = carried_writes s.core 0 e.short (rule_for (paint chain stamp)) ((λ h. refl), ((λ h. refl), ((λ h. refl), tt))) refl
-    by (release_image chain) = carried_writes s.core 0 e.short (rule_for (release_image chain)) ((λ h. refl), ((λ h. refl), ((λ h. refl), tt))) refl
-    by leave = refl
-    by next_frame = carried_writes s.core 0 e.short (rule_for next_frame) ((λ h. refl), tt) (told_writes_nothing s.core.frames.pending)
-    by image_done = carried_writes s.core 0 e.short (rule_for image_done) ((λ h. refl), tt) refl
+    by (ask.CreateSwapchain session format width height fixed) =
+        carried_writes s.core 0 e.short (rule_for (ask.CreateSwapchain session format width height fixed)) ((λ h. refl), ((λ h. refl), ((λ h. refl), ((λ h. refl), ((λ h. refl), ((λ h. refl), ((λ h. refl), tt))))))) refl
+    by (ask.DestroySwapchain chain) = carried_writes s.core 0 e.short (rule_for (ask.DestroySwapchain chain)) ((λ h. refl), ((λ h. refl), tt)) refl
+    by (ask.AcquireImage chain) = carried_writes s.core 0 e.short (rule_for (ask.AcquireImage chain)) ((λ h. refl), ((λ h. refl), ((λ h. refl), tt))) refl
+    by (ask.WaitImage chain timeout start) = carried_writes s.core 0 e.short (rule_for (ask.WaitImage chain timeout start)) ((λ h. refl), ((λ h. refl), ((λ h. refl), ((λ h. refl), tt)))) refl
+    by (ask.Paint chain stamp) = carried_writes s.core 0 e.short (rule_for (ask.Paint chain stamp)) ((λ h. refl), ((λ h. refl), ((λ h. refl), tt))) refl
+    by (ask.ReleaseImage chain) = carried_writes s.core 0 e.short (rule_for (ask.ReleaseImage chain)) ((λ h. refl), ((λ h. refl), ((λ h. refl), tt))) refl
+    by ask.Leave = refl
+    by ask.NextFrame = carried_writes s.core 0 e.short (rule_for ask.NextFrame) ((λ h. refl), tt) (told_writes_nothing s.core.frames.pending)
+    by ask.ImageDone = carried_writes s.core 0 e.short (rule_for ask.ImageDone) ((λ h. refl), tt) refl
     by _ = refl
 
 -- whether a call is ready is decided by neither a handle nor want of memory
-pub ready_any : (s : State) (who : Actor) (what : Request) (g h : ℕ) (a b : Bool) → ready s (record { actor = who; request = what; given = g; short = a }) ≡ ready s (record { actor = who; request = what; given = h; short = b })
-ready_any s who (create_instance major minor) g h a b = refl
+pub ready_any : (s : State) (who : Actor) (what : Call) (g h : ℕ) (a b : Bool) → ready s (record { actor = who; call = what; given = g; short = a }) ≡ ready s (record { actor = who; call = what; given = h; short = b })
+ready_any s who (ask.CreateInstance major minor) g h a b = refl
 ready_any s who _ g h a b = refl
 
 -- the front of bytes with others behind them
@@ -217,18 +219,18 @@ told_shows None e none = none
 told_shows (Some loss) e none = none
 
 -- only the compositor's call shows any
-abbrev pub IsHidden : Request → Type 0
-IsHidden next_frame = ⊥
+abbrev pub IsHidden : Call → Type 0
+IsHidden ask.NextFrame = ⊥
 IsHidden _ = Unit {0}
 
-pub shows_none : (s : State) (e : Entry) → IsHidden e.request → (step s e).1.shown ≡ None
-shows_none s e hidden = refused_shows s.core (refusal e.short (rule_for e.request)) (told_on (rule_for e.request).on (rule_for e.request).effect) (told_shows (rule_for e.request).on (rule_for e.request).effect (by e.request hidden))
+pub shows_none : (s : State) (e : Entry) → IsHidden e.call → (step s e).1.shown ≡ None
+shows_none s e hidden = refused_shows s.core (refusal e.short (rule_for e.call)) (told_on (rule_for e.call).on (rule_for e.call).effect) (told_shows (rule_for e.call).on (rule_for e.call).effect (by e.call hidden))
   where
-    rule_for : Request → Rule
-    rule_for r = rule s.core (reads_of s r) (record e { request = r })
+    rule_for : Call → Rule
+    rule_for r = rule s.core (reads_of s r) (record e { call = r })
 
-    by : (r : Request) → IsHidden r → (rule_for r).effect.shown ≡ None
-    by next_frame hidden = absurd hidden
+    by : (r : Call) → IsHidden r → (rule_for r).effect.shown ≡ None
+    by ask.NextFrame hidden = absurd hidden
     by _ hidden = refl
 
 -- which shows the oldest that is pending
@@ -243,15 +245,15 @@ next_left s short frame unused stamps [] = oldest frame stamps s.frames.pending
 next_left s short frame unused stamps (i ∷ held) = refl
 
 -- what is left in the place of a frame is what was shown
-pub frame_left : (s : State) (e : Entry) (frame : Shown) → frame_shown e.request (step s e).1.reply.gives (shown_over (step s e).1.shown frame) ≡ (step s e).1.shown
-frame_left s e frame = by e.request
+pub frame_left : (s : State) (e : Entry) (frame : Shown) → frame_shown e.call (step s e).1.reply.gives (shown_over (step s e).1.shown frame) ≡ (step s e).1.shown
+frame_left s e frame = by e.call
   where
-    entry : Request → Entry
-    entry r = record e { request = r }
+    entry : Call → Entry
+    entry r = record e { call = r }
 
-    by : (r : Request) → frame_shown r (step s (entry r)).1.reply.gives (shown_over (step s (entry r)).1.shown frame) ≡ (step s (entry r)).1.shown
-    by next_frame = let reads = reads_of s next_frame in next_left s.core e.short frame reads.unused reads.stamps reads.held
-    by (create_instance major minor) = sym (shows_none s (entry (create_instance major minor)) tt)
+    by : (r : Call) → frame_shown r (step s (entry r)).1.reply.gives (shown_over (step s (entry r)).1.shown frame) ≡ (step s (entry r)).1.shown
+    by ask.NextFrame = let reads = reads_of s ask.NextFrame in next_left s.core e.short frame reads.unused reads.stamps reads.held
+    by (ask.CreateInstance major minor) = sym (shows_none s (entry (ask.CreateInstance major minor)) tt)
     by r = sym (shows_none s (entry r) tt)
 
 -- ---- what the core answered
@@ -260,7 +262,7 @@ same_outcome : (o : Outcome) (answer : Reply) (bytes : List ℕ) (shown : Option
 same_outcome o answer bytes shown e f g = rw (e, f, g) refl
 
 -- It is a call that was made, with the bytes at the front of its buffer and the frame in its place.
-pub made_of : (old new : State) (who : Actor) (what : Request) (answer : Reply) (before written : Lent) (bytes : List ℕ) (n : ℕ) → AnswersBy (IsAllowed old (entry_of who what answer)) (ready old (entry_of who what answer)) (step old (entry_of who what answer)) new answer before written
+pub made_of : (old new : State) (who : Actor) (what : Call) (answer : Reply) (before written : Lent) (bytes : List ℕ) (n : ℕ) → AnswersBy (IsAllowed old (entry_of who what answer)) (ready old (entry_of who what answer)) (step old (entry_of who what answer)) new answer before written
     → n ≡ written_size answer.gives (lent_size what) → bytes ≡ take n written.text
     → IsAnswered old new who what (record { reply = answer; text = bytes; shown = frame_shown what answer.gives written.frame })
 made_of old new who what answer before written bytes n a size front =

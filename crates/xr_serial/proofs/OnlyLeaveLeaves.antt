@@ -5,7 +5,9 @@ use Rattle.xr_types.specs.declared.device.DeviceEvent.TheVariants as event
 use Rattle.xr_types.specs.declared.scenario.Op.{Op}
 use Rattle.xr_types.specs.declared.scenario.Op.TheVariants as op
 use Rattle.xr_model.specs.machine.Refusals.{Refusal}
-use Rattle.xr_model.specs.machine.Request.{Request, Entry, leave, device}
+use Rattle.xr_model.specs.machine.Calls.{Entry}
+use Rattle.xr_types.specs.declared.calls.Call.{Call}
+use Rattle.xr_types.specs.declared.calls.Call.TheVariants as ask
 use Rattle.xr_model.specs.machine.SessionRule.{Loss}
 use Rattle.xr_model.specs.machine.Rule.{Rule, Effect, refusal, told_on, unless_refused}
 use Rattle.xr_model.specs.runs.Robin.{with_start}
@@ -29,19 +31,19 @@ events_keep : (s : CoreState) (what : DeviceEvent) → (behind_event s what).lef
 events_keep s (event.Clock time) = refl
 events_keep s _ = refl
 
-abbrev pub IsStaying : Request → Type 0
-IsStaying leave = ⊥
+abbrev pub IsStaying : Call → Type 0
+IsStaying ask.Leave = ⊥
 IsStaying _ = Unit {0}
 
-pub call_keeps : (s : State) (e : Entry) → IsStaying e.request → (step s e).0.core.left ≡ s.core.left
-call_keeps s e stays = refused_keeps s.core (refusal e.short (rule_for e.request)) (told_on (rule_for e.request).on (rule_for e.request).effect) (told_keeps s.core (rule_for e.request).on (rule_for e.request).effect (by e.request stays))
+pub call_keeps : (s : State) (e : Entry) → IsStaying e.call → (step s e).0.core.left ≡ s.core.left
+call_keeps s e stays = refused_keeps s.core (refusal e.short (rule_for e.call)) (told_on (rule_for e.call).on (rule_for e.call).effect) (told_keeps s.core (rule_for e.call).on (rule_for e.call).effect (by e.call stays))
   where
-    rule_for : Request → Rule
-    rule_for r = rule s.core (reads_of s r) (record e { request = r })
+    rule_for : Call → Rule
+    rule_for r = rule s.core (reads_of s r) (record e { call = r })
 
-    by : (r : Request) → IsStaying r → KeepsLeft s.core (rule_for r).effect
-    by leave stays = absurd stays
-    by (device what) stays = events_keep s.core what
+    by : (r : Call) → IsStaying r → KeepsLeft s.core (rule_for r).effect
+    by ask.Leave stays = absurd stays
+    by (ask.Device what) stays = events_keep s.core what
     by _ stays = refl
 
 pub op_stays : (clock : ℤ) (values : List ℕ) (o : Op) → IsStaying (with_start clock (request_for values o))

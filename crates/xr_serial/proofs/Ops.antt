@@ -9,13 +9,16 @@ use Rattle.xr_types.specs.Device.{is_mark}
 use Rattle.xr_types.specs.Op.{call_name}
 use Rattle.xr_model.specs.scenario.InRange.{IsMark}
 use Rattle.xr_model.specs.scenario.ScriptForm.{IsInRange}
-use Rattle.xr_model.specs.runs.Lists.{name_of_request, mark_of, start_of, made_at, done_at}
+use Rattle.xr_model.specs.runs.Lists.{listed_name, mark_of, start_of, made_at, done_at}
 use Rattle.xr_types.specs.declared.code.Code.TheVariants.{CallOrderInvalid}
 use Rattle.xr_model.specs.machine.Machine.{ready}
 use Rattle.xr_model.specs.machine.CoreCalls.{MayAsk}
 use Rattle.xr_model.specs.machine.Rules.Frames.{is_frame_awaited}
 use Rattle.xr_model.specs.runs.Scripts.{request_for, unstarted}
-use Rattle.xr_model.specs.machine.Request.{Request, wait_image, next_frame, is_locked, Outcome}
+use Rattle.xr_types.specs.CallKinds.{is_locked, lent_size}
+use Rattle.xr_model.specs.machine.Calls.{Outcome}
+use Rattle.xr_types.specs.declared.calls.Call.{Call}
+use Rattle.xr_types.specs.declared.calls.Call.TheVariants as ask
 use Rattle.xr_model.specs.runs.Robin.{with_start}
 use Rattle.xr_model.specs.machine.State.{State}
 use Rattle.xr_model.specs.machine.History.{StartsAt}
@@ -23,7 +26,6 @@ use Rattle.xr_model.specs.machine.Frames.{is_empty}
 use Rattle.xr_serial.proofs.Lending.{IsHidden}
 use Rattle.xr_serial.specs.inside.Made.{asked, exchange_of, made_with}
 use Rattle.xr_types.specs.declared.calls.Actor.TheVariants.{App, Compositor}
-use Rattle.xr_scenario_calls.specs.Lent.{lent_size}
 use Rattle.xr_serial.specs.inside.RunInvariant.{is_getter_name}
 use Rattle.xr_scenario_calls.specs.Listed.{op_mark, op_start}
 use Rattle.xr_serial.specs.inside.Sides.{listed_op}
@@ -56,7 +58,7 @@ pub op_lent : (clock : ℤ) (values : List ℕ) (o : Op) → IsInRange o → len
 op_lent clock values (op.PathToString instance path capacity) r = r.2
 op_lent clock values _ r = omega arith
 
-pub name_is : (clock : ℤ) (values : List ℕ) (o : Op) → name_of_request (with_start clock (request_for values o)) ≡ call_name o
+pub name_is : (clock : ℤ) (values : List ℕ) (o : Op) → listed_name (with_start clock (request_for values o)) ≡ call_name o
 name_is clock values (op.CreateInstance major minor) = refl
 name_is clock values _ = refl
 
@@ -83,7 +85,7 @@ held_back true (Some r) e = absurd (true≢false (sym e))
 held_back false found e = absurd (true≢false (sym e))
 
 -- the compositor's call isn't ready where no frame is pending, some application is there, and no image is held
-pub frame_held_back : (s : State) → is_frame_awaited s.core && is_empty s.cells.held ≡ true → ready s (asked Compositor next_frame) ≡ false
+pub frame_held_back : (s : State) → is_frame_awaited s.core && is_empty s.cells.held ≡ true → ready s (asked Compositor ask.NextFrame) ≡ false
 frame_held_back s told = by (is_frame_awaited s.core) (is_empty s.cells.held) told
   where
     by : (awaited unheld : Bool) → awaited && unheld ≡ true → not awaited || is_some (first_of (when (not unheld) CallOrderInvalid ∷ [])) ≡ false
@@ -94,17 +96,17 @@ frame_held_back s told = by (is_frame_awaited s.core) (is_empty s.cells.held) to
 -- ---- a call and the clock at which a wait begins
 
 -- it begins where its clock says, and no other call cares
-pub starts : (clock : ℤ) (r : Request) → StartsAt clock (with_start clock r)
-starts clock (wait_image chain timeout start) = refl
+pub starts : (clock : ℤ) (r : Call) → StartsAt clock (with_start clock r)
+starts clock (ask.WaitImage chain timeout start) = refl
 starts clock _ = tt
 
 -- a call is a locked one, or a getter by its name, whenever a wait begins
-pub getter_name : (clock : ℤ) (values : List ℕ) (o : Op) → is_getter_name (name_of_request (with_start clock (request_for values o))) ≡ not (is_locked (with_start clock (request_for values o)))
+pub getter_name : (clock : ℤ) (values : List ℕ) (o : Op) → is_getter_name (listed_name (with_start clock (request_for values o))) ≡ not (is_locked (with_start clock (request_for values o)))
 getter_name clock values (op.CreateInstance major minor) = refl
 getter_name clock values _ = refl
 
-pub as_locked : (clock : ℤ) (r : Request) → is_locked (with_start clock r) ≡ is_locked r
-as_locked clock (wait_image chain timeout start) = refl
+pub as_locked : (clock : ℤ) (r : Call) → is_locked (with_start clock r) ≡ is_locked r
+as_locked clock (ask.WaitImage chain timeout start) = refl
 as_locked clock _ = refl
 
 -- and gives back no image

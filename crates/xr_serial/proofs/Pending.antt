@@ -8,7 +8,9 @@ use Rattle.xr_types.specs.declared.scenario.Op.{Op}
 use Rattle.xr_types.specs.declared.scenario.Op.TheVariants as op
 use Rattle.xr_types.specs.Frames.{PendingFrame}
 use Rattle.xr_model.specs.machine.Refusals.{Refusal}
-use Rattle.xr_model.specs.machine.Request.{Request, Entry, end_frame, next_frame, device}
+use Rattle.xr_model.specs.machine.Calls.{Entry}
+use Rattle.xr_types.specs.declared.calls.Call.{Call}
+use Rattle.xr_types.specs.declared.calls.Call.TheVariants as ask
 use Rattle.xr_model.specs.machine.SessionRule.{Loss}
 use Rattle.xr_model.specs.machine.Rule.{Rule, Effect, refusal, told_on, unless_refused}
 use Rattle.xr_types.specs.declared.frames.FrameLayer.{FrameLayer}
@@ -29,8 +31,8 @@ use Rattle.xr_model.specs.machine.Machine.{rule, step, reads_of}
 use Rattle.xr_serial.specs.inside.RunInvariant.{frames_work}
 
 -- an end brings one frame at most, with two images a layer at most, and other calls none
-abbrev pub most_brought : Request → ℕ
-most_brought (end_frame session time blend layers) = 1 + 2 * length layers
+abbrev pub most_brought : Call → ℕ
+most_brought (ask.EndFrame session time blend layers) = 1 + 2 * length layers
 most_brought _ = 0
 
 abbrev Brings : CoreState → ℕ → Effect → Type 0
@@ -94,20 +96,20 @@ one_brought s time layers =
 -- ---- calls
 
 -- the compositor's call is apart
-abbrev pub IsBringing : Request → Type 0
-IsBringing next_frame = ⊥
+abbrev pub IsBringing : Call → Type 0
+IsBringing ask.NextFrame = ⊥
 IsBringing _ = Unit {0}
 
-pub brings : (s : State) (e : Entry) → IsBringing e.request → frames_work (step s e).0.core.frames.pending ≤ frames_work s.core.frames.pending + most_brought e.request
-brings s e is = refused_brings s.core (most_brought e.request) (refusal e.short (rule_for e.request)) (told_on (rule_for e.request).on (rule_for e.request).effect) (told_brings s.core (most_brought e.request) (rule_for e.request).on (rule_for e.request).effect (by e.request is))
+pub brings : (s : State) (e : Entry) → IsBringing e.call → frames_work (step s e).0.core.frames.pending ≤ frames_work s.core.frames.pending + most_brought e.call
+brings s e is = refused_brings s.core (most_brought e.call) (refusal e.short (rule_for e.call)) (told_on (rule_for e.call).on (rule_for e.call).effect) (told_brings s.core (most_brought e.call) (rule_for e.call).on (rule_for e.call).effect (by e.call is))
   where
-    rule_for : Request → Rule
-    rule_for r = rule s.core (reads_of s r) (record e { request = r })
+    rule_for : Call → Rule
+    rule_for r = rule s.core (reads_of s r) (record e { call = r })
 
-    by : (r : Request) → IsBringing r → Brings s.core (most_brought r) (rule_for r).effect
-    by next_frame is = absurd is
-    by (device what) is = events_bring s.core what
-    by (end_frame session time blend layers) is = one_brought s.core time layers
+    by : (r : Call) → IsBringing r → Brings s.core (most_brought r) (rule_for r).effect
+    by ask.NextFrame is = absurd is
+    by (ask.Device what) is = events_bring s.core what
+    by (ask.EndFrame session time blend layers) is = one_brought s.core time layers
     by _ is = as_many (frames_work s.core.frames.pending) 0
 
 -- ---- the call of an op
@@ -127,9 +129,9 @@ few_brought clock values (op.EndFrame session time blend layers) r =
     omega (arith, few, many)
 few_brought clock values _ r = omega arith
 
-pub op_brings : (s : State) (e : Entry) (clock : ℤ) (values : List ℕ) (o : Op) → e.request ≡ with_start clock (request_for values o) → IsInRange o
+pub op_brings : (s : State) (e : Entry) (clock : ℤ) (values : List ℕ) (o : Op) → e.call ≡ with_start clock (request_for values o) → IsInRange o
     → frames_work (step s e).0.core.frames.pending ≤ frames_work s.core.frames.pending + 65
 op_brings s e clock values o is r =
     let more = brings s e (subst IsBringing (sym is) (op_is_bringing clock values o)) in
-    let few : most_brought e.request ≤ 65 = subst (λ (q : Request). most_brought q ≤ 65) (sym is) (few_brought clock values o r) in
+    let few : most_brought e.call ≤ 65 = subst (λ (q : Call). most_brought q ≤ 65) (sym is) (few_brought clock values o r) in
     omega (arith, more, few)

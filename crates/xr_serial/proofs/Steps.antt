@@ -5,7 +5,8 @@ use Rattle.xr_types.specs.declared.calls.Actor.{Actor}
 use Rattle.xr_types.specs.Code.{is_out_of_memory}
 use Rattle.xr_types.specs.declared.device.DeviceEvent.{DeviceEvent}
 use Rattle.xr_types.specs.declared.scenario.Scenario.{Scenario}
-use Rattle.xr_model.specs.machine.Request.{Request, Entry, Outcome, Exchange, is_actor}
+use Rattle.xr_model.specs.machine.Calls.{Entry, Outcome, Exchange, is_actor}
+use Rattle.xr_types.specs.declared.calls.Call.{Call}
 use Rattle.xr_model.specs.machine.CoreCalls.{entry_of, given_by}
 use Rattle.xr_model.specs.machine.State.{State}
 use Rattle.xr_model.specs.machine.History.{clock_of, clocks_after, StartsAt, IsLegalFrom, calls_from}
@@ -20,7 +21,7 @@ use Rattle.std.proofs.lemmas.List.{set-get_or}
 
 -- ---- one call more in front of a history
 
-calls_more : (s after : State) (calls : Actor → List Exchange) (who by : Actor) (what : Request) (outcome : Outcome) (more : List Entry) → IsAnswered s after by what outcome
+calls_more : (s after : State) (calls : Actor → List Exchange) (who by : Actor) (what : Call) (outcome : Outcome) (more : List Entry) → IsAnswered s after by what outcome
     → calls who ++ calls_from s who (entry_of by what outcome.reply ∷ more) ≡ calls_with calls by (exchange_of what outcome) who ++ calls_from after who more
 calls_more s after calls who by what outcome more made = each (is_actor who by) refl
   where
@@ -31,12 +32,12 @@ calls_more s after calls who by what outcome more made = each (is_actor who by) 
     each true e = rw (e, made.comes, ← made.leads) (sym (append_assoc (calls who) (t ∷ []) (calls_from after who more)))
     each false e = rw (e, ← made.leads) refl
 
-done_more : (s after : State) (done : List ℕ) (by : Actor) (what : Request) (outcome : Outcome) (more : List Entry) → IsAnswered s after by what outcome
+done_more : (s after : State) (done : List ℕ) (by : Actor) (what : Call) (outcome : Outcome) (more : List Entry) → IsAnswered s after by what outcome
     → done ++ done_from s (entry_of by what outcome.reply ∷ more) ≡ (done ++ done_at s what) ++ done_from after more
 done_more s after done by what outcome more made = rw (← made.leads) (sym (append_assoc done (done_at s what) (done_from after more)))
 
 -- what was made, once this call was answered
-abbrev pub trace_behind : State → State → Trace → Actor → Request → Outcome → Trace
+abbrev pub trace_behind : State → State → Trace → Actor → Call → Outcome → Trace
 trace_behind s after trace who what outcome = record {
   calls = calls_with trace.calls who (exchange_of what outcome);
   clocks = clocks_after trace.clocks (entry_of who what outcome.reply) after;
@@ -44,19 +45,19 @@ trace_behind s after trace who what outcome = record {
 }
 
 -- the next call of an agenda
-pub record IsAgendaOf (who : Actor) (what : Request) (x : Agenda) : Type 0 where
+pub record IsAgendaOf (who : Actor) (what : Call) (x : Agenda) : Type 0 where
   pub actor : actor_of x ≡ who
   pub call : next_call x ≡ what
 
-is_ready : (s after : State) (who : Actor) (what : Request) (outcome : Outcome) (x : Agenda) → IsAgendaOf who what x → IsAnswered s after who what outcome → is_next_ready s x ≡ true
+is_ready : (s after : State) (who : Actor) (what : Call) (outcome : Outcome) (x : Agenda) → IsAgendaOf who what x → IsAnswered s after who what outcome → is_next_ready s x ≡ true
 is_ready s after who what outcome x of made = rw (of.actor, of.call) (ready_any s who what 0 (given_by outcome.reply.gives) false (is_out_of_memory outcome.reply.code) ∙ made.is_ready)
 
-robin_more : (s after : State) (who : Actor) (what : Request) (outcome : Outcome) (x : Agenda) (others agendas : List Agenda) (more : List Entry) → IsAgendaOf who what x → IsAnswered s after who what outcome → Takes s x others agendas
+robin_more : (s after : State) (who : Actor) (what : Call) (outcome : Outcome) (x : Agenda) (others agendas : List Agenda) (more : List Entry) → IsAgendaOf who what x → IsAnswered s after who what outcome → Takes s x others agendas
     → IsRobinFrom after (others ++ agenda_after x after outcome) more → IsRobinFrom s agendas (entry_of who what outcome.reply ∷ more)
 robin_more s after who what outcome x others agendas more of made t goes =
     rw (t.found, made.comes, t.others_are, t.agenda) ((sym of.actor, sym of.call), subst (λ (n : State). IsRobinFrom n (others ++ agenda_after x n outcome) more) made.leads goes)
 
-left_more : (s after : State) (who : Actor) (what : Request) (outcome : Outcome) (x : Agenda) (others agendas : List Agenda) (more : List Entry) → IsAnswered s after who what outcome → Takes s x others agendas
+left_more : (s after : State) (who : Actor) (what : Call) (outcome : Outcome) (x : Agenda) (others agendas : List Agenda) (more : List Entry) → IsAnswered s after who what outcome → Takes s x others agendas
     → agendas_left s agendas (entry_of who what outcome.reply ∷ more) ≡ agendas_left after (others ++ agenda_after x after outcome) more
 left_more s after who what outcome x others agendas more made t =
     rw (t.found, made.comes, t.others_are, t.agenda) (ap (λ (n : State). agendas_left n (others ++ agenda_after x n outcome) more) (sym made.leads))
@@ -64,7 +65,7 @@ left_more s after who what outcome x others agendas more made t =
 -- ---- a run goes on
 
 -- the actor whose turn it is makes its call
-pub record Goes (turn : ℕ) (parts : List DeviceEvent → List (List Agenda)) (s after : State) (trace : Trace) (who : Actor) (what : Request) (outcome : Outcome) : Type 0 where
+pub record Goes (turn : ℕ) (parts : List DeviceEvent → List (List Agenda)) (s after : State) (trace : Trace) (who : Actor) (what : Call) (outcome : Outcome) : Type 0 where
   pub agenda : List DeviceEvent → Agenda
   pub alone : (rest : List DeviceEvent) → get_or (parts rest) turn [] ≡ agenda rest ∷ []
   pub of : (rest : List DeviceEvent) → IsAgendaOf who what (agenda rest)
@@ -96,7 +97,7 @@ module _ (scenario : Scenario) (turn idle : ℕ) (s after : State) (over : Bool)
     order = λ rest ok. subst (λ (p : List (List Agenda)). IsTurnOrder s idle (from_turn turn p) (g.so_far.agendas rest)) (same rest ok) (g.order rest ok);
   }
 
-  pub made_turn : (actors : ℕ) (trace : Trace) (who : Actor) (what : Request) (outcome : Outcome) → AreSo actors turn idle parts → (goes : Goes turn parts s after trace who what outcome) → Standing scenario turn idle s over begun parts trace
+  pub made_turn : (actors : ℕ) (trace : Trace) (who : Actor) (what : Call) (outcome : Outcome) → AreSo actors turn idle parts → (goes : Goes turn parts s after trace who what outcome) → Standing scenario turn idle s over begun parts trace
       → Standing scenario (turn_behind turn actors) 0 after over begun (λ rest. set (parts rest) turn (agenda_after (goes.agenda rest) after outcome)) (trace_behind s after trace who what outcome)
   made_turn actors trace who what outcome are goes g = record {
     so_far = record {

@@ -11,8 +11,8 @@ use Rattle.xr_types.specs.declared.made.Lists.{Lists}
 use Rattle.xr_types.specs.declared.scenario.Op.{Op}
 use Rattle.xr_types.specs.declared.scenario.Scenario.{Scenario}
 use Rattle.xr_model.specs.scenario.ScriptForm.{AllInForm}
-use Rattle.xr_model.specs.machine.Request as request
-use Rattle.xr_model.specs.machine.Request.{next_frame, image_done, Entry}
+use Rattle.xr_model.specs.machine.Calls.{Entry, Exchange}
+use Rattle.xr_types.specs.declared.calls.Call.TheVariants as ask
 use Rattle.xr_types.specs.Device.{checks}
 use Rattle.xr_model.specs.machine.State.{Settings, with_apps, opening}
 use Rattle.xr_model.specs.machine.History.{IsLegal, calls_of}
@@ -71,19 +71,19 @@ pub record AreSound (events : List DeviceEvent) : Type 0 where
   pub each : AreLineEvents told
 
 -- the calls of each application have this to do with its script
-abbrev pub OfEachScript : Scenario → List Entry → (List Op → List request.Exchange → Type 0) → Type 0
+abbrev pub OfEachScript : Scenario → List Entry → (List Op → List Exchange → Type 0) → Type 0
 OfEachScript scenario history P =
     (place : ℕ) → place < length scenario.scripts → P (slice_index_or scenario.scripts place []) (calls_of (settings_of scenario) (App (place + 1)) history)
 
 -- A call of the compositor behind which it goes on: it was shown a frame, or gave back an image.
-pub data GoesOn (t : request.Exchange) : Type 0 where
-  a_frame : t.request ≡ next_frame → t.outcome.reply.gives ≡ Shown → GoesOn t
-  an_image : t.request ≡ image_done → t.outcome.reply.code ≡ Success → t.outcome.reply.gives ≡ Nothing → GoesOn t
+pub data GoesOn (t : Exchange) : Type 0 where
+  a_frame : t.call ≡ ask.NextFrame → t.outcome.reply.gives ≡ Shown → GoesOn t
+  an_image : t.call ≡ ask.ImageDone → t.outcome.reply.code ≡ Success → t.outcome.reply.gives ≡ Nothing → GoesOn t
 
 -- it went on so, and then was told the end
-abbrev pub IsEnd : List request.Exchange → Type 0
+abbrev pub IsEnd : List Exchange → Type 0
 IsEnd [] = ⊥
-IsEnd (t ∷ []) = (t.request ≡ next_frame) × (t.outcome.reply.gives ≡ Ended)
+IsEnd (t ∷ []) = (t.call ≡ ask.NextFrame) × (t.outcome.reply.gives ≡ Ended)
 IsEnd (t ∷ u ∷ ts) = GoesOn t × IsEnd (u ∷ ts)
 
 -- All has come to its end: each application's calls are all of its script's ops and then `leave`, the compositor was told

@@ -3,7 +3,7 @@ ghost use Rattle.std.specs.Prelude.{◌≡◌, ◌<◌, ◌≤◌, ◌≤ℤ◌,
 ghost use Rattle.xr_types.specs.declared.calls.Actor.TheVariants.{App};
 ghost use Rattle.xr_model.specs.scenario.ScriptForm.{IsInForm};
 ghost use Rattle.xr_model.specs.machine.Machine.{IsPresent};
-ghost use Rattle.xr_model.specs.machine.Request.{is_locked};
+ghost use Rattle.xr_types.specs.CallKinds.{is_locked};
 ghost use Rattle.xr_model.specs.runs.Robin.{clock_behind};
 ghost use Rattle.xr_model.specs.runs.Scripts.{request_for};
 ghost use Rattle.xr_serial.specs.inside.Sides.{new_app, OpTurn, Leaves};
@@ -70,9 +70,7 @@ impl Application {
     {
         let names = Names::start(alloc, ops.len())?;
         // One call an op, and `leave`.
-        let Ok(calls) = Vec::with_capacity(alloc, ops.len() + 1) else {
-            return Err(NoMemory);
-        };
+        let calls = Vec::with_capacity(alloc, ops.len() + 1)?;
         Ok(Application {
             made: 0,
             names,

@@ -3,16 +3,15 @@ ghost use Rattle.std.specs.Prelude.{◌≡◌, ◌≤◌, ◌<◌, ◌^◌, IfOk
 ghost use Rattle.xr_types.specs.declared.limits.TheConstants.{MOST_CAPACITY};
 ghost use Rattle.xr_types.specs.declared.calls.Actor.TheVariants.{Compositor};
 ghost use Rattle.xr_types.specs.declared.frames.Shown.{Shown};
-ghost use Rattle.xr_model.specs.machine.Request.{request_of, next_frame, image_done};
+ghost use Rattle.xr_types.specs.declared.calls.Call.TheVariants as ask;
 ghost use Rattle.xr_model.specs.machine.Machine.{IsPresent};
 ghost use Rattle.xr_model.specs.machine.CoreCalls.{MayAsk, Applies};
 ghost use Rattle.xr_serial.specs.inside.Made.{CallTurn, ComposedOrWaits};
-ghost use Rattle.xr_scenario_calls.specs.Lent.{lent_size};
+ghost use Rattle.xr_types.specs.CallKinds.{lent_size};
 
 use std::alloc::Global;
 use std::marker::Model;
 use xr_core::PlainCore;
-use xr_scenario_calls::{lent_size, written_size};
 use xr_types::{Actor, Bytes, Call, CallName, MOST_CAPACITY, Made, NoMemory, Reply, Shown, Step};
 
 /// How many bytes a call of a script is lent at most: the largest `capacity` of the format.
@@ -28,13 +27,11 @@ pub(crate) struct Listed {
     pub(crate) start: i64,
 }
 
-/// The core, with the buffer and the place of a frame that its calls are lent, so that a call that waits costs little. Contracts
-/// see it as the machine's state.
+/// The core, with the buffer that its calls are lent. Contracts see it as the machine's state.
 #[derive(Drop)]
 pub(crate) struct Lender {
     pub(crate) core: PlainCore,
     buffer: [u8; MOST_LENT],
-    shown: Shown,
 }
 
 impl Model for Lender {
@@ -54,13 +51,13 @@ fn ask(
     shown: &mut Shown,
 ) -> Step
     requires calls { core.old.core.locked < 2 ^ 44 }
-    requires asks { MayAsk who (request_of call.now) (lent_size (request_of call.now)) }
+    requires asks { MayAsk who call.now (lent_size call.now) }
     requires present { IsPresent core.old.core who }
-    requires few { lent_size (request_of call.now) ≤ length buffer.old }
-    ensures applies { Applies core.old core.new who call.now (record { text = take (lent_size (request_of call.now)) buffer.old; frame = shown.old }) (record { text = take (lent_size (request_of call.now)) buffer.new; frame = shown.new }) result }
+    requires few { lent_size call.now ≤ length buffer.old }
+    ensures applies { Applies core.old core.new who call.now (record { text = take (lent_size call.now) buffer.old; frame = shown.old }) (record { text = take (lent_size call.now) buffer.new; frame = shown.new }) result }
     ensures size { length buffer.new ≡ length buffer.old }
 {
-    let lent = &mut buffer[..lent_size(call) as usize];
+    let lent = &mut buffer[..call.lent_size() as usize];
     core.apply(who, call, lent, shown)
 }
 
@@ -68,9 +65,9 @@ fn ask(
 /// `frame`.
 fn compose(core: &mut PlainCore, call: &Call<'_>, frame: &mut Shown) -> Option<Reply>
     requires calls { core.old.core.locked < 2 ^ 44 }
-    requires asks { MayAsk Compositor (request_of call.now) 0 }
-    requires unlent { lent_size (request_of call.now) ≡ 0 }
-    ensures { ComposedOrWaits core.old core.new (request_of call.now) frame.new result }
+    requires asks { MayAsk Compositor call.now 0 }
+    requires unlent { lent_size call.now ≡ 0 }
+    ensures { ComposedOrWaits core.old core.new call.now frame.new result }
 {
     match core.apply(Actor::Compositor, call, &mut [], frame) {
         Step::Done(reply) => Some(reply),
@@ -79,14 +76,13 @@ fn compose(core: &mut PlainCore, call: &Call<'_>, frame: &mut Shown) -> Option<R
 }
 
 impl Lender {
-    /// This core, and a buffer and a place of a frame in which nothing stands yet.
+    /// This core, and a buffer in which nothing stands yet.
     pub(crate) fn new(core: PlainCore) -> Lender
         ensures { result ≡ core }
     {
         Lender {
             core,
             buffer: [0; MOST_LENT],
-            shown: Shown::default(),
         }
     }
 
@@ -101,23 +97,18 @@ impl Lender {
         list: &mut Vec<Made>,
     ) -> Result<bool, NoMemory>
         requires calls { self.old.core.locked < 2 ^ 44 }
-        requires asks { MayAsk who (request_of call.now) (lent_size (request_of call.now)) }
+        requires asks { MayAsk who call.now (lent_size call.now) }
         requires present { IsPresent self.old.core who }
-        requires few { lent_size (request_of call.now) ≤ MOST_CAPACITY }
-        ensures { IfOk result (λ went. CallTurn self.old self.new who (request_of call.now) listed list.old.items list.new.items went) }
+        requires few { lent_size call.now ≤ MOST_CAPACITY }
+        ensures { IfOk result (λ went. CallTurn self.old self.new who call.now listed list.old.items list.new.items went) }
     {
-        let Lender {
-            core,
-            buffer,
-            shown,
-        } = self;
-        let Step::Done(reply) = ask(core, who, call, buffer, shown) else {
+        let Lender { core, buffer } = self;
+        let mut shown = Shown::default();
+        let Step::Done(reply) = ask(core, who, call, buffer, &mut shown) else {
             return Ok(false);
         };
-        let written = written_size(reply.gives, lent_size(call)) as usize;
-        let Ok(text) = Bytes::from_slice(alloc, &buffer[..written]) else {
-            return Err(NoMemory);
-        };
+        let written = reply.gives.written_size(call.lent_size()) as usize;
+        let text = Bytes::from_slice(alloc, &buffer[..written])?;
         let made = Made {
             op: listed.op,
             name: listed.name,
@@ -126,16 +117,14 @@ impl Lender {
             reply,
             text,
         };
-        let Ok(()) = list.push(made) else {
-            return Err(NoMemory);
-        };
+        list.push(made)?;
         Ok(true)
     }
 
     /// Makes the compositor's call for a frame, or says by nothing that it has to wait. The frame that it shows is left in `frame`.
     pub(crate) fn next_frame(&mut self, frame: &mut Shown) -> Option<Reply>
         requires calls { self.old.core.locked < 2 ^ 44 }
-        ensures { ComposedOrWaits self.old self.new next_frame frame.new result }
+        ensures { ComposedOrWaits self.old self.new ask.NextFrame frame.new result }
     {
         compose(&mut self.core, &Call::NextFrame, frame)
     }
@@ -143,8 +132,8 @@ impl Lender {
     /// Gives back the image that the compositor has held longest, or says by nothing that this has to wait.
     pub(crate) fn give_back(&mut self) -> Option<Reply>
         requires calls { self.old.core.locked < 2 ^ 44 }
-        ensures { (frame : Shown) × ComposedOrWaits self.old self.new image_done frame result }
+        ensures { (frame : Shown) × ComposedOrWaits self.old self.new ask.ImageDone frame result }
     {
-        compose(&mut self.core, &Call::ImageDone, &mut self.shown)
+        compose(&mut self.core, &Call::ImageDone, &mut Shown::default())
     }
 }

@@ -1,7 +1,7 @@
 // The compositor's side of a run: the frames that it was shown.
 ghost use Rattle.std.specs.Prelude.{◌≡◌, ◌<◌, ◌^◌, [], false, None, IfOk, OnOk};
 ghost use Rattle.xr_model.specs.machine.Frames.{is_empty};
-ghost use Rattle.xr_model.specs.machine.Request.{next_frame};
+ghost use Rattle.xr_types.specs.declared.calls.Call.TheVariants as ask;
 ghost use Rattle.xr_serial.specs.inside.Made.{frame_shown};
 ghost use Rattle.xr_serial.specs.inside.Sides.{compositor_with, FrameTurn, ImageReturned};
 
@@ -43,18 +43,14 @@ impl CompositorSide {
 
     /// Keeps what its call came to: a frame, or the end.
     fn keep(&mut self, reply: Reply, shown: Shown) -> Result<(), NoMemory>
-        ensures { OnOk result (self.new ≡ compositor_with self.old reply (frame_shown next_frame reply.gives shown)) }
+        ensures { OnOk result (self.new ≡ compositor_with self.old reply (frame_shown ask.NextFrame reply.gives shown)) }
     {
         if !matches!(reply.gives, Gives::Shown) {
             self.ended = Some(reply);
             return Ok(());
         }
-        let Ok(()) = self.frames.push(shown) else {
-            return Err(NoMemory);
-        };
-        let Ok(()) = self.replies.push(reply) else {
-            return Err(NoMemory);
-        };
+        self.frames.push(shown)?;
+        self.replies.push(reply)?;
         Ok(())
     }
 
@@ -68,9 +64,7 @@ impl CompositorSide {
         if machine.lender.give_back().is_none() {
             unreachable!()
         }
-        let Ok(()) = self.done.push(before) else {
-            return Err(NoMemory);
-        };
+        self.done.push(before)?;
         Ok(())
     }
 

@@ -81,10 +81,8 @@ fn add_next(list: &mut Vec<Waiting>, next: Option<Waiting>) -> Result<(), NoMemo
     let Some(one) = next else {
         return Ok(());
     };
-    match list.push(one) {
-        Ok(()) => Ok(()),
-        Err(_) => Err(NoMemory),
-    }
+    list.push(one)?;
+    Ok(())
 }
 
 /// Keeps the next calls of the applications that haven't left.
@@ -123,9 +121,7 @@ fn calls_of(alloc: Global, apps: Vec<Application>) -> Result<Vec<MadeList>, NoMe
 {
     let mut lists = Vec::new(alloc);
     for app in apps {
-        let Ok(()) = lists.push(Several::new(app.calls)) else {
-            return Err(NoMemory);
-        };
+        lists.push(Several::new(app.calls))?;
     }
     Ok(lists)
 }

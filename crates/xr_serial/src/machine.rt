@@ -3,7 +3,7 @@ ghost use Rattle.std.specs.Prelude.{◌≡◌, ◌<◌, ◌≤◌, ◌≤ℤ◌,
 ghost use Rattle.xr_types.specs.declared.limits.TheConstants.{MOST_SCRIPTS};
 ghost use Rattle.xr_types.specs.declared.calls.Actor.TheVariants.{App, Compositor};
 ghost use Rattle.xr_model.specs.machine.Machine.{IsPresent, ready};
-ghost use Rattle.xr_model.specs.machine.Request.{request_of, next_frame};
+ghost use Rattle.xr_types.specs.declared.calls.Call.TheVariants as ask;
 ghost use Rattle.xr_model.specs.machine.State.{with_apps, opening};
 ghost use Rattle.xr_model.specs.scenario.ScriptForm.{IsInRange};
 ghost use Rattle.xr_model.specs.machine.Frames.{is_empty};
@@ -46,7 +46,7 @@ pub(crate) struct OpPlace {
 
 /// Has a call that waits for an image begin its wait at this clock, in ns of device time. Other calls stay.
 fn begin_wait(call: &mut Call<'_>, clock: &i64)
-    ensures { request_of call.new ≡ with_start clock.now (request_of call.old) }
+    ensures { call.new ≡ with_start clock.now call.old }
 {
     if let Call::WaitImage { start, .. } = call {
         *start = *clock;
@@ -118,7 +118,7 @@ impl Machine {
     /// Whether the compositor's next call has to wait.
     #[tactic(auto, using(crate::proofs::Ops::frame_held_back))]
     pub(crate) fn next_frame_waits(&self) -> bool
-        ensures { result ≡ true → ready self.now (asked Compositor next_frame) ≡ false }
+        ensures { result ≡ true → ready self.now (asked Compositor ask.NextFrame) ≡ false }
     {
         self.lender.core.next_frame_waits()
     }

@@ -40,9 +40,7 @@ fn start_apps(alloc: Global, scripts: &[Script]) -> Result<Vec<Application>, NoM
     let mut apps = Vec::new(alloc);
     for ops in scripts {
         let app = Application::start(alloc, ops.as_slice())?;
-        let Ok(()) = apps.push(app) else {
-            return Err(NoMemory);
-        };
+        apps.push(app)?;
     }
     Ok(apps)
 }

@@ -113,9 +113,7 @@ impl DeviceSide {
         {
             return Ok(false);
         }
-        let Ok(()) = self.events.push(event) else {
-            return Err(NoMemory);
-        };
+        self.events.push(event)?;
         self.pending = None;
         Ok(true)
     }

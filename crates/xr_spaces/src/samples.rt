@@ -46,10 +46,8 @@ impl Samples {
     pub(crate) fn start(alloc: Global) -> Result<Samples, NoMemory>
         ensures { IfOk result (λ samples. samples ≡ []) }
     {
-        match HeapCircularBuffer::with_capacity(alloc, SAMPLES) {
-            Ok(ring) => Ok(Samples { ring }),
-            Err(_) => Err(NoMemory),
-        }
+        let ring = HeapCircularBuffer::with_capacity(alloc, SAMPLES)?;
+        Ok(Samples { ring })
     }
 
     /// A sample comes. One that isn't later than the newest is ignored; with no room left, the oldest goes.

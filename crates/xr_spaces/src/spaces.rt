@@ -110,7 +110,7 @@ impl Spaces {
             Samples::start(alloc)?,
             Samples::start(alloc)?,
         ];
-        let spaces = Vec::with_capacity(alloc, SPACES).map_err(|_| NoMemory)?;
+        let spaces = Vec::with_capacity(alloc, SPACES)?;
         Ok(Spaces { spaces, samples })
     }
 

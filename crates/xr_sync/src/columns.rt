@@ -48,7 +48,7 @@ impl Model for Columns {
 fn no_states(alloc: Global) -> Result<Box<States>, NoMemory>
     ensures { IfOk result (λ states. states.value.columns ≡ no_columns) }
 {
-    Box::new(alloc, NO_STATES).map_err(|_| NoMemory)
+    Ok(Box::new(alloc, NO_STATES)?)
 }
 
 /// A table in which nothing was found, where it stays.
@@ -56,7 +56,7 @@ fn no_states(alloc: Global) -> Result<Box<States>, NoMemory>
 fn no_table(alloc: Global) -> Result<Box<[[Found; COLUMNS]; ACTIONS]>, NoMemory>
     ensures { IfOk result (λ found. found.value ≡ no_table) }
 {
-    Box::new(alloc, [[NOTHING; COLUMNS]; ACTIONS]).map_err(|_| NoMemory)
+    Ok(Box::new(alloc, [[NOTHING; COLUMNS]; ACTIONS])?)
 }
 
 impl Columns {

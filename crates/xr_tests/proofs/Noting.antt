@@ -12,7 +12,7 @@ use Rattle.xr_types.specs.declared.calls.Reply.{Reply}
 use Rattle.xr_types.specs.declared.calls.Step.TheVariants.{Done}
 use Rattle.xr_model.specs.machine.CoreCalls.{Lent, MayAsk, Applies}
 use Rattle.xr_model.specs.machine.History.{StartsAt}
-use Rattle.xr_model.specs.machine.Request.{Entry, Exchange, request_of}
+use Rattle.xr_model.specs.machine.Calls.{Entry, Exchange}
 use Rattle.xr_model.specs.machine.State.{State}
 use Rattle.xr_model.specs.laws.FewCalls.{MayAdd}
 use Rattle.xr_model.specs.laws.Moments.{Moment, opening_moment, moment_after, exchange_at, actor_at}
@@ -86,7 +86,7 @@ has_called table app most s t look e is own called =
 -- ---- the call
 
 module _ (table : TableId) (app most : ℕ) (s : OfTable) (n : Has) (held new : Held State) (call : Call) (reply : Reply) (size : ℕ) (before behind : Lent) (is : IsCaller table app most s) (small : most < 2 ^ 40) (taken : Taken stands s.me.0.know n held)
-    (asks : MayAsk (App app) (request_of call) size) (starts : (clock : ℤ) → StartsAt clock (request_of call)) (done : Applies held.value new.value (App app) call before behind (Done reply)) where
+    (asks : MayAsk (App app) call size) (starts : (clock : ℤ) → StartsAt clock call) (done : Applies held.value new.value (App app) call before behind (Done reply)) where
   abbrev k : Know
   k = s.me.0.know
 
@@ -101,7 +101,7 @@ module _ (table : TableId) (app most : ℕ) (s : OfTable) (n : Has) (held new : 
 
   pub may_note : NotesCall stands n new call reply
   may_note = answered_notes stands k (hold_from taken.ticket taken.look) n new call reply size before behind new.value taken.is refl
-      (subst (λ (a : Actor). MayAsk a (request_of call) size) (sym is.is_app) asks)
+      (subst (λ (a : Actor). MayAsk a call size) (sym is.is_app) asks)
       (starts _)
       (may_add (number_in k.own) app now (noted_entry k call reply) (calls_in k.own) is.is_app few_so)
       done_now

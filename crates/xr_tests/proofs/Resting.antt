@@ -5,7 +5,7 @@ use Rattle.std.specs.Prelude.{All, slice_index_or}
 use Rattle.atomic_table.specs.Seated.{TableId}
 use Rattle.atomic_table.specs.Table.{Me}
 use Rattle.atomic_table.specs.declared.shared.Seat.{Seat}
-use Rattle.xr_model.specs.machine.Request.{Entry}
+use Rattle.xr_model.specs.machine.Calls.{Entry}
 use Rattle.xr_model.specs.laws.Moments.{Moment}
 use Rattle.xr_rule.specs.Seats.{IsFresh, AreFresh, IsBetween}
 use Rattle.xr_rule.specs.View.{View, Idle, view, hold_from, joined_view, with_seen, Own}

@@ -13,7 +13,7 @@ use Rattle.xr_types.specs.declared.scenario.Scenario.{Scenario}
 use Rattle.xr_device.specs.Prospect.{Prospect}
 use Rattle.xr_model.specs.laws.Moments.{opening_moment, actor_at, calls_by}
 use Rattle.xr_model.specs.machine.History.{calls_from, calls_of, IsLegal}
-use Rattle.xr_model.specs.machine.Request.{Entry, Exchange}
+use Rattle.xr_model.specs.machine.Calls.{Entry, Exchange}
 use Rattle.xr_model.specs.machine.State.{with_apps, opening}
 use Rattle.xr_model.specs.runs.Lists.{lists_to, made_from, frames_in, replies_in, events_in, end_of}
 use Rattle.xr_model.specs.runs.Scripts.{Follows}

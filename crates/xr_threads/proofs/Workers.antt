@@ -4,7 +4,7 @@ use Rattle.std.proofs.lemmas.List.{length-map}
 use Rattle.atomic_table.specs.Seated.{TableId}
 use Rattle.xr_types.specs.declared.calls.Actor.{Actor}
 use Rattle.xr_types.specs.declared.scenario.Scenario.{Scenario}
-use Rattle.xr_model.specs.machine.Request.{Exchange}
+use Rattle.xr_model.specs.machine.Calls.{Exchange}
 use Rattle.xr_runtime.specs.declared.passes.AppPass.{AppPass}
 use Rattle.xr_runtime.specs.Passes.{AreFirst, Rests}
 use Rattle.xr_threads.specs.declared.app.AppWorker.{AppWorker}

@@ -10,7 +10,7 @@ use Rattle.xr_model.specs.laws.FrameLaws.{shown_from}
 use Rattle.xr_model.specs.laws.Laws.{count_locked}
 use Rattle.xr_model.specs.laws.Moments.{opening_moment, calls_by}
 use Rattle.xr_model.specs.machine.History.{calls_of, IsLegal}
-use Rattle.xr_model.specs.machine.Request.{Entry}
+use Rattle.xr_model.specs.machine.Calls.{Entry}
 use Rattle.xr_model.specs.machine.State.{Settings, opening}
 use Rattle.xr_model.specs.runs.Lists.{lists_of}
 use Rattle.xr_rule.specs.Rule.{are_by_callers}

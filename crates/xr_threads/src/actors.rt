@@ -1,7 +1,7 @@
 // All actors of a run on their threads.
 ghost use Rattle.std.specs.Prelude.{◌≡◌, List, false, length};
 ghost use Rattle.xr_types.specs.declared.calls.Actor.TheVariants.{Compositor, Device as Devices};
-ghost use Rattle.xr_model.specs.machine.Request.{Exchange};
+ghost use Rattle.xr_model.specs.machine.Calls.{Exchange};
 ghost use Rattle.xr_runtime.specs.Passes.{table_of, IsCompositor, IsDevice};
 ghost use Rattle.xr_serial.specs.Ran.{CanBeRun};
 ghost use Rattle.xr_workers.specs.Workers.{Adds, IsGated, turns_in, RanDevice, RanCompositor};

@@ -76,12 +76,8 @@ pub fn run<R: Threads + Wait + Sync, G: Gate + Sync, D: Device>(
     ensures reads { ReadsOn (D.prospect device.old) (D.prospect device.new) }
 {
     let count = scenario.scripts.as_slice().len();
-    let Ok(mut apps) = Vec::with_capacity(alloc, count) else {
-        return Err(NoMemory);
-    };
-    let Ok(mut calls) = Vec::with_capacity(alloc, count) else {
-        return Err(NoMemory);
-    };
+    let mut apps = Vec::with_capacity(alloc, count)?;
+    let mut calls = Vec::with_capacity(alloc, count)?;
     let (runtime, passes) = Runtime::start(alloc, count as u8)?;
     let Passes {
         apps: passes,

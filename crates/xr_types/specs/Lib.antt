@@ -1,3 +1,4 @@
+pub mod CallKinds
 pub mod Code
 pub mod Device
 pub mod Field

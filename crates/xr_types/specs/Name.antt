@@ -18,19 +18,19 @@ abbrev pub is_periods : List ℕ → Bool
 is_periods text = list_all (λ b. b == 46) text
 
 -- 1 to 63 bytes, and not periods alone
-abbrev pub has_name_size : List ℕ → Bool
-has_name_size text = nat_lt 0 (length text) && nat_le (length text) MOST_NAME && not (is_periods text)
+abbrev pub has_name_form : List ℕ → Bool
+has_name_form text = nat_lt 0 (length text) && nat_le (length text) MOST_NAME && not (is_periods text)
 
 -- a name: 1 to 63 bytes that may stand in a name, and not periods alone
 abbrev pub is_name : List ℕ → Bool
-is_name text = has_name_size text && list_all is_name_byte text
+is_name text = has_name_form text && list_all is_name_byte text
 
 -- What the name of an action set or an action is answered with. One that is empty, too long or made
 -- of periods alone is no name at all; any other that is refused has a byte that no path has.
 abbrev pub name_code : List ℕ → Code
 name_code text =
     if is_name text then Success
-    else (if has_name_size text then PathFormatInvalid else NameInvalid)
+    else (if has_name_form text then PathFormatInvalid else NameInvalid)
 
 -- ---- localized names
 

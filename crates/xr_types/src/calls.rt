@@ -3,8 +3,9 @@ ghost use Rattle.std.specs.Prelude.{◌≡◌};
 
 use crate::{
     ActionType, ActiveSet, Binding, Blend, BoolState, Code, DeviceEvent, Event, FloatState, Form,
-    FrameState, Layer, Location, RefKind, VectorState, ViewConfig,
+    FrameState, Items, Layer, Location, RefKind, VectorState, ViewConfig,
 };
+use std::alloc::{AllocError, AllocFailed};
 
 /// Who makes a call: an application thread by its number from 1, the compositor, or the device.
 #[derive(Clone, Copy)]
@@ -16,7 +17,7 @@ pub enum Actor {
 
 /// A call of the runtime, with its texts and lists borrowed. A handle or an atom is any number; 0 names
 /// nothing. Times and timeouts are ns of device time.
-#[derive(Clone, Copy)]
+#[derive(Drop)]
 pub enum Call<'a> {
     /// Asks for an instance of this version of the API (OpenXR 1.0 section 4.2, xrCreateInstance).
     CreateInstance {
@@ -35,7 +36,7 @@ pub enum Call<'a> {
     /// Asks for the atom of a path text (section 6.2, xrStringToPath).
     StringToPath {
         instance: u64,
-        text: &'a [u8],
+        text: Items<'a, u8>,
     },
     /// Asks for the text of an atom, into a buffer of `capacity` bytes (section 6.2, xrPathToString).
     PathToString {
@@ -96,8 +97,8 @@ pub enum Call<'a> {
     /// Asks for an action set (chapter 11, xrCreateActionSet).
     CreateActionSet {
         instance: u64,
-        name: &'a [u8],
-        localized: &'a [u8],
+        name: Items<'a, u8>,
+        localized: Items<'a, u8>,
         priority: u32,
     },
     /// Ends an action set with its actions (chapter 11, xrDestroyActionSet).
@@ -107,10 +108,10 @@ pub enum Call<'a> {
     /// Asks for an action that tells the listed user paths apart (chapter 11, xrCreateAction).
     CreateAction {
         set: u64,
-        name: &'a [u8],
+        name: Items<'a, u8>,
         kind: ActionType,
-        subs: &'a [u64],
-        localized: &'a [u8],
+        subs: Items<'a, u64>,
+        localized: Items<'a, u8>,
     },
     /// Ends an action (chapter 11, xrDestroyAction).
     DestroyAction {
@@ -120,17 +121,17 @@ pub enum Call<'a> {
     SuggestBindings {
         instance: u64,
         profile: u64,
-        list: &'a [Binding],
+        list: Items<'a, Binding>,
     },
     /// Attaches action sets to a session, once (chapter 11, xrAttachSessionActionSets).
     AttachSets {
         session: u64,
-        sets: &'a [u64],
+        sets: Items<'a, u64>,
     },
     /// Takes the inputs' values for the listed sets (chapter 11, xrSyncActions).
     SyncActions {
         session: u64,
-        active: &'a [ActiveSet],
+        active: Items<'a, ActiveSet>,
     },
     /// Asks for a boolean action's state (chapter 11, xrGetActionStateBoolean).
     GetBoolean {
@@ -201,7 +202,7 @@ pub enum Call<'a> {
         session: u64,
         time: i64,
         blend: Blend,
-        layers: &'a [Layer],
+        layers: Items<'a, Layer>,
     },
     /// Sets a mark, from 1 to 64, with a value. This project's own.
     Mark {
@@ -291,3 +292,15 @@ pub enum Step {
 /// Memory was asked for and not given.
 #[derive(Clone, Copy, Debug, PartialEq, Eq)]
 pub struct NoMemory;
+
+impl From<AllocError> for NoMemory {
+    fn from(_: AllocError) -> NoMemory {
+        NoMemory
+    }
+}
+
+impl<T: Drop> From<AllocFailed<T>> for NoMemory {
+    fn from(_: AllocFailed<T>) -> NoMemory {
+        NoMemory
+    }
+}

@@ -3,6 +3,7 @@
 //! state.
 #![tactic(auto)]
 
+mod call_kinds;
 mod calls;
 mod code;
 mod device;
@@ -77,6 +78,8 @@ pub use input_names::input_name;
 pub use input_names::is_digital;
 pub use input_names::is_value;
 pub use input_names::row_of;
+pub use limits::EVENTS;
+pub use limits::IMAGES;
 pub use limits::MOST_ACTIVE;
 pub use limits::MOST_ATTACHED;
 pub use limits::MOST_BINDINGS;
@@ -101,6 +104,7 @@ pub use limits::MOST_TEXT;
 pub use limits::MOST_VIEWS;
 pub use limits::VERSION;
 pub use lists::Bytes;
+pub use lists::Items;
 pub use lists::Several;
 pub use made::Lists;
 pub use made::Made;

@@ -42,6 +42,12 @@ pub const MOST_SYNCED: usize = 96;
 /// The layers that an op lists. A frame takes fewer.
 pub const MOST_LISTED: usize = 32;
 
+/// The images of a swapchain. A static one has one of them.
+pub const IMAGES: usize = 3;
+
+/// The events that wait to be polled. Where one more comes, the oldest is dropped.
+pub const EVENTS: usize = 32;
+
 /// The views of a projection that an op lists.
 pub const MOST_VIEWS: usize = 4;
 

@@ -85,3 +85,32 @@ impl<T> Several<T> {
         items
     }
 }
+
+/// A borrowed list, seen by contracts as its items.
+#[derive(Drop)]
+pub struct Items<'a, T> {
+    items: &'a [T],
+}
+
+impl<'a, T> Model for Items<'a, T> {
+    ghost use Rattle.std.specs.Prelude.{List};
+
+    ghost Value = { List T };
+
+    ghost view = { λ l. l.items.now };
+}
+
+impl<'a, T> Items<'a, T> {
+    /// The list of a slice.
+    pub fn new(items: &'a [T]) -> Items<'a, T>
+        ensures { result ≡ items.now }
+    {
+        Items { items }
+    }
+
+    pub fn as_slice(&self) -> &'a [T]
+        ensures { result.now ≡ self.now }
+    {
+        self.items
+    }
+}

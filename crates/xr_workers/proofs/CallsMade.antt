@@ -3,8 +3,6 @@ use Rattle.std.proofs.Common.{◌≡◌, ◌<◌, ◌≤◌, ◌+◌, ◌∙◌,
 use Rattle.std.specs.Prelude.{nat_le, if◌then◌else◌}
 use Rattle.std.proofs.lemmas.List.{take_at}
 use Rattle.atomic_table.specs.Seated.{TableId}
-use Rattle.xr_types.specs.declared.calls.Call.{Call}
-use Rattle.xr_types.specs.declared.calls.Call.TheVariants as call
 use Rattle.xr_types.specs.declared.calls.Gives.{Gives}
 use Rattle.xr_types.specs.declared.calls.Gives.TheVariants.{Size}
 use Rattle.xr_types.specs.declared.calls.Reply.{Reply}
@@ -19,43 +17,17 @@ use Rattle.xr_model.specs.runs.Scripts.{request_for}
 use Rattle.xr_serial.proofs.Ops.{op_asks}
 use Rattle.xr_workers.specs.declared.script.Asked.{Asked}
 use Rattle.xr_model.specs.machine.Machine.{step}
-use Rattle.xr_model.specs.machine.Request.{Request, Entry, Exchange, path_to_string, wait_image, request_of}
+use Rattle.xr_model.specs.machine.Calls.{Entry, Exchange}
+use Rattle.xr_types.specs.declared.calls.Call.{Call}
 use Rattle.xr_model.specs.machine.State.{State}
 use Rattle.xr_model.specs.runs.Robin.{with_start}
 use Rattle.xr_runtime.specs.Calling.{Called, behind, entry_by}
-use Rattle.xr_runtime.specs.Passes.{MayCall, AppCalls, AppAnswers}
+use Rattle.xr_runtime.specs.Passes.{MayCall, AppCalls, AppAnswers, AnswersText}
 use Rattle.xr_runtime.specs.declared.passes.AppPass.{AppPass}
 use Rattle.xr_runtime.proofs.Passing.{seat_is}
-use Rattle.xr_scenario_calls.specs.Lent.{lent_size, written_size}
+use Rattle.xr_types.specs.CallKinds.{lent_size, written_size}
 use Rattle.xr_serial.proofs.Lending.{text_fits}
-use Rattle.xr_workers.specs.inside.Groups.{IsTextCall}
-use Rattle.xr_workers.specs.inside.Made.{AnswersText, CallMade, AskedBy}
-
-pub by_call : (table : TableId) (old new : AppPass) (k l : Call) (reply : Reply) → l ≡ k → AppAnswers table old (with_start old.clock (request_of k)) reply new → AppAnswers table old (with_start old.clock (request_of l)) reply new
-by_call table old new k l reply is a = subst (λ (c : Call). AppAnswers table old (with_start old.clock (request_of c)) reply new) (sym is) a
-
--- the call that asks for a text, over a buffer of its size
-pub text_by_call : (table : TableId) (old new : AppPass) (l : Call) (instance path capacity : ℕ) (before after : List ℕ) (reply : Reply) → l ≡ call.PathToString instance path capacity → length before ≡ lent_size (request_of l)
-    → AnswersText table old (path_to_string instance path (length before)) before after reply new → AnswersText table old (with_start old.clock (request_of l)) before after reply new
-text_by_call table old new l instance path capacity before after reply is size a =
-    let fits : length before ≡ capacity = size ∙ ap (λ (c : Call). lent_size (request_of c)) is in
-    subst (λ (c : Call). AnswersText table old (with_start old.clock (request_of c)) before after reply new) (sym is) (subst (λ (n : ℕ). AnswersText table old (path_to_string instance path n) before after reply new) fits a)
-
--- and over none
-pub none_by_call : (table : TableId) (old new : AppPass) (l : Call) (instance path capacity : ℕ) (after : List ℕ) (reply : Reply) → l ≡ call.PathToString instance path capacity → lent_size (request_of l) ≡ 0
-    → AnswersText table old (path_to_string instance path 0) [] after reply new → AppAnswers table old (with_start old.clock (request_of l)) reply new
-none_by_call table old new l instance path capacity after reply is none a =
-    let t = text_by_call table old new l instance path capacity [] after reply is (sym none) a in
-    (record { text = []; frame = t.0 }, record { text = after; frame = t.1 }, t.2)
-
--- a call that is lent something asks for a text
-pub asks_text : (r : Request) → 0 < lent_size r → IsTextCall r
-asks_text (path_to_string instance path capacity) some = tt
-asks_text r some = absurd (omega (arith, some))
-
-pub same_lent : (clock : ℤ) (r : Request) → lent_size (with_start clock r) ≡ lent_size r
-same_lent clock (wait_image chain timeout start) = refl
-same_lent clock r = refl
+use Rattle.xr_workers.specs.inside.Made.{CallMade, AskedBy}
 
 -- ---- what was written
 
@@ -74,8 +46,8 @@ is_none (x ∷ xs) none = absurd (omega (arith, none))
 abbrev pub text_at : Moment → Entry → List ℕ
 text_at m e = (step m.state e).1.text
 
-pub fits_at : (m : Moment) (e : Entry) (reply : Reply) → (step m.state e).1.reply ≡ reply → length (text_at m e) ≡ written_size reply.gives (lent_size e.request)
-fits_at m e reply is = text_fits m.state e ∙ ap (λ (r : Reply). written_size r.gives (lent_size e.request)) is
+pub fits_at : (m : Moment) (e : Entry) (reply : Reply) → (step m.state e).1.reply ≡ reply → length (text_at m e) ≡ written_size reply.gives (lent_size e.call)
+fits_at m e reply is = text_fits m.state e ∙ ap (λ (r : Reply). written_size r.gives (lent_size e.call)) is
 
 same_text : (m : Moment) (e : Entry) → (exchange_at m e).outcome.text ≡ text_at m e
 unfolding exchange_at
@@ -85,11 +57,11 @@ same_reply : (m : Moment) (e : Entry) → (exchange_at m e).outcome.reply ≡ (s
 unfolding exchange_at
 same_reply m e = refl
 
-same_asked : (m : Moment) (e : Entry) → (exchange_at m e).request ≡ e.request
+same_asked : (m : Moment) (e : Entry) → (exchange_at m e).call ≡ e.call
 unfolding exchange_at
 same_asked m e = refl
 
-module _ (table : TableId) (old new : AppPass) (what : Request) (reply : Reply) (before after : Lent) (may : MayCall table old) (c : AppCalls table old what before after reply new) where
+module _ (table : TableId) (old new : AppPass) (what : Call) (reply : Reply) (before after : Lent) (may : MayCall table old) (c : AppCalls table old what before after reply new) where
   abbrev m : Moment
   m = behind old.seat.me.0.know c.called.look
 
@@ -124,10 +96,10 @@ module _ (table : TableId) (old new : AppPass) (what : Request) (reply : Reply) 
 
 -- ---- the two kinds of calls
 
-pub plain_made : (table : TableId) (old new : AppPass) (what : Request) (reply : Reply) (text : List ℕ) → MayCall table old → lent_size what ≡ 0 → AppAnswers table old what reply new → CallMade table old what text reply new
-plain_made table old new what reply text may none a = made_plain table old new what reply a.0 a.1 may a.2 text none
+pub plain_made : (table : TableId) (old new : AppPass) (what : Call) (reply : Reply) (text : List ℕ) → MayCall table old → lent_size what ≡ 0 → AppAnswers table old what reply new → CallMade table old what text reply new
+plain_made table old new what reply text may none a = made_plain table old new what reply (record { text = []; frame = a.1.0 }) (record { text = a.0; frame = a.1.1 }) may a.1.2 text none
 
-pub text_made : (table : TableId) (old new : AppPass) (what : Request) (reply : Reply) (before after : List ℕ) → MayCall table old → AnswersText table old what before after reply new → CallMade table old what after reply new
+pub text_made : (table : TableId) (old new : AppPass) (what : Call) (reply : Reply) (before after : List ℕ) → MayCall table old → AnswersText table old what before after reply new → CallMade table old what after reply new
 text_made table old new what reply before after may a = made_text table old new what reply (record { text = before; frame = a.0 }) (record { text = after; frame = a.1 }) may a.2
 
 -- ---- an op's call
@@ -136,16 +108,16 @@ zero_start : (values : List ℕ) (o : Op) → with_start (pos 0) (request_for va
 zero_start values (op.CreateInstance major minor) = refl
 zero_start values _ = refl
 
-pub op_may_ask : (number : ℕ) (values : List ℕ) (o : Op) (r : Request) (size : ℕ) → r ≡ request_for values o → size ≡ lent_size r → IsInRange o → MayAsk (App number) r size
+pub op_may_ask : (number : ℕ) (values : List ℕ) (o : Op) (r : Call) (size : ℕ) → r ≡ request_for values o → size ≡ lent_size r → IsInRange o → MayAsk (App number) r size
 op_may_ask number values o r size is fits ranged =
     let same : with_start (pos 0) (request_for values o) ≡ r = zero_start values o ∙ sym is in
     let may = op_asks (pos 0) values number o (omega arith) ranged in
-    subst (λ (n : ℕ). MayAsk (App number) r n) (sym fits) (subst (λ (q : Request). MayAsk (App number) q (lent_size q)) same may)
+    subst (λ (n : ℕ). MayAsk (App number) r n) (sym fits) (subst (λ (q : Call). MayAsk (App number) q (lent_size q)) same may)
 
-pub op_size : (values : List ℕ) (o : Op) (r : Request) → r ≡ request_for values o → lent_size (with_start (pos 0) (request_for values o)) ≡ lent_size r
+pub op_size : (values : List ℕ) (o : Op) (r : Call) → r ≡ request_for values o → lent_size (with_start (pos 0) (request_for values o)) ≡ lent_size r
 op_size values o r is = ap lent_size (zero_start values o ∙ sym is)
 
-pub asked_by : (table : TableId) (old new : AppPass) (what : Request) (lent : List ℕ) (asked : Asked) (written : ℕ) → CallMade table old what lent asked.reply new → written ≡ written_size asked.reply.gives (lent_size what)
+pub asked_by : (table : TableId) (old new : AppPass) (what : Call) (lent : List ℕ) (asked : Asked) (written : ℕ) → CallMade table old what lent asked.reply new → written ≡ written_size asked.reply.gives (lent_size what)
     → IfSome asked.text (λ text. text ≡ take written lent) → AskedBy table old what asked new
 asked_by table old new what lent asked written m size copied = record {
   is = m.is;

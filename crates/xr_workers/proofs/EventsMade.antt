@@ -16,7 +16,8 @@ use Rattle.xr_device.specs.Prospect.{Prospect}
 use Rattle.xr_model.specs.device_text.DeviceText.{DeviceStream}
 use Rattle.xr_model.specs.laws.Moments.{Moment, exchange_at}
 use Rattle.xr_model.specs.machine.Machine.{step}
-use Rattle.xr_model.specs.machine.Request.{device, Entry, Exchange}
+use Rattle.xr_model.specs.machine.Calls.{Entry, Exchange}
+use Rattle.xr_types.specs.declared.calls.Call.TheVariants as ask
 use Rattle.xr_model.specs.report.RunEnding.{is_fault}
 use Rattle.xr_model.specs.runs.Lists.{made_at, made_from, events_in}
 use Rattle.xr_model.specs.runs.Robin.{device_calls}
@@ -36,17 +37,17 @@ use Rattle.xr_workers.specs.Workers.{RanDevice}
 use Rattle.xr_workers.specs.inside.Telling.{MadeEvent, MadeEvents, side_of}
 use Rattle.xr_workers.proofs.CallsMade.{fits_at, none_written, is_none, text_at}
 
-as_exchange : (m : Moment) (e : Entry) → exchange_at m e ≡ exchange_of e.request (step m.state e).1
+as_exchange : (m : Moment) (e : Entry) → exchange_at m e ≡ exchange_of e.call (step m.state e).1
 unfolding exchange_at
 as_exchange m e = refl
 
-pub event_made : (table : TableId) (old new : DevicePass) (event : DeviceEvent) (reply : Reply) → IsDevice table old → Tells table old (device event) reply new → MadeEvent table old event reply new
+pub event_made : (table : TableId) (old new : DevicePass) (event : DeviceEvent) (reply : Reply) → IsDevice table old → Tells table old (ask.Device event) reply new → MadeEvent table old event reply new
 event_made table old new event reply is t =
     let m : Moment = behind old.seat.me.0.know t.called.look in
-    let e : Entry = entry_by old.seat.me.0.know (device event) reply in record {
+    let e : Entry = entry_by old.seat.me.0.know (ask.Device event) reply in record {
       is = t.is;
       outcome = (step m.state e).1;
-      adds = (seat_is old.seat.me new.seat.me (device event) reply t.before t.after is.rests.between t.called).calls ∙ ap (λ (x : Exchange). calls_in old.seat.me.0.know.own ++ x ∷ []) (as_exchange m e);
+      adds = (seat_is old.seat.me new.seat.me (ask.Device event) reply t.before t.after is.rests.between t.called).calls ∙ ap (λ (x : Exchange). calls_in old.seat.me.0.know.own ++ x ∷ []) (as_exchange m e);
       replies = t.called.replies;
       writes = is_none (text_at m e) (fits_at m e reply t.called.replies ∙ none_written reply.gives);
     }
@@ -122,7 +123,7 @@ module _ (table : TableId) (start now now2 : Prospect) (old mid : DevicePass) (e
   pub told_event : (event : DeviceEvent) (over : Bool) (new : DevicePass) (reply : Reply) (made : Made) → Fetched now now2 (Some event) over → MadeEvent table mid event reply new
       → made ≡ record { op = length list + 1; name = Device; mark = 0; start = pos 0; reply = reply; text = [] } → MadeEvents table start now2 old new (events ++ event ∷ []) (list ++ made ∷ []) over
   told_event event over new reply made f m is =
-      let x : Exchange = exchange_of (device event) m.outcome in
+      let x : Exchange = exchange_of (ask.Device event) m.outcome in
       let asked = asked_kept (side_of events list false) t.calls start now now2 (Some event) over grew f t.kept in
       let next = event_kept (side_asked (side_of events list false) (Some event) over) t.calls start now2 event m.outcome refl asked in
       let same : made_at (length list + 1) x ≡ made = rw (m.replies, m.writes, is) refl in record {
@@ -161,7 +162,7 @@ event_calls table old new event reply is m =
     let before = is.counts in
     let now = m.is.counts in
     let more = ap length m.adds in
-    omega (arith, before, now, more, length-append (calls_in old.seat.me.0.know.own) (exchange_of (device event) m.outcome ∷ []))
+    omega (arith, before, now, more, length-append (calls_in old.seat.me.0.know.own) (exchange_of (ask.Device event) m.outcome ∷ []))
 
 -- ---- the end
 

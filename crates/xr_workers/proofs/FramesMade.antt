@@ -14,7 +14,10 @@ use Rattle.xr_model.specs.laws.Laws.{count_locked}
 use Rattle.xr_model.specs.laws.Moments.{Moment, opening_moment, exchange_at, actor_at, calls_by}
 use Rattle.xr_model.specs.machine.History.{after, calls_from, shown_if}
 use Rattle.xr_model.specs.machine.Machine.{step}
-use Rattle.xr_model.specs.machine.Request.{Request, next_frame, image_done, Entry, Exchange, is_actor, is_locked}
+use Rattle.xr_types.specs.CallKinds.{is_locked}
+use Rattle.xr_model.specs.machine.Calls.{Entry, Exchange, is_actor}
+use Rattle.xr_types.specs.declared.calls.Call.{Call}
+use Rattle.xr_types.specs.declared.calls.Call.TheVariants as ask
 use Rattle.xr_model.specs.machine.State.{State, opening, with_apps}
 use Rattle.xr_model.specs.runs.Lists.{frames_in, replies_in, reply_if_shown, end_of}
 use Rattle.xr_model.specs.runs.Robin.{is_ended}
@@ -34,8 +37,8 @@ use Rattle.xr_workers.specs.Workers.{Adds, turns_in, ListsFramesIf, RanComposito
 
 -- ---- how many turns there are
 
-locked_too : (r : Request) → is_next_frame r ≡ true → is_locked r ≡ true
-locked_too next_frame is = refl
+locked_too : (r : Call) → is_next_frame r ≡ true → is_locked r ≡ true
+locked_too ask.NextFrame is = refl
 locked_too r is = absurd (true≢false (sym is))
 
 one_at_most : (a b : Bool) (m n : ℕ) → (a ≡ true → b ≡ true) → m ≤ n → (if a then m + 1 else m) ≤ (if b then n + 1 else n)
@@ -54,24 +57,24 @@ turns_are_few who s [] = omega arith
 turns_are_few who s (e ∷ es) = by (is_actor who e.actor) (turns_are_few who (step s e).0 es)
   where
     by : (b : Bool) → turns_in (calls_from (step s e).0 who es) ≤ count_locked es
-        → turns_in (if b then record { request = e.request; outcome = (step s e).1 } ∷ calls_from (step s e).0 who es else calls_from (step s e).0 who es) ≤ count_locked (e ∷ es)
-    by true few = one_at_most (is_next_frame e.request) (is_locked e.request) (turns_in (calls_from (step s e).0 who es)) (count_locked es) (locked_too e.request) few
-    by false few = skipped (is_locked e.request) (turns_in (calls_from (step s e).0 who es)) (count_locked es) few
+        → turns_in (if b then record { call = e.call; outcome = (step s e).1 } ∷ calls_from (step s e).0 who es else calls_from (step s e).0 who es) ≤ count_locked (e ∷ es)
+    by true few = one_at_most (is_next_frame e.call) (is_locked e.call) (turns_in (calls_from (step s e).0 who es)) (count_locked es) (locked_too e.call) few
+    by false few = skipped (is_locked e.call) (turns_in (calls_from (step s e).0 who es)) (count_locked es) few
 
 turns_added : (ts us : List Exchange) → turns_in (ts ++ us) ≡ turns_in ts + turns_in us
 turns_added [] us = omega arith
-turns_added (t ∷ ts) us = by (is_next_frame t.request) (turns_added ts us)
+turns_added (t ∷ ts) us = by (is_next_frame t.call) (turns_added ts us)
   where
     by : (b : Bool) → turns_in (ts ++ us) ≡ turns_in ts + turns_in us → (if b then turns_in (ts ++ us) + 1 else turns_in (ts ++ us)) ≡ (if b then turns_in ts + 1 else turns_in ts) + turns_in us
     by true e = omega (arith, e)
     by false e = e
 
-one_turn : (t : Exchange) → t.request ≡ next_frame → turns_in (t ∷ []) ≡ 1
-one_turn t asks = ap (λ (r : Request). if is_next_frame r then 0 + 1 else 0) asks
+one_turn : (t : Exchange) → t.call ≡ ask.NextFrame → turns_in (t ∷ []) ≡ 1
+one_turn t asks = ap (λ (r : Call). if is_next_frame r then 0 + 1 else 0) asks
 
 no_turns : (ts : List Exchange) → AreReturns ts → turns_in ts ≡ 0
 no_turns [] all = refl
-no_turns (t ∷ ts) all = ap (λ (r : Request). if is_next_frame r then turns_in ts + 1 else turns_in ts) all.0.asks ∙ no_turns ts all.1
+no_turns (t ∷ ts) all = ap (λ (r : Call). if is_next_frame r then turns_in ts + 1 else turns_in ts) all.0.asks ∙ no_turns ts all.1
 
 own_added : (x : Exchange) (os : List Own) → 0 < length os → calls_in (with_call x os) ≡ calls_in os ++ x ∷ []
 own_added x [] some = absurd (omega (arith, some))
@@ -124,7 +127,7 @@ ends_none (u ∷ ts) t all told = by u all.0 (ends_none ts t all.1 told)
     by x (a_frame asks shown) later = ap (λ (g : Gives). if is_ended g then Some x.outcome.reply else end_of (ts ++ t ∷ [])) shown ∙ later
     by x (an_image asks ok nothing) later = ap (λ (g : Gives). if is_ended g then Some x.outcome.reply else end_of (ts ++ t ∷ [])) nothing ∙ later
 
-ends_so : (ts : List Exchange) (t : Exchange) → AllGoOn ts → t.request ≡ next_frame → t.outcome.reply.gives ≡ gives.Ended → IsEnd (ts ++ t ∷ [])
+ends_so : (ts : List Exchange) (t : Exchange) → AllGoOn ts → t.call ≡ ask.NextFrame → t.outcome.reply.gives ≡ gives.Ended → IsEnd (ts ++ t ∷ [])
 ends_so [] t all asks told = (asks, told)
 ends_so (u ∷ []) t all asks told = (all.0, (asks, told))
 ends_so (u ∷ v ∷ ts) t all asks told = (all.0, ends_so (v ∷ ts) t all.1 asks told)
@@ -166,7 +169,7 @@ module _ (table : TableId) (turns : ℕ) (first old new : CompositorPass) (kept 
   all_own : calls_in (know_of old).own ≡ c.calls
   all_own = c.adds ∙ ap (λ (ts : List Exchange). ts ++ c.calls) (no_calls table first start none)
 
-  turns_more : (frame : Exchange) → AsksForFrame old frame → frame.request ≡ next_frame → (turns + 1 ≡ turns_in (c.calls ++ frame ∷ [])) × (turns + 1 < 2 ^ 44)
+  turns_more : (frame : Exchange) → AsksForFrame old frame → frame.call ≡ ask.NextFrame → (turns + 1 ≡ turns_in (c.calls ++ frame ∷ [])) × (turns + 1 < 2 ^ 44)
   turns_more frame asks is =
       let added = turns_added c.calls (frame ∷ []) in
       let one = one_turn frame is in
@@ -174,13 +177,13 @@ module _ (table : TableId) (turns : ℕ) (first old new : CompositorPass) (kept 
       let below = subst (λ (ts : List Exchange). turns_in (ts ++ frame ∷ []) < 2 ^ 44) all_own (turns_below table old frame c.is asks) in
       (omega (arith, added, one, are), omega (arith, added, one, are, below))
 
-  asked_frame : (frame : Exchange) → (a : AsksForFrame old frame) → frame.request ≡ next_frame
+  asked_frame : (frame : Exchange) → (a : AsksForFrame old frame) → frame.call ≡ ask.NextFrame
   unfolding exchange_at
-  asked_frame frame a = ap (λ (t : Exchange). t.request) a.is ∙ a.asks
+  asked_frame frame a = ap (λ (t : Exchange). t.call) a.is ∙ a.asks
 
   pub one_composed : (before after : Shown) (reply : Reply) (next : Option Frames) → Turns table old before after (turned.Shown reply) new → KeepsFrame kept after reply next → Composes table (turns + 1) first new next
   one_composed before after reply next t keeps =
-      let asks : t.frame.request ≡ next_frame = asked_frame t.frame t.asks in
+      let asks : t.frame.call ≡ ask.NextFrame = asked_frame t.frame t.asks in
       let shown : t.frame.outcome.reply.gives ≡ gives.Shown = ap (λ (r : Reply). r.gives) (sym t.told.0) ∙ t.told.1 in
       let more = turns_more t.frame t.asks asks in
       let all : List Exchange = c.calls ++ t.frame ∷ t.images in record {
@@ -216,7 +219,7 @@ module _ (table : TableId) (turns : ℕ) (first old new : CompositorPass) (kept 
 
   -- the last turn, in which the end was told
   module _ (before after : Shown) (reply : Reply) (t : Turns table old before after (turned.Ended reply) new) where
-    asks_last : t.frame.request ≡ next_frame
+    asks_last : t.frame.call ≡ ask.NextFrame
     asks_last = asked_frame t.frame t.asks
 
     told_last : t.frame.outcome.reply.gives ≡ gives.Ended

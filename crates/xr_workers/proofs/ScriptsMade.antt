@@ -12,15 +12,17 @@ use Rattle.xr_types.specs.declared.scenario.Op.{Op}
 use Rattle.xr_types.specs.declared.scenario.Op.TheVariants as op
 use Rattle.xr_types.specs.Op.{call_name}
 use Rattle.xr_model.specs.laws.MomentLaws.{is_leave}
-use Rattle.xr_model.specs.machine.Request.{Request, leave, Exchange}
-use Rattle.xr_model.specs.runs.Lists.{made_at, made_from, name_of_request, mark_of, start_of}
+use Rattle.xr_model.specs.machine.Calls.{Exchange}
+use Rattle.xr_types.specs.declared.calls.Call.{Call}
+use Rattle.xr_types.specs.declared.calls.Call.TheVariants as ask
+use Rattle.xr_model.specs.runs.Lists.{made_at, made_from, listed_name, mark_of, start_of}
 use Rattle.xr_model.specs.runs.NameValues.{no_values, with_name_value}
 use Rattle.xr_model.specs.runs.Robin.{with_start}
 use Rattle.xr_model.specs.runs.Scripts.{request_for, unstarted, FollowsFrom}
 use Rattle.xr_rule.specs.View.{calls_in}
 use Rattle.xr_runtime.specs.Passes.{IsApp, MayCall}
 use Rattle.xr_runtime.specs.declared.passes.AppPass.{AppPass}
-use Rattle.xr_scenario_calls.specs.Lent.{written_size, lent_size}
+use Rattle.xr_types.specs.CallKinds.{written_size, lent_size}
 use Rattle.xr_scenario_calls.specs.Listed.{op_mark, op_start}
 use Rattle.xr_serial.proofs.KeptApplications.{made_snoc}
 use Rattle.xr_serial.proofs.Ops.{name_is, mark_is, start_is, same_request}
@@ -67,13 +69,13 @@ module _ (table : TableId) (place : ℕ) (o : Op) (old new : AppPass) (names lea
 
   pub op_listed : (text : List ℕ) (made : Made) → asked.text ≡ Some text → made ≡ record { op = place; name = call_name o; mark = op_mark o; start = op_start old.clock o; reply = asked.reply; text = text } → MadeOp table place o old new names learned (Some made)
   op_listed text made some same =
-      let what : Request = with_start old.clock (request_for names o) in
+      let what : Call = with_start old.clock (request_for names o) in
       let wrote : text ≡ a.exchange.outcome.text = subst (λ (t : Option (List ℕ)). IfSome t (λ u. u ≡ a.exchange.outcome.text)) some a.writes in
       op_made (Some made) (same ∙ sym (rw (a.asks, name_is old.clock names o, mark_is old.clock names o, start_is old.clock names o, a.replies, ← wrote) refl))
 
 -- ---- some ops
 
-leads_more : (place : ℕ) (values : List ℕ) (os : List Op) (ts : List Exchange) (last : List ℕ) (o : Op) (t : Exchange) → Leads place values os ts last → unstarted t.request ≡ request_for last o
+leads_more : (place : ℕ) (values : List ℕ) (os : List Op) (ts : List Exchange) (last : List ℕ) (o : Op) (t : Exchange) → Leads place values os ts last → unstarted t.call ≡ request_for last o
     → Leads place values (os ++ o ∷ []) (ts ++ t ∷ []) (with_name_value last (place + length os) o t.outcome.reply)
 leads_more place values [] [] last o t h asks = (asks ∙ ap (λ (v : List ℕ). request_for v o) (sym h), let same : place ≡ place + 0 = omega arith in rw (h, ← same) refl)
 leads_more place values [] (u ∷ ts) last o t h asks = absurd h
@@ -94,7 +96,7 @@ leads_length place values (p ∷ os) (u ∷ ts) last h =
     kept : length (with_name_value values place p u.outcome.reply) ≡ length values
     kept = length-set _ _ _
 
-follows_leave : (place : ℕ) (values : List ℕ) (os : List Op) (ts : List Exchange) (last : List ℕ) (t : Exchange) → Leads place values os ts last → t.request ≡ leave → FollowsFrom true place values os (ts ++ t ∷ [])
+follows_leave : (place : ℕ) (values : List ℕ) (os : List Op) (ts : List Exchange) (last : List ℕ) (t : Exchange) → Leads place values os ts last → t.call ≡ ask.Leave → FollowsFrom true place values os (ts ++ t ∷ [])
 follows_leave place values [] [] last t h asks = asks
 follows_leave place values [] (u ∷ ts) last t h asks = absurd h
 follows_leave place values (p ∷ os) [] last t h asks = absurd h
@@ -172,7 +174,7 @@ lists_more list calls count t made is size one =
 none_taken : (n : ℕ) (l : List ℕ) → l ≡ [] → take n l ≡ []
 none_taken n l is = ap (take n) is ∙ grind arith
 
-module _ (table : TableId) (ops : List Op) (old mid new : AppPass) (listed : Option (List Made)) (reply : Reply) (s : MadeSome table ops old mid listed) (c : CallMade table mid leave [] reply new) where
+module _ (table : TableId) (ops : List Op) (old mid new : AppPass) (listed : Option (List Made)) (reply : Reply) (s : MadeSome table ops old mid listed) (c : CallMade table mid ask.Leave [] reply new) where
   abbrev all_calls : List Exchange
   all_calls = s.calls ++ c.exchange ∷ []
 
@@ -193,7 +195,7 @@ module _ (table : TableId) (ops : List Op) (old mid new : AppPass) (listed : Opt
   ran_whole list last some is =
       let all = subst (λ (o : Option (List Made)). IfSome o (λ l. (s.count ≡ length ops) × (l ≡ made_from 1 s.calls))) some s.all in
       let whole : take s.count ops ≡ ops = ap (λ (n : ℕ). take n ops) all.0 ∙ take_all (length ops) ops (omega arith) in
-      let wrote : c.exchange.outcome.text ≡ [] = c.writes ∙ none_taken (written_size reply.gives (lent_size leave)) [] refl in
+      let wrote : c.exchange.outcome.text ≡ [] = c.writes ∙ none_taken (written_size reply.gives (lent_size ask.Leave)) [] refl in
       let size : length s.calls ≡ length ops = calls_are table ops s.count s.values old mid s.calls s.within s.made ∙ all.0 in
       let last_is : last ≡ made_at (length ops + 1) c.exchange = is ∙ sym (rw (c.asks, c.replies, wrote) refl) in
       let follows = subst (λ (os : List Op). FollowsFrom true 1 (no_values (length ops)) os all_calls) whole (follows_leave 1 (no_values (length ops)) (take s.count ops) s.calls s.values c.exchange s.made.leads c.asks) in

@@ -13,7 +13,7 @@ use Rattle.xr_device.specs.Answers.{ReadsOn}
 use Rattle.xr_model.specs.device_text.DeviceText.{Ending}
 use Rattle.xr_model.specs.laws.FewCalls.{how_many}
 use Rattle.xr_model.specs.laws.ImageLaws.{is_next_frame}
-use Rattle.xr_model.specs.machine.Request.{Exchange}
+use Rattle.xr_model.specs.machine.Calls.{Exchange}
 use Rattle.xr_model.specs.report.RunEnding.{is_fault}
 use Rattle.xr_model.specs.runs.Lists.{made_from, events_in, frames_in, replies_in, end_of}
 use Rattle.xr_model.specs.runs.NameValues.{no_values}
@@ -108,4 +108,4 @@ pub record RanCompositor (table : TableId) (old new : CompositorPass) (list : Re
 
 -- how many turns it had: one for each frame that it asked for
 abbrev pub turns_in : List Exchange → ℕ
-turns_in calls = how_many (λ t. is_next_frame t.request) calls
+turns_in calls = how_many (λ t. is_next_frame t.call) calls

@@ -1,5 +1,4 @@
 -- What only proofs and private functions need.
-pub mod Groups
 pub mod Made
 pub mod Script
 pub mod Composing

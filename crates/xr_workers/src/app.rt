@@ -1,7 +1,7 @@
 // An application's worker.
 ghost use Rattle.std.specs.Prelude.{◌≡◌, ◌<◌, ◌+◌, ◌^◌, [], false, length};
 ghost use Rattle.xr_types.specs.declared.calls.Actor.TheVariants.{App};
-ghost use Rattle.xr_model.specs.machine.Request.{leave};
+ghost use Rattle.xr_types.specs.declared.calls.Call.TheVariants as ask;
 ghost use Rattle.xr_model.specs.scenario.ScriptForm.{IsInForm};
 ghost use Rattle.xr_runtime.specs.Passes.{table_of, IsApp, MayCall};
 ghost use Rattle.xr_workers.specs.Workers.{IsGated, RanScript};
@@ -31,7 +31,7 @@ fn leave<R: Wait, G: Gate>(
 ) -> Reply
     requires may { MayCall (table_of runtime.now) pass.old }
     requires own { pass.old.app ≡ app }
-    ensures made { CallMade (table_of runtime.now) pass.old leave [] result pass.new }
+    ensures made { CallMade (table_of runtime.now) pass.old ask.Leave [] result pass.new }
     ensures gated { IsGated (G.came gate.now) (G.went gate.now) (App app) pass.old.calls (pass.old.calls + 1) }
 {
     let number = pass.calls() + 1;

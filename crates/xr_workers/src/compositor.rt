@@ -1,6 +1,6 @@
 // The compositor's worker.
 ghost use Rattle.std.specs.Prelude.{◌≡◌, List, false};
-ghost use Rattle.xr_model.specs.machine.Request.{Exchange};
+ghost use Rattle.xr_model.specs.machine.Calls.{Exchange};
 ghost use Rattle.xr_types.specs.declared.calls.Actor.TheVariants.{Compositor};
 ghost use Rattle.xr_runtime.specs.Passes.{table_of, IsCompositor};
 ghost use Rattle.xr_workers.specs.Workers.{IsGated, Adds, turns_in, RanCompositor};

@@ -106,12 +106,8 @@ pub fn run_device<R: Wait, G: Gate, D: Device>(
                 reply,
                 text: Bytes::new(Vec::new(alloc)),
             };
-            let Ok(()) = calls.push(made) else {
-                return Err(NoMemory);
-            };
-            let Ok(()) = events.push(event) else {
-                return Err(NoMemory);
-            };
+            calls.push(made)?;
+            events.push(event)?;
         }
         if told.over {
             return Ok(DeviceMade {

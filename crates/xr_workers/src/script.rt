@@ -15,7 +15,7 @@ use crate::gate::Gate;
 use std::alloc::Global;
 use std::sync::Wait;
 use xr_runtime::{AppPass, Runtime};
-use xr_scenario_calls::{Names, Scratch, call_of, lent_size, op_mark, op_start, written_size};
+use xr_scenario_calls::{Names, Scratch, call_of, op_mark, op_start};
 use xr_types::{Actor, Bytes, MOST_CAPACITY, Made, NoMemory, Op, Reply};
 
 /// How many bytes a call of a script is lent at most: the largest `capacity` of the format.
@@ -115,11 +115,11 @@ fn ask<R: Wait, G: Gate>(
 {
     let number = pass.calls() + 1;
     let call = call_of(op, names, scratch);
-    let lent = &mut buffer[..lent_size(&call) as usize];
+    let lent = &mut buffer[..call.lent_size() as usize];
     gate.before(Actor::App(app), number);
     let reply = make_call(rt, runtime, pass, &call, lent);
     gate.after(Actor::App(app), number);
-    let written = written_size(reply.gives, lent.len() as u64) as usize;
+    let written = reply.gives.written_size(lent.len() as u64) as usize;
     let text = match Bytes::from_slice(alloc, &lent[..written]) {
         Ok(text) => Some(text),
         Err(_) => None,

@@ -1,7 +1,6 @@
 // How calls are made on a core of one application.
 ghost use Rattle.std.specs.Prelude.{◌<◌, ◌^◌, IsTrue};
 ghost use Rattle.xr_types.specs.declared.calls.Actor.TheVariants.{App, Compositor, Device};
-ghost use Rattle.xr_model.specs.machine.Request.{request_of};
 ghost use Rattle.xr_model.specs.machine.CoreCalls.{MayAsk};
 
 use xr_core::PlainCore;
@@ -9,7 +8,7 @@ use xr_types::{Actor, Call, DeviceEvent, Form, Gives, Reply, Shown, Step};
 
 /// Whether an application may make this call and be lent no bytes.
 fn is_own(call: &Call<'_>) -> bool
-    ensures { IsTrue result → MayAsk (App 1) (request_of call.now) 0 }
+    ensures { IsTrue result → MayAsk (App 1) call.now 0 }
 {
     match call {
         Call::CreateInstance { .. }
@@ -82,7 +81,7 @@ pub(crate) fn handle(gives: Gives) -> u64 {
 
 /// Whether this is a call of the compositor.
 fn is_compositors(call: &Call<'_>) -> bool
-    ensures { IsTrue result → MayAsk Compositor (request_of call.now) 0 }
+    ensures { IsTrue result → MayAsk Compositor call.now 0 }
 {
     matches!(call, Call::NextFrame | Call::ImageDone)
 }
@@ -100,7 +99,7 @@ pub(crate) fn compose(core: &mut PlainCore, call: &Call<'_>, shown: &mut Shown) 
 
 /// Whether the device may tell this: a wish, a controller, or a pose whose numbers are in range.
 fn is_told(call: &Call<'_>) -> bool
-    ensures { IsTrue result → MayAsk Device (request_of call.now) 0 }
+    ensures { IsTrue result → MayAsk Device call.now 0 }
 {
     match call {
         Call::Device(event) => match event {

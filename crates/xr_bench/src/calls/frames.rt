@@ -2,7 +2,7 @@
 use super::asking::{answer, ask, compose, handle, tell};
 use xr_core::PlainCore;
 use xr_types::{
-    Blend, Call, DeviceEvent, FrameState, Gives, Layer, Reply, Shown, ViewConfig, Wish,
+    Blend, Call, DeviceEvent, FrameState, Gives, Items, Layer, Reply, Shown, ViewConfig, Wish,
 };
 
 /// Takes a frame; whether one was pending.
@@ -46,7 +46,7 @@ pub(crate) fn submit(core: &mut PlainCore, session: u64, layers: &[Layer]) -> Op
             session,
             time,
             blend: Blend::Opaque,
-            layers,
+            layers: Items::new(layers),
         },
     )
 }

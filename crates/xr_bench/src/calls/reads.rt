@@ -4,7 +4,8 @@ use super::frames::{Running, set_running, submit, take};
 use super::suggests::suggestions_of;
 use xr_core::PlainCore;
 use xr_types::{
-    ActionType, ActiveSet, Call, Code, DeviceEvent, MOST_SUGGESTED, Profile, Shown, User, Wish,
+    ActionType, ActiveSet, Call, Code, DeviceEvent, Items, MOST_SUGGESTED, Profile, Shown, User,
+    Wish,
 };
 
 /// A session that is focused, the set that it has attached, and an action of it.
@@ -26,10 +27,10 @@ fn action(core: &mut PlainCore, set: u64, number: usize) -> u64 {
         core,
         &Call::CreateAction {
             set,
-            name: &name,
+            name: Items::new(&name),
             kind: ActionType::Boolean,
-            subs: &[],
-            localized: &name,
+            subs: Items::new(&[]),
+            localized: Items::new(&name),
         },
     ))
 }
@@ -44,7 +45,7 @@ fn suggest(core: &mut PlainCore, instance: u64, actions: &[u64], count: usize) {
         &Call::SuggestBindings {
             instance,
             profile,
-            list,
+            list: Items::new(list),
         },
     );
     for user in [User::Left, User::Right] {
@@ -65,7 +66,7 @@ fn focus(core: &mut PlainCore, running: Running, set: u64) {
         core,
         &Call::AttachSets {
             session,
-            sets: &[set],
+            sets: Items::new(&[set]),
         },
     );
     tell(core, DeviceEvent::Wish(Wish::Focused));
@@ -80,8 +81,8 @@ pub(crate) fn set_reading(core: &mut PlainCore, all: bool) -> Reading {
         core,
         &Call::CreateActionSet {
             instance: running.instance,
-            name: b"play",
-            localized: b"Play",
+            name: Items::new(b"play"),
+            localized: Items::new(b"Play"),
             priority: 0,
         },
     ));
@@ -131,7 +132,7 @@ pub(crate) fn sync_and_read_often(core: &mut PlainCore, reading: Reading, times:
     }];
     let call = Call::SyncActions {
         session: reading.session,
-        active: &active,
+        active: Items::new(&active),
     };
     let mut done: u64 = 0;
     for _ in 0..times {

@@ -1,7 +1,7 @@
 // One round of calls.
 use super::asking::{ask, handle};
 use xr_core::PlainCore;
-use xr_types::{Call, Form};
+use xr_types::{Call, Form, Items};
 
 /// Makes a round: an instance with a session comes and goes, and what is between.
 fn round(core: &mut PlainCore) {
@@ -21,8 +21,14 @@ fn round(core: &mut PlainCore) {
     for call in [
         Call::PollEvent { instance },
         Call::PollEvent { instance },
-        Call::StringToPath { instance, text },
-        Call::StringToPath { instance, text },
+        Call::StringToPath {
+            instance,
+            text: Items::new(text),
+        },
+        Call::StringToPath {
+            instance,
+            text: Items::new(text),
+        },
         Call::PathToString {
             instance,
             path,

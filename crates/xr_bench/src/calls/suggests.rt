@@ -1,7 +1,7 @@
 // A core with an action, and how bindings are suggested for it.
 use super::asking::{answer, ask, handle};
 use xr_core::PlainCore;
-use xr_types::{ActionType, Binding, Call, Code, Gives, MOST_SUGGESTED};
+use xr_types::{ActionType, Binding, Call, Code, Gives, Items, MOST_SUGGESTED};
 
 /// What is suggested: as many bindings as a profile has.
 #[derive(Drop)]
@@ -13,6 +13,7 @@ pub(crate) struct Suggestions {
 
 /// The atom of a text, or 0.
 pub(crate) fn atom(core: &mut PlainCore, instance: u64, text: &[u8]) -> u64 {
+    let text = Items::new(text);
     match ask(core, &Call::StringToPath { instance, text }) {
         Gives::Number(atom) => atom,
         _ => 0,
@@ -58,8 +59,8 @@ pub(crate) fn set_up(core: &mut PlainCore) -> Suggestions {
         core,
         &Call::CreateActionSet {
             instance,
-            name: b"play",
-            localized: b"Play",
+            name: Items::new(b"play"),
+            localized: Items::new(b"Play"),
             priority: 0,
         },
     ));
@@ -67,10 +68,10 @@ pub(crate) fn set_up(core: &mut PlainCore) -> Suggestions {
         core,
         &Call::CreateAction {
             set,
-            name: b"fire",
+            name: Items::new(b"fire"),
             kind: ActionType::Boolean,
-            subs: &[],
-            localized: b"Fire",
+            subs: Items::new(&[]),
+            localized: Items::new(b"Fire"),
         },
     ));
     suggestions_of(core, instance, &[action])
@@ -83,7 +84,7 @@ pub(crate) fn suggest_often(core: &mut PlainCore, suggestions: &Suggestions, tim
         let call = Call::SuggestBindings {
             instance: suggestions.instance,
             profile: suggestions.profile,
-            list: &suggestions.list,
+            list: Items::new(&suggestions.list),
         };
         if let Some(Code::Success) = answer(core, &call).map(|reply| reply.code) {
             taken = taken.saturating_add(MOST_SUGGESTED as u64);

@@ -6,7 +6,8 @@ use Rattle.xr_types.specs.declared.device.Wish.{Wish}
 use Rattle.xr_types.specs.declared.session.SessionState.{SessionState}
 use Rattle.xr_model.specs.machine.Frames.{reset_loop}
 use Rattle.xr_model.specs.machine.Refusals.{Refusal, first_of, unless}
-use Rattle.xr_model.specs.machine.Request.{Request, begin_session, end_session, request_exit_session}
+use Rattle.xr_types.specs.declared.calls.Call.{Call}
+use Rattle.xr_types.specs.declared.calls.Call.TheVariants as ask
 use Rattle.xr_model.specs.machine.SessionLife.{Life, Changed, unchanged, settled_session, losing_session, lost_session, is_lost, begin_checks, begun_session, end_checks, ended_session, exit_checks, exiting_session}
 use Rattle.xr_model.specs.machine.PartAnswers.{code_by}
 use Rattle.xr_model.specs.machine.LiveSessions.{Session, session_at}
@@ -25,10 +26,10 @@ change_by Lost life = unchanged (lost_session life)
 
 -- ---- a call that changes one session
 
-abbrev pub life_request : ℕ → LifeCall → Request
-life_request session (Begin view) = begin_session session view
-life_request session End = end_session session
-life_request session RequestExit = request_exit_session session
+abbrev pub life_request : ℕ → LifeCall → Call
+life_request session (Begin view) = ask.BeginSession session view
+life_request session End = ask.EndSession session
+life_request session RequestExit = ask.RequestExitSession session
 
 -- what refuses it behind a lost session, and how the session changes
 abbrev pub checks_of : LifeCall → Life → List Refusal

@@ -15,7 +15,7 @@ use Rattle.xr_model.specs.machine.CoreCalls.{Lent, left_in, given_by}
 use Rattle.xr_model.specs.machine.Machine.{rule_of, cell_calls, held_after, IsGiven}
 use Rattle.xr_model.specs.machine.OverCells.{World, entry_by, did_by}
 use Rattle.xr_model.specs.machine.Refusals.{first_of}
-use Rattle.xr_model.specs.machine.Request.{Request}
+use Rattle.xr_types.specs.declared.calls.Call.{Call}
 use Rattle.xr_model.specs.machine.Rule.{Rule, refusals, carried_out}
 use Rattle.xr_model.specs.machine.State.{CoreState, CellReads}
 use Rattle.xr_types.specs.declared.calls.Reply.{Reply}
@@ -41,25 +41,25 @@ pub record HasToWait (old : CoreState) (r : ℕ → Rule) (new : CoreState) (bef
   pub unwritten : after ≡ before
 
 -- how a call is decided that this actor makes and that is lent something, where the cells tell so much
-abbrev pub DecidesTold : CellReads → Actor → CoreState → Request → CoreState → Result Reply Halt → Lent → Lent → Type 0
+abbrev pub DecidesTold : CellReads → Actor → CoreState → Call → CoreState → Result Reply Halt → Lent → Lent → Type 0
 DecidesTold reads who old what new (Ok d) before after = Comes old (λ given. rule_of old reads who given what) new d.code d.gives before after
 DecidesTold reads who old what new (Err (Refused code)) before after = Comes old (λ given. rule_of old reads who given what) new code Nothing before after
 DecidesTold reads who old what new (Err NotReady) before after = HasToWait old (λ given. rule_of old reads who given what) new before after
 
 -- whatever the cells tell
-abbrev pub DecidesOver : Actor → CoreState → Request → CoreState → Result Reply Halt → Lent → Lent → Type 0
+abbrev pub DecidesOver : Actor → CoreState → Call → CoreState → Result Reply Halt → Lent → Lent → Type 0
 DecidesOver who old what new result before after = (reads : CellReads) → DecidesTold reads who old what new result before after
 
 -- of a call that leaves all that it is lent
-abbrev pub DecidesBy : Actor → CoreState → Request → CoreState → Result Reply Halt → Type 0
+abbrev pub DecidesBy : Actor → CoreState → Call → CoreState → Result Reply Halt → Type 0
 DecidesBy who old what new result = (lent : Lent) → DecidesOver who old what new result lent lent
 
 -- the same whoever makes it
-abbrev pub Decides : CoreState → Request → CoreState → Result Reply Halt → Type 0
+abbrev pub Decides : CoreState → Call → CoreState → Result Reply Halt → Type 0
 Decides old what new result = (who : Actor) → DecidesBy who old what new result
 
 -- of a call that writes into a buffer alone
-abbrev pub DecidesWriting : Actor → CoreState → Request → CoreState → Result Reply Halt → List ℕ → List ℕ → Type 0
+abbrev pub DecidesWriting : Actor → CoreState → Call → CoreState → Result Reply Halt → List ℕ → List ℕ → Type 0
 DecidesWriting who old what new result before after =
     (frame : Shown) → DecidesOver who old what new result (record { text = before; frame = frame }) (record { text = after; frame = frame })
 
@@ -72,7 +72,7 @@ step_of (Err (Refused code)) = Done (record { code = code; gives = Nothing; plac
 step_of (Err NotReady) = step.NotReady
 
 -- How a call is decided beside cells: there is something that they told, along the calls on them, by which it is decided so.
-pub record DecidesAlong {C : Type 0} (does : C → CellCall → C → Type 0) (old new : World C) (who : Actor) (what : Request) (result : Result Reply Halt) : Type 0 where
+pub record DecidesAlong {C : Type 0} (does : C → CellCall → C → Type 0) (old new : World C) (who : Actor) (what : Call) (result : Result Reply Halt) : Type 0 where
   pub reads : CellReads
   pub own : reads.held ≡ old.core.held
   pub each : length reads.stamps ≡ length (did_by old.core.kept reads who what (step_of result)).taken
@@ -81,12 +81,12 @@ pub record DecidesAlong {C : Type 0} (does : C → CellCall → C → Type 0) (o
   pub holds : new.core.held ≡ held_after old.core.held (did_by old.core.kept reads who what (step_of result))
 
 -- of a call that leaves what it is lent and what is held
-abbrev pub DecidesCells : {C : Type 0} → (C → CellCall → C → Type 0) → CoreState → Request → CoreState → Result Reply Halt → C → C → Type 0
+abbrev pub DecidesCells : {C : Type 0} → (C → CellCall → C → Type 0) → CoreState → Call → CoreState → Result Reply Halt → C → C → Type 0
 DecidesCells does old what new result before after =
     (who : Actor) (held : List Image) (lent : Lent)
     → DecidesAlong does (record { core = record { kept = old; held = held }; cells = before; lent = lent }) (record { core = record { kept = new; held = held }; cells = after; lent = lent }) who what result
 
 -- the conditions of the calls on cells, whoever makes the call and whatever is told
-abbrev pub MayTouch : {C : Type 0} → (C → CellCall → Type 0) → (C → CellCall → C → Type 0) → CoreState → C → Request → Type 0
+abbrev pub MayTouch : {C : Type 0} → (C → CellCall → Type 0) → (C → CellCall → C → Type 0) → CoreState → C → Call → Type 0
 MayTouch may does s cells what =
-    (who : Actor) (reads : CellReads) (given : ℕ) (short : Bool) → MayCall may does cells (cell_calls s reads (record { actor = who; request = what; given = given; short = short }))
+    (who : Actor) (reads : CellReads) (given : ℕ) (short : Bool) → MayCall may does cells (cell_calls s reads (record { actor = who; call = what; given = given; short = short }))

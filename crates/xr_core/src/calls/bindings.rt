@@ -5,7 +5,7 @@ ghost use Rattle.xr_types.specs.Code.{is_out_of_memory};
 ghost use Rattle.xr_model.specs.machine.Bindings.{suggest_refusals, with_suggestions};
 ghost use Rattle.xr_model.specs.machine.PartAnswers.{code_by};
 ghost use Rattle.xr_model.specs.machine.Refusals.{first_of, unless};
-ghost use Rattle.xr_model.specs.machine.Request.{suggest_bindings};
+ghost use Rattle.xr_types.specs.declared.calls.Call.TheVariants as ask;
 ghost use Rattle.xr_model.specs.machine.Sync.{is_source};
 ghost use Rattle.xr_core.specs.inside.Deciding.{Decides};
 
@@ -26,7 +26,7 @@ impl Parts {
         profile: u64,
         list: &[Binding],
     ) -> Result<Reply, Halt>
-        ensures { Decides self.old (suggest_bindings instance profile list.now) self.new result }
+        ensures { Decides self.old (ask.SuggestBindings instance profile list.now) self.new result }
     {
         self.live(Kind::Instance, instance)?;
         let profile = self.profile_at(profile)?;

@@ -1,7 +1,7 @@
 // What happens at the device, which is this project's own.
 ghost use Rattle.std.specs.Prelude.{◌≡◌, true};
 ghost use Rattle.xr_types.specs.Device.{checks};
-ghost use Rattle.xr_model.specs.machine.Request as request;
+ghost use Rattle.xr_types.specs.declared.calls.Call.TheVariants as ask;
 ghost use Rattle.xr_model.specs.machine.Rules.Device.{is_awaiting, behind_event};
 ghost use Rattle.xr_core.specs.inside.Deciding.{Decides};
 
@@ -49,7 +49,7 @@ impl Parts {
     #[inline(never)]
     pub(crate) fn device_event(&mut self, event: DeviceEvent) -> Result<Reply, Halt>
         requires checks { checks event ≡ true }
-        ensures { Decides self.old (request.device event) self.new result }
+        ensures { Decides self.old (ask.Device event) self.new result }
     {
         if self.is_waiting(event) {
             return Err(Halt::NotReady);

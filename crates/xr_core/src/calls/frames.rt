@@ -6,7 +6,7 @@ ghost use Rattle.xr_model.specs.machine.Frames.{waited_loop, begun_loop, ended_l
 ghost use Rattle.xr_model.specs.machine.Layers.{frame_checks};
 ghost use Rattle.xr_model.specs.machine.LiveSessions.{session_at};
 ghost use Rattle.xr_model.specs.machine.Refusals.{first_of, when};
-ghost use Rattle.xr_model.specs.machine.Request.{wait_frame, begin_frame, end_frame, request_of};
+ghost use Rattle.xr_types.specs.declared.calls.Call.TheVariants as ask;
 ghost use Rattle.xr_model.specs.machine.Rule.{ahead, refusals};
 ghost use Rattle.xr_model.specs.machine.SessionLife.{is_state, synced_session};
 ghost use Rattle.xr_model.specs.machine.SessionRule.{loss_of, code_on};
@@ -51,8 +51,8 @@ fn pin_all<C: Cells>(cells: &mut C, images: &[Image])
 impl Parts {
     #[inline(never)]
     pub(crate) fn frame_call(&mut self, call: &Call<'_>) -> Result<Reply, Halt>
-        requires group { IsFrameCall (request_of call.now) }
-        ensures { Decides self.old (request_of call.now) self.new result }
+        requires group { IsFrameCall call.now }
+        ensures { Decides self.old call.now self.new result }
     {
         match call {
             Call::WaitFrame { session } => self.wait_frame(*session),
@@ -113,7 +113,7 @@ impl Parts {
 
     /// Waits for a frame, or says that the call has to wait.
     fn wait_frame(&mut self, session: u64) -> Result<Reply, Halt>
-        ensures { Decides self.old (wait_frame session) self.new result }
+        ensures { Decides self.old (ask.WaitFrame session) self.new result }
     {
         let success = self.may_frame(session)?;
         let render = self.is_seen(session);
@@ -137,7 +137,7 @@ impl Parts {
 
     /// Begins a frame.
     fn begin_frame(&mut self, session: u64) -> Result<Reply, Halt>
-        ensures { Decides self.old (begin_frame session) self.new result }
+        ensures { Decides self.old (ask.BeginFrame session) self.new result }
     {
         let success = self.may_frame(session)?;
         let code = self.begin(success)?;
@@ -236,8 +236,8 @@ impl Parts {
         layers: &[Layer],
     ) -> Result<Reply, Halt>
         requires ended { self.old.ended < 2 ^ 44 }
-        requires may { MayTouch C.may C.does self.old cells.old (end_frame session time.now blend layers.now) }
-        ensures { DecidesCells C.does self.old (end_frame session time.now blend layers.now) self.new result cells.old cells.new }
+        requires may { MayTouch C.may C.does self.old cells.old (ask.EndFrame session time.now blend layers.now) }
+        ensures { DecidesCells C.does self.old (ask.EndFrame session time.now blend layers.now) self.new result cells.old cells.new }
     {
         let mut frame = Frame {
             number: self.ended + 1,

@@ -7,7 +7,6 @@ ghost use Rattle.xr_model.specs.machine.HandlePlaces.{place_among};
 ghost use Rattle.xr_model.specs.machine.PartAnswers.{or_refused};
 ghost use Rattle.xr_model.specs.machine.Publication.{publication_of, published_at, getter_gives, is_same_type, shown_by, shown_of};
 ghost use Rattle.xr_model.specs.machine.Refusals.{first_of};
-ghost use Rattle.xr_model.specs.machine.Request.{request_of};
 ghost use Rattle.xr_model.specs.machine.Rule.{refusals};
 ghost use Rattle.xr_model.specs.machine.Rules.Sync.{getter_rule};
 ghost use Rattle.xr_model.specs.machine.SessionRule.{code_on};
@@ -77,8 +76,8 @@ fn shown_by(wanted: ActionType, it: &Column) -> Gives
 impl Parts {
     #[inline(never)]
     pub(crate) fn getter_call(&self, call: &Call<'_>) -> Result<Reply, Halt>
-        requires group { IsGetter (request_of call.now) }
-        ensures { Decides self.now (request_of call.now) self.now result }
+        requires group { IsGetter call.now }
+        ensures { Decides self.now call.now self.now result }
     {
         match call {
             Call::GetBoolean {

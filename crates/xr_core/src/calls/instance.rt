@@ -4,7 +4,7 @@ ghost use Rattle.xr_types.specs.declared.handles.Kind.TheVariants as kind;
 ghost use Rattle.xr_model.specs.machine.Events.{no_events};
 ghost use Rattle.xr_model.specs.machine.Handles.{has_room, was_given, with_handle};
 ghost use Rattle.xr_model.specs.machine.Refusals.{first_of};
-ghost use Rattle.xr_model.specs.machine.Request.{create_instance, destroy_instance, get_system, poll_event, request_of};
+ghost use Rattle.xr_types.specs.declared.calls.Call.TheVariants as ask;
 ghost use Rattle.xr_model.specs.machine.Rule.{refusals};
 ghost use Rattle.xr_model.specs.machine.Rules.Instance.{create_instance_rule};
 ghost use Rattle.xr_core.specs.inside.Deciding.{Decides, DecidesCells, MayTouch};
@@ -22,8 +22,8 @@ pub(crate) const SYSTEM: u64 = 1;
 impl Parts {
     pub(crate) fn instance_call(&mut self, call: &Call<'_>) -> Result<Reply, Halt>
         requires given { length self.old.handles.given < 2 ^ 44 }
-        requires group { IsInstanceCall (request_of call.now) }
-        ensures { Decides self.old (request_of call.now) self.new result }
+        requires group { IsInstanceCall call.now }
+        ensures { Decides self.old call.now self.new result }
     {
         match call {
             Call::CreateInstance { major, minor } => self.create_instance(*major, *minor),
@@ -45,7 +45,7 @@ impl Parts {
 
     fn create_instance(&mut self, major: u32, minor: u32) -> Result<Reply, Halt>
         requires { length self.old.handles.given < 2 ^ 44 }
-        ensures { Decides self.old (create_instance major minor) self.new result }
+        ensures { Decides self.old (ask.CreateInstance major minor) self.new result }
     {
         self.may_create_instance(major, minor)?;
         let handle = self.new_instance();
@@ -68,8 +68,8 @@ impl Parts {
         cells: &mut C,
         instance: u64,
     ) -> Result<Reply, Halt>
-        requires may { MayTouch C.may C.does self.old cells.old (destroy_instance instance) }
-        ensures { DecidesCells C.does self.old (destroy_instance instance) self.new result cells.old cells.new }
+        requires may { MayTouch C.may C.does self.old cells.old (ask.DestroyInstance instance) }
+        ensures { DecidesCells C.does self.old (ask.DestroyInstance instance) self.new result cells.old cells.new }
     {
         self.live(Kind::Instance, instance)?;
         self.destroy_over(cells, instance);
@@ -87,7 +87,7 @@ impl Parts {
     }
 
     fn get_system(&mut self, instance: u64, form: Form) -> Result<Reply, Halt>
-        ensures { Decides self.old (get_system instance form) self.new result }
+        ensures { Decides self.old (ask.GetSystem instance form) self.new result }
     {
         self.live(Kind::Instance, instance)?;
         match form {
@@ -97,7 +97,7 @@ impl Parts {
     }
 
     fn poll_event(&mut self, instance: u64) -> Result<Reply, Halt>
-        ensures { Decides self.old (poll_event instance) self.new result }
+        ensures { Decides self.old (ask.PollEvent instance) self.new result }
     {
         self.live(Kind::Instance, instance)?;
         match self.events.poll() {

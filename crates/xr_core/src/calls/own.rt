@@ -3,8 +3,7 @@ ghost use Rattle.std.specs.Prelude.{◌≡◌, true};
 ghost use Rattle.std.specs.List.{list_all};
 ghost use Rattle.xr_types.specs.Device.{is_mark};
 ghost use Rattle.xr_model.specs.machine.Marks.{mark_at, with_mark};
-ghost use Rattle.xr_model.specs.machine.Request as request;
-ghost use Rattle.xr_model.specs.machine.Request.{leave, request_of};
+ghost use Rattle.xr_types.specs.declared.calls.Call.TheVariants as ask;
 ghost use Rattle.xr_model.specs.machine.Rule.{is_by};
 ghost use Rattle.xr_model.specs.machine.Machine.{IsPresent};
 ghost use Rattle.xr_model.specs.machine.CoreCalls.{asked};
@@ -18,11 +17,11 @@ use xr_types::{Actor, Call, Code, Gives, Reply};
 impl Parts {
     #[inline(never)]
     pub(crate) fn own_call(&mut self, who: Actor, call: &Call<'_>) -> Result<Reply, Halt>
-        requires group { IsOwnCall (request_of call.now) }
+        requires group { IsOwnCall call.now }
         requires present { IsPresent self.old who }
-        requires caller { is_by (asked who (request_of call.now)).caller who ≡ true }
-        requires numbers { (asked who (request_of call.now)).in_range ≡ true }
-        ensures { DecidesBy who self.old (request_of call.now) self.new result }
+        requires caller { is_by (asked who call.now).caller who ≡ true }
+        requires numbers { (asked who call.now).in_range ≡ true }
+        ensures { DecidesBy who self.old call.now self.new result }
     {
         match call {
             Call::Mark { mark, value } => self.mark(*mark, *value),
@@ -38,7 +37,7 @@ impl Parts {
     #[tactic(auto, using(crate::proofs::Start::left_set))]
     fn leave(&mut self, app: u8) -> Result<Reply, Halt>
         requires { IsPresent self.old (Actor.App app) }
-        ensures { DecidesBy (Actor.App app) self.old leave self.new result }
+        ensures { DecidesBy (Actor.App app) self.old ask.Leave self.new result }
     {
         let place = app as usize - 1;
         self.left[place] = true;
@@ -76,7 +75,7 @@ impl Parts {
 
     fn mark(&mut self, mark: u8, value: u64) -> Result<Reply, Halt>
         requires { is_mark mark ≡ true }
-        ensures { Decides self.old (request.mark mark value) self.new result }
+        ensures { Decides self.old (ask.Mark mark value) self.new result }
     {
         self.set_mark(mark, value);
         done(Code::Success)
@@ -84,7 +83,7 @@ impl Parts {
 
     /// Gives the value of a mark, or waits until it is set.
     fn await_mark(&mut self, mark: u8) -> Result<Reply, Halt>
-        ensures { Decides self.old (request.await_mark mark) self.new result }
+        ensures { Decides self.old (ask.AwaitMark mark) self.new result }
     {
         match self.mark_value(mark) {
             Some(value) => giving(Code::Success, Gives::Number(value)),

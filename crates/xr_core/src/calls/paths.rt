@@ -4,7 +4,7 @@ ghost use Rattle.xr_types.specs.Code.{is_out_of_memory};
 ghost use Rattle.xr_model.specs.machine.PartAnswers.{answer_by};
 ghost use Rattle.xr_model.specs.machine.Paths.{atom_of, with_text, intern_refusals, may_want_memory};
 ghost use Rattle.xr_model.specs.machine.Refusals.{first_of, unless};
-ghost use Rattle.xr_model.specs.machine.Request.{string_to_path, path_to_string, request_of};
+ghost use Rattle.xr_types.specs.declared.calls.Call.TheVariants as ask;
 ghost use Rattle.xr_model.specs.machine.CoreCalls.{Fits, asked};
 ghost use Rattle.xr_core.specs.inside.Deciding.{Decides, DecidesWriting};
 ghost use Rattle.xr_core.specs.inside.Groups.{IsPathCall};
@@ -25,12 +25,16 @@ impl Parts {
         call: &Call<'_>,
         out: &mut [u8],
     ) -> Result<Reply, Halt>
-        requires group { IsPathCall (request_of call.now) }
-        requires buffer { Fits (asked who (request_of call.now)).lent (length out.old) }
-        ensures { DecidesWriting who self.old (request_of call.now) self.new result out.old out.new }
+        requires group { IsPathCall call.now }
+        requires buffer { Fits (asked who call.now).lent (length out.old) }
+        ensures { DecidesWriting who self.old call.now self.new result out.old out.new }
     {
         match call {
-            Call::StringToPath { instance, text } => self.string_to_path(alloc, *instance, text),
+            Call::StringToPath { instance, text } => self.string_to_path(
+                alloc,
+                *instance,
+                text.as_slice(),
+            ),
             Call::PathToString {
                 instance,
                 path,
@@ -41,7 +45,7 @@ impl Parts {
     }
 
     fn string_to_path(&mut self, alloc: Global, instance: u64, text: &[u8]) -> Result<Reply, Halt>
-        ensures { Decides self.old (string_to_path instance text.now) self.new result }
+        ensures { Decides self.old (ask.StringToPath instance text.now) self.new result }
     {
         self.live(Kind::Instance, instance)?;
         let answer = self.intern(alloc, text);
@@ -65,7 +69,7 @@ impl Parts {
     }
 
     fn path_to_string(&mut self, instance: u64, path: u64, out: &mut [u8]) -> Result<Reply, Halt>
-        ensures { (who : Actor) → DecidesWriting who self.old (path_to_string instance path (length out.old)) self.new result out.old out.new }
+        ensures { (who : Actor) → DecidesWriting who self.old (ask.PathToString instance path (length out.old)) self.new result out.old out.new }
     {
         self.live(Kind::Instance, instance)?;
         let answer = self.paths.text_of(path, out);

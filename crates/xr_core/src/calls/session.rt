@@ -3,7 +3,7 @@ ghost use Rattle.std.specs.Prelude.{◌≡◌, ◌≢◌, ◌<◌, ◌^◌, leng
 ghost use Rattle.xr_types.specs.declared.handles.Kind.TheVariants as kind;
 ghost use Rattle.xr_model.specs.machine.Handles.{has_room, was_given};
 ghost use Rattle.xr_model.specs.machine.Refusals.{first_of};
-ghost use Rattle.xr_model.specs.machine.Request.{create_session, destroy_session, request_of};
+ghost use Rattle.xr_types.specs.declared.calls.Call.TheVariants as ask;
 ghost use Rattle.xr_model.specs.machine.Rule.{refusals};
 ghost use Rattle.xr_model.specs.machine.SessionLife.{started_session};
 ghost use Rattle.xr_model.specs.machine.Rules.Session.{life_of, with_session, create_session_rule};
@@ -24,8 +24,8 @@ impl Parts {
     pub(crate) fn session_call(&mut self, call: &Call<'_>) -> Result<Reply, Halt>
         requires given { length self.old.handles.given < 2 ^ 44 }
         requires created { self.old.created < 2 ^ 44 }
-        requires group { IsSessionCall (request_of call.now) }
-        ensures { Decides self.old (request_of call.now) self.new result }
+        requires group { IsSessionCall call.now }
+        ensures { Decides self.old call.now self.new result }
     {
         match call {
             Call::CreateSession { instance, system } => self.create_session(*instance, *system),
@@ -56,7 +56,7 @@ impl Parts {
     fn create_session(&mut self, instance: u64, system: u64) -> Result<Reply, Halt>
         requires given { length self.old.handles.given < 2 ^ 44 }
         requires created { self.old.created < 2 ^ 44 }
-        ensures { Decides self.old (create_session instance system) self.new result }
+        ensures { Decides self.old (ask.CreateSession instance system) self.new result }
     {
         self.may_create_session(instance, system)?;
         let handle = self.new_session(instance);
@@ -85,8 +85,8 @@ impl Parts {
         cells: &mut C,
         session: u64,
     ) -> Result<Reply, Halt>
-        requires may { MayTouch C.may C.does self.old cells.old (destroy_session session) }
-        ensures { DecidesCells C.does self.old (destroy_session session) self.new result cells.old cells.new }
+        requires may { MayTouch C.may C.does self.old cells.old (ask.DestroySession session) }
+        ensures { DecidesCells C.does self.old (ask.DestroySession session) self.new result cells.old cells.new }
     {
         self.live(Kind::Session, session)?;
         self.destroy_over(cells, session);

@@ -6,7 +6,7 @@ ghost use Rattle.xr_model.specs.machine.Handles.{is_live, has_room, no_handle, w
 ghost use Rattle.xr_model.specs.machine.LiveSessions.{session_at, attached_in};
 ghost use Rattle.xr_model.specs.machine.Refusals.{first_of};
 ghost use Rattle.xr_model.specs.machine.Sets.{no_users, set_checks, action_checks, action_label_checks, attach_checks};
-ghost use Rattle.xr_model.specs.machine.Request.{create_action_set, destroy_action_set, create_action, destroy_action, attach_sets, request_of};
+ghost use Rattle.xr_types.specs.declared.calls.Call.TheVariants as ask;
 ghost use Rattle.xr_model.specs.machine.Rule.{refusals};
 ghost use Rattle.xr_model.specs.machine.SessionRule.{loss_of, code_on};
 ghost use Rattle.xr_model.specs.machine.Rules.Session.{life_of};
@@ -36,8 +36,8 @@ impl Parts {
     #[inline(never)]
     pub(crate) fn set_call(&mut self, call: &Call<'_>) -> Result<Reply, Halt>
         requires given { length self.old.handles.given < 2 ^ 44 }
-        requires group { IsSetCall (request_of call.now) }
-        ensures { Decides self.old (request_of call.now) self.new result }
+        requires group { IsSetCall call.now }
+        ensures { Decides self.old call.now self.new result }
     {
         match call {
             Call::CreateActionSet {
@@ -45,7 +45,12 @@ impl Parts {
                 name,
                 localized,
                 priority,
-            } => self.create_action_set(*instance, name, localized, *priority),
+            } => self.create_action_set(
+                *instance,
+                name.as_slice(),
+                localized.as_slice(),
+                *priority,
+            ),
             Call::DestroyActionSet { set } => self.destroy_action_set(*set),
             Call::CreateAction {
                 set,
@@ -53,9 +58,15 @@ impl Parts {
                 kind,
                 subs,
                 localized,
-            } => self.create_action(*set, name, *kind, subs, localized),
+            } => self.create_action(
+                *set,
+                name.as_slice(),
+                *kind,
+                subs.as_slice(),
+                localized.as_slice(),
+            ),
             Call::DestroyAction { action } => self.destroy_action(*action),
-            Call::AttachSets { session, sets } => self.attach_sets(*session, sets),
+            Call::AttachSets { session, sets } => self.attach_sets(*session, sets.as_slice()),
             _ => unreachable!(),
         }
     }
@@ -92,7 +103,7 @@ impl Parts {
         priority: u32,
     ) -> Result<Reply, Halt>
         requires { length self.old.handles.given < 2 ^ 44 }
-        ensures { Decides self.old (create_action_set instance name.now localized.now priority) self.new result }
+        ensures { Decides self.old (ask.CreateActionSet instance name.now localized.now priority) self.new result }
     {
         self.may_create_action_set(instance, name, localized)?;
         let handle = self.new_set(instance, name, localized, priority);
@@ -113,7 +124,7 @@ impl Parts {
     }
 
     fn destroy_action_set(&mut self, set: u64) -> Result<Reply, Halt>
-        ensures { Decides self.old (destroy_action_set set) self.new result }
+        ensures { Decides self.old (ask.DestroyActionSet set) self.new result }
     {
         self.live(Kind::ActionSet, set)?;
         self.destroy(set);
@@ -167,7 +178,7 @@ impl Parts {
         localized: &[u8],
     ) -> Result<Reply, Halt>
         requires { length self.old.handles.given < 2 ^ 44 }
-        ensures { Decides self.old (create_action set name.now kind subs.now localized.now) self.new result }
+        ensures { Decides self.old (ask.CreateAction set name.now kind subs.now localized.now) self.new result }
     {
         let declared = self.may_create_action(set, name, subs, localized)?;
         let handle = self.new_action(NewAction {
@@ -204,7 +215,7 @@ impl Parts {
     }
 
     fn destroy_action(&mut self, action: u64) -> Result<Reply, Halt>
-        ensures { Decides self.old (destroy_action action) self.new result }
+        ensures { Decides self.old (ask.DestroyAction action) self.new result }
     {
         self.live(Kind::Action, action)?;
         self.destroy(action);
@@ -259,7 +270,7 @@ impl Parts {
     }
 
     fn attach_sets(&mut self, session: u64, sets: &[u64]) -> Result<Reply, Halt>
-        ensures { Decides self.old (attach_sets session sets.now) self.new result }
+        ensures { Decides self.old (ask.AttachSets session sets.now) self.new result }
     {
         let success = self.may_attach_sets(session, sets)?;
         let Some(place) = place_of(self.sessions.as_slice(), session) else {

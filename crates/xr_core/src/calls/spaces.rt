@@ -2,7 +2,7 @@
 ghost use Rattle.std.specs.Prelude.{◌≡◌, ◌≢◌, ◌<◌, ◌^◌, [], ◌∷◌, length, true, false, IfSome};
 ghost use Rattle.xr_model.specs.machine.Handles.{has_room, was_given};
 ghost use Rattle.xr_model.specs.machine.Refusals.{first_of};
-ghost use Rattle.xr_model.specs.machine.Request.{create_reference_space, create_action_space, destroy_space, locate_space, request_of};
+ghost use Rattle.xr_types.specs.declared.calls.Call.TheVariants as ask;
 ghost use Rattle.xr_model.specs.machine.Rule.{refusals};
 ghost use Rattle.xr_model.specs.machine.SessionRule.{loss_of, code_on};
 ghost use Rattle.xr_model.specs.machine.Spaces.{reference_checks};
@@ -23,8 +23,8 @@ impl Parts {
     #[inline(never)]
     pub(crate) fn space_call(&mut self, call: &Call<'_>) -> Result<Reply, Halt>
         requires given { length self.old.handles.given < 2 ^ 44 }
-        requires group { IsSpaceCall (request_of call.now) }
-        ensures { Decides self.old (request_of call.now) self.new result }
+        requires group { IsSpaceCall call.now }
+        ensures { Decides self.old call.now self.new result }
     {
         match call {
             Call::CreateReferenceSpace {
@@ -77,7 +77,7 @@ impl Parts {
         offset: u64,
     ) -> Result<Reply, Halt>
         requires { length self.old.handles.given < 2 ^ 44 }
-        ensures { Decides self.old (create_reference_space session kind offset) self.new result }
+        ensures { Decides self.old (ask.CreateReferenceSpace session kind offset) self.new result }
     {
         let success = self.may_create_reference_space(session, kind, offset)?;
         let handle = self.add_space(session, Root::Fixed(kind), offset);
@@ -153,7 +153,7 @@ impl Parts {
         offset: u64,
     ) -> Result<Reply, Halt>
         requires { length self.old.handles.given < 2 ^ 44 }
-        ensures { Decides self.old (create_action_space session action sub offset) self.new result }
+        ensures { Decides self.old (ask.CreateActionSpace session action sub offset) self.new result }
     {
         let success = self.may_create_action_space(session, action, sub, offset)?;
         let handle = self.add_space(session, self.action_root(action, sub), offset);
@@ -181,7 +181,7 @@ impl Parts {
     }
 
     fn destroy_space(&mut self, space: u64) -> Result<Reply, Halt>
-        ensures { Decides self.old (destroy_space space) self.new result }
+        ensures { Decides self.old (ask.DestroySpace space) self.new result }
     {
         self.live(Kind::Space, space)?;
         self.remove_space(space);
@@ -202,7 +202,7 @@ impl Parts {
     }
 
     fn locate_space(&mut self, space: u64, base: u64, time: &i64) -> Result<Reply, Halt>
-        ensures { Decides self.old (locate_space space base time.now) self.new result }
+        ensures { Decides self.old (ask.LocateSpace space base time.now) self.new result }
     {
         let success = self.may_locate_space(space, base, time)?;
         let found = self

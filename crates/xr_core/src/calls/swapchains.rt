@@ -6,7 +6,7 @@ ghost use Rattle.xr_model.specs.machine.Chains.{chain_at, chain_checks, no_place
 ghost use Rattle.xr_model.specs.machine.Handles.{has_room, was_given};
 ghost use Rattle.xr_model.specs.machine.Images.{unstamped};
 ghost use Rattle.xr_model.specs.machine.Refusals.{when, first_of, unless};
-ghost use Rattle.xr_model.specs.machine.Request.{create_swapchain, destroy_swapchain, acquire_image, wait_image, paint, release_image, request_of};
+ghost use Rattle.xr_types.specs.declared.calls.Call.TheVariants as ask;
 ghost use Rattle.xr_model.specs.machine.Rule.{ahead, refusals};
 ghost use Rattle.xr_model.specs.machine.SessionRule.{loss_of, code_on};
 ghost use Rattle.xr_model.specs.machine.Rules.Session.{life_of};
@@ -47,9 +47,9 @@ impl Parts {
         call: &Call<'_>,
     ) -> Result<Reply, Halt>
         requires given { length self.old.handles.given < 2 ^ 44 }
-        requires group { IsChainCall (request_of call.now) }
-        requires may { MayTouch C.may C.does self.old cells.old (request_of call.now) }
-        ensures { DecidesCells C.does self.old (request_of call.now) self.new result cells.old cells.new }
+        requires group { IsChainCall call.now }
+        requires may { MayTouch C.may C.does self.old cells.old call.now }
+        ensures { DecidesCells C.does self.old call.now self.new result cells.old cells.new }
     {
         match call {
             Call::CreateSwapchain {
@@ -90,7 +90,7 @@ impl Parts {
 
     #[inline(never)]
     pub(crate) fn acquire_image(&mut self, chain: u64) -> Result<Reply, Halt>
-        ensures { Decides self.old (acquire_image chain) self.new result }
+        ensures { Decides self.old (ask.AcquireImage chain) self.new result }
     {
         let success = self.may_use_images(chain)?;
         let answer = self.acquire(chain);
@@ -130,8 +130,8 @@ impl Parts {
         timeout: &i64,
         start: &i64,
     ) -> Result<Reply, Halt>
-        requires may { MayTouch C.may C.does self.old cells.old (wait_image chain timeout.now start.now) }
-        ensures { DecidesCells C.does self.old (wait_image chain timeout.now start.now) self.new result cells.old cells.new }
+        requires may { MayTouch C.may C.does self.old cells.old (ask.WaitImage chain timeout.now start.now) }
+        ensures { DecidesCells C.does self.old (ask.WaitImage chain timeout.now start.now) self.new result cells.old cells.new }
     {
         let success = self.may_use_images(chain)?;
         let image = self.front(chain)?;
@@ -154,8 +154,8 @@ impl Parts {
 
     /// Writes the stamp of the image that was waited for.
     fn paint<C: Cells>(&mut self, cells: &mut C, chain: u64, stamp: u64) -> Result<Reply, Halt>
-        requires may { MayTouch C.may C.does self.old cells.old (paint chain stamp) }
-        ensures { DecidesCells C.does self.old (paint chain stamp) self.new result cells.old cells.new }
+        requires may { MayTouch C.may C.does self.old cells.old (ask.Paint chain stamp) }
+        ensures { DecidesCells C.does self.old (ask.Paint chain stamp) self.new result cells.old cells.new }
     {
         let success = self.may_use_images(chain)?;
         let image = self.held_image(chain)?;
@@ -179,8 +179,8 @@ impl Parts {
 
     /// Releases the image that was waited for.
     fn release_image<C: Cells>(&mut self, cells: &mut C, chain: u64) -> Result<Reply, Halt>
-        requires may { MayTouch C.may C.does self.old cells.old (release_image chain) }
-        ensures { DecidesCells C.does self.old (release_image chain) self.new result cells.old cells.new }
+        requires may { MayTouch C.may C.does self.old cells.old (ask.ReleaseImage chain) }
+        ensures { DecidesCells C.does self.old (ask.ReleaseImage chain) self.new result cells.old cells.new }
     {
         let success = self.may_use_images(chain)?;
         if let Err(code) = self.release(cells, chain) {
@@ -238,8 +238,8 @@ impl Parts {
         fixed: bool,
     ) -> Result<Reply, Halt>
         requires given { length self.old.handles.given < 2 ^ 44 }
-        requires may { MayTouch C.may C.does self.old cells.old (create_swapchain session format width height fixed) }
-        ensures { DecidesCells C.does self.old (create_swapchain session format width height fixed) self.new result cells.old cells.new }
+        requires may { MayTouch C.may C.does self.old cells.old (ask.CreateSwapchain session format width height fixed) }
+        ensures { DecidesCells C.does self.old (ask.CreateSwapchain session format width height fixed) self.new result cells.old cells.new }
     {
         let success = self.may_create_swapchain(session, format, width, height)?;
         let handle = self.new_swapchain(cells, session, width, height, fixed);
@@ -279,8 +279,8 @@ impl Parts {
     }
 
     fn destroy_swapchain<C: Cells>(&mut self, cells: &mut C, chain: u64) -> Result<Reply, Halt>
-        requires may { MayTouch C.may C.does self.old cells.old (destroy_swapchain chain) }
-        ensures { DecidesCells C.does self.old (destroy_swapchain chain) self.new result cells.old cells.new }
+        requires may { MayTouch C.may C.does self.old cells.old (ask.DestroySwapchain chain) }
+        ensures { DecidesCells C.does self.old (ask.DestroySwapchain chain) self.new result cells.old cells.new }
     {
         self.live(Kind::Swapchain, chain)?;
         self.remove_chain(cells, chain);

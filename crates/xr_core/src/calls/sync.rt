@@ -6,7 +6,7 @@ ghost use Rattle.xr_model.specs.machine.LiveSessions.{session_at, attached_in};
 ghost use Rattle.xr_model.specs.machine.PartAnswers.{or_refused};
 ghost use Rattle.xr_model.specs.machine.Publication.{is_attached};
 ghost use Rattle.xr_model.specs.machine.Refusals.{first_of};
-ghost use Rattle.xr_model.specs.machine.Request.{sync_actions};
+ghost use Rattle.xr_types.specs.declared.calls.Call.TheVariants as ask;
 ghost use Rattle.xr_model.specs.machine.Rule.{refusals};
 ghost use Rattle.xr_model.specs.machine.Rules.Session.{life_of};
 ghost use Rattle.xr_model.specs.machine.Rules.Sync.{item_checks, heard_by, bindings_of, sync_actions_rule};
@@ -136,7 +136,7 @@ impl Parts {
     /// Stays a function of its own: the sets that are heard take kilobytes on the stack, which no other call should pay for.
     #[inline(never)]
     pub(crate) fn sync_actions(&mut self, session: u64, active: &[ActiveSet]) -> Result<Reply, Halt>
-        ensures { Decides self.old (sync_actions session active.now) self.new result }
+        ensures { Decides self.old (ask.SyncActions session active.now) self.new result }
     {
         let mut heard = ArrayVec::new();
         self.may_sync_actions(session, active, &mut heard)?;

@@ -6,7 +6,7 @@ use Rattle.xr_types.specs.declared.calls.Call.{Call}
 use Rattle.xr_types.specs.declared.calls.Reply.{Reply}
 use Rattle.xr_types.specs.declared.calls.Step.{Step}
 use Rattle.xr_types.specs.declared.calls.Step.TheVariants.{Done, NotReady}
-use Rattle.xr_model.specs.machine.Request.{Entry, request_of}
+use Rattle.xr_model.specs.machine.Calls.{Entry}
 use Rattle.xr_model.specs.machine.CoreCalls.{entry_of}
 use Rattle.xr_model.specs.machine.State.{State}
 use Rattle.xr_model.specs.machine.CoreCalls.{Lent, left_in}
@@ -24,7 +24,7 @@ pub record Asked : Type 0 where
 
 -- the clocks behind a call; one that has to wait leaves them
 abbrev pub clocks_if : List ℤ → Actor → Call → Step → State → List ℤ
-clocks_if clocks who call (Done reply) s = clocks_after clocks (entry_of who (request_of call) reply) s
+clocks_if clocks who call (Done reply) s = clocks_after clocks (entry_of who call reply) s
 clocks_if clocks who call NotReady s = clocks
 
 -- The calls were answered one after another, each in the state to which the one before it led. A wait for an image
@@ -32,12 +32,12 @@ clocks_if clocks who call NotReady s = clocks
 abbrev pub AnsweredFrom : State → List ℤ → List Asked → State → Type 0
 AnsweredFrom s clocks [] t = t ≡ s
 AnsweredFrom s clocks (a ∷ asked) t =
-    StartsAt (clock_of clocks a.who) (request_of a.call)
+    StartsAt (clock_of clocks a.who) a.call
     × (mid : State) × Applies s mid a.who a.call a.before a.behind a.answer × AnsweredFrom mid (clocks_if clocks a.who a.call a.answer mid) asked t
 
 -- the entry of an answered call; one that has to wait makes none
 abbrev pub entry_if : Actor → Call → Step → List Entry
-entry_if who call (Done reply) = entry_of who (request_of call) reply ∷ []
+entry_if who call (Done reply) = entry_of who call reply ∷ []
 entry_if who call NotReady = []
 
 abbrev pub entries_of : List Asked → List Entry
@@ -61,8 +61,8 @@ replies_from s (e ∷ es) = (step s e).1.reply ∷ replies_from (step s e).0 es
 -- A call left the machine's bytes at the front of the buffer that it was lent, and the machine's frame in its place. One that
 -- has to wait isn't ready, and left all as it was.
 abbrev pub Leaves : State → Asked → Step → Type 0
-Leaves s a (Done reply) = a.behind ≡ left_in (step s (entry_of a.who (request_of a.call) reply)).1.text (step s (entry_of a.who (request_of a.call) reply)).1.shown a.before
-Leaves s a NotReady = (ready s (record { actor = a.who; request = request_of a.call; given = 0; short = false }) ≡ false) × (a.behind ≡ a.before)
+Leaves s a (Done reply) = a.behind ≡ left_in (step s (entry_of a.who a.call reply)).1.text (step s (entry_of a.who a.call reply)).1.shown a.before
+Leaves s a NotReady = (ready s (record { actor = a.who; call = a.call; given = 0; short = false }) ≡ false) × (a.behind ≡ a.before)
 
 abbrev pub LeaveInTurn : State → List Asked → Type 0
 LeaveInTurn s [] = Unit {0}

@@ -6,7 +6,8 @@ use Rattle.xr_types.specs.declared.code.Code.{Code}
 use Rattle.xr_types.specs.declared.code.Code.TheVariants.{Success, TimeoutExpired, SessionLossPending, EventUnavailable, FrameDiscarded, LayerInvalid, LayerLimitExceeded, SwapchainRectInvalid, SwapchainFormatUnsupported, ValidationFailure, OutOfMemory, ApiVersionUnsupported, LimitReached, SizeInsufficient, HandleInvalid, SessionRunning, SessionNotRunning, SessionLost, SystemInvalid, PathInvalid, PathCountExceeded, PathFormatInvalid, PathUnsupported, SessionNotReady, SessionNotStopping, TimeInvalid, ReferenceSpaceUnsupported, FormFactorUnsupported, CallOrderInvalid, PoseInvalid, ViewConfigurationTypeUnsupported, NameDuplicated, NameInvalid, ActionsetsAlreadyAttached, LocalizedNameDuplicated, LocalizedNameInvalid, EnvironmentBlendModeUnsupported, SessionNotFocused, ActionsetNotAttached, ActionTypeMismatch}
 use Rattle.xr_types.specs.declared.frames.Layer.{Layer}
 use Rattle.xr_types.specs.declared.frames.Layer.TheVariants.{Projection, Quad}
-use Rattle.xr_model.specs.machine.Request.{Request, create_instance, destroy_instance, get_system, string_to_path, path_to_string, poll_event, create_session, destroy_session, begin_session, end_session, request_exit_session, create_reference_space, destroy_space, locate_space, create_action_set, destroy_action_set, create_action, destroy_action, suggest_bindings, attach_sets, sync_actions, get_boolean, get_float, get_vector, get_pose_active, create_action_space, create_swapchain, destroy_swapchain, acquire_image, wait_image, paint, release_image, wait_frame, begin_frame, end_frame, mark, await_mark, leave, device, next_frame, image_done}
+use Rattle.xr_types.specs.declared.calls.Call.{Call}
+use Rattle.xr_types.specs.declared.calls.Call.TheVariants as ask
 
 -- ---- a row
 
@@ -53,66 +54,66 @@ getter_answers =
 
 -- ---- the table
 
-abbrev pub answers_of : Request → Row
-answers_of (create_instance major minor) = plain (one ApiVersionUnsupported ∷ one LimitReached ∷ [])
-answers_of (destroy_instance instance) = plain (one HandleInvalid ∷ [])
-answers_of (get_system instance form) = plain (one HandleInvalid ∷ one FormFactorUnsupported ∷ [])
-answers_of (string_to_path instance text) = storing (one HandleInvalid ∷ one PathFormatInvalid ∷ one PathCountExceeded ∷ [])
-answers_of (path_to_string instance path capacity) = plain (one HandleInvalid ∷ one PathInvalid ∷ one SizeInsufficient ∷ [])
-answers_of (poll_event instance) = plain (one HandleInvalid ∷ one EventUnavailable ∷ [])
-answers_of (create_session instance system) = plain (one HandleInvalid ∷ one SystemInvalid ∷ one LimitReached ∷ [])
-answers_of (destroy_session session) = plain (one HandleInvalid ∷ [])
-answers_of (begin_session session view) =
+abbrev pub answers_of : Call → Row
+answers_of (ask.CreateInstance major minor) = plain (one ApiVersionUnsupported ∷ one LimitReached ∷ [])
+answers_of (ask.DestroyInstance instance) = plain (one HandleInvalid ∷ [])
+answers_of (ask.GetSystem instance form) = plain (one HandleInvalid ∷ one FormFactorUnsupported ∷ [])
+answers_of (ask.StringToPath instance text) = storing (one HandleInvalid ∷ one PathFormatInvalid ∷ one PathCountExceeded ∷ [])
+answers_of (ask.PathToString instance path capacity) = plain (one HandleInvalid ∷ one PathInvalid ∷ one SizeInsufficient ∷ [])
+answers_of (ask.PollEvent instance) = plain (one HandleInvalid ∷ one EventUnavailable ∷ [])
+answers_of (ask.CreateSession instance system) = plain (one HandleInvalid ∷ one SystemInvalid ∷ one LimitReached ∷ [])
+answers_of (ask.DestroySession session) = plain (one HandleInvalid ∷ [])
+answers_of (ask.BeginSession session view) =
     on_session (one HandleInvalid ∷ one SessionLost ∷ one SessionRunning ∷ one SessionNotReady ∷ one ViewConfigurationTypeUnsupported ∷ [])
-answers_of (end_session session) = on_session (one HandleInvalid ∷ one SessionLost ∷ one SessionNotRunning ∷ one SessionNotStopping ∷ [])
-answers_of (request_exit_session session) = on_session (one HandleInvalid ∷ one SessionLost ∷ one SessionNotRunning ∷ [])
-answers_of (create_reference_space session kind offset) =
+answers_of (ask.EndSession session) = on_session (one HandleInvalid ∷ one SessionLost ∷ one SessionNotRunning ∷ one SessionNotStopping ∷ [])
+answers_of (ask.RequestExitSession session) = on_session (one HandleInvalid ∷ one SessionLost ∷ one SessionNotRunning ∷ [])
+answers_of (ask.CreateReferenceSpace session kind offset) =
     on_session (one HandleInvalid ∷ one SessionLost ∷ one ReferenceSpaceUnsupported ∷ one PoseInvalid ∷ one LimitReached ∷ [])
-answers_of (destroy_space space) = plain (one HandleInvalid ∷ [])
-answers_of (locate_space space base time) = on_session (one HandleInvalid ∷ one HandleInvalid ∷ one SessionLost ∷ one TimeInvalid ∷ [])
-answers_of (create_action_set instance name localized priority) =
+answers_of (ask.DestroySpace space) = plain (one HandleInvalid ∷ [])
+answers_of (ask.LocateSpace space base time) = on_session (one HandleInvalid ∷ one HandleInvalid ∷ one SessionLost ∷ one TimeInvalid ∷ [])
+answers_of (ask.CreateActionSet instance name localized priority) =
     plain (one HandleInvalid ∷ one NameInvalid ∷ one PathFormatInvalid ∷ one NameDuplicated
     ∷ one LocalizedNameInvalid ∷ one LocalizedNameDuplicated ∷ one LimitReached ∷ [])
-answers_of (destroy_action_set set) = plain (one HandleInvalid ∷ [])
-answers_of (create_action set name kind subs localized) =
+answers_of (ask.DestroyActionSet set) = plain (one HandleInvalid ∷ [])
+answers_of (ask.CreateAction set name kind subs localized) =
     plain (one HandleInvalid ∷ one ActionsetsAlreadyAttached ∷ one NameInvalid ∷ one PathFormatInvalid ∷ one NameDuplicated
     ∷ each (PathInvalid ∷ PathUnsupported ∷ []) ∷ one LocalizedNameInvalid ∷ one LocalizedNameDuplicated ∷ one LimitReached ∷ [])
-answers_of (destroy_action action) = plain (one HandleInvalid ∷ [])
-answers_of (suggest_bindings instance profile list) =
+answers_of (ask.DestroyAction action) = plain (one HandleInvalid ∷ [])
+answers_of (ask.SuggestBindings instance profile list) =
     storing (one HandleInvalid ∷ one PathInvalid ∷ one PathUnsupported ∷ one ValidationFailure ∷ one LimitReached
     ∷ each (HandleInvalid ∷ ActionsetsAlreadyAttached ∷ PathInvalid ∷ PathUnsupported ∷ []) ∷ [])
-answers_of (attach_sets session handles) =
+answers_of (ask.AttachSets session handles) =
     on_session (one HandleInvalid ∷ one SessionLost ∷ one ActionsetsAlreadyAttached ∷ one ValidationFailure ∷ each (HandleInvalid ∷ []) ∷ [])
-answers_of (sync_actions session active) =
+answers_of (ask.SyncActions session active) =
     record (on_session (one HandleInvalid ∷ one SessionLost ∷ one LimitReached ∷ each (HandleInvalid ∷ ActionsetNotAttached ∷ PathInvalid ∷ PathUnsupported ∷ []) ∷ [])) {
       succeeds = Success ∷ SessionLossPending ∷ SessionNotFocused ∷ [];
     }
-answers_of (get_boolean session action sub) = getter_answers
-answers_of (get_float session action sub) = getter_answers
-answers_of (get_vector session action sub) = getter_answers
-answers_of (get_pose_active session action sub) = getter_answers
-answers_of (create_action_space session action sub offset) =
+answers_of (ask.GetBoolean session action sub) = getter_answers
+answers_of (ask.GetFloat session action sub) = getter_answers
+answers_of (ask.GetVector session action sub) = getter_answers
+answers_of (ask.GetPoseActive session action sub) = getter_answers
+answers_of (ask.CreateActionSpace session action sub offset) =
     on_session (one HandleInvalid ∷ one HandleInvalid ∷ one SessionLost ∷ one ActionTypeMismatch ∷ one PathUnsupported ∷ one PoseInvalid ∷ one LimitReached ∷ [])
-answers_of (create_swapchain session format width height fixed) =
+answers_of (ask.CreateSwapchain session format width height fixed) =
     on_session (one HandleInvalid ∷ one SessionLost ∷ one SwapchainFormatUnsupported ∷ one ValidationFailure ∷ one LimitReached ∷ one LimitReached ∷ [])
-answers_of (destroy_swapchain chain) = plain (one HandleInvalid ∷ [])
-answers_of (acquire_image chain) = on_session (one HandleInvalid ∷ one SessionLost ∷ one CallOrderInvalid ∷ [])
-answers_of (wait_image chain timeout start) =
+answers_of (ask.DestroySwapchain chain) = plain (one HandleInvalid ∷ [])
+answers_of (ask.AcquireImage chain) = on_session (one HandleInvalid ∷ one SessionLost ∷ one CallOrderInvalid ∷ [])
+answers_of (ask.WaitImage chain timeout start) =
     on_session (one HandleInvalid ∷ one SessionLost ∷ one CallOrderInvalid ∷ one TimeoutExpired ∷ [])
-answers_of (paint chain stamp) = on_session (one HandleInvalid ∷ one SessionLost ∷ one CallOrderInvalid ∷ [])
-answers_of (release_image chain) = on_session (one HandleInvalid ∷ one SessionLost ∷ one CallOrderInvalid ∷ [])
-answers_of (wait_frame session) = on_session (one HandleInvalid ∷ one SessionLost ∷ one SessionNotRunning ∷ [])
-answers_of (begin_frame session) =
+answers_of (ask.Paint chain stamp) = on_session (one HandleInvalid ∷ one SessionLost ∷ one CallOrderInvalid ∷ [])
+answers_of (ask.ReleaseImage chain) = on_session (one HandleInvalid ∷ one SessionLost ∷ one CallOrderInvalid ∷ [])
+answers_of (ask.WaitFrame session) = on_session (one HandleInvalid ∷ one SessionLost ∷ one SessionNotRunning ∷ [])
+answers_of (ask.BeginFrame session) =
     discarding (one HandleInvalid ∷ one SessionLost ∷ one SessionNotRunning ∷ one CallOrderInvalid ∷ [])
-answers_of (end_frame session time blend layers) =
+answers_of (ask.EndFrame session time blend layers) =
     on_session (one HandleInvalid ∷ one SessionLost ∷ one SessionNotRunning ∷ one CallOrderInvalid ∷ one TimeInvalid ∷ one EnvironmentBlendModeUnsupported
     ∷ one LayerLimitExceeded ∷ flat_map layer_refuses layers)
-answers_of (mark number value) = plain []
-answers_of (await_mark number) = plain []
-answers_of leave = plain []
-answers_of (device what) = plain []
-answers_of next_frame = plain (one CallOrderInvalid ∷ [])
-answers_of image_done = plain (one CallOrderInvalid ∷ [])
+answers_of (ask.Mark number value) = plain []
+answers_of (ask.AwaitMark number) = plain []
+answers_of ask.Leave = plain []
+answers_of (ask.Device what) = plain []
+answers_of ask.NextFrame = plain (one CallOrderInvalid ∷ [])
+answers_of ask.ImageDone = plain (one CallOrderInvalid ∷ [])
 
 -- ---- the codes of a row
 

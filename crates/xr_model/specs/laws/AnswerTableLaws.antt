@@ -2,7 +2,9 @@
 use Rattle.std.specs.Prelude.{◌≡◌, ℕ, Bool, false, List, [], ◌∷◌, ◌++◌, ◌⊎◌, length, map, is_some, if◌then◌else◌}
 use Rattle.xr_types.specs.declared.code.Code.{Code}
 use Rattle.xr_types.specs.declared.code.Code.TheVariants.{CallOrderInvalid}
-use Rattle.xr_model.specs.machine.Request.{Request, create_action, suggest_bindings, attach_sets, sync_actions, Entry}
+use Rattle.xr_model.specs.machine.Calls.{Entry}
+use Rattle.xr_types.specs.declared.calls.Call.{Call}
+use Rattle.xr_types.specs.declared.calls.Call.TheVariants as ask
 use Rattle.xr_model.specs.machine.Refusals.{Refusal}
 use Rattle.xr_model.specs.machine.State.{CoreState, CellReads, State}
 use Rattle.xr_model.specs.machine.Rule.{Rule, ahead, told_on}
@@ -23,11 +25,11 @@ abbrev pub codes_asked : Bool → Rule → List Code
 codes_asked ordered r = codes_of (ahead r) ++ ((if ordered then CallOrderInvalid ∷ [] else []) ++ codes_of r.behind)
 
 -- how many items the lists of a call have; bindings are looked at where the profile is one
-abbrev pub items_of : CoreState → Request → List ℕ
-items_of s (create_action set name kind subs localized) = length subs ∷ []
-items_of s (suggest_bindings instance profile list) = (if is_some (profile_at s.atoms profile) then length list else 0) ∷ []
-items_of s (attach_sets session handles) = length handles ∷ []
-items_of s (sync_actions session active) = length active ∷ []
+abbrev pub items_of : CoreState → Call → List ℕ
+items_of s (ask.CreateAction set name kind subs localized) = length subs ∷ []
+items_of s (ask.SuggestBindings instance profile list) = (if is_some (profile_at s.atoms profile) then length list else 0) ∷ []
+items_of s (ask.AttachSets session handles) = length handles ∷ []
+items_of s (ask.SyncActions session active) = length active ∷ []
 items_of s _ = []
 
 -- The refusals of a rule are a row's, in its order, with the codes of an item as often as there are items. What the row doesn't
@@ -41,9 +43,9 @@ pub record IsOfRow (row : Row) (items : List ℕ) (r : Rule) : Type 0 where
 -- so it is for each call, in any state
 abbrev pub RefusalsAreTheTable : Type 0
 RefusalsAreTheTable =
-    (s : CoreState) (reads : CellReads) (e : Entry) → IsOfRow (answers_of e.request) (items_of s e.request) (rule s reads e)
+    (s : CoreState) (reads : CellReads) (e : Entry) → IsOfRow (answers_of e.call) (items_of s e.call) (rule s reads e)
 
 -- what is answered to a call is one of the codes of its row
 abbrev pub AnswersAreTheTable : Type 0
 AnswersAreTheTable =
-    (s : State) (e : Entry) → IsOneOf (all_codes (answers_of e.request)) (step s e).1.reply.code
+    (s : State) (e : Entry) → IsOneOf (all_codes (answers_of e.call)) (step s e).1.reply.code

@@ -7,8 +7,11 @@ use Rattle.xr_types.specs.declared.calls.Gives.TheVariants as gives
 use Rattle.xr_types.specs.declared.session.Event.{Event}
 use Rattle.xr_types.specs.declared.session.Event.TheVariants as event
 use Rattle.xr_types.specs.declared.session.SessionState.{SessionState}
-use Rattle.xr_model.specs.machine.Request.{Request, poll_event, Entry}
-use Rattle.xr_model.specs.machine.Events.{Queue, no_events, pushed, polled, behind_poll, capacity, most_lost}
+use Rattle.xr_model.specs.machine.Calls.{Entry}
+use Rattle.xr_types.specs.declared.calls.Call.{Call}
+use Rattle.xr_types.specs.declared.calls.Call.TheVariants as ask
+use Rattle.xr_types.specs.declared.limits.TheConstants.{EVENTS}
+use Rattle.xr_model.specs.machine.Events.{Queue, no_events, pushed, polled, behind_poll, most_lost}
 use Rattle.xr_model.specs.machine.LiveSessions.{Session}
 use Rattle.xr_model.specs.machine.State.{Settings, State, opening}
 use Rattle.xr_model.specs.machine.Machine.{step}
@@ -79,8 +82,8 @@ pub record AddsUp (came : List Event) (t : Trace) : Type 0 where
   pub told : t.told ≡ map (λ g. g.event) (filter (λ g. g.was_told) gone)
   pub lost : length (filter (λ g. not g.was_told) gone) ≡ t.losses + t.queue.lost
   pub sum : length came ≡ length t.told + (t.losses + t.queue.lost) + length t.queue.waiting
-  pub few : length t.queue.waiting ≤ capacity
-  pub full : (t.queue.lost == 0) ≡ false → length t.queue.waiting ≡ capacity
+  pub few : length t.queue.waiting ≤ EVENTS
+  pub full : (t.queue.lost == 0) ≡ false → length t.queue.waiting ≡ EVENTS
 
 -- so it is of any pushes and polls, as long as the count of losses isn't at its end
 abbrev pub EventsAddUp : Type 0
@@ -127,17 +130,17 @@ pub record AreTold (events : List Event) (q new : Queue) (xs ys : List Session) 
 abbrev pub Tell : List Event → State → State → Type 0
 Tell events s new = AreTold events s.core.events new.core.events s.core.sessions new.core.sessions
 
-abbrev pub is_poll : Request → Bool
-is_poll (poll_event instance) = true
+abbrev pub is_poll : Call → Bool
+is_poll (ask.PollEvent instance) = true
 is_poll _ = false
 
 -- the entry is a poll that tells something
 abbrev pub polls : State → Entry → Bool
-polls s e = is_poll e.request && is_success (step s e).1.reply.code
+polls s e = is_poll e.call && is_success (step s e).1.reply.code
 
 -- the entry is the end of an instance
 abbrev pub ends : State → Entry → Bool
-ends s e = is_instance_end e.request && is_success (step s e).1.reply.code
+ends s e = is_instance_end e.call && is_success (step s e).1.reply.code
 
 -- so it is by each entry of a legal history but for polls that tell something and for the end of the instance
 abbrev pub StatesAreTold : Type 0

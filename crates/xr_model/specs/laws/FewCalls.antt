@@ -5,7 +5,8 @@ use Rattle.xr_types.specs.declared.calls.Gives.{Gives}
 use Rattle.xr_types.specs.declared.calls.Gives.TheVariants.{Ended}
 use Rattle.xr_types.specs.declared.code.Code.TheVariants.{CallOrderInvalid}
 use Rattle.xr_model.specs.machine.CoreCalls.{asked}
-use Rattle.xr_model.specs.machine.Request.{Entry, Exchange, is_locked}
+use Rattle.xr_types.specs.CallKinds.{is_locked}
+use Rattle.xr_model.specs.machine.Calls.{Entry, Exchange}
 use Rattle.xr_model.specs.machine.Rule.{is_by}
 use Rattle.xr_model.specs.laws.ImageLaws.{is_compositor_call, is_next_frame}
 use Rattle.xr_model.specs.laws.Laws.{count_locked}
@@ -18,7 +19,7 @@ how_many is_so (x ∷ xs) = if is_so x then how_many is_so xs + 1 else how_many 
 
 -- a call is counted and shows no frame
 abbrev pub is_frameless : Exchange → Bool
-is_frameless x = is_locked x.request && not (is_some x.outcome.shown)
+is_frameless x = is_locked x.call && not (is_some x.outcome.shown)
 
 abbrev pub is_end : Gives → Bool
 is_end Ended = true
@@ -31,7 +32,7 @@ tells_end x = is_end x.outcome.reply.gives
 -- Few calls of the compositor: they are its own two, it was told the end once at most, and each other one that is counted shows a
 -- frame.
 pub record HasFewFrames (calls : List Exchange) : Type 0 where
-  pub its_own : list_all (λ x. is_compositor_call x.request) calls ≡ true
+  pub its_own : list_all (λ x. is_compositor_call x.call) calls ≡ true
   pub shown : how_many is_frameless calls ≤ how_many tells_end calls
   pub ended : how_many tells_end calls ≤ 1
 
@@ -42,7 +43,7 @@ HasFew _ calls = length calls ≤ 2 ^ 40
 
 -- The compositor may add this call: it wasn't told the end, and is not refused a frame for the images that it holds.
 pub record MayShow (m : Moment) (e : Entry) (calls : List Exchange) : Type 0 where
-  pub in_order : is_next_frame e.request ≡ true → (exchange_at m e).outcome.reply.code ≢ CallOrderInvalid
+  pub in_order : is_next_frame e.call ≡ true → (exchange_at m e).outcome.reply.code ≢ CallOrderInvalid
   pub unended : how_many tells_end calls ≡ 0
 
 -- a number may add this call to its own
@@ -53,7 +54,7 @@ MayAdd _ m e calls = length calls < 2 ^ 40
 -- where a number may add a call that it may ask for, its calls are few afterwards
 abbrev pub FewMore : Type 0
 FewMore =
-    (n : ℕ) (m : Moment) (e : Entry) (calls : List Exchange) → e.actor ≡ actor_at n → is_by (asked e.actor e.request).caller e.actor ≡ true
+    (n : ℕ) (m : Moment) (e : Entry) (calls : List Exchange) → e.actor ≡ actor_at n → is_by (asked e.actor e.call).caller e.actor ≡ true
     → HasFew n calls → MayAdd n m e calls → HasFew n (calls ++ exchange_at m e ∷ [])
 
 -- Where the calls of each number are few, fewer than 2^44 are counted: of the frames that the compositor takes, each was begun and

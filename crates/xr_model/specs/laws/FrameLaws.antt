@@ -6,7 +6,9 @@ use Rattle.xr_types.specs.declared.frames.Layer.{Layer}
 use Rattle.xr_types.specs.declared.frames.ShownLayer.{ShownLayer}
 use Rattle.xr_types.specs.Frames.{PendingFrame}
 use Rattle.xr_types.specs.declared.frames.Shown.{Shown}
-use Rattle.xr_model.specs.machine.Request.{Request, begin_frame, end_frame, Entry}
+use Rattle.xr_model.specs.machine.Calls.{Entry}
+use Rattle.xr_types.specs.declared.calls.Call.{Call}
+use Rattle.xr_types.specs.declared.calls.Call.TheVariants as ask
 use Rattle.xr_model.specs.machine.Frames.{predicted_time, most_time}
 use Rattle.xr_model.specs.machine.Images.{stamp_in, shown_layer, shown_with}
 use Rattle.xr_model.specs.machine.Layers.{layer_of}
@@ -26,14 +28,14 @@ abbrev pub asked_layer : State → Layer → ShownLayer
 asked_layer s l = shown_layer (stamp_in s.cells.stamps) (layer_of (look_of s.core) l)
 
 -- the frame that a call submits where it succeeds, if it does
-abbrev pub submitted_if : Bool → State → Request → List Shown
-submitted_if true s (end_frame session time blend layers) = record { number = s.core.ended + 1; time = time; layers = map (asked_layer s) layers } ∷ []
+abbrev pub submitted_if : Bool → State → Call → List Shown
+submitted_if true s (ask.EndFrame session time blend layers) = record { number = s.core.ended + 1; time = time; layers = map (asked_layer s) layers } ∷ []
 submitted_if _ s _ = []
 
 -- all frames that a history submits, in order, each with the stamps that its images have then
 abbrev pub submitted_from : State → List Entry → List Shown
 submitted_from s [] = []
-submitted_from s (e ∷ es) = submitted_if (is_success (step s e).1.reply.code) s e.request ++ submitted_from (step s e).0 es
+submitted_from s (e ∷ es) = submitted_if (is_success (step s e).1.reply.code) s e.call ++ submitted_from (step s e).0 es
 
 -- frames as they would be shown with the stamps that images have now
 abbrev pub shown_now : State → List PendingFrame → List Shown
@@ -67,15 +69,15 @@ FramesAreNumbered = (settings : Settings) (es : List Entry) → AreNumbered 1 (s
 abbrev pub taken_by : Settings → List Entry → ℕ
 taken_by settings es = length (shown_from (opening settings) es)
 
-abbrev pub frame_call : Request → ℕ
-frame_call (begin_frame session) = 1
-frame_call (end_frame session time blend layers) = 1
+abbrev pub frame_call : Call → ℕ
+frame_call (ask.BeginFrame session) = 1
+frame_call (ask.EndFrame session time blend layers) = 1
 frame_call _ = 0
 
 -- how many calls of a history are to begin or to end a frame, which only applications make
 abbrev pub frame_calls : List Entry → ℕ
 frame_calls [] = 0
-frame_calls (e ∷ es) = frame_call e.request + frame_calls es
+frame_calls (e ∷ es) = frame_call e.call + frame_calls es
 
 -- Each frame that is taken was begun and ended before, so the frames taken are at most half of these calls.
 abbrev pub TakenAreHalf : Type 0

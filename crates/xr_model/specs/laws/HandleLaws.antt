@@ -6,7 +6,9 @@ use Rattle.std.specs.List.{list_all}
 use Rattle.xr_types.specs.Code.{is_success}
 use Rattle.xr_types.specs.declared.handles.Kind.{Kind}
 use Rattle.xr_types.specs.declared.handles.Slot.{Slot}
-use Rattle.xr_model.specs.machine.Request.{Request, create_instance, destroy_instance, get_system, string_to_path, path_to_string, poll_event, create_session, destroy_session, begin_session, end_session, request_exit_session, create_reference_space, create_action_space, destroy_space, locate_space, create_action_set, destroy_action_set, create_action, destroy_action, suggest_bindings, attach_sets, sync_actions, get_boolean, get_float, get_vector, get_pose_active, create_swapchain, destroy_swapchain, acquire_image, wait_image, paint, release_image, wait_frame, begin_frame, end_frame, mark, await_mark, leave, device, next_frame, image_done, Entry}
+use Rattle.xr_model.specs.machine.Calls.{Entry}
+use Rattle.xr_types.specs.declared.calls.Call.{Call}
+use Rattle.xr_types.specs.declared.calls.Call.TheVariants as ask
 use Rattle.xr_model.specs.machine.Handles.{Handles, has, is_live}
 use Rattle.xr_model.specs.machine.HandlePlaces.{kind_of, parent_of}
 use Rattle.xr_model.specs.machine.State.{Settings, State, opening}
@@ -30,53 +32,53 @@ abbrev pub NoOrphans : Type 0
 NoOrphans = (settings : Settings) (es : List Entry) → AreUnder (after (opening settings) es).core.handles
 
 -- the call asks for this handle's end
-abbrev pub destroys : Request → ℕ → Bool
-destroys (create_instance major minor) handle = false
-destroys (destroy_instance instance) handle = instance == handle
-destroys (get_system instance form) handle = false
-destroys (string_to_path instance text) handle = false
-destroys (path_to_string instance path capacity) handle = false
-destroys (poll_event instance) handle = false
-destroys (create_session instance system) handle = false
-destroys (destroy_session session) handle = session == handle
-destroys (begin_session session view) handle = false
-destroys (end_session session) handle = false
-destroys (request_exit_session session) handle = false
-destroys (create_reference_space session kind offset) handle = false
-destroys (create_action_space session action sub offset) handle = false
-destroys (destroy_space space) handle = space == handle
-destroys (locate_space space base time) handle = false
-destroys (create_action_set instance name localized priority) handle = false
-destroys (destroy_action_set set) handle = set == handle
-destroys (create_action set name kind subs localized) handle = false
-destroys (destroy_action action) handle = action == handle
-destroys (suggest_bindings instance profile bindings) handle = false
-destroys (attach_sets session sets) handle = false
-destroys (sync_actions session active) handle = false
-destroys (get_boolean session action sub) handle = false
-destroys (get_float session action sub) handle = false
-destroys (get_vector session action sub) handle = false
-destroys (get_pose_active session action sub) handle = false
-destroys (create_swapchain session format width height fixed) handle = false
-destroys (destroy_swapchain chain) handle = chain == handle
-destroys (acquire_image chain) handle = false
-destroys (wait_image chain timeout start) handle = false
-destroys (paint chain stamp) handle = false
-destroys (release_image chain) handle = false
-destroys (wait_frame session) handle = false
-destroys (begin_frame session) handle = false
-destroys (end_frame session time blend layers) handle = false
-destroys (mark number value) handle = false
-destroys (await_mark number) handle = false
-destroys leave handle = false
-destroys (device what) handle = false
-destroys next_frame handle = false
-destroys image_done handle = false
+abbrev pub destroys : Call → ℕ → Bool
+destroys (ask.CreateInstance major minor) handle = false
+destroys (ask.DestroyInstance instance) handle = instance == handle
+destroys (ask.GetSystem instance form) handle = false
+destroys (ask.StringToPath instance text) handle = false
+destroys (ask.PathToString instance path capacity) handle = false
+destroys (ask.PollEvent instance) handle = false
+destroys (ask.CreateSession instance system) handle = false
+destroys (ask.DestroySession session) handle = session == handle
+destroys (ask.BeginSession session view) handle = false
+destroys (ask.EndSession session) handle = false
+destroys (ask.RequestExitSession session) handle = false
+destroys (ask.CreateReferenceSpace session kind offset) handle = false
+destroys (ask.CreateActionSpace session action sub offset) handle = false
+destroys (ask.DestroySpace space) handle = space == handle
+destroys (ask.LocateSpace space base time) handle = false
+destroys (ask.CreateActionSet instance name localized priority) handle = false
+destroys (ask.DestroyActionSet set) handle = set == handle
+destroys (ask.CreateAction set name kind subs localized) handle = false
+destroys (ask.DestroyAction action) handle = action == handle
+destroys (ask.SuggestBindings instance profile bindings) handle = false
+destroys (ask.AttachSets session sets) handle = false
+destroys (ask.SyncActions session active) handle = false
+destroys (ask.GetBoolean session action sub) handle = false
+destroys (ask.GetFloat session action sub) handle = false
+destroys (ask.GetVector session action sub) handle = false
+destroys (ask.GetPoseActive session action sub) handle = false
+destroys (ask.CreateSwapchain session format width height fixed) handle = false
+destroys (ask.DestroySwapchain chain) handle = chain == handle
+destroys (ask.AcquireImage chain) handle = false
+destroys (ask.WaitImage chain timeout start) handle = false
+destroys (ask.Paint chain stamp) handle = false
+destroys (ask.ReleaseImage chain) handle = false
+destroys (ask.WaitFrame session) handle = false
+destroys (ask.BeginFrame session) handle = false
+destroys (ask.EndFrame session time blend layers) handle = false
+destroys (ask.Mark number value) handle = false
+destroys (ask.AwaitMark number) handle = false
+destroys ask.Leave handle = false
+destroys (ask.Device what) handle = false
+destroys ask.NextFrame handle = false
+destroys ask.ImageDone handle = false
 
 -- a handle that was destroyed is never live again
 abbrev pub DestroyedForGood : Type 0
 DestroyedForGood =
-    (settings : Settings) (es fs : List Entry) (e : Entry) (handle : ℕ) → IsLegal settings (es ++ e ∷ fs) → destroys e.request handle ≡ true
+    (settings : Settings) (es fs : List Entry) (e : Entry) (handle : ℕ) → IsLegal settings (es ++ e ∷ fs) → destroys e.call handle ≡ true
     → is_success (step (after (opening settings) es) e).1.reply.code ≡ true → kind_of (after (opening settings) (es ++ e ∷ fs)).core.handles handle ≡ None
 
 -- ---- what creating and destroying does to all others
@@ -106,7 +108,7 @@ is_within (suc n) h handle top = (handle == top) || elim (parent_of h handle) [ 
 -- A call that destroys a handle takes it and what is below it by parents, and nothing else that lives.
 abbrev pub DestroyingTakes : Type 0
 DestroyingTakes =
-    (settings : Settings) (es : List Entry) (e : Entry) (handle : ℕ) → IsLegal settings es → destroys e.request handle ≡ true → is_success (step (after (opening settings) es) e).1.reply.code ≡ true
+    (settings : Settings) (es : List Entry) (e : Entry) (handle : ℕ) → IsLegal settings es → destroys e.call handle ≡ true → is_success (step (after (opening settings) es) e).1.reply.code ≡ true
     → (kind : Kind) (other : ℕ)
     → is_live (step (after (opening settings) es) e).0.core.handles kind other
     ≡ is_live (after (opening settings) es).core.handles kind other && not (is_within 2 (after (opening settings) es).core.handles other handle)
@@ -114,5 +116,5 @@ DestroyingTakes =
 -- A call that gives a handle changes nothing else that lives.
 abbrev pub CreatingAdds : Type 0
 CreatingAdds =
-    (s : State) (e : Entry) → is_some (rule s.core (reads_of s e.request) e).creates ≡ true
+    (s : State) (e : Entry) → is_some (rule s.core (reads_of s e.call) e).creates ≡ true
     → (kind : Kind) (other : ℕ) → (other == e.given) ≡ false → is_live (step s e).0.core.handles kind other ≡ is_live s.core.handles kind other

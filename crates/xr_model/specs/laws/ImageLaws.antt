@@ -6,7 +6,9 @@ use Rattle.xr_types.specs.declared.handles.Kind.TheVariants.{Swapchain}
 use Rattle.xr_model.specs.machine.Chains.{Chain, chain_at, place_of_chain, oldest_of, is_place_used}
 use Rattle.xr_model.specs.machine.Handles.{is_live}
 use Rattle.xr_model.specs.machine.Images.{slot_of, times_in, count_of, stamp_in}
-use Rattle.xr_model.specs.machine.Request.{Request, next_frame, image_done, Entry}
+use Rattle.xr_model.specs.machine.Calls.{Entry}
+use Rattle.xr_types.specs.declared.calls.Call.{Call}
+use Rattle.xr_types.specs.declared.calls.Call.TheVariants as ask
 use Rattle.xr_model.specs.machine.Rule.{Did}
 use Rattle.xr_model.specs.machine.State.{Settings, CoreState, CellReads, State, opening}
 use Rattle.xr_model.specs.machine.Machine.{effect, reads_of, step, ready, core_step}
@@ -20,7 +22,7 @@ IsPlaced i = (i.place < 16) × (i.index < 3)
 
 -- what an entry does with images in this state
 abbrev pub did_at : State → Entry → Did
-did_at s e = (effect s.core (reads_of s e.request) e).did
+did_at s e = (effect s.core (reads_of s e.call) e).did
 
 -- ---- owners
 
@@ -105,27 +107,27 @@ FreePlacesAreUnused =
 
 -- ---- images that are given back
 
-abbrev pub is_next_frame : Request → Bool
-is_next_frame next_frame = true
+abbrev pub is_next_frame : Call → Bool
+is_next_frame ask.NextFrame = true
 is_next_frame _ = false
 
-abbrev pub is_compositor_call : Request → Bool
-is_compositor_call next_frame = true
-is_compositor_call image_done = true
+abbrev pub is_compositor_call : Call → Bool
+is_compositor_call ask.NextFrame = true
+is_compositor_call ask.ImageDone = true
 is_compositor_call _ = false
 
 -- an image that is given back changes nothing that a core keeps
 abbrev pub GivingBackLeavesTheCore : Type 0
-GivingBackLeavesTheCore = (s : State) (e : Entry) → e.request ≡ image_done → (step s e).0.core ≡ s.core
+GivingBackLeavesTheCore = (s : State) (e : Entry) → e.call ≡ ask.ImageDone → (step s e).0.core ≡ s.core
 
 -- what a call answers, and what is kept after it, doesn't depend on which images are held, but for the compositor's calls
 abbrev pub HeldImagesAreAside : Type 0
 HeldImagesAreAside =
-    (s : CoreState) (reads : CellReads) (held : List Image) (e : Entry) → is_compositor_call e.request ≡ false
+    (s : CoreState) (reads : CellReads) (held : List Image) (e : Entry) → is_compositor_call e.call ≡ false
     → core_step s (record reads { held = held }) e ≡ core_step s reads e
 
 -- A call that is ready stays ready when an image is given back, but for the one that is refused until all are, and may have to
 -- wait from then on.
 abbrev pub GivingBackKeepsReady : Type 0
 GivingBackKeepsReady =
-    (s : State) (done e : Entry) → done.request ≡ image_done → is_next_frame e.request ≡ false → ready s e ≡ true → ready (step s done).0 e ≡ true
+    (s : State) (done e : Entry) → done.call ≡ ask.ImageDone → is_next_frame e.call ≡ false → ready s e ≡ true → ready (step s done).0 e ≡ true

@@ -4,7 +4,8 @@ use Rattle.xr_types.specs.Code.{is_error}
 use Rattle.xr_types.specs.declared.code.Code.{Code}
 use Rattle.xr_types.specs.declared.code.Code.TheVariants.{TimeoutExpired, EventUnavailable}
 use Rattle.xr_types.specs.declared.calls.Actor.{Actor}
-use Rattle.xr_model.specs.machine.Request.{Entry, Outcome, Exchange, is_locked}
+use Rattle.xr_types.specs.CallKinds.{is_locked}
+use Rattle.xr_model.specs.machine.Calls.{Entry, Outcome, Exchange}
 use Rattle.xr_model.specs.machine.State.{Settings, State}
 use Rattle.xr_model.specs.machine.Rule.{locked_after}
 use Rattle.xr_model.specs.machine.Machine.{step}
@@ -23,7 +24,7 @@ is_without_effect code = is_error code
 abbrev pub RefusalsChangeNothing : Type 0
 RefusalsChangeNothing =
     (s : State) (e : Entry) → is_without_effect (step s e).1.reply.code ≡ true
-    → (step s e).0 ≡ record s { core = record s.core { locked = locked_after s.core e.request } }
+    → (step s e).0 ≡ record s { core = record s.core { locked = locked_after s.core e.call } }
 
 -- ---- states and counts
 
@@ -34,7 +35,7 @@ AfterIsInTurn = (s : State) (es fs : List Entry) → after s (es ++ fs) ≡ afte
 -- how many entries of a history are locked calls
 abbrev pub count_locked : List Entry → ℕ
 count_locked [] = 0
-count_locked (e ∷ es) = if is_locked e.request then count_locked es + 1 else count_locked es
+count_locked (e ∷ es) = if is_locked e.call then count_locked es + 1 else count_locked es
 
 -- each locked call raises the count of them by one, and no other entry does
 abbrev pub EntriesAreCounted : Type 0
@@ -47,7 +48,7 @@ HasPlace place (Some outcome) = outcome.reply.place ≡ place
 -- the reply to a locked call has as its place the count of locked calls up to it, itself included
 abbrev pub PlacesCount : Type 0
 PlacesCount =
-    (s : State) (es : List Entry) (k : ℕ) (e : Entry) → slice_get es k ≡ Some e → is_locked e.request ≡ true
+    (s : State) (es : List Entry) (k : ℕ) (e : Entry) → slice_get es k ≡ Some e → is_locked e.call ≡ true
     → HasPlace (s.core.locked + count_locked (take (suc k) es)) (outcome_from s es k)
 
 -- the front of a legal history is legal
@@ -62,7 +63,7 @@ pub record Stands (settings : Settings) (who : Actor) (es : List Entry) (k : ℕ
   pub own : slice_get (positions_of who es) k ≡ Some position
   pub entry : Entry
   pub there : slice_get es position ≡ Some entry
-  pub asks : entry.request ≡ x.request
+  pub asks : entry.call ≡ x.call
   pub comes : outcome_at settings es position ≡ Some x.outcome
 
 -- each exchange of an actor is the call and the outcome at the position of that entry of the actor

@@ -3,7 +3,9 @@ use Rattle.std.specs.Prelude.{option_map, unwrap_or, None, [], ◌≡◌, ◌==�
 use Rattle.std.specs.List.{filter, list_all}
 use Rattle.xr_types.specs.Code.{is_success}
 use Rattle.xr_types.specs.declared.handles.Kind.TheVariants.{ActionSet, Action, Space}
-use Rattle.xr_model.specs.machine.Request.{Request, destroy_instance, attach_sets, Entry}
+use Rattle.xr_model.specs.machine.Calls.{Entry}
+use Rattle.xr_types.specs.declared.calls.Call.{Call}
+use Rattle.xr_types.specs.declared.calls.Call.TheVariants as ask
 use Rattle.xr_model.specs.machine.Handles.{Handles, is_live, is_among}
 use Rattle.xr_model.specs.machine.HandlePlaces.{parent_of, place_of}
 use Rattle.xr_model.specs.machine.Paths.{text_at}
@@ -58,23 +60,23 @@ pub record AreFiltered (s new : CoreState) (gone : ℕ → Bool) : Type 0 where
 -- A call that destroys a handle takes exactly what is within it out of the lists.
 abbrev pub DestroyingFilters : Type 0
 DestroyingFilters =
-    (settings : Settings) (es : List Entry) (e : Entry) (handle : ℕ) → IsLegal settings es → destroys e.request handle ≡ true → is_success (step (after (opening settings) es) e).1.reply.code ≡ true
+    (settings : Settings) (es : List Entry) (e : Entry) (handle : ℕ) → IsLegal settings es → destroys e.call handle ≡ true → is_success (step (after (opening settings) es) e).1.reply.code ≡ true
     → AreFiltered (after (opening settings) es).core (step (after (opening settings) es) e).0.core (λ k. is_within 2 (after (opening settings) es).core.handles k handle)
 
 -- ---- atoms
 
-abbrev pub is_instance_end : Request → Bool
-is_instance_end (destroy_instance instance) = true
+abbrev pub is_instance_end : Call → Bool
+is_instance_end (ask.DestroyInstance instance) = true
 is_instance_end _ = false
 
 -- an atom keeps its text until the instance goes
 abbrev pub AtomsStay : Type 0
 AtomsStay =
-    (s : State) (e : Entry) (atom : ℕ) (text : List ℕ) → is_instance_end e.request ≡ false → text_at s.core.atoms atom ≡ Some text → text_at (step s e).0.core.atoms atom ≡ Some text
+    (s : State) (e : Entry) (atom : ℕ) (text : List ℕ) → is_instance_end e.call ≡ false → text_at s.core.atoms atom ≡ Some text → text_at (step s e).0.core.atoms atom ≡ Some text
 
 -- and none is left behind its end
 abbrev pub AtomsGo : Type 0
-AtomsGo = (s : State) (e : Entry) → is_instance_end e.request ≡ true → is_success (step s e).1.reply.code ≡ true → (step s e).0.core.atoms ≡ []
+AtomsGo = (s : State) (e : Entry) → is_instance_end e.call ≡ true → is_success (step s e).1.reply.code ≡ true → (step s e).0.core.atoms ≡ []
 
 -- ---- sealed sets
 
@@ -88,32 +90,32 @@ SealedStays = (s : State) (e : Entry) (set : ℕ) → is_sealed s.core.sets set 
 
 -- ---- attaching
 
-abbrev pub attaches : Request → ℕ → Bool
-attaches (attach_sets session sets) handle = session == handle
+abbrev pub attaches : Call → ℕ → Bool
+attaches (ask.AttachSets session sets) handle = session == handle
 attaches _ handle = false
 
 -- the call attaches this set
-abbrev pub seals : Request → ℕ → Bool
-seals (attach_sets session sets) set = is_among sets set
+abbrev pub seals : Call → ℕ → Bool
+seals (ask.AttachSets session sets) set = is_among sets set
 seals _ set = false
 
 -- a set that is attached is sealed
 abbrev pub AttachingSeals : Type 0
 AttachingSeals =
-    (s : State) (e : Entry) (set : ℕ) → seals e.request set ≡ true → is_success (step s e).1.reply.code ≡ true → is_some (set_at (step s e).0.core.sets set) ≡ true → is_sealed (step s e).0.core.sets set ≡ true
+    (s : State) (e : Entry) (set : ℕ) → seals e.call set ≡ true → is_success (step s e).1.reply.code ≡ true → is_some (set_at (step s e).0.core.sets set) ≡ true → is_sealed (step s e).0.core.sets set ≡ true
 
 -- a new session has attached nothing
 abbrev pub NewSessionsAreBare : Type 0
 NewSessionsAreBare =
-    (settings : Settings) (es : List Entry) (e : Entry) → IsLegal settings es → IsAllowed (after (opening settings) es) e → is_session_creation e.request ≡ true → is_success (step (after (opening settings) es) e).1.reply.code ≡ true
+    (settings : Settings) (es : List Entry) (e : Entry) → IsLegal settings es → IsAllowed (after (opening settings) es) e → is_session_creation e.call ≡ true → is_success (step (after (opening settings) es) e).1.reply.code ≡ true
     → attached_in (session_at (step (after (opening settings) es) e).0.core.sessions e.given) ≡ None
 
 -- a session attaches sets at most once
 abbrev pub AttachesOnce : Type 0
 AttachesOnce =
     (settings : Settings) (es fs : List Entry) (e f : Entry) (session : ℕ) → IsLegal settings (es ++ e ∷ fs)
-    → attaches e.request session ≡ true → is_success (step (after (opening settings) es) e).1.reply.code ≡ true
-    → attaches f.request session ≡ true → is_success (step (after (opening settings) (es ++ e ∷ fs)) f).1.reply.code ≡ false
+    → attaches e.call session ≡ true → is_success (step (after (opening settings) es) e).1.reply.code ≡ true
+    → attaches f.call session ≡ true → is_success (step (after (opening settings) (es ++ e ∷ fs)) f).1.reply.code ≡ false
 
 -- ---- places and parents of others
 
@@ -124,13 +126,13 @@ pub record SamePlace (h new : Handles) (other : ℕ) : Type 0 where
 -- a call that gives a handle leaves the parent and the place of every other
 abbrev pub CreatingLeavesPlaces : Type 0
 CreatingLeavesPlaces =
-    (s : State) (e : Entry) → is_some (rule s.core (reads_of s e.request) e).creates ≡ true
+    (s : State) (e : Entry) → is_some (rule s.core (reads_of s e.call) e).creates ≡ true
     → (other : ℕ) → (other == e.given) ≡ false → SamePlace s.core.handles (step s e).0.core.handles other
 
 -- a call that destroys a handle leaves the parent and the place of all that is not within it
 abbrev pub DestroyingLeavesPlaces : Type 0
 DestroyingLeavesPlaces =
-    (settings : Settings) (es : List Entry) (e : Entry) (handle : ℕ) → IsLegal settings es → destroys e.request handle ≡ true → is_success (step (after (opening settings) es) e).1.reply.code ≡ true
+    (settings : Settings) (es : List Entry) (e : Entry) (handle : ℕ) → IsLegal settings es → destroys e.call handle ≡ true → is_success (step (after (opening settings) es) e).1.reply.code ≡ true
     → (other : ℕ) → is_within 2 (after (opening settings) es).core.handles other handle ≡ false → SamePlace (after (opening settings) es).core.handles (step (after (opening settings) es) e).0.core.handles other
 
 -- ---- samples

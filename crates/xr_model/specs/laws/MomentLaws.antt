@@ -2,7 +2,9 @@
 use Rattle.std.specs.Prelude.{◌≡◌, ◌+◌, ◌≤◌, ◌<◌, ◌==◌, ◌&&◌, ℕ, Bool, true, false, not, List, [], ◌∷◌, ◌++◌, slice_get, Some}
 use Rattle.std.specs.List.{list_all}
 use Rattle.xr_types.specs.declared.calls.Actor.{Actor}
-use Rattle.xr_model.specs.machine.Request.{Request, leave, Entry, is_actor}
+use Rattle.xr_model.specs.machine.Calls.{Entry, is_actor}
+use Rattle.xr_types.specs.declared.calls.Call.{Call}
+use Rattle.xr_types.specs.declared.calls.Call.TheVariants as ask
 use Rattle.xr_model.specs.machine.State.{State}
 use Rattle.xr_model.specs.machine.Machine.{IsPresent, step}
 use Rattle.xr_model.specs.machine.History.{clock_of}
@@ -55,13 +57,13 @@ EntriesAreByActors = (apps : ℕ) (es : List Entry) → IsLegalAt (opening_momen
 
 -- ---- what others' entries leave
 
-abbrev pub is_leave : Request → Bool
-is_leave leave = true
+abbrev pub is_leave : Call → Bool
+is_leave ask.Leave = true
 is_leave _ = false
 
 -- this actor doesn't leave by these
 abbrev pub leaves_by_none : Actor → List Entry → Bool
-leaves_by_none who es = list_all (λ e. not (is_actor who e.actor && is_leave e.request)) es
+leaves_by_none who es = list_all (λ e. not (is_actor who e.actor && is_leave e.call)) es
 
 -- who is there stays there, until it leaves itself
 abbrev pub ActorsStay : Type 0
@@ -77,4 +79,4 @@ ClocksStay =
 
 -- the compositor's two calls alone change which images are held
 abbrev pub HeldImagesStay : Type 0
-HeldImagesStay = (s : State) (e : Entry) → is_compositor_call e.request ≡ false → (step s e).0.cells.held ≡ s.cells.held
+HeldImagesStay = (s : State) (e : Entry) → is_compositor_call e.call ≡ false → (step s e).0.cells.held ≡ s.cells.held

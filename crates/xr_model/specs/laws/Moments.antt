@@ -2,7 +2,7 @@
 use Rattle.std.specs.Prelude.{ℕ, zero, suc, ℤ, IsTrue, List, [], ◌∷◌}
 use Rattle.xr_types.specs.declared.calls.Actor.{Actor}
 use Rattle.xr_types.specs.declared.calls.Actor.TheVariants.{App, Compositor, Device}
-use Rattle.xr_model.specs.machine.Request.{Entry, Exchange}
+use Rattle.xr_model.specs.machine.Calls.{Entry, Exchange}
 use Rattle.xr_model.specs.machine.State.{State, with_apps, opening}
 use Rattle.xr_model.specs.machine.Machine.{IsAllowed, ready, step}
 use Rattle.xr_model.specs.machine.History.{after, calls_from, clock_of, clocks_after, opening_clocks, StartsAt, IsLegalFrom}
@@ -30,7 +30,7 @@ moment_after m es = record { state = after m.state es; clocks = clocks_over m.st
 -- The entry may come now: it is allowed and ready, and where it is a wait for an image it begins at its actor's clock.
 pub record MayCome (m : Moment) (e : Entry) : Type 0 where
   pub allowed : IsAllowed m.state e
-  pub starts : StartsAt (clock_of m.clocks e.actor) e.request
+  pub starts : StartsAt (clock_of m.clocks e.actor) e.call
   pub is_ready : IsTrue (ready m.state e)
 
 -- a history that is legal from a moment on
@@ -39,7 +39,7 @@ IsLegalAt m es = IsLegalFrom m.state m.clocks es
 
 -- what an entry asks, and what it comes to now
 unfoldable pub exchange_at : Moment → Entry → Exchange
-exchange_at m e = record { request = e.request; outcome = (step m.state e).1 }
+exchange_at m e = record { call = e.call; outcome = (step m.state e).1 }
 
 -- ---- actors by numbers
 

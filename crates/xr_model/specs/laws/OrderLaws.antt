@@ -2,7 +2,7 @@
 use Rattle.std.specs.Prelude.{◌≡◌, ◌≤◌, ◌+◌, ◌↔◌, ℕ, true, List, None}
 use Rattle.xr_types.specs.declared.code.Code.TheVariants.{CallOrderInvalid}
 use Rattle.xr_types.specs.declared.handles.Kind.TheVariants as kind
-use Rattle.xr_model.specs.machine.Request.{Entry}
+use Rattle.xr_model.specs.machine.Calls.{Entry}
 use Rattle.xr_model.specs.machine.Handles.{is_live}
 use Rattle.xr_model.specs.machine.Refusals.{first_of}
 use Rattle.xr_model.specs.machine.State.{Settings, opening}
@@ -17,7 +17,7 @@ abbrev pub CallOrder : Type 0
 CallOrder =
     (settings : Settings) (es : List Entry) (e : Entry) → IsLegal settings es
     → ((step (after (opening settings) es) e).1.reply.code ≡ CallOrderInvalid)
-    ↔ ((first_of (ahead (rule (after (opening settings) es).core (reads_of (after (opening settings) es) e.request) e)) ≡ None) × (is_disorder (past_of settings es) e.request ≡ true))
+    ↔ ((first_of (ahead (rule (after (opening settings) es).core (reads_of (after (opening settings) es) e.call) e)) ≡ None) × (is_disorder (past_of settings es) e.call ≡ true))
 
 -- in a running period the begins are at most the waits, and these at most one more
 abbrev pub WaitsAndBegins : Type 0

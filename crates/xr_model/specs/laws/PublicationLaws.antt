@@ -2,7 +2,8 @@
 use Rattle.std.specs.Prelude.{◌≡◌, not, Bool, true, false, List, [], ◌∷◌, ◌++◌, Some}
 use Rattle.std.specs.List.{list_all}
 use Rattle.xr_types.specs.declared.calls.Actor.{Actor}
-use Rattle.xr_model.specs.machine.Request.{Entry, is_actor, is_getter}
+use Rattle.xr_types.specs.CallKinds.{is_getter}
+use Rattle.xr_model.specs.machine.Calls.{Entry, is_actor}
 use Rattle.xr_model.specs.machine.Publication.{publication_of}
 use Rattle.xr_model.specs.machine.Publishing.{publishes}
 use Rattle.xr_model.specs.machine.Reads.{published_last, reads}
@@ -14,15 +15,15 @@ use Rattle.xr_model.specs.machine.History.{after, calls_of, IsLegal}
 
 -- a getter leaves the whole state, the count of calls too
 abbrev pub GettersChangeNothing : Type 0
-GettersChangeNothing = (s : State) (e : Entry) → is_getter e.request ≡ true → (step s e).0 ≡ s
+GettersChangeNothing = (s : State) (e : Entry) → is_getter e.call ≡ true → (step s e).0 ≡ s
 
 -- a getter never waits
 abbrev pub GettersAreReady : Type 0
-GettersAreReady = (s : State) (e : Entry) → is_getter e.request ≡ true → ready s e ≡ true
+GettersAreReady = (s : State) (e : Entry) → is_getter e.call ≡ true → ready s e ≡ true
 
 -- what a getter is answered, its place too, is read of the publication alone
 abbrev pub GettersRead : Type 0
-GettersRead = (s : State) (e : Entry) → is_getter e.request ≡ true → reads (publication_of s.core) e.request ≡ Some (step s e).1
+GettersRead = (s : State) (e : Entry) → is_getter e.call ≡ true → reads (publication_of s.core) e.call ≡ Some (step s e).1
 
 -- ---- what is published
 
@@ -35,7 +36,7 @@ PublishedIsCurrent = (settings : Settings) (es : List Entry) → IsLegal setting
 -- no entry of these publishes
 abbrev pub NonePublishes : State → List Entry → Type 0
 NonePublishes s [] = Unit {0}
-NonePublishes s (e ∷ es) = (publishes e.request (step s e).1.reply.code ≡ false) × NonePublishes (step s e).0 es
+NonePublishes s (e ∷ es) = (publishes e.call (step s e).1.reply.code ≡ false) × NonePublishes (step s e).0 es
 
 -- none of these is the actor's
 abbrev pub none_is_by : Actor → List Entry → Bool
@@ -52,4 +53,4 @@ pub record Moves (settings : Settings) (es fs gs : List Entry) (e : Entry) : Typ
 abbrev pub GettersMove : Type 0
 GettersMove =
     (settings : Settings) (es fs gs : List Entry) (e : Entry) → IsLegal settings (es ++ fs) → NonePublishes (after (opening settings) es) fs
-    → is_getter e.request ≡ true → none_is_by e.actor fs ≡ true → Moves settings es fs gs e
+    → is_getter e.call ≡ true → none_is_by e.actor fs ≡ true → Moves settings es fs gs e

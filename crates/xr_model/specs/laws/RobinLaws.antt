@@ -6,7 +6,9 @@ use Rattle.xr_types.specs.declared.calls.Actor.TheVariants.{Compositor}
 use Rattle.xr_types.specs.declared.device.DeviceEvent.{DeviceEvent}
 use Rattle.xr_types.specs.declared.frames.Image.{Image}
 use Rattle.xr_types.specs.declared.scenario.Scenario.{Scenario}
-use Rattle.xr_model.specs.machine.Request.{Request, next_frame, image_done, Entry, is_actor}
+use Rattle.xr_model.specs.machine.Calls.{Entry, is_actor}
+use Rattle.xr_types.specs.declared.calls.Call.{Call}
+use Rattle.xr_types.specs.declared.calls.Call.TheVariants as ask
 use Rattle.xr_model.specs.machine.State.{Settings, opening}
 use Rattle.xr_model.specs.machine.History.{after}
 use Rattle.xr_model.specs.runs.Robin.{Agenda, actor_of, is_next_ready, first_agendas, agendas_left, IsRobin}
@@ -66,12 +68,12 @@ RunsEndWhereNobodyIsReady =
 -- ---- the compositor's turns
 
 -- the call of a compositor that holds these images
-abbrev pub call_holding : List Image → Request
-call_holding [] = next_frame
-call_holding (i ∷ held) = image_done
+abbrev pub call_holding : List Image → Call
+call_holding [] = ask.NextFrame
+call_holding (i ∷ held) = ask.ImageDone
 
 -- In a run the compositor gives back each image that it holds before it asks for the next frame.
 abbrev pub ImagesAreGivenBackFirst : Type 0
 ImagesAreGivenBackFirst =
     (settings : Settings) (scenario : Scenario) (calls : List DeviceEvent) (es fs : List Entry) (e : Entry) → IsRobin settings scenario calls (es ++ e ∷ fs)
-    → e.actor ≡ Compositor → e.request ≡ call_holding (after (opening settings) es).cells.held
+    → e.actor ≡ Compositor → e.call ≡ call_holding (after (opening settings) es).cells.held

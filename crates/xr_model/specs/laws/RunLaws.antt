@@ -14,7 +14,7 @@ use Rattle.xr_types.specs.declared.names.CallName.TheVariants as call
 use Rattle.xr_types.specs.declared.scenario.Op.{Op}
 use Rattle.xr_types.specs.declared.scenario.Scenario.{Scenario}
 use Rattle.xr_types.specs.declared.status.Status.TheVariants.{Done}
-use Rattle.xr_model.specs.machine.Request.{Entry, is_actor}
+use Rattle.xr_model.specs.machine.Calls.{Entry, is_actor}
 use Rattle.xr_model.specs.machine.State.{Settings, State, opening}
 use Rattle.xr_model.specs.machine.Machine.{step, ready}
 use Rattle.xr_model.specs.machine.History.{opening_clocks, clock_of, clocks_after, StartsAt, calls_of}
@@ -139,7 +139,7 @@ NamesStandForValues = (values : List ℕ) (place : ℕ) (o : Op) (answer : Reply
 abbrev pub AreReadyFrom : State → List ℤ → List Entry → Type 0
 AreReadyFrom s clocks [] = Unit {0}
 AreReadyFrom s clocks (e ∷ es) =
-    StartsAt (clock_of clocks e.actor) e.request × IsTrue (ready s e) × AreReadyFrom (step s e).0 (clocks_after clocks e (step s e).0) es
+    StartsAt (clock_of clocks e.actor) e.call × IsTrue (ready s e) × AreReadyFrom (step s e).0 (clocks_after clocks e (step s e).0) es
 
 -- so a run is a legal history where its entries are allowed
 abbrev pub CallsAreReady : Type 0

@@ -1,7 +1,9 @@
 -- What holds of a session from its creation to its end, and of the device's clock.
 use Rattle.std.specs.Prelude.{◌≡◌, ◌==◌, ◌&&◌, ◌||◌, ℕ, Bool, true, false, int_le, List, [], ◌∷◌, Some, None, if◌then◌else◌}
 use Rattle.xr_types.specs.Code.{is_success}
-use Rattle.xr_model.specs.machine.Request.{Request, begin_session, end_session, request_exit_session, Entry}
+use Rattle.xr_model.specs.machine.Calls.{Entry}
+use Rattle.xr_types.specs.declared.calls.Call.{Call}
+use Rattle.xr_types.specs.declared.calls.Call.TheVariants as ask
 use Rattle.xr_model.specs.machine.SessionLife.{next_state}
 use Rattle.xr_model.specs.machine.LiveSessions.{Session, session_at}
 use Rattle.xr_model.specs.machine.State.{Settings, State, opening}
@@ -35,8 +37,8 @@ LostStaysLost =
 -- ---- the asking for the end
 
 -- the call asks for this session's end
-abbrev pub asks_for_end : Request → ℕ → Bool
-asks_for_end (request_exit_session session) handle = session == handle
+abbrev pub asks_for_end : Call → ℕ → Bool
+asks_for_end (ask.RequestExitSession session) handle = session == handle
 asks_for_end _ handle = false
 
 -- The end of a session was asked for exactly where it was before, or this call asks for it and succeeds.
@@ -44,26 +46,26 @@ abbrev pub OnlyItsCallAsksForTheEnd : Type 0
 OnlyItsCallAsksForTheEnd =
     (s : State) (e : Entry) (session : ℕ) (x y : Session)
     → session_at s.core.sessions session ≡ Some x → session_at (step s e).0.core.sessions session ≡ Some y
-    → y.life.exit ≡ x.life.exit || (asks_for_end e.request session && is_success (step s e).1.reply.code)
+    → y.life.exit ≡ x.life.exit || (asks_for_end e.call session && is_success (step s e).1.reply.code)
 
 -- ---- running
 
 -- the call begins this session
-abbrev pub begins : Request → ℕ → Bool
-begins (begin_session session view) handle = session == handle
+abbrev pub begins : Call → ℕ → Bool
+begins (ask.BeginSession session view) handle = session == handle
 begins _ handle = false
 
 -- the call ends this session
-abbrev pub ends : Request → ℕ → Bool
-ends (end_session session) handle = session == handle
+abbrev pub ends : Call → ℕ → Bool
+ends (ask.EndSession session) handle = session == handle
 ends _ handle = false
 
 -- what is known of a session's running after an entry, told what was known before it
 abbrev pub begun_after : State → Entry → ℕ → Bool → Bool
 begun_after s e session before =
     if creates_session e session then false
-    else (if begins e.request session && is_success (step s e).1.reply.code then true
-    else (if ends e.request session && is_success (step s e).1.reply.code then false
+    else (if begins e.call session && is_success (step s e).1.reply.code then true
+    else (if ends e.call session && is_success (step s e).1.reply.code then false
     else before))
 
 -- whether the session was begun and not ended since its creation, where that is known of the time before these entries

@@ -4,7 +4,9 @@ use Rattle.std.specs.List.{list_all}
 use Rattle.xr_types.specs.declared.device.DeviceEvent.TheVariants as event
 use Rattle.xr_types.specs.declared.spaces.Origin.{Origin}
 use Rattle.xr_types.specs.declared.spaces.TheConstants.{ORIGINS}
-use Rattle.xr_model.specs.machine.Request.{Request, device, Entry}
+use Rattle.xr_model.specs.machine.Calls.{Entry}
+use Rattle.xr_types.specs.declared.calls.Call.{Call}
+use Rattle.xr_types.specs.declared.calls.Call.TheVariants as ask
 use Rattle.xr_model.specs.machine.Spaces.{Sample, pose_at, origin_place, samples_of}
 use Rattle.xr_model.specs.machine.State.{Settings, State, opening}
 use Rattle.xr_model.specs.machine.Machine.{step}
@@ -41,8 +43,8 @@ PoseIsTheNewestNotLater = (time : ℤ) (kept : List Sample) → times_fall kept 
 -- ---- whose samples an entry changes
 
 -- the origin that is told a new pose, where one is
-abbrev pub origin_told : Request → Option Origin
-origin_told (device (event.Pose origin time pose)) = Some origin
+abbrev pub origin_told : Call → Option Origin
+origin_told (ask.Device (event.Pose origin time pose)) = Some origin
 origin_told _ = None
 
 -- its samples stand at this place
@@ -53,7 +55,7 @@ is_told_at (Some origin) place = origin_place origin == place
 -- A new pose changes the samples of its own origin alone, and no other entry changes any.
 abbrev pub SamplesAreTheirOrigins : Type 0
 SamplesAreTheirOrigins =
-    (s : State) (e : Entry) (what : Origin) → is_told_at (origin_told e.request) (origin_place what) ≡ false
+    (s : State) (e : Entry) (what : Origin) → is_told_at (origin_told e.call) (origin_place what) ≡ false
     → samples_of (step s e).0.core.spaces.samples what ≡ samples_of s.core.spaces.samples what
 
 -- no two origins that have samples share a place
@@ -79,7 +81,7 @@ is_after_all time kept = list_all (λ s. int_lt s.time time) kept
 abbrev pub LaterPosesAreTaken : Type 0
 LaterPosesAreTaken =
     (settings : Settings) (es : List Entry) (e : Entry) (origin : Origin) (time : ℤ) (pose : ℕ)
-    → e.request ≡ device (event.Pose origin time pose) → nat_lt (origin_place origin) ORIGINS ≡ true
+    → e.call ≡ ask.Device (event.Pose origin time pose) → nat_lt (origin_place origin) ORIGINS ≡ true
     → TakenWhere (is_after_all time (samples_of (after (opening settings) es).core.spaces.samples origin))
     (samples_of (after (opening settings) es).core.spaces.samples origin)
     (samples_of (step (after (opening settings) es) e).0.core.spaces.samples origin) time pose

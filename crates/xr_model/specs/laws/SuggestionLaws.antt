@@ -5,7 +5,9 @@ use Rattle.xr_types.specs.Code.{is_success}
 use Rattle.xr_types.specs.declared.handles.Kind.TheVariants.{Action}
 use Rattle.xr_types.specs.declared.input.Bound.{Bound}
 use Rattle.xr_types.specs.declared.input.Profile.{Profile}
-use Rattle.xr_model.specs.machine.Request.{Request, suggest_bindings, Entry}
+use Rattle.xr_model.specs.machine.Calls.{Entry}
+use Rattle.xr_types.specs.declared.calls.Call.{Call}
+use Rattle.xr_types.specs.declared.calls.Call.TheVariants as ask
 use Rattle.xr_model.specs.machine.Bindings.{profile_place, suggestions_of}
 use Rattle.xr_model.specs.machine.Handles.{is_live}
 use Rattle.xr_model.specs.machine.Rules.Bindings.{profile_at, bound_of}
@@ -19,14 +21,14 @@ is_profile None which = false
 is_profile (Some profile) which = profile_place profile == profile_place which
 
 -- the list that a call brings for a profile; each other call leaves the list that was there
-abbrev pub brought_by : CoreState → Profile → List Bound → Request → List Bound
-brought_by s which before (suggest_bindings instance profile list) =
+abbrev pub brought_by : CoreState → Profile → List Bound → Call → List Bound
+brought_by s which before (ask.SuggestBindings instance profile list) =
     if is_profile (profile_at s.atoms profile) which then filter_map (bound_of s which) list else before
 brought_by s which before _ = before
 
 -- a list is taken where the call that brings it succeeds
 abbrev pub taken_by : State → Profile → List Bound → Entry → List Bound
-taken_by s which before e = if is_success (step s e).1.reply.code then brought_by s.core which before e.request else before
+taken_by s which before e = if is_success (step s e).1.reply.code then brought_by s.core which before e.call else before
 
 -- the last list that was taken for a profile, told what it was before these entries
 abbrev pub last_taken : State → Profile → List Bound → List Entry → List Bound

@@ -7,7 +7,9 @@ use Rattle.xr_types.specs.Device.{checks}
 use Rattle.xr_model.specs.machine.Publication.{ShownColumn, PublishedAction, Publication, publication_of}
 use Rattle.xr_model.specs.machine.PublicationWords.{words, publication_in}
 use Rattle.xr_model.specs.machine.Reads.{reads}
-use Rattle.xr_model.specs.machine.Request.{Request, Entry, device}
+use Rattle.xr_model.specs.machine.Calls.{Entry}
+use Rattle.xr_types.specs.declared.calls.Call.{Call}
+use Rattle.xr_types.specs.declared.calls.Call.TheVariants as ask
 use Rattle.xr_model.specs.machine.State.{Settings, opening}
 use Rattle.xr_model.specs.machine.History.{after, IsLegal}
 
@@ -34,15 +36,15 @@ WordsGiveBack = (p : Publication) → PublicationFits p → publication_in (word
 
 -- so a getter may read the words as well
 abbrev pub WordsAreRead : Type 0
-WordsAreRead = (p : Publication) (what : Request) → PublicationFits p → reads (publication_in (words p)) what ≡ reads p what
+WordsAreRead = (p : Publication) (what : Call) → PublicationFits p → reads (publication_in (words p)) what ≡ reads p what
 
 -- the numbers of an event are in range
-abbrev pub has_good_numbers : Request → Bool
-has_good_numbers (device what) = checks what
+abbrev pub has_good_numbers : Call → Bool
+has_good_numbers (ask.Device what) = checks what
 has_good_numbers _ = true
 
 -- what a legal history publishes has room in words, where the device tells numbers in range
 abbrev pub PublicationsFit : Type 0
 PublicationsFit =
-    (settings : Settings) (es : List Entry) → IsLegal settings es → list_all (λ e. has_good_numbers e.request) es ≡ true
+    (settings : Settings) (es : List Entry) → IsLegal settings es → list_all (λ e. has_good_numbers e.call) es ≡ true
     → PublicationFits (publication_of (after (opening settings) es).core)

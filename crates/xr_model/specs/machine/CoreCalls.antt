@@ -10,7 +10,7 @@ use Rattle.xr_types.specs.declared.calls.Step.{Step}
 use Rattle.xr_types.specs.declared.calls.Step.TheVariants.{Done, NotReady}
 use Rattle.xr_types.specs.declared.frames.Shown.{Shown}
 use Rattle.xr_model.specs.machine.Rule.{Rule, is_by}
-use Rattle.xr_model.specs.machine.Request.{Request, Entry, Outcome, request_of}
+use Rattle.xr_model.specs.machine.Calls.{Entry, Outcome}
 use Rattle.xr_model.specs.machine.State.{CoreState, State, CellReads, with_apps, opening_core}
 use Rattle.xr_model.specs.machine.Machine.{rule_of, step, ready, core_step, core_ready, IsPresent, IsAllowed, CoreAllows}
 
@@ -40,8 +40,8 @@ given_by (Handle n) = n
 given_by _ = 0
 
 -- the entry of a call that was answered so
-abbrev pub entry_of : Actor → Request → Reply → Entry
-entry_of who what answer = record { actor = who; request = what; given = given_by answer.gives; short = is_out_of_memory answer.code }
+abbrev pub entry_of : Actor → Call → Reply → Entry
+entry_of who what answer = record { actor = who; call = what; given = given_by answer.gives; short = is_out_of_memory answer.code }
 
 -- ---- what it is asked
 
@@ -50,7 +50,7 @@ entry_of who what answer = record { actor = who; request = what; given = given_b
 abbrev pub no_reads : CellReads
 no_reads = record { unused = true; stamps = []; held = [] }
 
-abbrev pub asked : Actor → Request → Rule
+abbrev pub asked : Actor → Call → Rule
 asked who what = rule_of (opening_core (with_apps 0)) no_reads who 0 what
 
 -- a buffer has the size that is asked for; where none is asked for it may have any
@@ -60,13 +60,13 @@ Fits (Some wanted) size = size ≡ wanted
 
 -- What an actor may ask of a core, whatever the core keeps: the call is the actor's own, its numbers are in range, and the
 -- buffer has the size asked for.
-pub record MayAsk (who : Actor) (what : Request) (size : ℕ) : Type 0 where
+pub record MayAsk (who : Actor) (what : Call) (size : ℕ) : Type 0 where
   pub caller : is_by (asked who what).caller who ≡ true
   pub numbers : (asked who what).in_range ≡ true
   pub buffer : Fits (asked who what).lent size
 
 -- And in a state: the actor is there.
-pub record MayMake (s : CoreState) (who : Actor) (what : Request) (size : ℕ) : Type 0 where
+pub record MayMake (s : CoreState) (who : Actor) (what : Call) (size : ℕ) : Type 0 where
   pub asks : MayAsk who what size
   pub present : IsPresent s who
 
@@ -90,9 +90,9 @@ pub record WaitsBy {S : Type 0} (readiness : Bool) (old new : S) (before after :
 -- What a call is answered, where these entries are allowed, these are ready, and each leads to this.
 abbrev pub AppliesBy : {S : Type 0} → (Entry → Type 0) → (Entry → Bool) → (Entry → S × Outcome) → S → S → Actor → Call → Lent → Lent → Step → Type 0
 AppliesBy allows is_ready leads old new who call before after (Done answer) =
-    AnswersBy (allows (entry_of who (request_of call) answer)) (is_ready (entry_of who (request_of call) answer)) (leads (entry_of who (request_of call) answer)) new answer before after
+    AnswersBy (allows (entry_of who call answer)) (is_ready (entry_of who call answer)) (leads (entry_of who call answer)) new answer before after
 AppliesBy allows is_ready leads old new who call before after NotReady =
-    (given : ℕ) (short : Bool) → WaitsBy (is_ready (record { actor = who; request = request_of call; given = given; short = short })) old new before after
+    (given : ℕ) (short : Bool) → WaitsBy (is_ready (record { actor = who; call = call; given = given; short = short })) old new before after
 
 -- of what a core keeps, where the cells tell so much
 abbrev pub CoreApplies : CellReads → CoreState → CoreState → Actor → Call → Lent → Lent → Step → Type 0

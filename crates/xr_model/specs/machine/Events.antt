@@ -1,12 +1,9 @@
 -- The queue of events (OpenXR 1.0 chapter 2, xrPollEvent). How many it holds, that a full queue drops its
 -- oldest event, and that the lost ones are told first is this project's own.
 use Rattle.std.specs.Prelude.{ℕ, ◌+◌, ◌-◌, ◌^◌, ◌==◌, nat_lt, min, List, [], ◌∷◌, ◌++◌, length, drop, Option, Some, None, if◌then◌else◌}
+use Rattle.xr_types.specs.declared.limits.TheConstants.{EVENTS}
 use Rattle.xr_types.specs.declared.session.Event.{Event}
 use Rattle.xr_types.specs.declared.session.Event.TheVariants.{Lost}
-
--- how many events the queue holds
-abbrev pub capacity : ℕ
-capacity = 32
 
 -- the count of lost events stands still here
 abbrev pub most_lost : ℕ
@@ -23,7 +20,7 @@ no_events = record { waiting = []; lost = 0 }
 -- an event comes; a full queue drops the oldest one and counts it
 abbrev pub pushed : Queue → Event → Queue
 pushed q event =
-    if nat_lt (length q.waiting) capacity then record q { waiting = q.waiting ++ event ∷ [] }
+    if nat_lt (length q.waiting) EVENTS then record q { waiting = q.waiting ++ event ∷ [] }
     else record { waiting = drop 1 q.waiting ++ event ∷ []; lost = min (q.lost + 1) most_lost }
 
 abbrev pub oldest : List Event → Option Event

@@ -3,7 +3,10 @@ use Rattle.std.specs.Prelude.{◌≡◌, ◌-◌, ℤ, pos, IsTrue, List, [], �
 use Rattle.xr_types.specs.declared.calls.Actor.{Actor}
 use Rattle.xr_types.specs.declared.calls.Actor.TheVariants.{App, Compositor, Device}
 use Rattle.xr_types.specs.declared.frames.Shown.{Shown}
-use Rattle.xr_model.specs.machine.Request.{Request, wait_image, Entry, Exchange, is_actor, is_locked}
+use Rattle.xr_types.specs.CallKinds.{is_locked}
+use Rattle.xr_model.specs.machine.Calls.{Entry, Exchange, is_actor}
+use Rattle.xr_types.specs.declared.calls.Call.{Call}
+use Rattle.xr_types.specs.declared.calls.Call.TheVariants as ask
 use Rattle.xr_model.specs.machine.State.{Settings, State, opening}
 use Rattle.xr_model.specs.machine.Machine.{IsAllowed, ready, step}
 
@@ -30,17 +33,17 @@ with_clock clocks Compositor time = clocks
 with_clock clocks Device time = clocks
 
 abbrev pub clocks_after : List ℤ → Entry → State → List ℤ
-clocks_after clocks e s = if is_locked e.request then with_clock clocks e.actor s.core.device.clock else clocks
+clocks_after clocks e s = if is_locked e.call then with_clock clocks e.actor s.core.device.clock else clocks
 
 -- a wait for an image begins at the clock after its application's last locked call
-abbrev pub StartsAt : ℤ → Request → Type 0
-StartsAt clock (wait_image chain timeout start) = start ≡ clock
+abbrev pub StartsAt : ℤ → Call → Type 0
+StartsAt clock (ask.WaitImage chain timeout start) = start ≡ clock
 StartsAt clock _ = Unit {0}
 
 -- each entry is allowed and ready in the state after the entries before it
 abbrev pub IsLegalFrom : State → List ℤ → List Entry → Type 0
 IsLegalFrom s clocks [] = Unit {0}
-IsLegalFrom s clocks (e ∷ es) = IsAllowed s e × StartsAt (clock_of clocks e.actor) e.request × IsTrue (ready s e) × IsLegalFrom (step s e).0 (clocks_after clocks e (step s e).0) es
+IsLegalFrom s clocks (e ∷ es) = IsAllowed s e × StartsAt (clock_of clocks e.actor) e.call × IsTrue (ready s e) × IsLegalFrom (step s e).0 (clocks_after clocks e (step s e).0) es
 
 -- a legal history of a run that is begun so
 abbrev pub IsLegal : Settings → List Entry → Type 0
@@ -57,7 +60,7 @@ shown_if (Some f) = f ∷ []
 abbrev pub calls_from : State → Actor → List Entry → List Exchange
 calls_from s who [] = []
 calls_from s who (e ∷ es) =
-    if is_actor who e.actor then record { request = e.request; outcome = (step s e).1 } ∷ calls_from (step s e).0 who es
+    if is_actor who e.actor then record { call = e.call; outcome = (step s e).1 } ∷ calls_from (step s e).0 who es
     else calls_from (step s e).0 who es
 
 abbrev pub calls_of : Settings → Actor → List Entry → List Exchange

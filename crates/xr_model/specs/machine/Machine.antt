@@ -7,7 +7,9 @@ use Rattle.xr_types.specs.declared.input.ActionType.TheVariants as type
 use Rattle.xr_types.specs.Code.{is_success}
 use Rattle.xr_model.specs.machine.CellCalls.{CellCall, claim_calls, pin_calls, free_calls, stamp_calls, peek_calls, return_calls}
 use Rattle.xr_model.specs.machine.Chains.{oldest_image}
-use Rattle.xr_model.specs.machine.Request.{Request, create_instance, destroy_instance, get_system, string_to_path, path_to_string, poll_event, create_session, destroy_session, begin_session, end_session, request_exit_session, create_reference_space, destroy_space, locate_space, create_action_set, destroy_action_set, create_action, destroy_action, suggest_bindings, attach_sets, sync_actions, get_boolean, get_float, get_vector, get_pose_active, create_action_space, create_swapchain, destroy_swapchain, acquire_image, wait_image, paint, release_image, wait_frame, begin_frame, end_frame, mark, await_mark, leave, device, next_frame, image_done, Entry, Outcome}
+use Rattle.xr_model.specs.machine.Calls.{Entry, Outcome}
+use Rattle.xr_types.specs.declared.calls.Call.{Call}
+use Rattle.xr_types.specs.declared.calls.Call.TheVariants as ask
 use Rattle.xr_model.specs.machine.Handles.{Handles, was_given}
 use Rattle.xr_model.specs.machine.Images.{slot_of, count_of, first_images, stamps_at, with_stamps}
 use Rattle.xr_model.specs.machine.Refusals.{first_of}
@@ -26,51 +28,51 @@ use Rattle.xr_model.specs.machine.Rules.Frames.{wait_frame_rule, begin_frame_rul
 use Rattle.xr_model.specs.machine.Rules.Swapchains.{create_swapchain_rule, destroy_swapchain_rule, acquire_image_rule, wait_image_rule, paint_rule, release_image_rule, image_done_rule}
 
 -- the rule of a call
-abbrev pub rule_of : CoreState → CellReads → Actor → ℕ → Request → Rule
-rule_of s reads who given (create_instance major minor) = create_instance_rule s given major minor
-rule_of s reads who given (destroy_instance instance) = destroy_instance_rule s instance
-rule_of s reads who given (get_system instance form) = get_system_rule s instance form
-rule_of s reads who given (string_to_path instance text) = string_to_path_rule s instance text
-rule_of s reads who given (path_to_string instance path capacity) = path_to_string_rule s instance path capacity
-rule_of s reads who given (poll_event instance) = poll_event_rule s instance
-rule_of s reads who given (create_session instance system) = create_session_rule s given instance system
-rule_of s reads who given (destroy_session session) = destroy_session_rule s session
-rule_of s reads who given (begin_session session view) = begin_session_rule s session view
-rule_of s reads who given (end_session session) = end_session_rule s session
-rule_of s reads who given (request_exit_session session) = request_exit_session_rule s session
-rule_of s reads who given (create_reference_space session kind offset) = create_reference_space_rule s given session kind offset
-rule_of s reads who given (destroy_space space) = destroy_space_rule s space
-rule_of s reads who given (locate_space space base time) = locate_space_rule s space base time
-rule_of s reads who given (create_action_set instance name localized priority) = create_action_set_rule s given instance name localized priority
-rule_of s reads who given (destroy_action_set set) = destroy_action_set_rule s set
-rule_of s reads who given (create_action set name kind subs localized) = create_action_rule s given set name kind subs localized
-rule_of s reads who given (destroy_action action) = destroy_action_rule s action
-rule_of s reads who given (suggest_bindings instance profile list) = suggest_bindings_rule s instance profile list
-rule_of s reads who given (attach_sets session handles) = attach_sets_rule s session handles
-rule_of s reads who given (sync_actions session active) = sync_actions_rule s session active
-rule_of s reads who given (get_boolean session action sub) = getter_rule s type.Boolean session action sub
-rule_of s reads who given (get_float session action sub) = getter_rule s type.Float session action sub
-rule_of s reads who given (get_vector session action sub) = getter_rule s type.Vector session action sub
-rule_of s reads who given (get_pose_active session action sub) = getter_rule s type.Pose session action sub
-rule_of s reads who given (create_action_space session action sub offset) = create_action_space_rule s given session action sub offset
-rule_of s reads who given (create_swapchain session format width height fixed) = create_swapchain_rule s given session format width height fixed
-rule_of s reads who given (destroy_swapchain chain) = destroy_swapchain_rule s chain
-rule_of s reads who given (acquire_image chain) = acquire_image_rule s chain
-rule_of s reads who given (wait_image chain timeout start) = wait_image_rule s reads chain timeout start
-rule_of s reads who given (paint chain stamp) = paint_rule s chain stamp
-rule_of s reads who given (release_image chain) = release_image_rule s chain
-rule_of s reads who given (wait_frame session) = wait_frame_rule s session
-rule_of s reads who given (begin_frame session) = begin_frame_rule s session
-rule_of s reads who given (end_frame session time blend layers) = end_frame_rule s session time blend layers
-rule_of s reads who given (mark number value) = mark_rule s number value
-rule_of s reads who given (await_mark number) = await_mark_rule s number
-rule_of s reads who given leave = leave_rule s who
-rule_of s reads who given (device what) = device_rule s what
-rule_of s reads who given next_frame = next_frame_rule s reads
-rule_of s reads who given image_done = image_done_rule s reads
+abbrev pub rule_of : CoreState → CellReads → Actor → ℕ → Call → Rule
+rule_of s reads who given (ask.CreateInstance major minor) = create_instance_rule s given major minor
+rule_of s reads who given (ask.DestroyInstance instance) = destroy_instance_rule s instance
+rule_of s reads who given (ask.GetSystem instance form) = get_system_rule s instance form
+rule_of s reads who given (ask.StringToPath instance text) = string_to_path_rule s instance text
+rule_of s reads who given (ask.PathToString instance path capacity) = path_to_string_rule s instance path capacity
+rule_of s reads who given (ask.PollEvent instance) = poll_event_rule s instance
+rule_of s reads who given (ask.CreateSession instance system) = create_session_rule s given instance system
+rule_of s reads who given (ask.DestroySession session) = destroy_session_rule s session
+rule_of s reads who given (ask.BeginSession session view) = begin_session_rule s session view
+rule_of s reads who given (ask.EndSession session) = end_session_rule s session
+rule_of s reads who given (ask.RequestExitSession session) = request_exit_session_rule s session
+rule_of s reads who given (ask.CreateReferenceSpace session kind offset) = create_reference_space_rule s given session kind offset
+rule_of s reads who given (ask.DestroySpace space) = destroy_space_rule s space
+rule_of s reads who given (ask.LocateSpace space base time) = locate_space_rule s space base time
+rule_of s reads who given (ask.CreateActionSet instance name localized priority) = create_action_set_rule s given instance name localized priority
+rule_of s reads who given (ask.DestroyActionSet set) = destroy_action_set_rule s set
+rule_of s reads who given (ask.CreateAction set name kind subs localized) = create_action_rule s given set name kind subs localized
+rule_of s reads who given (ask.DestroyAction action) = destroy_action_rule s action
+rule_of s reads who given (ask.SuggestBindings instance profile list) = suggest_bindings_rule s instance profile list
+rule_of s reads who given (ask.AttachSets session handles) = attach_sets_rule s session handles
+rule_of s reads who given (ask.SyncActions session active) = sync_actions_rule s session active
+rule_of s reads who given (ask.GetBoolean session action sub) = getter_rule s type.Boolean session action sub
+rule_of s reads who given (ask.GetFloat session action sub) = getter_rule s type.Float session action sub
+rule_of s reads who given (ask.GetVector session action sub) = getter_rule s type.Vector session action sub
+rule_of s reads who given (ask.GetPoseActive session action sub) = getter_rule s type.Pose session action sub
+rule_of s reads who given (ask.CreateActionSpace session action sub offset) = create_action_space_rule s given session action sub offset
+rule_of s reads who given (ask.CreateSwapchain session format width height fixed) = create_swapchain_rule s given session format width height fixed
+rule_of s reads who given (ask.DestroySwapchain chain) = destroy_swapchain_rule s chain
+rule_of s reads who given (ask.AcquireImage chain) = acquire_image_rule s chain
+rule_of s reads who given (ask.WaitImage chain timeout start) = wait_image_rule s reads chain timeout start
+rule_of s reads who given (ask.Paint chain stamp) = paint_rule s chain stamp
+rule_of s reads who given (ask.ReleaseImage chain) = release_image_rule s chain
+rule_of s reads who given (ask.WaitFrame session) = wait_frame_rule s session
+rule_of s reads who given (ask.BeginFrame session) = begin_frame_rule s session
+rule_of s reads who given (ask.EndFrame session time blend layers) = end_frame_rule s session time blend layers
+rule_of s reads who given (ask.Mark number value) = mark_rule s number value
+rule_of s reads who given (ask.AwaitMark number) = await_mark_rule s number
+rule_of s reads who given ask.Leave = leave_rule s who
+rule_of s reads who given (ask.Device what) = device_rule s what
+rule_of s reads who given ask.NextFrame = next_frame_rule s reads
+rule_of s reads who given ask.ImageDone = image_done_rule s reads
 
 abbrev pub rule : CoreState → CellReads → Entry → Rule
-rule s reads e = rule_of s reads e.actor e.given e.request
+rule s reads e = rule_of s reads e.actor e.given e.call
 
 -- what an entry does, told so much of the cells
 abbrev pub effect : CoreState → CellReads → Entry → Effect
@@ -78,7 +80,7 @@ effect s reads e = carried_out s e.short (rule s reads e)
 
 -- what a core keeps after an entry, and the outcome
 abbrev pub core_step : CoreState → CellReads → Entry → CoreState × Outcome
-core_step s reads e = decided_call s e.request (effect s reads e)
+core_step s reads e = decided_call s e.call (effect s reads e)
 
 -- ---- cells
 
@@ -91,12 +93,12 @@ abbrev pub cells_after : Cells → Did → Cells
 cells_after cells did = record { stamps = with_stamps did.stamped cells.stamps; held = held_after cells.held did }
 
 -- the image that a call waits for
-abbrev pub waited_image : CoreState → Request → Image
-waited_image s (wait_image chain timeout start) = oldest_image s.chains chain
+abbrev pub waited_image : CoreState → Call → Image
+waited_image s (ask.WaitImage chain timeout start) = oldest_image s.chains chain
 waited_image s _ = record { place = 0; index = 0 }
 
 -- what the cells of a state tell a call
-abbrev pub reads_of : State → Request → CellReads
+abbrev pub reads_of : State → Call → CellReads
 reads_of s what = record {
   unused = count_of s.core.frames.pending s.cells.held (slot_of (waited_image s.core what)) == 0;
   stamps = stamps_at s.cells.stamps (first_images s.core.frames.pending);
@@ -118,7 +120,7 @@ cell_calls s reads e =
 
 -- the state after an entry, and its outcome
 abbrev pub step : State → Entry → State × Outcome
-step s e = (record { core = (core_step s.core (reads_of s e.request) e).0; cells = cells_after s.cells (effect s.core (reads_of s e.request) e).did }, (core_step s.core (reads_of s e.request) e).1)
+step s e = (record { core = (core_step s.core (reads_of s e.call) e).0; cells = cells_after s.cells (effect s.core (reads_of s e.call) e).did }, (core_step s.core (reads_of s e.call) e).1)
 
 -- ---- readiness
 
@@ -127,7 +129,7 @@ abbrev pub core_ready : CoreState → CellReads → Entry → Bool
 core_ready s reads e = not (rule s reads e).waits || is_some (first_of (refusals (rule s reads e)))
 
 abbrev pub ready : State → Entry → Bool
-ready s e = core_ready s.core (reads_of s e.request) e
+ready s e = core_ready s.core (reads_of s e.call) e
 
 -- ---- allowed entries
 
@@ -150,4 +152,4 @@ pub record CoreAllows (s : CoreState) (reads : CellReads) (e : Entry) : Type 0 w
   pub present : IsPresent s e.actor
 
 abbrev pub IsAllowed : State → Entry → Type 0
-IsAllowed s e = CoreAllows s.core (reads_of s e.request) e
+IsAllowed s e = CoreAllows s.core (reads_of s e.call) e

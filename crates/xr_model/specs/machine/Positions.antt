@@ -1,7 +1,7 @@
 -- What stands at a position of a history.
 use Rattle.std.specs.Prelude.{◌+◌, zero, suc, ℕ, List, [], ◌∷◌, Option, Some, None, if◌then◌else◌}
 use Rattle.xr_types.specs.declared.calls.Actor.{Actor}
-use Rattle.xr_model.specs.machine.Request.{Entry, Outcome, is_actor}
+use Rattle.xr_model.specs.machine.Calls.{Entry, Outcome, is_actor}
 use Rattle.xr_model.specs.machine.State.{Settings, State, opening}
 use Rattle.xr_model.specs.machine.Machine.{step}
 

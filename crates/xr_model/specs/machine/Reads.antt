@@ -4,7 +4,9 @@ use Rattle.xr_types.specs.declared.calls.Gives.{Gives}
 use Rattle.xr_types.specs.declared.code.Code.TheVariants.{Success}
 use Rattle.xr_types.specs.declared.input.ActionType.{ActionType}
 use Rattle.xr_types.specs.declared.input.ActionType.TheVariants as type
-use Rattle.xr_model.specs.machine.Request.{Request, Entry, Outcome, get_boolean, get_float, get_vector, get_pose_active}
+use Rattle.xr_model.specs.machine.Calls.{Entry, Outcome}
+use Rattle.xr_types.specs.declared.calls.Call.{Call}
+use Rattle.xr_types.specs.declared.calls.Call.TheVariants as ask
 use Rattle.xr_model.specs.machine.Publication.{Publication, PublishedAction, publication_of, published_at, getter_handles, getter_checks, getter_gives}
 use Rattle.xr_model.specs.machine.Publishing.{publishes}
 use Rattle.xr_model.specs.machine.Refusals.{Refusal, first_of}
@@ -16,7 +18,7 @@ use Rattle.xr_model.specs.machine.Machine.{step}
 
 -- what was published last, once an entry was made
 abbrev pub published_behind : Publication → State → Entry → Publication
-published_behind p s e = if publishes e.request (step s e).1.reply.code then publication_of (step s e).0.core else p
+published_behind p s e = if publishes e.call (step s e).1.reply.code then publication_of (step s e).0.core else p
 
 -- what was published last behind a history that begins in this state, where this was published before it
 abbrev pub published_from : Publication → State → List Entry → Publication
@@ -44,9 +46,9 @@ read p wanted session action sub =
     answered p (first_of (getter_refusals p wanted session found sub)) (getter_gives p wanted found sub)
 
 -- what is read of a publication, by a call that is a getter
-abbrev pub reads : Publication → Request → Option Outcome
-reads p (get_boolean session action sub) = Some (read p type.Boolean session action sub)
-reads p (get_float session action sub) = Some (read p type.Float session action sub)
-reads p (get_vector session action sub) = Some (read p type.Vector session action sub)
-reads p (get_pose_active session action sub) = Some (read p type.Pose session action sub)
+abbrev pub reads : Publication → Call → Option Outcome
+reads p (ask.GetBoolean session action sub) = Some (read p type.Boolean session action sub)
+reads p (ask.GetFloat session action sub) = Some (read p type.Float session action sub)
+reads p (ask.GetVector session action sub) = Some (read p type.Vector session action sub)
+reads p (ask.GetPoseActive session action sub) = Some (read p type.Pose session action sub)
 reads p _ = None

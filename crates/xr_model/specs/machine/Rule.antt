@@ -10,7 +10,9 @@ use Rattle.xr_types.specs.declared.frames.Image.{Image}
 use Rattle.xr_types.specs.declared.handles.Kind.{Kind}
 use Rattle.xr_types.specs.declared.frames.Shown.{Shown}
 use Rattle.xr_model.specs.machine.Images.{Stamped}
-use Rattle.xr_model.specs.machine.Request.{Request, Outcome, is_locked, is_getter}
+use Rattle.xr_types.specs.CallKinds.{is_getter, is_locked}
+use Rattle.xr_model.specs.machine.Calls.{Outcome}
+use Rattle.xr_types.specs.declared.calls.Call.{Call}
 use Rattle.xr_model.specs.machine.Publishing.{publishes}
 use Rattle.xr_model.specs.machine.Refusals.{Refusal, when, first_of}
 use Rattle.xr_model.specs.machine.SessionRule.{Loss, code_on, losses}
@@ -144,17 +146,17 @@ carried_out s short r = unless_refused s (refusal short r) (told_on r.on r.effec
 
 -- The place in the reply: of a locked call the count of locked calls, itself included; of a getter the number of what was
 -- published last.
-abbrev pub reply_place : CoreState → Request → ℕ
+abbrev pub reply_place : CoreState → Call → ℕ
 reply_place s what = if is_locked what then s.locked + 1 else (if is_getter what then s.published else 0)
 
 -- how many locked calls were decided after a call, refused or not
-abbrev pub locked_after : CoreState → Request → ℕ
+abbrev pub locked_after : CoreState → Call → ℕ
 locked_after s what = if is_locked what then s.locked + 1 else s.locked
 
 -- the place of the call that published last
-abbrev pub published_after : CoreState → Request → Code → ℕ
+abbrev pub published_after : CoreState → Call → Code → ℕ
 published_after s what code = if publishes what code then s.locked + 1 else s.published
 
 -- What is kept after a call, and its outcome. No call changes the number of applications.
-abbrev pub decided_call : CoreState → Request → Effect → CoreState × Outcome
+abbrev pub decided_call : CoreState → Call → Effect → CoreState × Outcome
 decided_call s what e = (record e.state { apps = s.apps; locked = locked_after s what; published = published_after s what e.code }, record { reply = record { code = e.code; gives = e.gives; place = reply_place s what }; text = e.text; shown = e.shown })

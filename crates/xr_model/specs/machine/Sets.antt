@@ -7,7 +7,7 @@ use Rattle.xr_types.specs.declared.code.Code.TheVariants.{ValidationFailure, Pat
 use Rattle.xr_types.specs.declared.input.ActionType.{ActionType}
 use Rattle.xr_types.specs.declared.input.User.{User}
 use Rattle.xr_types.specs.Users.{user_place}
-use Rattle.xr_types.specs.Name.{is_name_byte, has_name_size, is_localized}
+use Rattle.xr_types.specs.Name.{is_name_byte, has_name_form, is_localized}
 use Rattle.xr_model.specs.machine.Handles.{is_among}
 use Rattle.xr_model.specs.machine.Refusals.{Refusal, when}
 
@@ -86,7 +86,7 @@ same_text a b = pointwise (λ x y. x == y) a b
 
 -- what refuses a name, told whether it is taken: it is empty, too long or periods alone, or has a byte that no name has
 abbrev pub name_checks : List ℕ → Bool → List Refusal
-name_checks name taken = when (not (has_name_size name)) NameInvalid ∷ when (not (list_all is_name_byte name)) PathFormatInvalid ∷ when taken NameDuplicated ∷ []
+name_checks name taken = when (not (has_name_form name)) NameInvalid ∷ when (not (list_all is_name_byte name)) PathFormatInvalid ∷ when taken NameDuplicated ∷ []
 
 abbrev pub label_checks : List ℕ → Bool → List Refusal
 label_checks localized taken = when (not (is_localized localized)) LocalizedNameInvalid ∷ when taken LocalizedNameDuplicated ∷ []

@@ -9,69 +9,72 @@ use Rattle.xr_types.specs.declared.device.DeviceEvent.{DeviceEvent}
 use Rattle.xr_types.specs.declared.device.DeviceEvent.TheVariants as event
 use Rattle.xr_types.specs.declared.names.CallName.{CallName}
 use Rattle.xr_types.specs.declared.names.CallName.TheVariants as call
-use Rattle.xr_model.specs.machine.Request.{Request, create_instance, destroy_instance, get_system, string_to_path, path_to_string, poll_event, create_session, destroy_session, begin_session, end_session, request_exit_session, create_reference_space, create_action_space, destroy_space, locate_space, create_action_set, destroy_action_set, create_action, destroy_action, suggest_bindings, attach_sets, sync_actions, get_boolean, get_float, get_vector, get_pose_active, create_swapchain, destroy_swapchain, acquire_image, wait_image, paint, release_image, wait_frame, begin_frame, end_frame, mark, await_mark, leave, device, next_frame, image_done, Entry, Exchange}
+use Rattle.xr_model.specs.machine.Calls.{Entry, Exchange}
+use Rattle.xr_types.specs.declared.calls.Call.{Call}
+use Rattle.xr_types.specs.declared.calls.Call.TheVariants as ask
 use Rattle.xr_types.specs.declared.frames.Shown.{Shown}
 use Rattle.xr_model.specs.machine.State.{Settings, State, opening}
 use Rattle.xr_model.specs.machine.Machine.{step}
 use Rattle.xr_model.specs.machine.History.{shown_if, calls_of}
 use Rattle.xr_model.specs.runs.Robin.{Agenda, script, events, compositor, next_call, in_round, is_ended}
 
-abbrev pub name_of_request : Request → CallName
-name_of_request (create_instance major minor) = call.CreateInstance
-name_of_request (destroy_instance instance) = call.DestroyInstance
-name_of_request (get_system instance form) = call.GetSystem
-name_of_request (string_to_path instance text) = call.StringToPath
-name_of_request (path_to_string instance path capacity) = call.PathToString
-name_of_request (poll_event instance) = call.PollEvent
-name_of_request (create_session instance system) = call.CreateSession
-name_of_request (destroy_session session) = call.DestroySession
-name_of_request (begin_session session view) = call.BeginSession
-name_of_request (end_session session) = call.EndSession
-name_of_request (request_exit_session session) = call.RequestExitSession
-name_of_request (create_reference_space session kind offset) = call.CreateReferenceSpace
-name_of_request (create_action_space session action sub offset) = call.CreateActionSpace
-name_of_request (destroy_space space) = call.DestroySpace
-name_of_request (locate_space space base time) = call.LocateSpace
-name_of_request (create_action_set instance name localized priority) = call.CreateActionSet
-name_of_request (destroy_action_set set) = call.DestroyActionSet
-name_of_request (create_action set name kind subs localized) = call.CreateAction
-name_of_request (destroy_action action) = call.DestroyAction
-name_of_request (suggest_bindings instance profile list) = call.SuggestBindings
-name_of_request (attach_sets session sets) = call.AttachSets
-name_of_request (sync_actions session active) = call.SyncActions
-name_of_request (get_boolean session action sub) = call.GetBoolean
-name_of_request (get_float session action sub) = call.GetFloat
-name_of_request (get_vector session action sub) = call.GetVector
-name_of_request (get_pose_active session action sub) = call.GetPoseActive
-name_of_request (create_swapchain session format width height fixed) = call.CreateSwapchain
-name_of_request (destroy_swapchain chain) = call.DestroySwapchain
-name_of_request (acquire_image chain) = call.AcquireImage
-name_of_request (wait_image chain timeout start) = call.WaitImage
-name_of_request (paint chain stamp) = call.Paint
-name_of_request (release_image chain) = call.ReleaseImage
-name_of_request (wait_frame session) = call.WaitFrame
-name_of_request (begin_frame session) = call.BeginFrame
-name_of_request (end_frame session time blend layers) = call.EndFrame
-name_of_request (mark number value) = call.Mark
-name_of_request (await_mark number) = call.Await
-name_of_request leave = call.Leave
-name_of_request (device what) = call.Device
-name_of_request next_frame = call.NextFrame
-name_of_request image_done = call.ImageDone
+-- the name by which a call is listed
+abbrev pub listed_name : Call → CallName
+listed_name (ask.CreateInstance major minor) = call.CreateInstance
+listed_name (ask.DestroyInstance instance) = call.DestroyInstance
+listed_name (ask.GetSystem instance form) = call.GetSystem
+listed_name (ask.StringToPath instance text) = call.StringToPath
+listed_name (ask.PathToString instance path capacity) = call.PathToString
+listed_name (ask.PollEvent instance) = call.PollEvent
+listed_name (ask.CreateSession instance system) = call.CreateSession
+listed_name (ask.DestroySession session) = call.DestroySession
+listed_name (ask.BeginSession session view) = call.BeginSession
+listed_name (ask.EndSession session) = call.EndSession
+listed_name (ask.RequestExitSession session) = call.RequestExitSession
+listed_name (ask.CreateReferenceSpace session kind offset) = call.CreateReferenceSpace
+listed_name (ask.CreateActionSpace session action sub offset) = call.CreateActionSpace
+listed_name (ask.DestroySpace space) = call.DestroySpace
+listed_name (ask.LocateSpace space base time) = call.LocateSpace
+listed_name (ask.CreateActionSet instance name localized priority) = call.CreateActionSet
+listed_name (ask.DestroyActionSet set) = call.DestroyActionSet
+listed_name (ask.CreateAction set name kind subs localized) = call.CreateAction
+listed_name (ask.DestroyAction action) = call.DestroyAction
+listed_name (ask.SuggestBindings instance profile list) = call.SuggestBindings
+listed_name (ask.AttachSets session sets) = call.AttachSets
+listed_name (ask.SyncActions session active) = call.SyncActions
+listed_name (ask.GetBoolean session action sub) = call.GetBoolean
+listed_name (ask.GetFloat session action sub) = call.GetFloat
+listed_name (ask.GetVector session action sub) = call.GetVector
+listed_name (ask.GetPoseActive session action sub) = call.GetPoseActive
+listed_name (ask.CreateSwapchain session format width height fixed) = call.CreateSwapchain
+listed_name (ask.DestroySwapchain chain) = call.DestroySwapchain
+listed_name (ask.AcquireImage chain) = call.AcquireImage
+listed_name (ask.WaitImage chain timeout start) = call.WaitImage
+listed_name (ask.Paint chain stamp) = call.Paint
+listed_name (ask.ReleaseImage chain) = call.ReleaseImage
+listed_name (ask.WaitFrame session) = call.WaitFrame
+listed_name (ask.BeginFrame session) = call.BeginFrame
+listed_name (ask.EndFrame session time blend layers) = call.EndFrame
+listed_name (ask.Mark number value) = call.Mark
+listed_name (ask.AwaitMark number) = call.Await
+listed_name ask.Leave = call.Leave
+listed_name (ask.Device what) = call.Device
+listed_name ask.NextFrame = call.NextFrame
+listed_name ask.ImageDone = call.ImageDone
 
 -- the mark that a call awaits, else 0
-abbrev pub mark_of : Request → ℕ
-mark_of (await_mark number) = number
+abbrev pub mark_of : Call → ℕ
+mark_of (ask.AwaitMark number) = number
 mark_of _ = 0
 
 -- when a wait for an image began, else 0
-abbrev pub start_of : Request → ℤ
-start_of (wait_image chain timeout start) = start
+abbrev pub start_of : Call → ℤ
+start_of (ask.WaitImage chain timeout start) = start
 start_of _ = pos 0
 
 -- a call at its place in the script
 abbrev pub made_at : ℕ → Exchange → Made
-made_at place t = record { op = place; name = name_of_request t.request; mark = mark_of t.request; start = start_of t.request; reply = t.outcome.reply; text = t.outcome.text }
+made_at place t = record { op = place; name = listed_name t.call; mark = mark_of t.call; start = start_of t.call; reply = t.outcome.reply; text = t.outcome.text }
 
 -- calls, from a place on
 abbrev pub made_from : ℕ → List Exchange → List Made
@@ -102,22 +105,22 @@ replies_in [] = []
 replies_in (t ∷ ts) = reply_if_shown t.outcome.shown t.outcome.reply ++ replies_in ts
 
 -- the events of the device's calls
-abbrev pub event_in : Request → List DeviceEvent
-event_in (device what) = what ∷ []
+abbrev pub event_in : Call → List DeviceEvent
+event_in (ask.Device what) = what ∷ []
 event_in _ = []
 
 abbrev pub events_in : List Exchange → List DeviceEvent
 events_in [] = []
-events_in (t ∷ ts) = event_in t.request ++ events_in ts
+events_in (t ∷ ts) = event_in t.call ++ events_in ts
 
 -- for each image that was given back, how many locked calls were made before
-abbrev pub done_at : State → Request → List ℕ
-done_at s image_done = s.core.locked ∷ []
+abbrev pub done_at : State → Call → List ℕ
+done_at s ask.ImageDone = s.core.locked ∷ []
 done_at s _ = []
 
 abbrev pub done_from : State → List Entry → List ℕ
 done_from s [] = []
-done_from s (e ∷ es) = done_at s e.request ++ done_from (step s e).0 es
+done_from s (e ∷ es) = done_at s e.call ++ done_from (step s e).0 es
 
 -- the next call of an actor of a run that can't go on; the compositor waits for a frame, since it may always give back an image
 abbrev pub mark_awaited : DeviceEvent → ℕ
@@ -125,7 +128,7 @@ mark_awaited (event.Await number) = number
 mark_awaited _ = 0
 
 abbrev pub waiting_of : Agenda → Waiting
-waiting_of (script app place ops values clock) = record { actor = App app; op = place; name = name_of_request (next_call (script app place ops values clock)) }
+waiting_of (script app place ops values clock) = record { actor = App app; op = place; name = listed_name (next_call (script app place ops values clock)) }
 waiting_of (events e es) = record { actor = Device; op = mark_awaited e; name = call.Await }
 waiting_of (compositor held) = record { actor = Compositor; op = 0; name = call.NextFrame }
 

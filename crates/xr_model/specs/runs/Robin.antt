@@ -10,7 +10,10 @@ use Rattle.xr_types.specs.declared.calls.Gives.TheVariants.{Ended}
 use Rattle.xr_types.specs.declared.scenario.Op.{Op}
 use Rattle.xr_types.specs.declared.scenario.Scenario.{Scenario}
 use Rattle.xr_model.specs.device_text.DeviceText.{Ending, ends, garbled_at}
-use Rattle.xr_model.specs.machine.Request.{Request, wait_image, leave, device, next_frame, image_done, Entry, Outcome, is_actor, is_locked}
+use Rattle.xr_types.specs.CallKinds.{is_locked}
+use Rattle.xr_model.specs.machine.Calls.{Entry, Outcome, is_actor}
+use Rattle.xr_types.specs.declared.calls.Call.{Call}
+use Rattle.xr_types.specs.declared.calls.Call.TheVariants as ask
 use Rattle.xr_model.specs.machine.State.{Settings, State, opening}
 use Rattle.xr_model.specs.machine.Machine.{step, ready}
 use Rattle.xr_model.specs.runs.NameValues.{no_values, with_name_value}
@@ -31,17 +34,17 @@ actor_of (events e es) = Device
 actor_of (compositor held) = Compositor
 
 -- a wait for an image begins at this clock
-abbrev pub with_start : ℤ → Request → Request
-with_start clock (wait_image chain timeout start) = wait_image chain timeout clock
+abbrev pub with_start : ℤ → Call → Call
+with_start clock (ask.WaitImage chain timeout start) = ask.WaitImage chain timeout clock
 with_start clock what = what
 
 -- the call that an actor makes next
-abbrev pub next_call : Agenda → Request
-next_call (script app place [] values clock) = leave
+abbrev pub next_call : Agenda → Call
+next_call (script app place [] values clock) = ask.Leave
 next_call (script app place (o ∷ os) values clock) = with_start clock (request_for values o)
-next_call (events e es) = device e
-next_call (compositor zero) = next_frame
-next_call (compositor (suc held)) = image_done
+next_call (events e es) = ask.Device e
+next_call (compositor zero) = ask.NextFrame
+next_call (compositor (suc held)) = ask.ImageDone
 
 abbrev pub is_ended : Gives → Bool
 is_ended Ended = true
@@ -53,7 +56,7 @@ device_agendas [] = []
 device_agendas (e ∷ es) = events e es ∷ []
 
 -- the clock after an application's last locked call, once it made this call, which led to this state
-abbrev pub clock_behind : ℤ → Request → State → ℤ
+abbrev pub clock_behind : ℤ → Call → State → ℤ
 clock_behind clock what s = if is_locked what then s.core.device.clock else clock
 
 -- the actor after its call, which led to this state, and nobody where it is finished
@@ -66,7 +69,7 @@ agenda_after (compositor held) s outcome = if is_ended outcome.reply.gives then 
 
 -- whether an actor's next call is ready; neither a handle nor want of memory decides that
 abbrev pub is_next_ready : State → Agenda → Bool
-is_next_ready s agenda = ready s (record { actor = actor_of agenda; request = next_call agenda; given = 0; short = false })
+is_next_ready s agenda = ready s (record { actor = actor_of agenda; call = next_call agenda; given = 0; short = false })
 
 -- the actor whose turn makes a call, with those that were passed over before it and those behind it
 pub record NextMove : Type 0 where
@@ -86,7 +89,7 @@ agendas_after m s outcome = m.behind ++ m.passed ++ agenda_after m.agenda s outc
 -- The entry is the call of this turn.
 abbrev pub IsCallOf : Option NextMove → Entry → Type 0
 IsCallOf None e = ⊥
-IsCallOf (Some m) e = (e.actor ≡ actor_of m.agenda) × (e.request ≡ next_call m.agenda)
+IsCallOf (Some m) e = (e.actor ≡ actor_of m.agenda) × (e.call ≡ next_call m.agenda)
 
 abbrev pub agendas_behind : Option NextMove → State → Outcome → List Agenda
 agendas_behind None s outcome = []

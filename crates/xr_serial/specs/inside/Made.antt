@@ -6,7 +6,9 @@ use Rattle.xr_types.specs.declared.calls.Gives.{Gives}
 use Rattle.xr_types.specs.declared.calls.Reply.{Reply}
 use Rattle.xr_types.specs.declared.calls.Gives.TheVariants as gives
 use Rattle.xr_types.specs.declared.frames.Shown.{Shown}
-use Rattle.xr_model.specs.machine.Request.{Request, next_frame, Entry, Outcome, Exchange, is_actor}
+use Rattle.xr_model.specs.machine.Calls.{Entry, Outcome, Exchange, is_actor}
+use Rattle.xr_types.specs.declared.calls.Call.{Call}
+use Rattle.xr_types.specs.declared.calls.Call.TheVariants as ask
 use Rattle.xr_model.specs.machine.CoreCalls.{entry_of}
 use Rattle.xr_model.specs.machine.State.{State}
 use Rattle.xr_model.specs.machine.Machine.{IsAllowed, ready, step}
@@ -14,27 +16,27 @@ use Rattle.xr_types.specs.declared.made.Made.{Made}
 use Rattle.xr_serial.specs.declared.calls.Listed.{Listed}
 
 -- An answered call: its entry is allowed and ready, and the outcome and the new state are the machine's.
-pub record IsAnswered (old new : State) (who : Actor) (what : Request) (outcome : Outcome) : Type 0 where
+pub record IsAnswered (old new : State) (who : Actor) (what : Call) (outcome : Outcome) : Type 0 where
   pub allowed : IsAllowed old (entry_of who what outcome.reply)
   pub is_ready : ready old (entry_of who what outcome.reply) ≡ true
   pub leads : new ≡ (step old (entry_of who what outcome.reply)).0
   pub comes : (step old (entry_of who what outcome.reply)).1 ≡ outcome
 
 -- the call before it is answered
-abbrev pub asked : Actor → Request → Entry
-asked who what = record { actor = who; request = what; given = 0; short = false }
+abbrev pub asked : Actor → Call → Entry
+asked who what = record { actor = who; call = what; given = 0; short = false }
 
 -- the frame that a call shows by its reply, where one is left in its place; only the compositor's call shows any
 abbrev pub frame_told : Gives → Shown → Option Shown
 frame_told gives.Shown frame = Some frame
 frame_told _ frame = None
 
-abbrev pub frame_shown : Request → Gives → Shown → Option Shown
-frame_shown next_frame given frame = frame_told given frame
+abbrev pub frame_shown : Call → Gives → Shown → Option Shown
+frame_shown ask.NextFrame given frame = frame_told given frame
 frame_shown _ given frame = None
 
 -- what an answered call came to, by the frame that was left in its place
-abbrev pub outcome_with : Request → Reply → List ℕ → Shown → Outcome
+abbrev pub outcome_with : Call → Reply → List ℕ → Shown → Outcome
 outcome_with what reply text frame = record { reply = reply; text = text; shown = frame_shown what reply.gives frame }
 
 -- ---- a call that its actor keeps
@@ -44,31 +46,31 @@ abbrev pub made_with : Listed → Outcome → Made
 made_with listed outcome = record { op = listed.op; name = listed.name; mark = listed.mark; start = listed.start; reply = outcome.reply; text = outcome.text }
 
 -- It was made, and stands at the end of the list.
-pub record CallMade (old new : State) (who : Actor) (what : Request) (listed : Listed) (list after : List Made) : Type 0 where
+pub record CallMade (old new : State) (who : Actor) (what : Call) (listed : Listed) (list after : List Made) : Type 0 where
   pub outcome : Outcome
   pub call : IsAnswered old new who what outcome
   pub kept : after ≡ list ++ made_with listed outcome ∷ []
 
 -- It has to wait, and all is as it was.
-pub record CallWaits (old new : State) (who : Actor) (what : Request) (list after : List Made) : Type 0 where
+pub record CallWaits (old new : State) (who : Actor) (what : Call) (list after : List Made) : Type 0 where
   pub waits : ready old (asked who what) ≡ false
   pub same : new ≡ old
   pub kept : after ≡ list
 
-abbrev pub CallTurn : State → State → Actor → Request → Listed → List Made → List Made → Bool → Type 0
+abbrev pub CallTurn : State → State → Actor → Call → Listed → List Made → List Made → Bool → Type 0
 CallTurn old new who what listed list after true = CallMade old new who what listed list after
 CallTurn old new who what listed list after false = CallWaits old new who what list after
 
 -- ---- a call of the compositor, which puts its frame into a place
 
 -- It was made, or it has to wait and all is as it was.
-abbrev pub ComposedOrWaits : State → State → Request → Shown → Option Reply → Type 0
+abbrev pub ComposedOrWaits : State → State → Call → Shown → Option Reply → Type 0
 ComposedOrWaits old new what frame (Some reply) = (text : List ℕ) × IsAnswered old new Compositor what (outcome_with what reply text frame)
 ComposedOrWaits old new what frame None = (new ≡ old) × (ready old (asked Compositor what) ≡ false)
 
 -- a call and what it came to
-abbrev pub exchange_of : Request → Outcome → Exchange
-exchange_of what outcome = record { request = what; outcome = outcome }
+abbrev pub exchange_of : Call → Outcome → Exchange
+exchange_of what outcome = record { call = what; outcome = outcome }
 
 -- each actor's calls, once this actor has made one more
 abbrev pub calls_with : (Actor → List Exchange) → Actor → Exchange → Actor → List Exchange

@@ -13,8 +13,8 @@ use Rattle.xr_types.specs.declared.scenario.Op.{Op}
 use Rattle.xr_types.specs.declared.scenario.Scenario.{Scenario}
 use Rattle.xr_types.specs.Frames.{PendingFrame}
 use Rattle.xr_io.specs.Outside.{Rose}
-use Rattle.xr_model.specs.machine.Request as request
-use Rattle.xr_model.specs.machine.Request.{Outcome, next_frame}
+use Rattle.xr_model.specs.machine.Calls.{Outcome, Exchange}
+use Rattle.xr_types.specs.declared.calls.Call.TheVariants as ask
 use Rattle.xr_model.specs.machine.State.{State}
 use Rattle.xr_model.specs.runs.Scripts.{FollowsFrom, FollowsBy}
 use Rattle.xr_model.specs.device_text.DeviceText.{DeviceStream, Ending}
@@ -33,16 +33,16 @@ use Rattle.xr_serial.specs.Ran.{Gave, AreLineEvents, GoesOn}
 -- ---- an application
 
 -- so many ops of its script were made, by these calls, and gave these values
-pub record AppKept (ops : List Op) (app : AppState) (calls : List request.Exchange) : Type 0 where
+pub record AppKept (ops : List Op) (app : AppState) (calls : List Exchange) : Type 0 where
   pub within : app.made ≤ length ops
   pub named : length app.names ≡ length ops
   pub list_is : app.calls ≡ made_from 1 calls
   pub count : length calls ≡ app.made + (if app.has_left then 1 else 0)
-  pub follows : (all : Bool) (more : List request.Exchange) → app.has_left ≡ false → FollowsFrom all (app.made + 1) app.names (drop app.made ops) more → FollowsBy all ops (calls ++ more)
+  pub follows : (all : Bool) (more : List Exchange) → app.has_left ≡ false → FollowsFrom all (app.made + 1) app.names (drop app.made ops) more → FollowsBy all ops (calls ++ more)
   pub whole : (all : Bool) → app.has_left ≡ true → FollowsBy all ops calls
 
 -- each of them, and the state knows who has left
-pub record AppsKept (scripts : List (List Op)) (s : State) (apps : List AppState) (calls : Actor → List request.Exchange) : Type 0 where
+pub record AppsKept (scripts : List (List Op)) (s : State) (apps : List AppState) (calls : Actor → List Exchange) : Type 0 where
   pub count : length apps ≡ length scripts
   pub known : s.core.apps ≡ length scripts
   pub left : s.core.left ≡ map (λ app. app.has_left) apps
@@ -68,7 +68,7 @@ Came start now given closing true = GaveAll start.remaining given closing start.
 Came start now given closing false = GivesMore start.remaining now.remaining given × (closing ≡ [])
 
 -- its calls, and what it has told of which the call isn't made yet
-pub record DeviceKept (side : SideState) (calls : List request.Exchange) (start now : Prospect) : Type 0 where
+pub record DeviceKept (side : SideState) (calls : List Exchange) (start now : Prospect) : Type 0 where
   pub given : List DeviceEvent
   pub closing : List DeviceEvent
   pub begun : given ++ closing ≡ events_in calls ++ pending_list side.pending
@@ -86,18 +86,18 @@ pub record DeviceKept (side : SideState) (calls : List request.Exchange) (start 
 -- ---- the compositor
 
 -- behind each of these calls it goes on
-abbrev pub AllGoOn : List request.Exchange → Type 0
+abbrev pub AllGoOn : List Exchange → Type 0
 AllGoOn [] = Unit {0}
 AllGoOn (t ∷ ts) = GoesOn t × AllGoOn ts
 
 -- none of its calls was told the end, or the last was
-abbrev pub EndKept : Option Reply → List request.Exchange → Type 0
+abbrev pub EndKept : Option Reply → List Exchange → Type 0
 EndKept None calls = AllGoOn calls
 EndKept (Some reply) calls =
-    (front : List request.Exchange) × (last : Outcome) × (calls ≡ front ++ exchange_of next_frame last ∷ []) × AllGoOn front × (last.reply ≡ reply) × (reply.gives ≡ Ended)
+    (front : List Exchange) × (last : Outcome) × (calls ≡ front ++ exchange_of ask.NextFrame last ∷ []) × AllGoOn front × (last.reply ≡ reply) × (reply.gives ≡ Ended)
 
 -- its frames and their replies are those of its calls
-pub record CompositorKept (c : CompositorState) (calls : List request.Exchange) : Type 0 where
+pub record CompositorKept (c : CompositorState) (calls : List Exchange) : Type 0 where
   pub frames_are : c.frames ≡ frames_in calls
   pub replies_are : c.replies ≡ replies_in calls
   pub end : EndKept c.ended calls
@@ -154,7 +154,7 @@ abbrev pub shown_work : State → ℕ
 shown_work s = frames_work s.core.frames.pending + length s.cells.held
 
 -- What a turn that makes no call keeps whole: what each actor has made, and how many calls are still to come at most.
-pub record RunKept (scenario : Scenario) (s : State) (run : RunState) (calls : Actor → List request.Exchange) (start now : Prospect) : Type 0 where
+pub record RunKept (scenario : Scenario) (s : State) (run : RunState) (calls : Actor → List Exchange) (start now : Prospect) : Type 0 where
   pub apps : AppsKept scenario.scripts s run.apps calls
   pub device : DeviceKept run.side (calls Device) start now
   pub compositor : CompositorKept run.compositor (calls Compositor)
@@ -162,14 +162,14 @@ pub record RunKept (scenario : Scenario) (s : State) (run : RunState) (calls : A
   pub work : calls_made s run + (apps_work scenario.scripts run.apps + side_work run.side now.bound + end_work run.compositor.ended + shown_work s) ≤ most_calls scenario.scripts
 
 -- the events of the calls that the device has made, and what it has told beside them
-abbrev pub events_told : SideState → List request.Exchange → List DeviceEvent
+abbrev pub events_told : SideState → List Exchange → List DeviceEvent
 events_told side calls = events_in calls ++ pending_list side.pending
 
 -- what a run with these calls has made
-abbrev pub trace_of : RunState → (Actor → List request.Exchange) → Trace
+abbrev pub trace_of : RunState → (Actor → List Exchange) → Trace
 trace_of run calls = record { calls = calls; clocks = map (λ app. app.clock) run.apps; done = run.compositor.done }
 
 pub record RunInvariant (scenario : Scenario) (turn idle : ℕ) (s : State) (run : RunState) (start now : Prospect) : Type 0 where
-  pub calls : Actor → List request.Exchange
+  pub calls : Actor → List Exchange
   pub standing : Standing scenario turn idle s run.side.over (events_told run.side (calls Device)) (parts_of scenario s run) (trace_of run calls)
   pub kept : RunKept scenario s run calls start now

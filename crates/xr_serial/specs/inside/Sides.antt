@@ -12,7 +12,9 @@ use Rattle.xr_types.specs.declared.calls.Reply.{Reply}
 use Rattle.xr_types.specs.declared.frames.Shown.{Shown}
 use Rattle.xr_types.specs.declared.scenario.Op.{Op}
 use Rattle.xr_types.specs.declared.scenario.Op.TheVariants as op
-use Rattle.xr_model.specs.machine.Request.{Request, leave, device, next_frame, image_done, Outcome, Exchange}
+use Rattle.xr_model.specs.machine.Calls.{Outcome, Exchange}
+use Rattle.xr_types.specs.declared.calls.Call.{Call}
+use Rattle.xr_types.specs.declared.calls.Call.TheVariants as ask
 use Rattle.xr_model.specs.machine.State.{State}
 use Rattle.xr_model.specs.machine.Frames.{is_empty}
 use Rattle.xr_model.specs.scenario.ScriptForm.{IsInRange}
@@ -52,7 +54,7 @@ abbrev pub app_left : AppState → Exchange → ℤ → AppState
 app_left app t clock = record app { calls = app.calls ++ made_at (app.made + 1) t ∷ []; clock = clock; has_left = true }
 
 -- what the call of an op asks, where a wait begins at this clock
-abbrev pub op_request : AppState → Op → Request
+abbrev pub op_request : AppState → Op → Call
 op_request app op = with_start app.clock (request_for app.names op)
 
 -- The call of its next op was made.
@@ -79,8 +81,8 @@ OpTurn number ops old new s after false = OpWaits number ops old new s after
 -- It has left.
 pub record Leaves (number : ℕ) (old new : AppState) (s after : State) : Type 0 where
   pub outcome : Outcome
-  pub call : IsAnswered s after (App number) leave outcome
-  pub app : new ≡ app_left old (exchange_of leave outcome) after.core.device.clock
+  pub call : IsAnswered s after (App number) ask.Leave outcome
+  pub app : new ≡ app_left old (exchange_of ask.Leave outcome) after.core.device.clock
 
 -- ---- the device
 
@@ -107,12 +109,12 @@ side_with side event t = record side { pending = None; events = side.events ++ e
 -- the event's call was made
 pub record EventMade (event : DeviceEvent) (old new : SideState) (s after : State) : Type 0 where
   pub outcome : Outcome
-  pub call : IsAnswered s after Device (device event) outcome
-  pub side : new ≡ side_with old event (exchange_of (device event) outcome)
+  pub call : IsAnswered s after Device (ask.Device event) outcome
+  pub side : new ≡ side_with old event (exchange_of (ask.Device event) outcome)
 
 -- it has to wait, and all is as it was
 pub record EventWaits (event : DeviceEvent) (old new : SideState) (s after : State) : Type 0 where
-  pub waits : ready s (asked Device (device event)) ≡ false
+  pub waits : ready s (asked Device (ask.Device event)) ≡ false
   pub same : after ≡ s
   pub side : new ≡ old
 
@@ -131,13 +133,13 @@ compositor_with c reply (Some frame) = record c { frames = c.frames ++ frame ∷
 pub record FrameMade (old new : CompositorState) (s after : State) : Type 0 where
   pub outcome : Outcome
   pub unheld : s.cells.held ≡ []
-  pub call : IsAnswered s after Compositor next_frame outcome
+  pub call : IsAnswered s after Compositor ask.NextFrame outcome
   pub compositor : new ≡ compositor_with old outcome.reply outcome.shown
 
 -- it has to wait for a frame, holds no image, and all is as it was
 pub record FrameWaits (old new : CompositorState) (s after : State) : Type 0 where
   pub unheld : s.cells.held ≡ []
-  pub waits : ready s (asked Compositor next_frame) ≡ false
+  pub waits : ready s (asked Compositor ask.NextFrame) ≡ false
   pub same : after ≡ s
   pub compositor : new ≡ old
 
@@ -149,5 +151,5 @@ FrameTurn old new s after false = FrameWaits old new s after
 pub record ImageReturned (old new : CompositorState) (s after : State) : Type 0 where
   pub outcome : Outcome
   pub holds : is_empty s.cells.held ≡ false
-  pub call : IsAnswered s after Compositor image_done outcome
+  pub call : IsAnswered s after Compositor ask.ImageDone outcome
   pub compositor : new ≡ record old { done = old.done ++ s.core.locked ∷ [] }

@@ -3,7 +3,6 @@ ghost use Rattle.std.specs.Prelude.{IsTrue, ℤ};
 ghost use Rattle.xr_types.specs.declared.calls.Actor.TheVariants.{App};
 ghost use Rattle.xr_model.specs.machine.CoreCalls.{MayAsk};
 ghost use Rattle.xr_model.specs.machine.History.{StartsAt};
-ghost use Rattle.xr_model.specs.machine.Request.{request_of};
 
 use xr_types::{Call, Code, Form, Gives, Reply};
 
@@ -48,8 +47,8 @@ pub(crate) fn call_of(kind: u64, instance: u64) -> Call<'static> {
 
 /// Whether an application may make this call, lent no bytes.
 pub(crate) fn is_own(app: u8, call: &Call<'_>) -> bool
-    ensures asks { IsTrue result → MayAsk (App app) (request_of call.now) 0 }
-    ensures starts { IsTrue result → (clock : ℤ) → StartsAt clock (request_of call.now) }
+    ensures asks { IsTrue result → MayAsk (App app) call.now 0 }
+    ensures starts { IsTrue result → (clock : ℤ) → StartsAt clock call.now }
 {
     let _app = app;
     matches!(

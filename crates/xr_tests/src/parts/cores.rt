@@ -1,7 +1,6 @@
 // A core over cells that are lent, beside one over cells of its own, and the words of what getters answer from.
 ghost use Rattle.std.specs.Prelude.{◌<◌, ◌^◌, IsTrue, length};
 ghost use Rattle.xr_types.specs.declared.calls.Actor.TheVariants.{App, Compositor, Device};
-ghost use Rattle.xr_model.specs.machine.Request.{request_of};
 ghost use Rattle.xr_model.specs.machine.CoreCalls.{MayAsk, MayMake};
 ghost use Rattle.xr_model.specs.machine.OverCells.{AppliesOver};
 ghost use Rattle.xr_model.specs.machine.PlainImages.{PlainDoes};
@@ -11,7 +10,7 @@ use std::test::Fail;
 use xr_chains::PlainCells;
 use xr_core::{Core, PlainCore};
 use xr_types::{
-    ActionType, Actor, Blend, Call, Code, DeviceEvent, Gives, Layer, RefKind, Shown, Step,
+    ActionType, Actor, Blend, Call, Code, DeviceEvent, Gives, Items, Layer, RefKind, Shown, Step,
     SubImage, View, ViewConfig, Wish,
 };
 
@@ -25,7 +24,7 @@ fn apply_lent(
     shown: &mut Shown,
 ) -> Step
     requires calls { core.old.kept.locked < 2 ^ 44 }
-    requires may { MayMake core.old.kept who (request_of call.now) (length text.old) }
+    requires may { MayMake core.old.kept who call.now (length text.old) }
     ensures { AppliesOver PlainDoes (record { core = core.old; cells = cells.old; lent = record { text = text.old; frame = shown.old } }) (record { core = core.new; cells = cells.new; lent = record { text = text.new; frame = shown.new } }) who call.now result }
 {
     let mut lent = Lent::of(cells);
@@ -34,7 +33,7 @@ fn apply_lent(
 
 /// Whether the only application may make this call, and be lent no bytes.
 fn is_own(call: &Call<'_>) -> bool
-    ensures { IsTrue result → MayAsk (App 1) (request_of call.now) 0 }
+    ensures { IsTrue result → MayAsk (App 1) call.now 0 }
 {
     matches!(
         call,
@@ -63,14 +62,14 @@ fn is_own(call: &Call<'_>) -> bool
 
 /// Whether the compositor may make this call.
 fn is_compositors(call: &Call<'_>) -> bool
-    ensures { IsTrue result → MayAsk Compositor (request_of call.now) 0 }
+    ensures { IsTrue result → MayAsk Compositor call.now 0 }
 {
     matches!(call, Call::NextFrame | Call::ImageDone)
 }
 
 /// Whether the device may make this call: it wishes something, or its clock goes on.
 fn is_devices(call: &Call<'_>) -> bool
-    ensures { IsTrue result → MayAsk Device (request_of call.now) 0 }
+    ensures { IsTrue result → MayAsk Device call.now 0 }
 {
     matches!(
         call,
@@ -237,7 +236,7 @@ fn submit<M: Machine>(machine: &mut M, scene: Scene) -> Option<Code> {
             session,
             time: state.time,
             blend: Blend::Opaque,
-            layers: &[quad],
+            layers: Items::new(&[quad]),
         },
     )
 }
@@ -335,7 +334,7 @@ fn attach<M: Machine>(machine: &mut M) -> [u64; 3] {
     let instance = handle(machine, &Call::CreateInstance { major: 1, minor: 0 });
     let system = 1;
     let session = handle(machine, &Call::CreateSession { instance, system });
-    let text = b"/user/hand/left";
+    let text = Items::new(b"/user/hand/left");
     let left = match given(machine, &Call::StringToPath { instance, text }) {
         Gives::Number(atom) => atom,
         _ => 0,
@@ -344,8 +343,8 @@ fn attach<M: Machine>(machine: &mut M) -> [u64; 3] {
         machine,
         &Call::CreateActionSet {
             instance,
-            name: b"play",
-            localized: b"Play",
+            name: Items::new(b"play"),
+            localized: Items::new(b"Play"),
             priority: 0,
         },
     );
@@ -353,17 +352,17 @@ fn attach<M: Machine>(machine: &mut M) -> [u64; 3] {
         machine,
         &Call::CreateAction {
             set,
-            name: b"aim",
+            name: Items::new(b"aim"),
             kind: ActionType::Vector,
-            subs: &[left],
-            localized: b"Aim",
+            subs: Items::new(&[left]),
+            localized: Items::new(b"Aim"),
         },
     );
     let _ = given(
         machine,
         &Call::AttachSets {
             session,
-            sets: &[set],
+            sets: Items::new(&[set]),
         },
     );
     [session, left, action]

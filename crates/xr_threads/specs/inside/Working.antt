@@ -6,7 +6,7 @@ use Rattle.xr_types.specs.declared.calls.Actor.{Actor}
 use Rattle.xr_types.specs.declared.calls.Actor.TheVariants.{App}
 use Rattle.xr_types.specs.declared.made.Made.{Made}
 use Rattle.xr_types.specs.declared.scenario.Scenario.{Scenario}
-use Rattle.xr_model.specs.machine.Request.{Exchange}
+use Rattle.xr_model.specs.machine.Calls.{Exchange}
 use Rattle.xr_model.specs.runs.Lists.{made_from}
 use Rattle.xr_model.specs.runs.Scripts.{Follows}
 use Rattle.xr_rule.specs.View.{calls_in}

@@ -4,7 +4,7 @@ use Rattle.atomic_table.specs.Seated.{TableId}
 use Rattle.xr_types.specs.declared.calls.NoMemory.{NoMemory}
 use Rattle.xr_types.specs.declared.calls.Reply.{Reply}
 use Rattle.xr_types.specs.declared.frames.Shown.{Shown}
-use Rattle.xr_model.specs.machine.Request.{Exchange}
+use Rattle.xr_model.specs.machine.Calls.{Exchange}
 use Rattle.xr_model.specs.runs.Lists.{frames_in, replies_in}
 use Rattle.xr_runtime.specs.declared.passes.CompositorPass.{CompositorPass}
 use Rattle.xr_runtime.specs.Passes.{IsCompositor}

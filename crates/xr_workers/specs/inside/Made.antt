@@ -2,38 +2,33 @@
 use Rattle.std.specs.Prelude.{◌≡◌, ℕ, List, [], ◌∷◌, take, IfSome}
 use Rattle.atomic_table.specs.Seated.{TableId}
 use Rattle.xr_types.specs.declared.calls.Reply.{Reply}
-use Rattle.xr_types.specs.declared.frames.Shown.{Shown}
-use Rattle.xr_model.specs.machine.Request.{Request, Exchange}
+use Rattle.xr_model.specs.machine.Calls.{Exchange}
+use Rattle.xr_types.specs.declared.calls.Call.{Call}
 use Rattle.xr_model.specs.laws.MomentLaws.{is_leave}
 use Rattle.xr_runtime.specs.declared.passes.AppPass.{AppPass}
-use Rattle.xr_runtime.specs.Passes.{IsApp, AppCalls}
-use Rattle.xr_scenario_calls.specs.Lent.{lent_size, written_size}
+use Rattle.xr_runtime.specs.Passes.{IsApp}
+use Rattle.xr_types.specs.CallKinds.{lent_size, written_size}
 use Rattle.xr_workers.specs.declared.script.Asked.{Asked}
 use Rattle.xr_workers.specs.Workers.{Adds}
 
--- the call was made over this text, which left that one
-abbrev pub AnswersText : TableId → AppPass → Request → List ℕ → List ℕ → Reply → AppPass → Type 0
-AnswersText table old what before after reply new =
-    (frame : Shown) × (left : Shown) × AppCalls table old what (record { text = before; frame = frame }) (record { text = after; frame = left }) reply new
-
 -- The call is one more of the pass's own, what it wrote stands at the front of what it was lent, and the pass keeps its promise.
-pub record CallMade (table : TableId) (old : AppPass) (what : Request) (text : List ℕ) (reply : Reply) (new : AppPass) : Type 0 where
+pub record CallMade (table : TableId) (old : AppPass) (what : Call) (text : List ℕ) (reply : Reply) (new : AppPass) : Type 0 where
   pub is : IsApp table new
   pub same : new.app ≡ old.app
   pub left_is : new.left ≡ is_leave what
   pub exchange : Exchange
-  pub asks : exchange.request ≡ what
+  pub asks : exchange.call ≡ what
   pub replies : exchange.outcome.reply ≡ reply
   pub writes : exchange.outcome.text ≡ take (written_size reply.gives (lent_size what)) text
   pub made : Adds old.seat.me.0.know new.seat.me.0.know (exchange ∷ [])
 
 -- The same of an op's call, of which the text was copied unless memory was short.
-pub record AskedBy (table : TableId) (old : AppPass) (what : Request) (asked : Asked) (new : AppPass) : Type 0 where
+pub record AskedBy (table : TableId) (old : AppPass) (what : Call) (asked : Asked) (new : AppPass) : Type 0 where
   pub is : IsApp table new
   pub same : new.app ≡ old.app
   pub left_is : new.left ≡ is_leave what
   pub exchange : Exchange
-  pub asks : exchange.request ≡ what
+  pub asks : exchange.call ≡ what
   pub replies : exchange.outcome.reply ≡ asked.reply
   pub writes : IfSome asked.text (λ text. text ≡ exchange.outcome.text)
   pub made : Adds old.seat.me.0.know new.seat.me.0.know (exchange ∷ [])

@@ -3,7 +3,7 @@ use Rattle.std.specs.Prelude.{◌≡◌, ◌<◌, ◌+◌, ℕ, true, false, Lis
 use Rattle.atomic_table.specs.Seated.{TableId}
 use Rattle.xr_types.specs.declared.made.Made.{Made}
 use Rattle.xr_types.specs.declared.scenario.Op.{Op}
-use Rattle.xr_model.specs.machine.Request.{Exchange}
+use Rattle.xr_model.specs.machine.Calls.{Exchange}
 use Rattle.xr_model.specs.runs.Lists.{made_at, made_from}
 use Rattle.xr_model.specs.runs.NameValues.{no_values, with_name_value}
 use Rattle.xr_model.specs.runs.Scripts.{request_for, unstarted}
@@ -16,7 +16,7 @@ abbrev pub Leads : ℕ → List ℕ → List Op → List Exchange → List ℕ �
 Leads place values [] [] last = values ≡ last
 Leads place values [] (t ∷ ts) last = ⊥
 Leads place values (o ∷ os) [] last = ⊥
-Leads place values (o ∷ os) (t ∷ ts) last = (unstarted t.request ≡ request_for values o) × Leads (place + 1) (with_name_value values place o t.outcome.reply) os ts last
+Leads place values (o ∷ os) (t ∷ ts) last = (unstarted t.call ≡ request_for values o) × Leads (place + 1) (with_name_value values place o t.outcome.reply) os ts last
 
 -- So many ops of the script were made by these calls, and the application is still there.
 pub record MadeOps (table : TableId) (ops : List Op) (count : ℕ) (values : List ℕ) (old new : AppPass) (calls : List Exchange) : Type 0 where
@@ -33,7 +33,7 @@ pub record MadeOp (table : TableId) (place : ℕ) (o : Op) (old new : AppPass) (
   pub stays : new.left ≡ false
   pub call : Exchange
   pub adds : Adds old.seat.me.0.know new.seat.me.0.know (call ∷ [])
-  pub asks : unstarted call.request ≡ request_for names o
+  pub asks : unstarted call.call ≡ request_for names o
   pub names_are : learned ≡ with_name_value names place o call.outcome.reply
   pub lists : IfSome listed (λ made. made ≡ made_at place call)
 

@@ -7,7 +7,8 @@ use Rattle.xr_types.specs.declared.limits.TheConstants.{MOST_DEVICE}
 use Rattle.xr_types.specs.declared.made.Made.{Made}
 use Rattle.xr_device.specs.Prospect.{Prospect}
 use Rattle.xr_device.specs.Answers.{ReadsOn}
-use Rattle.xr_model.specs.machine.Request.{device, Outcome, Exchange}
+use Rattle.xr_model.specs.machine.Calls.{Outcome, Exchange}
+use Rattle.xr_types.specs.declared.calls.Call.TheVariants as ask
 use Rattle.xr_runtime.specs.declared.passes.DevicePass.{DevicePass}
 use Rattle.xr_runtime.specs.Passes.{IsDevice}
 use Rattle.xr_serial.specs.inside.Made.{exchange_of}
@@ -19,7 +20,7 @@ use Rattle.xr_workers.specs.Workers.{Adds}
 pub record MadeEvent (table : TableId) (old : DevicePass) (event : DeviceEvent) (reply : Reply) (new : DevicePass) : Type 0 where
   pub is : IsDevice table new
   pub outcome : Outcome
-  pub adds : Adds old.seat.me.0.know new.seat.me.0.know (exchange_of (device event) outcome ∷ [])
+  pub adds : Adds old.seat.me.0.know new.seat.me.0.know (exchange_of (ask.Device event) outcome ∷ [])
   pub replies : outcome.reply ≡ reply
   pub writes : outcome.text ≡ []
 

@@ -5,8 +5,8 @@ use Rattle.xr_scenario.specs.LoadLaws.{IsOneShortScript}
 use Rattle.xr_scenario.proofs.LoadForm.{loads_can_be_run}
 use Rattle.xr_scenario.proofs.load.generate.Goals as goal
 
-pub returns-in-Ok-push-clause-fits : goal.returns-in-Ok-push-clause-fits
-returns-in-Ok-push-clause-fits c =
+pub returns-clause-fits : goal.returns-clause-fits
+returns-clause-fits c =
     let same : c.new.result ≡ load_script c.args.n ∷ [] = search rules in
     let most : c.args.n ≤ MOST_LOAD = search rules in
     subst (λ scripts. IsOneShortScript (record { version = 1; scripts = scripts })) (sym same) (loads_can_be_run c.args.n most)

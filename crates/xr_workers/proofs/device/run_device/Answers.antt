@@ -10,7 +10,7 @@ use Rattle.xr_workers.specs.inside.Telling.{MadeEvents}
 use Rattle.xr_workers.proofs.EventsMade.{told_none, told_event, told_at, few_listed, event_calls, ran_device}
 use Rattle.xr_workers.proofs.ScriptsMade.{op_gated}
 use Rattle.xr_workers.proofs.device.run_device.Goals as goal
-use Rattle.xr_workers.proofs.device.run_device.Goals.{in-Some-event+in-Ok+in-Ok-push, in_default}
+use Rattle.xr_workers.proofs.device.run_device.Goals.{in-Some-event+in_ok-push+in_ok-push-2, in_default}
 
 pub overflow_cast-made : goal.overflow_cast-made
 overflow_cast-made g c =
@@ -35,7 +35,7 @@ returns-then-told-clause-ran g c =
     let over = c.fetch-told.result.over in
     let before = c.loop.invariant.told in
     let t : MadeEvents table start now2 c.args.pass.now c.match-told.pass c.match-told.events.items c.match-told.calls.items over = elim c.match-told.branch [
-      | in-Some-event+in-Ok+in-Ok-push w ↦
+      | in-Some-event+in_ok-push+in_ok-push-2 w ↦
           let f : Fetched now now2 (Some w.in-Some-event.event) over = subst (λ (e : Option DeviceEvent). Fetched now now2 e over) w.in-Some-event.is c.fetch-told.ensures.fetched in
           let made : Made = record { op = length c.loop.calls.items + 1; name = name.Device; mark = 0; start = pos 0; reply = w.make_event-reply.result; text = [] } in
           let next = told_event table start now now2 c.args.pass.now c.loop.pass c.loop.events.items c.loop.calls.items before c.fetch-told.ensures.later c.fetch-told.ensures.reads w.in-Some-event.event over w.make_event-reply.new.pass w.make_event-reply.result made f w.make_event-reply.ensures.made refl in
@@ -59,7 +59,7 @@ loop-preserved g c =
     let came = g.G.Gate.came c.args.gate.now in
     let went = g.G.Gate.went c.args.gate.now in
     elim c.match-told.branch [
-      | in-Some-event+in-Ok+in-Ok-push w ↦
+      | in-Some-event+in_ok-push+in_ok-push-2 w ↦
           let f : Fetched now now2 (Some w.in-Some-event.event) over = subst (λ (e : Option DeviceEvent). Fetched now now2 e over) w.in-Some-event.is c.fetch-told.ensures.fetched in
           let made : Made = record { op = length c.loop.calls.items + 1; name = name.Device; mark = 0; start = pos 0; reply = w.make_event-reply.result; text = [] } in
           let next = told_event table start now now2 c.args.pass.now c.loop.pass c.loop.events.items c.loop.calls.items before c.fetch-told.ensures.later c.fetch-told.ensures.reads w.in-Some-event.event over w.make_event-reply.new.pass w.make_event-reply.result made f w.make_event-reply.ensures.made refl in

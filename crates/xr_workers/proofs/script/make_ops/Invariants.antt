@@ -1,6 +1,6 @@
 use Rattle.std.proofs.Common.{◌≡◌, ◌≤◌, ◌-◌, length, List}
 use Rattle.xr_types.specs.declared.calls.Actor.TheVariants.{App}
-use Rattle.xr_model.specs.machine.Request.{Exchange}
+use Rattle.xr_model.specs.machine.Calls.{Exchange}
 use Rattle.xr_model.specs.runs.Lists.{made_from}
 use Rattle.xr_runtime.specs.Passes.{table_of}
 use Rattle.xr_workers.specs.Workers.{IsGated}

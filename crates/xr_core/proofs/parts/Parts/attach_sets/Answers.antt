@@ -5,7 +5,7 @@ use Rattle.xr_types.specs.declared.code.Code.TheVariants.{Success, HandleInvalid
 use Rattle.xr_types.specs.declared.handles.Kind.TheVariants as kind
 use Rattle.xr_model.specs.machine.Handles.{is_live, no_handle}
 use Rattle.xr_model.specs.machine.Refusals.{first_of, when}
-use Rattle.xr_model.specs.machine.Request.{attach_sets}
+use Rattle.xr_types.specs.declared.calls.Call.TheVariants as ask
 use Rattle.xr_model.specs.machine.Rule.{refusals, nothing_done}
 use Rattle.xr_model.specs.machine.SessionLife.{is_lost}
 use Rattle.xr_model.specs.machine.SessionRule.{loss_of, code_on}
@@ -24,7 +24,7 @@ use Rattle.xr_core.proofs.parts.Parts.attach_sets.Goals as goal
 pub returns-in_err-success : goal.returns-in_err-success
 returns-in_err-success c =
     let is : c.from_residual.result ≡ Err (Refused (c.in_err-success.field-0.0)) = search rules in
-    rw is (err_decides c.args.self.now (attach_sets c.args.session c.args.sets.now) (attach_sets_rule c.args.self.now c.args.session c.args.sets.now) (code_on (loss_of (life_of c.args.self.now c.args.session)) Success) refl (λ who reads. refl) (c.in_err-success.field-0.0) (sym c.in_err-success.ensures))
+    rw is (err_decides c.args.self.now (ask.AttachSets c.args.session c.args.sets.now) (attach_sets_rule c.args.self.now c.args.session c.args.sets.now) (code_on (loss_of (life_of c.args.self.now c.args.session)) Success) refl (λ who reads. refl) (c.in_err-success.field-0.0) (sym c.in_err-success.ensures))
 
 pub unreachable-requires : goal.unreachable-requires
 unreachable-requires c =
@@ -44,5 +44,5 @@ returns c =
     let loss = loss_of (life_of c.args.self.now c.args.session) in
     let both = ok_none (first_of (refusals (attach_sets_rule c.args.self.now c.args.session c.args.sets.now))) (code_on (loss_of (life_of c.args.self.now c.args.session)) Success) c.in_ok-success.success (sym c.in_ok-success.ensures) in
     rw (c.done.ensures, c.attach.ensures, both.1)
-    (effect_decides c.args.self.now (attach_sets c.args.session c.args.sets.now) (λ given. attach_sets_rule c.args.self.now c.args.session c.args.sets.now)
+    (effect_decides c.args.self.now (ask.AttachSets c.args.session c.args.sets.now) (λ given. attach_sets_rule c.args.self.now c.args.session c.args.sets.now)
     (with_attached_sets c.args.self.now c.args.session c.args.sets.now) (code_on (loss_of (life_of c.args.self.now c.args.session)) Success) Nothing nothing_done (λ who reads. refl) both.0 refl refl refl (success_found loss))

@@ -5,7 +5,7 @@ use Rattle.xr_types.specs.declared.code.Code.TheVariants.{Success, CallOrderInva
 use Rattle.xr_types.specs.declared.handles.Kind.TheVariants as kind
 use Rattle.xr_model.specs.machine.Handles.{no_handle, no_room}
 use Rattle.xr_model.specs.machine.Refusals.{when, first_of}
-use Rattle.xr_model.specs.machine.Request.{create_action_set}
+use Rattle.xr_types.specs.declared.calls.Call.TheVariants as ask
 use Rattle.xr_model.specs.machine.Rule.{refusals, nothing_done}
 use Rattle.xr_model.specs.machine.Rules.Sets.{create_action_set_rule, with_action_set}
 use Rattle.xr_model.specs.machine.Sets.{set_checks}
@@ -17,7 +17,7 @@ pub returns-in_err-may_create_action_set : goal.returns-in_err-may_create_action
 returns-in_err-may_create_action_set c =
     let code = c.in_err-may_create_action_set.field-0.0 in
     let is : c.from_residual.result ≡ Err (Refused (c.in_err-may_create_action_set.field-0.0)) = search rules in
-    rw is (err_decides c.args.self.now (create_action_set c.args.instance c.args.name.now c.args.localized.now c.args.priority) (create_action_set_rule c.args.self.now 0 c.args.instance c.args.name.now c.args.localized.now c.args.priority) _ refl (λ who reads. refl) code (sym (c.in_err-may_create_action_set.ensures c.args.priority)))
+    rw is (err_decides c.args.self.now (ask.CreateActionSet c.args.instance c.args.name.now c.args.localized.now c.args.priority) (create_action_set_rule c.args.self.now 0 c.args.instance c.args.name.now c.args.localized.now c.args.priority) _ refl (λ who reads. refl) code (sym (c.in_err-may_create_action_set.ensures c.args.priority)))
 
 pub new_set-handle-requires-clause-checked : goal.new_set-handle-requires-clause-checked
 new_set-handle-requires-clause-checked c =
@@ -34,5 +34,5 @@ pub returns : goal.returns
 returns c =
     let none = (ok_none (first_of (refusals (create_action_set_rule c.args.self.now 0 c.args.instance c.args.name.now c.args.localized.now c.args.priority))) _ _ (sym (c.in_ok-may_create_action_set.ensures c.args.priority))).0 in
     rw (c.giving.ensures, c.new_set-handle.ensures.kept)
-    (effect_decides c.args.self.now (create_action_set c.args.instance c.args.name.now c.args.localized.now c.args.priority) (λ given. create_action_set_rule c.args.self.now given c.args.instance c.args.name.now c.args.localized.now c.args.priority)
+    (effect_decides c.args.self.now (ask.CreateActionSet c.args.instance c.args.name.now c.args.localized.now c.args.priority) (λ given. create_action_set_rule c.args.self.now given c.args.instance c.args.name.now c.args.localized.now c.args.priority)
     (with_action_set c.args.self.now c.args.instance c.new_set-handle.result c.args.name.now c.args.localized.now c.args.priority) Success (Handle c.new_set-handle.result) nothing_done (λ who reads. refl) none refl refl c.new_set-handle.ensures.fresh refl)

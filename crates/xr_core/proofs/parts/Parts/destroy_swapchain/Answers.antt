@@ -7,7 +7,7 @@ use Rattle.xr_model.specs.machine.CellCalls.{free_calls}
 use Rattle.xr_model.specs.machine.Handles.{no_handle}
 use Rattle.xr_model.specs.machine.PartAnswers.{or_refused}
 use Rattle.xr_model.specs.machine.Refusals.{Refusal, when, first_of}
-use Rattle.xr_model.specs.machine.Request.{destroy_swapchain}
+use Rattle.xr_types.specs.declared.calls.Call.TheVariants as ask
 use Rattle.xr_model.specs.machine.Rule.{Did, refusals, nothing_done}
 use Rattle.xr_model.specs.machine.Rules.Swapchains.{with_chain_gone, freed_with_chain, destroy_swapchain_rule}
 use Rattle.xr_model.specs.machine.State.{CoreState}
@@ -35,13 +35,13 @@ returns-in_err-live g c =
     let s = c.args.self.now in
     let code = c.in_err-live.field-0.0 in
     let is : c.from_residual.result ≡ Err (Refused code) = search rules in
-    rw is (refused_cells s (destroy_swapchain c.args.chain) (λ given. destroy_swapchain_rule s c.args.chain) (λ who reads given. refl) g.C.Cells.does (tt {0}) code c.args.cells.now refl
+    rw is (refused_cells s (ask.DestroySwapchain c.args.chain) (λ given. destroy_swapchain_rule s c.args.chain) (λ who reads given. refl) g.C.Cells.does (tt {0}) code c.args.cells.now refl
     (then_err (named s c.args.chain) order (tt {0}) (tt {0}) code (sym c.in_err-live.ensures)))
 
 pub remove_chain-requires : goal.remove_chain-requires
 remove_chain-requires g c =
     let s = c.args.self.now in
-    let calls = may_do s (destroy_swapchain c.args.chain) (λ given. destroy_swapchain_rule s c.args.chain) (λ who reads given. refl) g.C.Cells.does g.C.Cells.may c.args.cells.now 0 (gone s c.args.chain)
+    let calls = may_do s (ask.DestroySwapchain c.args.chain) (λ given. destroy_swapchain_rule s c.args.chain) (λ who reads given. refl) g.C.Cells.does g.C.Cells.may c.args.cells.now 0 (gone s c.args.chain)
     c.requires.may (passes s c.args.chain (sym c.in_ok-live.ensures)) refl refl (record { claimed = refl; taken = refl; returned = refl }) in
     record { may = rw (append-nil (free_calls (freed_with_chain s c.args.chain))) at calls }
 
@@ -49,6 +49,6 @@ pub returns : goal.returns
 returns g c =
     let s = c.args.self.now in
     rw (c.done.ensures, c.remove_chain.ensures.state)
-    (done_cells s (destroy_swapchain c.args.chain) (λ given. destroy_swapchain_rule s c.args.chain) (λ who reads given. refl) g.C.Cells.does (with_chain_gone s c.args.chain) Success Nothing (gone s c.args.chain)
+    (done_cells s (ask.DestroySwapchain c.args.chain) (λ given. destroy_swapchain_rule s c.args.chain) (λ who reads given. refl) g.C.Cells.does (with_chain_gone s c.args.chain) Success Nothing (gone s c.args.chain)
     c.args.cells.now c.remove_chain.new.cells (passes s c.args.chain (sym c.in_ok-live.ensures)) refl refl refl refl (record { claimed = refl; taken = refl; returned = refl })
     (rw (append-nil (free_calls (freed_with_chain s c.args.chain))) c.remove_chain.ensures.cells))

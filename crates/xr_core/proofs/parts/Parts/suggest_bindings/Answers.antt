@@ -2,7 +2,7 @@ use Rattle.std.proofs.Common.{rules, ◌≡◌, ◌==◌, true, false, nat_le, l
 use Rattle.std.specs.Prelude.{Err}
 use Rattle.xr_types.specs.declared.limits.TheConstants.{MOST_SUGGESTED}
 use Rattle.xr_model.specs.machine.Refusals.{first_of}
-use Rattle.xr_model.specs.machine.Request.{suggest_bindings}
+use Rattle.xr_types.specs.declared.calls.Call.TheVariants as ask
 use Rattle.xr_model.specs.machine.Rules.Bindings.{binding_checks, bound_of, suggest_bindings_rule}
 use Rattle.xr_core.specs.declared.halt.Halt.TheVariants.{Refused}
 use Rattle.xr_core.proofs.Deciding.{err_decides}
@@ -12,7 +12,7 @@ use Rattle.xr_core.proofs.parts.Parts.suggest_bindings.Goals as goal
 pub returns-in_err-profile : goal.returns-in_err-profile
 returns-in_err-profile c =
     let is : c.from_residual-in_err-profile.result ≡ Err (Refused (c.in_err-profile.field-0.0)) = search rules in
-    rw is (err_decides c.args.self.now (suggest_bindings c.args.instance c.args.profile c.args.list.now) (suggest_bindings_rule c.args.self.now c.args.instance c.args.profile c.args.list.now) _ refl (λ who reads. refl) (c.in_err-profile.field-0.0)
+    rw is (err_decides c.args.self.now (ask.SuggestBindings c.args.instance c.args.profile c.args.list.now) (suggest_bindings_rule c.args.self.now c.args.instance c.args.profile c.args.list.now) _ refl (λ who reads. refl) (c.in_err-profile.field-0.0)
     (refused_by_profile c.args.self.now c.args.instance c.args.profile c.args.list.now (sym c.in_ok-live.ensures) (c.in_err-profile.field-0.0) (profile_err c.args.self.now.atoms c.args.profile (c.in_err-profile.field-0.0) c.in_err-profile.ensures)))
 
 pub returns-in_err-bound_by : goal.returns-in_err-bound_by
@@ -21,7 +21,7 @@ returns-in_err-bound_by c =
     let found = profile_found c.args.self.now.atoms c.args.profile c.in_ok-profile.profile c.in_ok-profile.ensures in
     let some : (length c.args.list.now == 0) ≡ false = search rules in
     let few : nat_le (length c.args.list.now) MOST_SUGGESTED ≡ true = search rules in
-    rw is (err_decides c.args.self.now (suggest_bindings c.args.instance c.args.profile c.args.list.now) (suggest_bindings_rule c.args.self.now c.args.instance c.args.profile c.args.list.now) _ refl (λ who reads. refl) (c.in_err-bound_by.field-0.0)
+    rw is (err_decides c.args.self.now (ask.SuggestBindings c.args.instance c.args.profile c.args.list.now) (suggest_bindings_rule c.args.self.now c.args.instance c.args.profile c.args.list.now) _ refl (λ who reads. refl) (c.in_err-bound_by.field-0.0)
     (refused_by_binding c.args.self.now c.args.instance c.args.profile c.args.list.now (sym c.in_ok-live.ensures) c.in_ok-profile.profile found.0 found.1 (number_none c.args.list.now some few) (filter_map (bound_of c.args.self.now c.in_ok-profile.profile) c.args.list.now) (c.in_err-bound_by.field-0.0) c.in_err-bound_by.ensures.bound))
 
 pub suggest-code-requires : goal.suggest-code-requires

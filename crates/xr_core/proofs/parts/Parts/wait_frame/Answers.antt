@@ -4,7 +4,7 @@ use Rattle.xr_types.specs.declared.calls.Gives.TheVariants as gives
 use Rattle.xr_types.specs.declared.code.Code.TheVariants.{Success}
 use Rattle.xr_model.specs.machine.Frames.{waited_loop}
 use Rattle.xr_model.specs.machine.Refusals.{first_of}
-use Rattle.xr_model.specs.machine.Request.{wait_frame}
+use Rattle.xr_types.specs.declared.calls.Call.TheVariants as ask
 use Rattle.xr_model.specs.machine.Rule.{refusals, nothing_done}
 use Rattle.xr_model.specs.machine.SessionRule.{loss_of, code_on}
 use Rattle.xr_model.specs.machine.Rules.Frames.{wait_frame_rule, next_time, frame_state}
@@ -18,7 +18,7 @@ returns-in_err-success c =
     let s = c.args.self.now in
     let success = code_on (loss_of (life_of s c.args.session)) Success in
     let is : c.from_residual.result ≡ Err (Refused (c.in_err-success.field-0.0)) = search rules in
-    rw is (err_decides s (wait_frame c.args.session) (wait_frame_rule s c.args.session) success refl (λ who reads. refl) (c.in_err-success.field-0.0) (sym c.in_err-success.ensures))
+    rw is (err_decides s (ask.WaitFrame c.args.session) (wait_frame_rule s c.args.session) success refl (λ who reads. refl) (c.in_err-success.field-0.0) (sym c.in_err-success.ensures))
 
 pub returns-in-Some : goal.returns-in-Some
 returns-in-Some c =
@@ -28,7 +28,7 @@ returns-in-Some c =
     let made = c.in-Some.ensures.waited in
     let state : c.in-Some.state ≡ frame_state s c.args.session = rw (made.1, c.is_seen-render.ensures) refl in
     rw (c.giving.ensures, both.1, state, made.2)
-    (effect_decides s (wait_frame c.args.session) (λ given. wait_frame_rule s c.args.session) (with_loop s (waited_loop s.frames.frame_loop (next_time s))) success (gives.Frame (frame_state s c.args.session)) nothing_done
+    (effect_decides s (ask.WaitFrame c.args.session) (λ given. wait_frame_rule s c.args.session) (with_loop s (waited_loop s.frames.frame_loop (next_time s))) success (gives.Frame (frame_state s c.args.session)) nothing_done
     (λ who reads. refl) both.0 made.0 refl refl (success_found (loss_of (life_of s c.args.session))))
 
 pub returns-in-None : goal.returns-in-None
@@ -37,4 +37,4 @@ returns-in-None c =
     let success = code_on (loss_of (life_of s c.args.session)) Success in
     let both = ok_none (first_of (refusals (wait_frame_rule s c.args.session))) success c.in_ok-success.success (sym c.in_ok-success.ensures) in
     let held = c.in-None.ensures.waits refl in
-    rw held.1 (waits_decides s (wait_frame c.args.session) (wait_frame_rule s c.args.session) (λ who reads given. refl) both.0 held.0)
+    rw held.1 (waits_decides s (ask.WaitFrame c.args.session) (wait_frame_rule s c.args.session) (λ who reads given. refl) both.0 held.0)

@@ -1,6 +1,6 @@
 use Rattle.std.proofs.Common.{◌≡◌, true, List, [], sym, refl, ap, ◌∙◌, subst, arith}
 use Rattle.xr_model.specs.machine.History.{after, IsLegal}
-use Rattle.xr_model.specs.machine.Request.{Entry}
+use Rattle.xr_model.specs.machine.Calls.{Entry}
 use Rattle.xr_model.specs.machine.State.{State, with_apps, opening}
 use Rattle.xr_model.specs.laws.Laws.{count_locked}
 use Rattle.xr_model.specs.laws.Moments.{opening_moment, calls_by}

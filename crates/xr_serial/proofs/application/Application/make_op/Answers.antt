@@ -6,7 +6,7 @@ use Rattle.xr_types.specs.declared.calls.Reply.{Reply}
 use Rattle.xr_model.specs.scenario.ScriptForm.{IsInRange}
 use Rattle.xr_model.specs.runs.Lists.{made_at}
 use Rattle.xr_model.specs.runs.NameValues.{with_name_value}
-use Rattle.xr_model.specs.machine.Request.{Request}
+use Rattle.xr_types.specs.declared.calls.Call.{Call}
 use Rattle.xr_model.specs.runs.Robin.{with_start}
 use Rattle.xr_model.specs.runs.Scripts.{request_for}
 use Rattle.xr_model.proofs.ScriptForm.{in_range-item}
@@ -40,7 +40,7 @@ returns c =
     let names = c.self.inside.names in
     let clock = c.self.inside.clock in
     let place = c.self.inside.made + 1 in
-    let what : Request = with_start clock (request_for names o) in
+    let what : Call = with_start clock (request_for names o) in
     let read : to_z w64 (of_z w64 clock) ≡ clock = search rules in
     let went : c.in_ok-make_op.field-0 ≡ true = search rules in
     let told = subst (λ (z : ℤ). CallTurn c.args.machine.now c.make_op.new.self (App c.args.number) (with_start z (request_for names o)) (listed_op place z o) c.self.inside.calls.items c.make_op.new.list.items c.in_ok-make_op.field-0) read c.in_ok-make_op.ensures in

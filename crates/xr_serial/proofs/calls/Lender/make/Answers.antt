@@ -1,7 +1,6 @@
 use Rattle.std.proofs.Common.{rules, ◌≡◌, ◌++◌, ◌∷◌, [], ℤ, w64, to_z, of_z, false, length, take, refl, sym, ap, ◌∙◌}
 use Rattle.std.proofs.lemmas.List.{take-take}
-use Rattle.xr_model.specs.machine.Request.{request_of}
-use Rattle.xr_scenario_calls.specs.Lent.{lent_size, written_size}
+use Rattle.xr_types.specs.CallKinds.{lent_size, written_size}
 use Rattle.xr_serial.specs.inside.Made.{outcome_with}
 use Rattle.xr_serial.proofs.Lending.{made_of}
 use Rattle.xr_serial.proofs.calls.Lender.make.Goals as goal
@@ -13,15 +12,15 @@ returns-in_default c =
 
 pub returns : goal.returns
 returns c =
-    let what = request_of c.args.call.now in
+    let what = c.args.call.now in
     let reply = c.in-Done.reply in
     let n = c.written_size-written.result in
-    let text = c.in-Ok.text in
+    let text = c.in_ok-text.text in
     let read : to_z w64 (of_z w64 c.args.listed.start) ≡ c.args.listed.start = search rules in
     let size : n ≡ written_size reply.gives (lent_size what) = c.written_size-written.ensures.written ∙ ap (written_size reply.gives) c.lent_size.ensures in
-    let front : text ≡ take n (take (lent_size what) c.ask.new.buffer) = c.in-Ok.ensures ∙ sym (take-take n (lent_size what) c.ask.new.buffer (rw (← c.lent_size.ensures) c.written_size-written.ensures.within)) in
+    let front : text ≡ take n (take (lent_size what) c.ask.new.buffer) = c.in_ok-text.ensures ∙ sym (take-take n (lent_size what) c.ask.new.buffer (rw (← c.lent_size.ensures) c.written_size-written.ensures.within)) in
     rw (← c.self.view_is) (record {
       outcome = outcome_with what reply text c.ask.new.shown;
-      call = made_of c.self.inside.core c.ask.new.core c.args.who what reply (record { text = take (lent_size what) c.self.inside.buffer; frame = c.self.inside.shown }) (record { text = take (lent_size what) c.ask.new.buffer; frame = c.ask.new.shown }) text n c.in-Done.ensures.applies size front;
-      kept = c.in-Ok-push.ensures.items ∙ ap (λ (z : ℤ). c.args.list.now.items ++ record { op = c.args.listed.op; name = c.args.listed.name; mark = c.args.listed.mark; start = z; reply = reply; text = text } ∷ []) read;
+      call = made_of c.self.inside.core c.ask.new.core c.args.who what reply (record { text = take (lent_size what) c.self.inside.buffer; frame = c.default-shown.result }) (record { text = take (lent_size what) c.ask.new.buffer; frame = c.ask.new.shown }) text n c.in-Done.ensures.applies size front;
+      kept = c.in_ok-push.ensures.items ∙ ap (λ (z : ℤ). c.args.list.now.items ++ record { op = c.args.listed.op; name = c.args.listed.name; mark = c.args.listed.mark; start = z; reply = reply; text = text } ∷ []) read;
     })
