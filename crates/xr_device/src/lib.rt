@@ -14,10 +14,12 @@ mod lines;
 mod list_device;
 mod numbers;
 mod text;
+mod told;
 mod words;
 
 pub use line_device::LineDevice;
 pub use list_device::{ListDevice, may_tell};
+pub use told::{Told, ask_next};
 use xr_types::DeviceEvent;
 
 /// What a device answers.

@@ -19,7 +19,8 @@ use Rattle.xr_serial.specs.Ran.{Gave, IsLineEvent, AreLineEvents}
 use Rattle.xr_serial.specs.inside.Made.{exchange_of}
 use Rattle.xr_serial.specs.inside.RunState.{SideState}
 use Rattle.xr_device.specs.Prospect.{Prospect}
-use Rattle.xr_serial.specs.inside.Sides.{IsDone, side_asked, side_with}
+use Rattle.xr_device.specs.Told.{IsChecked}
+use Rattle.xr_serial.specs.inside.Sides.{side_asked, side_with}
 use Rattle.xr_serial.specs.inside.Turns.{pending_list}
 use Rattle.xr_serial.specs.inside.RunInvariant.{GivesMore, DeviceKept}
 use Rattle.xr_serial.proofs.KeptApplications.{made_snoc}
@@ -49,7 +50,7 @@ one_more : (given : List DeviceEvent) (e : DeviceEvent) → AreLineEvents given 
 one_more [] e all one = (one, tt)
 one_more (x ∷ given) e all one = (all.0, one_more given e all.1 one)
 
-pub told_done : (e : DeviceEvent) → IsTold e → IsDone e
+pub told_done : (e : DeviceEvent) → IsTold e → IsChecked e
 told_done e t = record { checked = t.checked }
 
 none_more : (given : List DeviceEvent) (e : DeviceEvent) → list_any is_fault given ≡ false → is_fault e ≡ false → list_any is_fault (given ++ e ∷ []) ≡ false
@@ -136,7 +137,7 @@ module _ (side : SideState) (calls : List Exchange) (start now now2 : Prospect) 
   }
 
   -- it has ended early, which is its last call
-  closes : (e : DeviceEvent) (ending : Option Ending) → IsDone e → now2.given ≡ now.given → Gave start.remaining (length d.given) d.given ending → e ∷ [] ≡ last_event ending → (is_fault e || false ≡ true → Rose start.faults now2.faults) → (is_fault e || false ≡ false → now2.faults ≡ start.faults)
+  closes : (e : DeviceEvent) (ending : Option Ending) → IsChecked e → now2.given ≡ now.given → Gave start.remaining (length d.given) d.given ending → e ∷ [] ≡ last_event ending → (is_fault e || false ≡ true → Rose start.faults now2.faults) → (is_fault e || false ≡ false → now2.faults ≡ start.faults)
       → (is_fault e || false ≡ true → GaveItsLines now2) → DeviceKept (side_asked side (Some e) true) calls start now2
   closes e ending done count gave last fault unfailed lines = record {
     given = d.given;

@@ -15,7 +15,8 @@ use Rattle.xr_model.specs.runs.Lists.{made_at, events_in}
 use Rattle.xr_serial.specs.inside.Made.{exchange_of, calls_with}
 use Rattle.xr_serial.specs.inside.RunState.{SideState, RunState}
 use Rattle.xr_device.specs.Prospect.{Prospect}
-use Rattle.xr_serial.specs.inside.Sides.{Fetched, side_asked, side_with, EventMade, EventWaits, EventTurn}
+use Rattle.xr_device.specs.Told.{Comes}
+use Rattle.xr_serial.specs.inside.Sides.{side_asked, side_with, EventMade, EventWaits, EventTurn}
 use Rattle.xr_serial.specs.inside.Turns.{pending_list, device_part, parts_of, actors_of, turn_behind, AreHeldBack}
 use Rattle.xr_serial.specs.inside.PastOfRun.{Trace, Standing}
 use Rattle.xr_serial.specs.inside.RunInvariant.{DeviceKept, side_work, frames_work, events_told, trace_of, RunInvariant}
@@ -144,7 +145,7 @@ module _ (scenario : Scenario) (turn idle : ℕ) (s : State) (run : RunState) (s
         kept = record { apps = kept.kept.apps; device = told; compositor = kept.kept.compositor; counted = kept.kept.counted; work = omega (arith, work, less) };
       }
 
-  looked : (pending : Option DeviceEvent) (over : Bool) → Fetched now now2 pending over → RunInvariant scenario turn idle s before start now → RunInvariant scenario turn idle s (with_side run (side_asked side pending over)) start now2
+  looked : (pending : Option DeviceEvent) (over : Bool) → Comes now now2 pending over → RunInvariant scenario turn idle s before start now → RunInvariant scenario turn idle s (with_side run (side_asked side pending over)) start now2
   looked (Some e) false f kept = let fewer = f.2 in tells_one e false (omega (arith, fewer)) kept (tells_event side (kept.calls Device) start now now2 grew kept.kept.device e f.0 f.1 f.3 f.4)
   looked None true f kept = tells_no_more (omega arith) kept (tells_end side (kept.calls Device) start now now2 grew kept.kept.device f.0 f.2 f.3)
   looked (Some event.Fault) true f kept = tells_one event.Fault true (omega arith) kept (tells_fault side (kept.calls Device) start now now2 grew kept.kept.device f.0 f.2 f.3)
@@ -152,7 +153,7 @@ module _ (scenario : Scenario) (turn idle : ℕ) (s : State) (run : RunState) (s
   looked _ _ f kept = absurd f
 
   -- by what the function that asks it says
-  pub looked_from : (new : SideState) → side.pending ≡ None → side.over ≡ false → Fetched now now2 new.pending new.over → new ≡ side_asked side new.pending new.over → RunInvariant scenario turn idle s (with_side run side) start now
+  pub looked_from : (new : SideState) → side.pending ≡ None → side.over ≡ false → Comes now now2 new.pending new.over → new ≡ side_asked side new.pending new.over → RunInvariant scenario turn idle s (with_side run side) start now
       → RunInvariant scenario turn idle s (with_side run new) start now2
   looked_from new unknown going f same kept =
       let was : side ≡ is_open side = ap (λ (p : Option DeviceEvent). side_asked side p side.over) unknown ∙ ap (λ (o : Bool). side_asked side None o) going in

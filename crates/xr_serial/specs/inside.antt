@@ -5,4 +5,5 @@ pub mod Turns
 pub mod Sides
 pub mod PastOfRun
 pub mod RunInvariant
+pub mod KeptTurns
 pub mod AtEnd

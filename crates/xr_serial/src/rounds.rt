@@ -7,6 +7,7 @@ ghost use Rattle.xr_device.specs.Answers.{ReadsOn};
 ghost use Rattle.xr_serial.specs.inside.Sides.{new_app};
 ghost use Rattle.xr_serial.specs.inside.Turns.{actors_of, turn_behind};
 ghost use Rattle.xr_serial.specs.inside.RunInvariant.{calls_made, RunInvariant};
+ghost use Rattle.xr_serial.specs.inside.KeptTurns.{StandsAt, KeepsTurn};
 
 use crate::application::Application;
 use crate::compositor::CompositorSide;
@@ -75,10 +76,8 @@ fn app_turn(
 ) -> Result<bool, NoMemory>
     requires runs { CanBeRun scenario.now }
     requires within { place < length scenario.now.scripts }
-    requires kept { (idle : ℕ) × (start : Prospect) × (now : Prospect) × (idle < actors_of scenario.now) × RunInvariant scenario.now place idle machine.old run.old start now }
-    ensures kept { IfOk result (λ went. (idle : ℕ) (start now : Prospect) → idle < actors_of scenario.now
-        → RunInvariant scenario.now place idle machine.old run.old start now
-        → RunInvariant scenario.now (turn_behind place (actors_of scenario.now)) (if went then 0 else idle + 1) machine.new run.new start now) }
+    requires kept { (now : Prospect) × StandsAt scenario.now place machine.old run.old now }
+    ensures kept { IfOk result (λ went. (now : Prospect) → KeepsTurn scenario.now place went machine.old run.old now machine.new run.new now) }
     ensures counts { IfOk result (λ went. calls_made machine.new run.new ≡ calls_made machine.old run.old + (if went then 1 else 0)) }
 {
     let ops = scenario.scripts.as_slice()[place].as_slice();
@@ -104,11 +103,8 @@ fn device_turn<D: Device>(
     run: &mut Run,
 ) -> Result<bool, NoMemory>
     requires runs { CanBeRun scenario.now }
-    requires kept { (idle : ℕ) × (start : Prospect) × (idle < actors_of scenario.now)
-        × RunInvariant scenario.now (length scenario.now.scripts) idle machine.old run.old start (D.prospect device.old) }
-    ensures kept { IfOk result (λ went. (idle : ℕ) (start : Prospect) → idle < actors_of scenario.now
-        → RunInvariant scenario.now (length scenario.now.scripts) idle machine.old run.old start (D.prospect device.old)
-        → RunInvariant scenario.now (turn_behind (length scenario.now.scripts) (actors_of scenario.now)) (if went then 0 else idle + 1) machine.new run.new start (D.prospect device.new)) }
+    requires kept { StandsAt scenario.now (length scenario.now.scripts) machine.old run.old (D.prospect device.old) }
+    ensures kept { IfOk result (λ went. KeepsTurn scenario.now (length scenario.now.scripts) went machine.old run.old (D.prospect device.old) machine.new run.new (D.prospect device.new)) }
     ensures counts { IfOk result (λ went. calls_made machine.new run.new ≡ calls_made machine.old run.old + (if went then 1 else 0)) }
     ensures later { (D.prospect device.old).faults ≤ (D.prospect device.new).faults }
     ensures reads { ReadsOn (D.prospect device.old) (D.prospect device.new) }
@@ -128,10 +124,8 @@ fn compositor_turn(
     run: &mut Run,
 ) -> Result<bool, NoMemory>
     requires runs { CanBeRun scenario.now }
-    requires kept { (idle : ℕ) × (start : Prospect) × (now : Prospect) × (idle < actors_of scenario.now) × RunInvariant scenario.now (length scenario.now.scripts + 1) idle machine.old run.old start now }
-    ensures kept { IfOk result (λ went. (idle : ℕ) (start now : Prospect) → idle < actors_of scenario.now
-        → RunInvariant scenario.now (length scenario.now.scripts + 1) idle machine.old run.old start now
-        → RunInvariant scenario.now (turn_behind (length scenario.now.scripts + 1) (actors_of scenario.now)) (if went then 0 else idle + 1) machine.new run.new start now) }
+    requires kept { (now : Prospect) × StandsAt scenario.now (length scenario.now.scripts + 1) machine.old run.old now }
+    ensures kept { IfOk result (λ went. (now : Prospect) → KeepsTurn scenario.now (length scenario.now.scripts + 1) went machine.old run.old now machine.new run.new now) }
     ensures counts { IfOk result (λ went. calls_made machine.new run.new ≡ calls_made machine.old run.old + (if went then 1 else 0)) }
 {
     if run.compositor.ended.is_some() {
@@ -156,11 +150,8 @@ fn one_turn<D: Device>(
 ) -> Result<bool, NoMemory>
     requires runs { CanBeRun scenario.now }
     requires within { turn < actors_of scenario.now }
-    requires kept { (idle : ℕ) × (start : Prospect) × (idle < actors_of scenario.now)
-        × RunInvariant scenario.now turn idle machine.old run.old start (D.prospect device.old) }
-    ensures kept { IfOk result (λ went. (idle : ℕ) (start : Prospect) → idle < actors_of scenario.now
-        → RunInvariant scenario.now turn idle machine.old run.old start (D.prospect device.old)
-        → RunInvariant scenario.now (turn_behind turn (actors_of scenario.now)) (if went then 0 else idle + 1) machine.new run.new start (D.prospect device.new)) }
+    requires kept { StandsAt scenario.now turn machine.old run.old (D.prospect device.old) }
+    ensures kept { IfOk result (λ went. KeepsTurn scenario.now turn went machine.old run.old (D.prospect device.old) machine.new run.new (D.prospect device.new)) }
     ensures counts { IfOk result (λ went. calls_made machine.new run.new ≡ calls_made machine.old run.old + (if went then 1 else 0)) }
     ensures later { (D.prospect device.old).faults ≤ (D.prospect device.new).faults }
     ensures reads { ReadsOn (D.prospect device.old) (D.prospect device.new) }

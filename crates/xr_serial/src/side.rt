@@ -5,14 +5,15 @@ ghost use Rattle.xr_model.specs.machine.State.{State};
 ghost use Rattle.xr_serial.specs.inside.RunState.{RunState};
 ghost use Rattle.xr_device.specs.Prospect.{Prospect};
 ghost use Rattle.xr_device.specs.Answers.{ReadsOn};
-ghost use Rattle.xr_serial.specs.inside.Sides.{IsDone, Fetched, EventTurn, side_asked};
+ghost use Rattle.xr_device.specs.Told.{IsChecked};
+ghost use Rattle.xr_serial.specs.inside.Sides.{EventTurn};
 ghost use Rattle.xr_serial.specs.inside.RunInvariant.{RunInvariant};
 
 use crate::calls::Listed;
 use crate::machine::Machine;
 use std::alloc::Global;
 use std::marker::Model;
-use xr_device::{Device, Next};
+use xr_device::{Device, ask_next};
 use xr_types::{Actor, Call, CallName, DeviceEvent, Made, NoMemory};
 
 /// A device on its way: its next event, where that is known, whether nothing more will come behind it, and the events
@@ -46,44 +47,22 @@ impl DeviceSide {
         }
     }
 
-    /// Asks the device what comes next.
-    fn fetch<D: Device>(&mut self, device: &mut D)
-        requires unknown { self.old.pending ≡ None }
-        requires going { self.old.over ≡ false }
-        ensures fetched { Fetched (D.prospect device.old) (D.prospect device.new) self.new.pending self.new.over }
-        ensures same { self.new ≡ side_asked self.old self.new.pending self.new.over }
-        ensures done { IfSome self.new.pending IsDone }
-        ensures later { (D.prospect device.old).faults ≤ (D.prospect device.new).faults }
-        ensures reads { ReadsOn (D.prospect device.old) (D.prospect device.new) }
-    {
-        match device.next() {
-            Next::Event(event) => self.pending = Some(event),
-            Next::End => self.over = true,
-            Next::Garbled(line) => {
-                self.over = true;
-                self.pending = Some(DeviceEvent::Garbled(line));
-            }
-            Next::Failed => {
-                self.over = true;
-                self.pending = Some(DeviceEvent::Fault);
-            }
-        }
-    }
-
     /// Asks the device what comes next, where that isn't known and more may come.
     pub(crate) fn look<D: Device>(&mut self, device: &mut D)
-        requires done { IfSome self.old.pending IsDone }
+        requires done { IfSome self.old.pending IsChecked }
         ensures kept { (scenario : Scenario) (turn idle : ℕ) (s : State) (run : RunState) (start : Prospect)
             → RunInvariant scenario turn idle s (record run { side = self.old }) start (D.prospect device.old)
             → RunInvariant scenario turn idle s (record run { side = self.new }) start (D.prospect device.new) }
         ensures known { self.new.pending ≡ None → self.new.over ≡ true }
-        ensures done { IfSome self.new.pending IsDone }
+        ensures done { IfSome self.new.pending IsChecked }
         ensures calls { self.new.calls ≡ self.old.calls }
         ensures later { (D.prospect device.old).faults ≤ (D.prospect device.new).faults }
         ensures reads { ReadsOn (D.prospect device.old) (D.prospect device.new) }
     {
         if self.pending.is_none() && !self.over {
-            self.fetch(device);
+            let told = ask_next(device);
+            self.pending = told.event;
+            self.over = told.is_last;
         }
     }
 
@@ -96,7 +75,7 @@ impl DeviceSide {
     ) -> Result<bool, NoMemory>
         requires calls { machine.old.core.locked < 2 ^ 44 }
         requires next { self.old.pending ≡ Some event }
-        requires done { IsDone event }
+        requires done { IsChecked event }
         requires few { length self.old.calls < 2 ^ 31 }
         ensures { IfOk result (λ went. EventTurn event self.old self.new machine.old machine.new went) }
     {

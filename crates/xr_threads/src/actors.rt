@@ -8,40 +8,36 @@ ghost use Rattle.xr_workers.specs.Workers.{Adds, IsGated, turns_in, RanDevice, R
 ghost use Rattle.xr_threads.specs.inside.Working.{MayWorkAll, HaveWorked};
 
 use crate::app::{AppWorker, run_scripts};
-use std::alloc::Global;
 use std::sync::Wait;
 use std::thread::{Threads, join_mut};
 use xr_device::Device;
-use xr_runtime::{CompositorPass, DevicePass, Runtime};
+use xr_runtime::{CompositorPass, DevicePass};
 use xr_types::{NoMemory, Scenario};
-use xr_workers::{Composed, DeviceMade, Gate, run_compositor, run_device};
+use xr_workers::{Composed, Context, DeviceMade, Gate, run_compositor, run_device};
 
 /// The scripts on threads of their own, and the device on this one. Where no thread can be had the device comes first.
 fn run_scripts_and_device<R: Threads + Wait + Sync, G: Gate + Sync, D: Device>(
-    rt: &R,
-    alloc: Global,
-    runtime: &Runtime,
-    gate: &G,
+    context: &Context<'_, R, G>,
     scenario: &Scenario,
     workers: &mut Vec<AppWorker>,
     device: &mut D,
     pass: &mut DevicePass,
 ) -> Result<DeviceMade, NoMemory>
     requires runs { CanBeRun scenario.now }
-    requires may { MayWorkAll (table_of runtime.now) scenario.now workers.old.items }
-    requires device { IsDevice (table_of runtime.now) pass.old }
+    requires may { MayWorkAll (table_of context.now.runtime.now) scenario.now workers.old.items }
+    requires device { IsDevice (table_of context.now.runtime.now) pass.old }
     requires none_told { pass.old.calls ≡ 0 }
-    ensures have { HaveWorked (G.came gate.now) (G.went gate.now) (table_of runtime.now) scenario.now workers.new.items }
+    ensures have { HaveWorked (G.came context.now.gate.now) (G.went context.now.gate.now) (table_of context.now.runtime.now) scenario.now workers.new.items }
     ensures count { length workers.new.items ≡ length workers.old.items }
-    ensures told { RanDevice (table_of runtime.now) (D.prospect device.old) (D.prospect device.new) pass.old pass.new result }
-    ensures told_gated { IsGated (G.came gate.now) (G.went gate.now) Devices pass.old.calls pass.new.calls }
+    ensures told { RanDevice (table_of context.now.runtime.now) (D.prospect device.old) (D.prospect device.new) pass.old pass.new result }
+    ensures told_gated { IsGated (G.came context.now.gate.now) (G.went context.now.gate.now) Devices pass.old.calls pass.new.calls }
 {
     let ((), told) = join_mut(
-        rt,
+        context.rt,
         &mut ||
-            requires { CanBeRun scenario.now × MayWorkAll (table_of runtime.now) scenario.now workers.now.items }
-        { run_scripts(rt, alloc, runtime, gate, scenario, workers.as_mut_slice()) },
-        &mut || run_device(rt, alloc, runtime, gate, device, pass),
+            requires { CanBeRun scenario.now × MayWorkAll (table_of context.now.runtime.now) scenario.now workers.now.items }
+        { run_scripts(context, scenario, workers.as_mut_slice()) },
+        &mut || run_device(context, device, pass),
     );
     told
 }
@@ -56,10 +52,7 @@ pub(crate) struct Listed {
 /// All actors, each on a thread of its own where one can be had, and else one after another: the device, the scripts from the last to the
 /// first, and the compositor.
 pub(crate) fn run_actors<R: Threads + Wait + Sync, G: Gate + Sync, D: Device>(
-    rt: &R,
-    alloc: Global,
-    runtime: &Runtime,
-    gate: &G,
+    context: &Context<'_, R, G>,
     scenario: &Scenario,
     workers: &mut Vec<AppWorker>,
     compositor: &mut CompositorPass,
@@ -67,25 +60,25 @@ pub(crate) fn run_actors<R: Threads + Wait + Sync, G: Gate + Sync, D: Device>(
     pass: &mut DevicePass,
 ) -> Listed
     requires runs { CanBeRun scenario.now }
-    requires may { MayWorkAll (table_of runtime.now) scenario.now workers.old.items }
-    requires compositor { IsCompositor (table_of runtime.now) compositor.old }
+    requires may { MayWorkAll (table_of context.now.runtime.now) scenario.now workers.old.items }
+    requires compositor { IsCompositor (table_of context.now.runtime.now) compositor.old }
     requires none_shown { (compositor.old.ended ≡ false) × (compositor.old.calls ≡ 0) }
     requires none_held { compositor.old.held ≡ 0 }
-    requires device { IsDevice (table_of runtime.now) pass.old }
+    requires device { IsDevice (table_of context.now.runtime.now) pass.old }
     requires none_told { pass.old.calls ≡ 0 }
-    ensures have { HaveWorked (G.came gate.now) (G.went gate.now) (table_of runtime.now) scenario.now workers.new.items }
+    ensures have { HaveWorked (G.came context.now.gate.now) (G.went context.now.gate.now) (table_of context.now.runtime.now) scenario.now workers.new.items }
     ensures count { length workers.new.items ≡ length workers.old.items }
-    ensures composed { RanCompositor (table_of runtime.now) compositor.old compositor.new result.composed }
-    ensures told { RanDevice (table_of runtime.now) (D.prospect device.old) (D.prospect device.new) pass.old pass.new result.told }
-    ensures composed_gated { (calls : List Exchange) × Adds compositor.old.seat.me.0.know compositor.new.seat.me.0.know calls × IsGated (G.came gate.now) (G.went gate.now) Compositor 0 (turns_in calls) }
-    ensures told_gated { IsGated (G.came gate.now) (G.went gate.now) Devices pass.old.calls pass.new.calls }
+    ensures composed { RanCompositor (table_of context.now.runtime.now) compositor.old compositor.new result.composed }
+    ensures told { RanDevice (table_of context.now.runtime.now) (D.prospect device.old) (D.prospect device.new) pass.old pass.new result.told }
+    ensures composed_gated { (calls : List Exchange) × Adds compositor.old.seat.me.0.know compositor.new.seat.me.0.know calls × IsGated (G.came context.now.gate.now) (G.went context.now.gate.now) Compositor 0 (turns_in calls) }
+    ensures told_gated { IsGated (G.came context.now.gate.now) (G.went context.now.gate.now) Devices pass.old.calls pass.new.calls }
 {
     let (composed, told) = join_mut(
-        rt,
-        &mut || run_compositor(rt, alloc, runtime, gate, compositor),
+        context.rt,
+        &mut || run_compositor(context, compositor),
         &mut ||
-            requires { CanBeRun scenario.now × MayWorkAll (table_of runtime.now) scenario.now workers.now.items × IsDevice (table_of runtime.now) pass.now × (pass.now.calls ≡ 0) }
-        { run_scripts_and_device(rt, alloc, runtime, gate, scenario, workers, device, pass) },
+            requires { CanBeRun scenario.now × MayWorkAll (table_of context.now.runtime.now) scenario.now workers.now.items × IsDevice (table_of context.now.runtime.now) pass.now × (pass.now.calls ≡ 0) }
+        { run_scripts_and_device(context, scenario, workers, device, pass) },
     );
     Listed { composed, told }
 }

@@ -8,9 +8,9 @@ ghost use Rattle.xr_threads.specs.inside.Working.{MayWork, HasWorked, MayWorkAll
 use std::alloc::Global;
 use std::sync::Wait;
 use std::thread::{Threads, for_each_mut};
-use xr_runtime::{AppPass, Runtime};
+use xr_runtime::AppPass;
 use xr_types::{MOST_SCRIPTS, MadeList, NoMemory, Scenario};
-use xr_workers::{AppScript, Gate, run_script};
+use xr_workers::{AppScript, Context, Gate, run_script};
 
 /// An application on its thread: its pass, and its calls once they are listed. There is no list where memory was short.
 #[derive(Drop)]
@@ -23,22 +23,19 @@ impl AppWorker {
     /// Makes the calls of the script at this place, from 0.
     fn work<R: Wait, G: Gate>(
         &mut self,
-        rt: &R,
-        alloc: Global,
-        runtime: &Runtime,
-        gate: &G,
+        context: &Context<'_, R, G>,
         scenario: &Scenario,
         place: usize,
     )
         requires runs { CanBeRun scenario.now }
-        requires may { MayWork (table_of runtime.now) scenario.now place self.old }
-        ensures has { HasWorked (G.came gate.now) (G.went gate.now) (table_of runtime.now) scenario.now place self.new }
+        requires may { MayWork (table_of context.now.runtime.now) scenario.now place self.old }
+        ensures has { HasWorked (G.came context.now.gate.now) (G.went context.now.gate.now) (table_of context.now.runtime.now) scenario.now place self.new }
     {
         let script = AppScript {
             app: place as u8 + 1,
             ops: scenario.scripts.as_slice()[place].as_slice(),
         };
-        self.listed = match run_script(rt, alloc, runtime, gate, script, &mut self.pass) {
+        self.listed = match run_script(context, script, &mut self.pass) {
             Ok(list) => Some(list),
             Err(_) => None,
         };
@@ -61,23 +58,20 @@ pub(crate) fn workers_of(alloc: Global, passes: Vec<AppPass>) -> Result<Vec<AppW
 /// Makes the calls of all scripts, each on a thread of its own where one can be had, and else one after another. Takes no memory of its
 /// own.
 pub(crate) fn run_scripts<R: Threads + Wait + Sync, G: Gate + Sync>(
-    rt: &R,
-    alloc: Global,
-    runtime: &Runtime,
-    gate: &G,
+    context: &Context<'_, R, G>,
     scenario: &Scenario,
     workers: &mut [AppWorker],
 )
     requires runs { CanBeRun scenario.now }
-    requires may { MayWorkAll (table_of runtime.now) scenario.now workers.old }
-    ensures have { HaveWorked (G.came gate.now) (G.went gate.now) (table_of runtime.now) scenario.now workers.new }
+    requires may { MayWorkAll (table_of context.now.runtime.now) scenario.now workers.old }
+    ensures have { HaveWorked (G.came context.now.gate.now) (G.went context.now.gate.now) (table_of context.now.runtime.now) scenario.now workers.new }
     ensures count { length workers.new ≡ length workers.old }
 {
     for_each_mut(
-        rt,
+        context.rt,
         workers,
         MOST_SCRIPTS,
-        &|place, worker: &mut AppWorker| worker.work(rt, alloc, runtime, gate, scenario, place),
+        &|place, worker: &mut AppWorker| worker.work(context, scenario, place),
     );
 }
 

@@ -17,7 +17,7 @@ use std::thread::Threads;
 use xr_device::Device;
 use xr_runtime::{Closed, Passes, Runtime};
 use xr_types::{Lists, MadeList, NoMemory, Scenario, Several};
-use xr_workers::{Composed, DeviceMade, Gate};
+use xr_workers::{Composed, Context, DeviceMade, Gate};
 
 /// What is left of a run on threads: its lists, none where memory was short for them, and the closed runtime.
 #[derive(Drop)]
@@ -85,11 +85,14 @@ pub fn run<R: Threads + Wait + Sync, G: Gate + Sync, D: Device>(
         device: mut pass,
     } = passes;
     let mut workers = workers_of(alloc, passes)?;
-    let listed = run_actors(
+    let context = Context {
         rt,
         alloc,
-        &runtime,
+        runtime: &runtime,
         gate,
+    };
+    let listed = run_actors(
+        &context,
         scenario,
         &mut workers,
         &mut compositor,

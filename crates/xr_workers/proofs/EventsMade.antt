@@ -29,7 +29,8 @@ use Rattle.xr_runtime.proofs.Passing.{seat_is}
 use Rattle.xr_serial.specs.inside.Made.{exchange_of}
 use Rattle.xr_serial.specs.inside.RunInvariant.{GivesMore, DeviceKept}
 use Rattle.xr_serial.specs.inside.RunState.{SideState}
-use Rattle.xr_serial.specs.inside.Sides.{Fetched, side_asked}
+use Rattle.xr_device.specs.Told.{Comes}
+use Rattle.xr_serial.specs.inside.Sides.{side_asked}
 use Rattle.xr_serial.proofs.DeviceAnswers.{tells_event, tells_end, tells_garbled, tells_fault, event_kept}
 use Rattle.xr_serial.proofs.Failing.{reads_on, fails_behind}
 use Rattle.xr_workers.specs.declared.device.DeviceMade.{DeviceMade}
@@ -83,22 +84,22 @@ none_told table start p is few = record {
     nothing_given (Some t) = refl
 
 -- what was asked for is known
-asked_kept : (side : SideState) (calls : List Exchange) (start now now2 : Prospect) (event : Option DeviceEvent) (over : Bool) → now.faults ≤ now2.faults → Fetched now now2 event over → DeviceKept (side_asked side None false) calls start now → DeviceKept (side_asked side event over) calls start now2
+asked_kept : (side : SideState) (calls : List Exchange) (start now now2 : Prospect) (event : Option DeviceEvent) (over : Bool) → now.faults ≤ now2.faults → Comes now now2 event over → DeviceKept (side_asked side None false) calls start now → DeviceKept (side_asked side event over) calls start now2
 asked_kept side calls start now now2 (Some e) false grew f d = tells_event side calls start now now2 grew d e f.0 f.1 f.3 f.4
 asked_kept side calls start now now2 None true grew f d = tells_end side calls start now now2 grew d f.0 f.2 f.3
 asked_kept side calls start now now2 (Some event.Fault) true grew f d = tells_fault side calls start now now2 grew d f.0 f.2 f.3
 asked_kept side calls start now now2 (Some (event.Garbled line)) true grew f d = tells_garbled side calls start now now2 grew d line f.0 f.2 f.3
 asked_kept side calls start now now2 _ _ grew f d = absurd f
 
-fewer_then : (now now2 : Prospect) (event : DeviceEvent) (over : Bool) → Fetched now now2 (Some event) over → over ≡ false → now2.bound + 1 ≤ now.bound
+fewer_then : (now now2 : Prospect) (event : DeviceEvent) (over : Bool) → Comes now now2 (Some event) over → over ≡ false → now2.bound + 1 ≤ now.bound
 fewer_then now now2 event false f is = let less = f.2 in omega (arith, less)
 fewer_then now now2 event true f is = absurd (true≢false is)
 
 module _ (table : TableId) (start now now2 : Prospect) (old mid : DevicePass) (events : List DeviceEvent) (list : List Made) (t : MadeEvents table start now old mid events list false) (grew : now.faults ≤ now2.faults) (on : ReadsOn now now2) where
-  pub told_none : (event : Option DeviceEvent) (over : Bool) → event ≡ None → Fetched now now2 event over → MadeEvents table start now2 old mid events list over × (over ≡ true)
-  told_none event over none f = by over (subst (λ (e : Option DeviceEvent). Fetched now now2 e over) none f)
+  pub told_none : (event : Option DeviceEvent) (over : Bool) → event ≡ None → Comes now now2 event over → MadeEvents table start now2 old mid events list over × (over ≡ true)
+  told_none event over none f = by over (subst (λ (e : Option DeviceEvent). Comes now now2 e over) none f)
     where
-      by : (o : Bool) → Fetched now now2 None o → MadeEvents table start now2 old mid events list o × (o ≡ true)
+      by : (o : Bool) → Comes now now2 None o → MadeEvents table start now2 old mid events list o × (o ≡ true)
       by false g = absurd g
       by true g = (
         record {
@@ -120,7 +121,7 @@ module _ (table : TableId) (start now now2 : Prospect) (old mid : DevicePass) (e
       let more = ap length t.adds in
       omega (arith, few, before, here, more, none, length-append (calls_in old.seat.me.0.know.own) t.calls)
 
-  pub told_event : (event : DeviceEvent) (over : Bool) (new : DevicePass) (reply : Reply) (made : Made) → Fetched now now2 (Some event) over → MadeEvent table mid event reply new
+  pub told_event : (event : DeviceEvent) (over : Bool) (new : DevicePass) (reply : Reply) (made : Made) → Comes now now2 (Some event) over → MadeEvent table mid event reply new
       → made ≡ record { op = length list + 1; name = Device; mark = 0; start = pos 0; reply = reply; text = [] } → MadeEvents table start now2 old new (events ++ event ∷ []) (list ++ made ∷ []) over
   told_event event over new reply made f m is =
       let x : Exchange = exchange_of (ask.Device event) m.outcome in
@@ -136,7 +137,7 @@ module _ (table : TableId) (start now now2 : Prospect) (old mid : DevicePass) (e
       }
 
   -- the call was made, and memory was short for its list
-  pub short_event : (event : DeviceEvent) (over : Bool) (new : DevicePass) (reply : Reply) (short : NoMemory) → Fetched now now2 (Some event) over → MadeEvent table mid event reply new → RanDevice table start now2 old new (Err short)
+  pub short_event : (event : DeviceEvent) (over : Bool) (new : DevicePass) (reply : Reply) (short : NoMemory) → Comes now now2 (Some event) over → MadeEvent table mid event reply new → RanDevice table start now2 old new (Err short)
   short_event event over new reply short f m =
       let told = told_event event over new reply (record { op = length list + 1; name = Device; mark = 0; start = pos 0; reply = reply; text = [] }) f m refl in
       record { is = told.is; calls = told.calls; made = told.adds; lists = tt; later = told.kept.later; reads = told.reads }

@@ -7,11 +7,11 @@ ghost use Rattle.xr_runtime.specs.Passes.{table_of, IsApp, MayCall};
 ghost use Rattle.xr_workers.specs.Workers.{IsGated, RanScript};
 ghost use Rattle.xr_workers.specs.inside.Made.{CallMade};
 
+use crate::context::Context;
 use crate::gate::Gate;
 use crate::script::make_ops;
-use std::alloc::Global;
 use std::sync::Wait;
-use xr_runtime::{AppPass, Runtime};
+use xr_runtime::AppPass;
 use xr_types::{Actor, Bytes, CallName, Made, MadeList, NoMemory, Op, Reply};
 
 /// An application: its number, from 1, and its script.
@@ -22,22 +22,16 @@ pub struct AppScript<'a> {
 }
 
 // Says that the application makes no further call.
-fn leave<R: Wait, G: Gate>(
-    rt: &R,
-    runtime: &Runtime,
-    gate: &G,
-    app: u8,
-    pass: &mut AppPass,
-) -> Reply
-    requires may { MayCall (table_of runtime.now) pass.old }
+fn leave<R: Wait, G: Gate>(context: &Context<'_, R, G>, app: u8, pass: &mut AppPass) -> Reply
+    requires may { MayCall (table_of context.now.runtime.now) pass.old }
     requires own { pass.old.app ≡ app }
-    ensures made { CallMade (table_of runtime.now) pass.old ask.Leave [] result pass.new }
-    ensures gated { IsGated (G.came gate.now) (G.went gate.now) (App app) pass.old.calls (pass.old.calls + 1) }
+    ensures made { CallMade (table_of context.now.runtime.now) pass.old ask.Leave [] result pass.new }
+    ensures gated { IsGated (G.came context.now.gate.now) (G.went context.now.gate.now) (App app) pass.old.calls (pass.old.calls + 1) }
 {
     let number = pass.calls() + 1;
-    gate.before(Actor::App(app), number);
-    let reply = runtime.leave(rt, pass);
-    gate.after(Actor::App(app), number);
+    context.gate.before(Actor::App(app), number);
+    let reply = context.runtime.leave(context.rt, pass);
+    context.gate.after(Actor::App(app), number);
     reply
 }
 
@@ -45,23 +39,20 @@ fn leave<R: Wait, G: Gate>(
 /// script has fewer than 2^22 ops, each in range and with names that earlier ops gave. Where memory is short it makes no further call of
 /// the script, but leaves all the same, and answers `NoMemory`.
 pub fn run_script<R: Wait, G: Gate>(
-    rt: &R,
-    alloc: Global,
-    runtime: &Runtime,
-    gate: &G,
+    context: &Context<'_, R, G>,
     script: AppScript<'_>,
     pass: &mut AppPass,
 ) -> Result<MadeList, NoMemory>
-    requires is { IsApp (table_of runtime.now) pass.old }
+    requires is { IsApp (table_of context.now.runtime.now) pass.old }
     requires first { (pass.old.left ≡ false) × (pass.old.calls ≡ 0) }
     requires own { pass.old.app ≡ script.app }
     requires few { length script.ops.now < 2 ^ 22 }
     requires formed { IsInForm script.ops.now }
-    ensures ran { RanScript (table_of runtime.now) script.entry.ops.now pass.old pass.new result }
-    ensures gated { IsGated (G.came gate.now) (G.went gate.now) (App script.entry.app) pass.old.calls pass.new.calls }
+    ensures ran { RanScript (table_of context.now.runtime.now) script.entry.ops.now pass.old pass.new result }
+    ensures gated { IsGated (G.came context.now.gate.now) (G.went context.now.gate.now) (App script.entry.app) pass.old.calls pass.new.calls }
 {
-    let made = make_ops(rt, alloc, runtime, gate, script.app, script.ops, pass);
-    let reply = leave(rt, runtime, gate, script.app, pass);
+    let made = make_ops(context, script.app, script.ops, pass);
+    let reply = leave(context, script.app, pass);
     let Some(mut list) = made else {
         return Err(NoMemory);
     };
@@ -71,7 +62,7 @@ pub fn run_script<R: Wait, G: Gate>(
         mark: 0,
         start: 0,
         reply,
-        text: Bytes::new(Vec::new(alloc)),
+        text: Bytes::new(Vec::new(context.alloc)),
     };
     let Ok(()) = list.push(last) else {
         return Err(NoMemory);

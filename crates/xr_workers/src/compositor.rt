@@ -6,11 +6,11 @@ ghost use Rattle.xr_runtime.specs.Passes.{table_of, IsCompositor};
 ghost use Rattle.xr_workers.specs.Workers.{IsGated, Adds, turns_in, RanCompositor};
 ghost use Rattle.xr_workers.specs.inside.Composing.{KeepsFrame, ListsAll};
 
+use crate::context::Context;
 use crate::gate::Gate;
-use std::alloc::Global;
 use std::sync::Wait;
 use xr_compositor::{Turned, turn};
-use xr_runtime::{CompositorPass, Runtime};
+use xr_runtime::CompositorPass;
 use xr_types::{Actor, NoMemory, Reply, Several, Shown};
 
 /// What the compositor's worker lists: the frames that it was shown, with the replies of these calls, and the reply that told it the
@@ -60,29 +60,26 @@ fn list(kept: Option<Frames>, ended: Reply) -> Result<Composed, NoMemory>
 /// Takes frames and gives their images back, turn by turn, until it is told the end, and lists them. The pass has made no call yet.
 /// Where memory is short it goes on to the end without keeping frames, and answers `NoMemory`.
 pub fn run_compositor<R: Wait, G: Gate>(
-    rt: &R,
-    alloc: Global,
-    runtime: &Runtime,
-    gate: &G,
+    context: &Context<'_, R, G>,
     pass: &mut CompositorPass,
 ) -> Result<Composed, NoMemory>
-    requires is { IsCompositor (table_of runtime.now) pass.old }
+    requires is { IsCompositor (table_of context.now.runtime.now) pass.old }
     requires first { (pass.old.ended ≡ false) × (pass.old.calls ≡ 0) }
     requires none_held { pass.old.held ≡ 0 }
-    ensures ran { RanCompositor (table_of runtime.now) pass.old pass.new result }
-    ensures gated { (calls : List Exchange) × Adds pass.old.seat.me.0.know pass.new.seat.me.0.know calls × IsGated (G.came gate.now) (G.went gate.now) Compositor 0 (turns_in calls) }
+    ensures ran { RanCompositor (table_of context.now.runtime.now) pass.old pass.new result }
+    ensures gated { (calls : List Exchange) × Adds pass.old.seat.me.0.know pass.new.seat.me.0.know calls × IsGated (G.came context.now.gate.now) (G.went context.now.gate.now) Compositor 0 (turns_in calls) }
 {
     let mut kept = Some(Frames {
-        frames: Vec::new(alloc),
-        replies: Vec::new(alloc),
+        frames: Vec::new(context.alloc),
+        replies: Vec::new(context.alloc),
     });
     let mut turns = 0;
-    for _ in rt.forever() {
+    for _ in context.rt.forever() {
         turns += 1;
         let mut shown = Shown::default();
-        gate.before(Actor::Compositor, turns);
-        let turned = turn(runtime, rt, pass, &mut shown);
-        gate.after(Actor::Compositor, turns);
+        context.gate.before(Actor::Compositor, turns);
+        let turned = turn(context.runtime, context.rt, pass, &mut shown);
+        context.gate.after(Actor::Compositor, turns);
         match turned {
             Turned::Shown(reply) => kept = with_frame(kept, shown, reply),
             Turned::Ended(reply) => return list(kept, reply),

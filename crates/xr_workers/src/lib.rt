@@ -5,11 +5,13 @@
 mod app;
 mod calls;
 mod compositor;
+mod context;
 mod device;
 mod gate;
 mod script;
 
 pub use app::{AppScript, run_script};
 pub use compositor::{Composed, run_compositor};
+pub use context::Context;
 pub use device::{DeviceMade, run_device};
 pub use gate::{Gate, OpenGate};

@@ -11,10 +11,11 @@ ghost use Rattle.xr_workers.specs.inside.Made.{AskedBy};
 ghost use Rattle.xr_workers.specs.inside.Script.{MadeOp, MadeSome};
 
 use crate::calls::make_call;
+use crate::context::Context;
 use crate::gate::Gate;
 use std::alloc::Global;
 use std::sync::Wait;
-use xr_runtime::{AppPass, Runtime};
+use xr_runtime::AppPass;
 use xr_scenario_calls::{Names, Scratch, call_of, op_mark, op_start};
 use xr_types::{Actor, Bytes, MOST_CAPACITY, Made, NoMemory, Op, Reply};
 
@@ -53,22 +54,19 @@ impl Script {
     /// Makes the call of the op at this place, from 1, and tells what is listed of it, or nothing where memory is short.
     fn make_op<R: Wait, G: Gate>(
         &mut self,
-        rt: &R,
-        alloc: Global,
-        runtime: &Runtime,
-        gate: &G,
+        context: &Context<'_, R, G>,
+        app: u8,
         place: u32,
         op: &Op,
         pass: &mut AppPass,
-        app: u8,
     ) -> Option<Made>
-        requires may { MayCall (table_of runtime.now) pass.old }
+        requires may { MayCall (table_of context.now.runtime.now) pass.old }
         requires own { pass.old.app ≡ app }
         requires ranged { IsInRange op.now }
         requires first { 1 ≤ place }
         requires within { place ≤ length self.old.names }
-        ensures made { MadeOp (table_of runtime.now) place op.now pass.old pass.new self.old.names self.new.names result }
-        ensures gated { IsGated (G.came gate.now) (G.went gate.now) (App app) pass.old.calls (pass.old.calls + 1) }
+        ensures made { MadeOp (table_of context.now.runtime.now) place op.now pass.old pass.new self.old.names self.new.names result }
+        ensures gated { IsGated (G.came context.now.gate.now) (G.went context.now.gate.now) (App app) pass.old.calls (pass.old.calls + 1) }
     {
         let Script {
             names,
@@ -76,9 +74,7 @@ impl Script {
             buffer,
         } = self;
         let start = op_start(pass.clock(), op);
-        let answered = ask(
-            rt, alloc, runtime, gate, app, op, names, scratch, buffer, pass,
-        );
+        let answered = ask(context, app, op, names, scratch, buffer, pass);
         let reply = answered.reply;
         names.learn(place, op, &reply);
         let text = answered.text?;
@@ -95,10 +91,7 @@ impl Script {
 
 /// Makes the call of an op, which is lent the front of a buffer, and copies what it wrote.
 fn ask<R: Wait, G: Gate>(
-    rt: &R,
-    alloc: Global,
-    runtime: &Runtime,
-    gate: &G,
+    context: &Context<'_, R, G>,
     app: u8,
     op: &Op,
     names: &Names,
@@ -106,21 +99,21 @@ fn ask<R: Wait, G: Gate>(
     buffer: &mut [u8],
     pass: &mut AppPass,
 ) -> Asked
-    requires may { MayCall (table_of runtime.now) pass.old }
+    requires may { MayCall (table_of context.now.runtime.now) pass.old }
     requires own { pass.old.app ≡ app }
     requires ranged { IsInRange op.now }
     requires size { MOST_LENT ≤ length buffer.old }
-    ensures made { AskedBy (table_of runtime.now) pass.old (with_start pass.old.clock (request_for names.now op.now)) result pass.new }
-    ensures gated { IsGated (G.came gate.now) (G.went gate.now) (App app) pass.old.calls (pass.old.calls + 1) }
+    ensures made { AskedBy (table_of context.now.runtime.now) pass.old (with_start pass.old.clock (request_for names.now op.now)) result pass.new }
+    ensures gated { IsGated (G.came context.now.gate.now) (G.went context.now.gate.now) (App app) pass.old.calls (pass.old.calls + 1) }
 {
     let number = pass.calls() + 1;
     let call = call_of(op, names, scratch);
     let lent = &mut buffer[..call.lent_size() as usize];
-    gate.before(Actor::App(app), number);
-    let reply = make_call(rt, runtime, pass, &call, lent);
-    gate.after(Actor::App(app), number);
+    context.gate.before(Actor::App(app), number);
+    let reply = make_call(context.rt, context.runtime, pass, &call, lent);
+    context.gate.after(Actor::App(app), number);
     let written = reply.gives.written_size(lent.len() as u64) as usize;
-    let text = match Bytes::from_slice(alloc, &lent[..written]) {
+    let text = match Bytes::from_slice(context.alloc, &lent[..written]) {
         Ok(text) => Some(text),
         Err(_) => None,
     };
@@ -129,32 +122,29 @@ fn ask<R: Wait, G: Gate>(
 
 /// Makes the calls of all ops in their order, and lists them, or stops where memory is short.
 pub(crate) fn make_ops<R: Wait, G: Gate>(
-    rt: &R,
-    alloc: Global,
-    runtime: &Runtime,
-    gate: &G,
+    context: &Context<'_, R, G>,
     app: u8,
     ops: &[Op],
     pass: &mut AppPass,
 ) -> Option<Vec<Made>>
-    requires is { IsApp (table_of runtime.now) pass.old }
+    requires is { IsApp (table_of context.now.runtime.now) pass.old }
     requires first { (pass.old.left ≡ false) × (pass.old.calls ≡ 0) }
     requires own { pass.old.app ≡ app }
     requires few { length ops.now < 2 ^ 22 }
     requires formed { IsInForm ops.now }
-    ensures made { MadeSome (table_of runtime.now) ops.now pass.old pass.new (option_map (λ list. list.items) result) }
-    ensures gated { IsGated (G.came gate.now) (G.went gate.now) (App app) pass.old.calls pass.new.calls }
+    ensures made { MadeSome (table_of context.now.runtime.now) ops.now pass.old pass.new (option_map (λ list. list.items) result) }
+    ensures gated { IsGated (G.came context.now.gate.now) (G.went context.now.gate.now) (App app) pass.old.calls pass.new.calls }
 {
-    let Ok(mut script) = Script::start(alloc, ops.len()) else {
+    let Ok(mut script) = Script::start(context.alloc, ops.len()) else {
         return None;
     };
-    let Ok(mut list) = Vec::with_capacity(alloc, ops.len() + 1) else {
+    let Ok(mut list) = Vec::with_capacity(context.alloc, ops.len() + 1) else {
         return None;
     };
     let mut count = 0;
     while count < ops.len() {
         let place = count as u32 + 1;
-        let made = script.make_op(rt, alloc, runtime, gate, place, &ops[count], pass, app)?;
+        let made = script.make_op(context, app, place, &ops[count], pass)?;
         let Ok(()) = list.push(made) else {
             return None;
         };

@@ -25,7 +25,7 @@ use Rattle.xr_serial.specs.inside.Made.{exchange_of}
 use Rattle.xr_serial.specs.inside.RunState.{AppState, SideState, CompositorState, RunState}
 use Rattle.xr_device.specs.Prospect.{Prospect}
 use Rattle.xr_device.specs.Answers.{GaveItsLines}
-use Rattle.xr_serial.specs.inside.Sides.{IsDone}
+use Rattle.xr_device.specs.Told.{IsChecked}
 use Rattle.xr_serial.specs.inside.Turns.{parts_of, pending_list}
 use Rattle.xr_serial.specs.inside.PastOfRun.{Trace, Standing}
 use Rattle.xr_serial.specs.Ran.{Gave, AreLineEvents, GoesOn}
@@ -76,7 +76,7 @@ pub record DeviceKept (side : SideState) (calls : List Exchange) (start now : Pr
   pub counted : now.given ≡ start.given + length given
   pub faultless : list_any is_fault given ≡ false
   pub sound : AreLineEvents given
-  pub done : IfSome side.pending IsDone
+  pub done : IfSome side.pending IsChecked
   pub list_is : side.calls ≡ made_from 1 calls
   pub events_are : side.events ≡ events_in calls
   pub later : start.faults ≤ now.faults

@@ -2,12 +2,6 @@
 use Rattle.std.specs.Prelude.{◌≡◌, ◌<◌, ◌≤◌, ℕ, ℤ, pos, ◌+◌, Bool, true, false, List, [], ◌∷◌, ◌++◌, length, drop, Option, Some, None}
 use Rattle.xr_types.specs.declared.calls.Actor.TheVariants.{App, Compositor, Device}
 use Rattle.xr_types.specs.declared.device.DeviceEvent.{DeviceEvent}
-use Rattle.xr_types.specs.declared.device.DeviceEvent.TheVariants as event
-use Rattle.xr_types.specs.Device.{checks}
-use Rattle.xr_io.specs.Outside.{Rose}
-use Rattle.xr_device.specs.Prospect.{Prospect}
-use Rattle.xr_device.specs.Answers.{Tells, IsTold, GaveItsLines}
-use Rattle.xr_device.specs.declared.Next.TheVariants as next
 use Rattle.xr_types.specs.declared.calls.Reply.{Reply}
 use Rattle.xr_types.specs.declared.frames.Shown.{Shown}
 use Rattle.xr_types.specs.declared.scenario.Op.{Op}
@@ -85,18 +79,6 @@ pub record Leaves (number : ℕ) (old new : AppState) (s after : State) : Type 0
   pub app : new ≡ app_left old (exchange_of ask.Leave outcome) after.core.device.clock
 
 -- ---- the device
-
--- a device's call that the core may be asked: its numbers are in range
-pub record IsDone (e : DeviceEvent) : Type 0 where
-  pub checked : checks e ≡ true
-
--- What the device was asked for its next event came to: an event, its end, a line that is none, or a fault.
-abbrev pub Fetched : Prospect → Prospect → Option DeviceEvent → Bool → Type 0
-Fetched old new (Some e) false = Tells old.remaining new.remaining (next.Event e) × IsTold e × (new.bound < old.bound) × (new.faults ≡ old.faults) × (new.given ≡ old.given + 1)
-Fetched old new None true = Tells old.remaining new.remaining next.End × (new.bound ≤ old.bound) × (new.faults ≡ old.faults) × (new.given ≡ old.given)
-Fetched old new (Some event.Fault) true = Rose old.faults new.faults × (new.bound ≤ old.bound) × (new.given ≡ old.given) × GaveItsLines new
-Fetched old new (Some (event.Garbled line)) true = Tells old.remaining new.remaining (next.Garbled line) × (new.bound ≤ old.bound) × (new.faults ≡ old.faults) × (new.given ≡ old.given)
-Fetched old new _ _ = ⊥
 
 -- the device's side once it was asked
 abbrev pub side_asked : SideState → Option DeviceEvent → Bool → SideState

@@ -8,6 +8,6 @@ use Rattle.xr_workers.proofs.compositor.run_compositor.Given as goal
 -- so many turns were had
 abbrev pub invariant-loop : goal.invariant-loop
 invariant-loop g l = record {
-  went : Composes (table_of l.runtime) l.turns l.initial.pass l.pass l.kept;
-  gated : IsGated (g.G.Gate.came l.gate) (g.G.Gate.went l.gate) Compositor 0 l.turns;
+  went : Composes (table_of l.context.runtime.now) l.turns l.initial.pass l.pass l.kept;
+  gated : IsGated (g.G.Gate.came l.context.gate.now) (g.G.Gate.went l.context.gate.now) Compositor 0 l.turns;
 }

@@ -8,6 +8,6 @@ use Rattle.xr_workers.proofs.device.run_device.Given as goal
 -- all that was told so far was made and listed
 abbrev pub invariant-loop : goal.invariant-loop
 invariant-loop g l = record {
-  told : MadeEvents (table_of l.runtime) (g.D.Device.prospect l.initial.device) (g.D.Device.prospect l.device) l.initial.pass l.pass l.events.items l.calls.items false;
-  gated : IsGated (g.G.Gate.came l.gate) (g.G.Gate.went l.gate) Devices l.initial.pass.calls l.pass.calls;
+  told : MadeEvents (table_of l.context.runtime.now) (g.D.Device.prospect l.initial.device) (g.D.Device.prospect l.device) l.initial.pass l.pass l.events.items l.calls.items false;
+  gated : IsGated (g.G.Gate.came l.context.gate.now) (g.G.Gate.went l.context.gate.now) Devices l.initial.pass.calls l.pass.calls;
 }

@@ -12,25 +12,25 @@ use Rattle.xr_workers.proofs.ScriptsMade.{none_made, some_made, all_made, may_go
 use Rattle.xr_workers.proofs.script.make_ops.Goals as goal
 
 pub returns-in_default-clause-made : goal.returns-in_default-clause-made
-returns-in_default-clause-made g c = some_made (table_of c.args.runtime.now) c.args.ops.now 0 (no_values (length c.args.ops.now)) c.args.pass.now c.args.pass.now [] (omega arith) (none_made (table_of c.args.runtime.now) c.args.ops.now c.args.pass.now c.requires.is c.requires.first.0)
+returns-in_default-clause-made g c = some_made (table_of c.args.context.now.runtime.now) c.args.ops.now 0 (no_values (length c.args.ops.now)) c.args.pass.now c.args.pass.now [] (omega arith) (none_made (table_of c.args.context.now.runtime.now) c.args.ops.now c.args.pass.now c.requires.is c.requires.first.0)
 
 pub returns-in_default-with_capacity-clause-made : goal.returns-in_default-with_capacity-clause-made
-returns-in_default-with_capacity-clause-made g c = some_made (table_of c.args.runtime.now) c.args.ops.now 0 (no_values (length c.args.ops.now)) c.args.pass.now c.args.pass.now [] (omega arith) (none_made (table_of c.args.runtime.now) c.args.ops.now c.args.pass.now c.requires.is c.requires.first.0)
+returns-in_default-with_capacity-clause-made g c = some_made (table_of c.args.context.now.runtime.now) c.args.ops.now 0 (no_values (length c.args.ops.now)) c.args.pass.now c.args.pass.now [] (omega arith) (none_made (table_of c.args.context.now.runtime.now) c.args.ops.now c.args.pass.now c.requires.is c.requires.first.0)
 
 pub loop-count-init : goal.loop-count-init
 loop-count-init g c =
     let names : c.in-Ok.script.names ≡ no_values (length c.args.ops.now) = c.in-Ok.ensures in record {
       within = omega arith;
       calls = [];
-      made = subst (λ (v : List ℕ). MadeOps (table_of c.args.runtime.now) c.args.ops.now 0 v c.args.pass.now c.args.pass.now []) (sym names) (none_made (table_of c.args.runtime.now) c.args.ops.now c.args.pass.now c.requires.is c.requires.first.0);
+      made = subst (λ (v : List ℕ). MadeOps (table_of c.args.context.now.runtime.now) c.args.ops.now 0 v c.args.pass.now c.args.pass.now []) (sym names) (none_made (table_of c.args.context.now.runtime.now) c.args.ops.now c.args.pass.now c.requires.is c.requires.first.0);
       lists = c.in-Ok-with_capacity.ensures.items;
-      gated = gated_none (g.G.Gate.came c.args.gate.now) (g.G.Gate.went c.args.gate.now) (App c.args.app) c.args.pass.now.calls;
+      gated = gated_none (g.G.Gate.came c.args.context.now.gate.now) (g.G.Gate.went c.args.context.now.gate.now) (App c.args.app) c.args.pass.now.calls;
     }
 
 pub make_op-requires-clause-may : goal.make_op-requires-clause-may
 make_op-requires-clause-may g c =
     let i = c.loop-count.invariant in
-    may_go_on (table_of c.args.runtime.now) c.args.ops.now c.loop-count.count c.loop-count.script.names c.args.pass.now c.loop-count.pass i.calls i.within i.made c.requires.is c.requires.first.1 c.requires.few
+    may_go_on (table_of c.args.context.now.runtime.now) c.args.ops.now c.loop-count.count c.loop-count.script.names c.args.pass.now c.loop-count.pass i.calls i.within i.made c.requires.is c.requires.first.1 c.requires.few
 
 pub make_op-requires-clause-ranged : goal.make_op-requires-clause-ranged
 make_op-requires-clause-ranged g c = subst IsInRange (sym c.index-ops-count.is) (in_range-item c.args.ops.now c.loop-count.count c.index-ops-count.result c.requires.formed c.loop-count-test.true)
@@ -38,7 +38,7 @@ make_op-requires-clause-ranged g c = subst IsInRange (sym c.index-ops-count.is) 
 pub make_op-requires-clause-within : goal.make_op-requires-clause-within
 make_op-requires-clause-within g c =
     let i = c.loop-count.invariant in
-    let size = values_are (table_of c.args.runtime.now) c.args.ops.now c.loop-count.count c.loop-count.script.names c.args.pass.now c.loop-count.pass i.calls i.within i.made in
+    let size = values_are (table_of c.args.context.now.runtime.now) c.args.ops.now c.loop-count.count c.loop-count.script.names c.args.pass.now c.loop-count.pass i.calls i.within i.made in
     let here = c.loop-count-test.true in
     omega (arith, size, here)
 
@@ -46,7 +46,7 @@ pub returns-in_err-made-clause-made : goal.returns-in_err-made-clause-made
 returns-in_err-made-clause-made g c =
     let i = c.loop-count.invariant in
     let test = c.loop-count-test.true in
-    let table = table_of c.args.runtime.now in
+    let table = table_of c.args.context.now.runtime.now in
     let here = here_at c.args.ops.now c.loop-count.count c.index-ops-count.result test c.index-ops-count.is in
     let x = c.make_op.ensures.made in
     let next = one_more table c.args.ops.now c.loop-count.count c.loop-count.script.names c.args.pass.now c.loop-count.pass i.calls i.within i.made c.index-ops-count.result c.make_op.new.pass c.make_op.new.self.names c.make_op.result here x in
@@ -57,7 +57,7 @@ pub returns-in_default-push-clause-made : goal.returns-in_default-push-clause-ma
 returns-in_default-push-clause-made g c =
     let i = c.loop-count.invariant in
     let test = c.loop-count-test.true in
-    let table = table_of c.args.runtime.now in
+    let table = table_of c.args.context.now.runtime.now in
     let here = here_at c.args.ops.now c.loop-count.count c.index-ops-count.result test c.index-ops-count.is in
     let x = c.make_op.ensures.made in
     let next = one_more table c.args.ops.now c.loop-count.count c.loop-count.script.names c.args.pass.now c.loop-count.pass i.calls i.within i.made c.index-ops-count.result c.make_op.new.pass c.make_op.new.self.names c.make_op.result here x in
@@ -66,14 +66,14 @@ returns-in_default-push-clause-made g c =
 pub returns-in_default-push-clause-gated : goal.returns-in_default-push-clause-gated
 returns-in_default-push-clause-gated g c =
     let i = c.loop-count.invariant in
-    let more = op_calls (table_of c.args.runtime.now) _ _ c.loop-count.pass c.make_op.new.pass _ _ _ i.made.is c.make_op.ensures.made in
-    op_gated (g.G.Gate.came c.args.gate.now) (g.G.Gate.went c.args.gate.now) (App c.args.app) c.args.pass.now.calls c.loop-count.pass.calls c.make_op.new.pass.calls more i.gated c.make_op.ensures.gated
+    let more = op_calls (table_of c.args.context.now.runtime.now) _ _ c.loop-count.pass c.make_op.new.pass _ _ _ i.made.is c.make_op.ensures.made in
+    op_gated (g.G.Gate.came c.args.context.now.gate.now) (g.G.Gate.went c.args.context.now.gate.now) (App c.args.app) c.args.pass.now.calls c.loop-count.pass.calls c.make_op.new.pass.calls more i.gated c.make_op.ensures.gated
 
 pub loop-count-preserved : goal.loop-count-preserved
 loop-count-preserved g c =
     let i = c.loop-count.invariant in
     let test = c.loop-count-test.true in
-    let table = table_of c.args.runtime.now in
+    let table = table_of c.args.context.now.runtime.now in
     let here = here_at c.args.ops.now c.loop-count.count c.index-ops-count.result test c.index-ops-count.is in
     let x = c.make_op.ensures.made in
     let next = one_more table c.args.ops.now c.loop-count.count c.loop-count.script.names c.args.pass.now c.loop-count.pass i.calls i.within i.made c.index-ops-count.result c.make_op.new.pass c.make_op.new.self.names c.make_op.result here x in
@@ -86,5 +86,5 @@ loop-count-preserved g c =
       calls = i.calls ++ x.call ∷ [];
       made = next;
       lists = pushed ∙ lists_more c.loop-count.list.items i.calls c.loop-count.count x.call c.in_ok-made.made i.lists size one;
-      gated = op_gated (g.G.Gate.came c.args.gate.now) (g.G.Gate.went c.args.gate.now) (App c.args.app) c.args.pass.now.calls c.loop-count.pass.calls c.make_op.new.pass.calls more i.gated c.make_op.ensures.gated;
+      gated = op_gated (g.G.Gate.came c.args.context.now.gate.now) (g.G.Gate.went c.args.context.now.gate.now) (App c.args.app) c.args.pass.now.calls c.loop-count.pass.calls c.make_op.new.pass.calls more i.gated c.make_op.ensures.gated;
     }

@@ -12,9 +12,9 @@ abbrev pub invariant-loop-count : goal.invariant-loop-count
 invariant-loop-count g l = record {
   within : l.count ≤ length l.ops;
   calls : List Exchange;
-  made : MadeOps (table_of l.runtime) l.ops l.count l.script.names l.initial.pass l.pass calls;
+  made : MadeOps (table_of l.context.runtime.now) l.ops l.count l.script.names l.initial.pass l.pass calls;
   lists : l.list.items ≡ made_from 1 calls;
-  gated : IsGated (g.G.Gate.came l.gate) (g.G.Gate.went l.gate) (App l.app) l.initial.pass.calls l.pass.calls;
+  gated : IsGated (g.G.Gate.came l.context.gate.now) (g.G.Gate.went l.context.gate.now) (App l.app) l.initial.pass.calls l.pass.calls;
 }
 
 abbrev pub decreases-loop-count : goal.decreases-loop-count

@@ -1,13 +1,16 @@
-use Rattle.std.proofs.Common.{rules, ◌≡◌, false, None}
+use Rattle.std.proofs.Common.{rules, ◌≡◌, false, None, refl}
+use Rattle.xr_serial.specs.inside.RunState.{SideState}
+use Rattle.xr_serial.specs.inside.Sides.{side_asked}
 use Rattle.xr_serial.proofs.DeviceTurns.{looked_from}
 use Rattle.xr_serial.proofs.side.DeviceSide.look.Goals as goal
 
 pub returns-then-not-self-clause-kept : goal.returns-then-not-self-clause-kept
 returns-then-not-self-clause-kept g c =
-    let old = c.args.self.now in
-    let new = c.fetch.new.self in
+    let old : SideState = record { pending = c.self.inside.pending; over = c.self.inside.over; events = c.self.inside.events.items; calls = c.self.inside.calls.items } in
+    let told = c.ask_next-told.ensures.told in
+    let new : SideState = side_asked old c.ask_next-told.result.event c.ask_next-told.result.is_last in
     let unknown : old.pending ≡ None = search rules in
     let going : old.over ≡ false = search rules in
-    λ scenario turn idle s run start kept.
+    rw (← c.self.view_is) (λ scenario turn idle s run start kept.
     looked_from scenario turn idle s run old start (g.D.Device.prospect c.args.device.now)
-    (g.D.Device.prospect c.fetch.new.device) c.fetch.ensures.later new unknown going c.fetch.ensures.fetched c.fetch.ensures.same kept
+    (g.D.Device.prospect c.ask_next-told.new.device) told.later new unknown going told.comes refl kept)
