@@ -1,1 +1,1 @@
-"""The parts of tools/check: what stands in a scenario and in a device's text, and what the program answers to them."""
+"""What tools/check has of its own: how a run of texts ends, and what is suspicious in them."""

@@ -6,11 +6,12 @@ from collections.abc import Iterator
 from dataclasses import dataclass
 from typing import Any
 
-from .device import END, DeviceFound, Told
-from .json_text import Reader
-from .places import Finding, count, line_and_column, quoted
-from .run import unset
-from .scenario import DEPTH_OF_OPS, MOST_HANDLE_MARK, ScenarioFound, Step
+from checking.prediction import unset
+from scenarios.devices import END, DeviceFound, Told
+from scenarios.findings import Finding, line_and_column
+from scenarios.json_text import Reader
+from scenarios.reading import DEPTH_OF_OPS, MOST_HANDLE_MARK, Op, ScenarioFound
+from shown import count, quoted
 
 MOST_WARNINGS = 100
 
@@ -40,7 +41,7 @@ class Thing:
     kind: str | None
     parent: Thing | None = None
     destroyed: str = ""
-    begun: Step | None = None
+    begun: Op | None = None
     begun_at: int = 0
     is_handed: bool = False
 
@@ -53,9 +54,9 @@ def with_article(kind: str) -> str:
     return f"{'an' if kind[0] in 'aeiou' else 'a'} {kind}"
 
 
-def uses_of(step: Step) -> Iterator[tuple[Path, str, str | None]]:
+def uses_of(op: Op) -> Iterator[tuple[Path, str, str | None]]:
     """The names that an op uses for what has a kind: where each stands in the op, and the kind that is wanted there."""
-    for key, value in step.fields.items():
+    for key, value in op.fields.items():
         if key == "sets":
             found = [((key, at), it, "action set") for at, it in enumerate(value)]
         elif key in ("bindings", "active"):
@@ -77,28 +78,28 @@ def uses_of_layer(path: Path, layer: dict[str, Any]) -> Iterator[tuple[Path, Any
         yield (*path, "views", at, 0), view[0], "swapchain"
 
 
-def kinds_of_marks(scripts: list[list[Step]]) -> dict[int, set[str | None]]:
+def kinds_of_marks(scripts: list[list[Op]]) -> dict[int, set[str | None]]:
     """The kinds of what the scripts hand over by each mark. They follow from each other, so this goes on until they stay."""
     known: dict[int, set[str | None]] = {}
     for _ in range(MOST_HANDLE_MARK + 1):
         found: dict[int, set[str | None]] = {}
-        for steps in scripts:
+        for ops in scripts:
             kinds: dict[str, str | None] = {}
-            for step in steps:
-                value = step.fields.get("value")
-                if step.op == "mark" and isinstance(value, str):
-                    found.setdefault(step.fields["mark"], set()).add(kinds.get(value))
-                if "as" in step.fields:
-                    kinds[step.fields["as"]] = kind_given(step, known)
+            for op in ops:
+                value = op.fields.get("value")
+                if op.name == "mark" and isinstance(value, str):
+                    found.setdefault(op.fields["mark"], set()).add(kinds.get(value))
+                if "as" in op.fields:
+                    kinds[op.fields["as"]] = kind_given(op, known)
         if found == known:
             break
         known = found
     return known
 
 
-def kind_given(step: Step, marks: dict[int, set[str | None]]) -> str | None:
+def kind_given(op: Op, marks: dict[int, set[str | None]]) -> str | None:
     """The kind of what an op gives, where there is one kind that it may be of."""
-    kinds = marks.get(step.fields["mark"], set()) if step.op == "await" else {GIVEN.get(step.op)}
+    kinds = marks.get(op.fields["mark"], set()) if op.name == "await" else {GIVEN.get(op.name)}
     return next(iter(kinds)) if len(kinds) == 1 else None
 
 
@@ -114,32 +115,32 @@ class Lint:
         self.more = 0
         self.kinds = kinds_of_marks(found.scripts)
         self.setters: dict[int, list[tuple[int, int]]] = {}
-        for number, steps in enumerate(found.scripts, 1):
-            for place, step in enumerate(steps, 1):
-                if step.op == "mark":
-                    self.setters.setdefault(step.fields["mark"], []).append((number, place))
+        for number, ops in enumerate(found.scripts, 1):
+            for place, op in enumerate(ops, 1):
+                if op.name == "mark":
+                    self.setters.setdefault(op.fields["mark"], []).append((number, place))
 
-    def warn(self, step: Step, said: str, words: str, path: Path = ()) -> None:
+    def warn(self, op: Op, said: str, words: str, path: Path = ()) -> None:
         """Keeps a warning of an op, at a value in it."""
         if len(self.warnings) == MOST_WARNINGS:
             self.more += 1
             return
-        node = Reader(self.found.text).value(step.at, DEPTH_OF_OPS) if path else None
+        node = Reader(self.found.text).value(op.at, DEPTH_OF_OPS) if path else None
         for part in path:
             node = node.value[part][1] if isinstance(part, str) else node.value[part]
-        at = node.start if node else step.at
+        at = node.start if node else op.at
         line, column = line_and_column(self.found.text, at)
         self.warnings.setdefault(at, Finding(line, column, f"{said}: {words}", [], True))
 
     def others_end(self, number: int) -> bool:
         """Whether a script that isn't this one ends or destroys a session."""
         scripts = enumerate(self.found.scripts, 1)
-        return any(step.op in ENDING for other, steps in scripts if other != number for step in steps)
+        return any(op.name in ENDING for other, ops in scripts if other != number for op in ops)
 
     def look(self) -> list[Finding]:
         """All warnings, in the order of their places."""
-        for number, steps in enumerate(self.found.scripts, 1):
-            ScriptLint(self, number).look(steps)
+        for number, ops in enumerate(self.found.scripts, 1):
+            ScriptLint(self, number).look(ops)
         found = [it for _, it in sorted(self.warnings.items())]
         if self.more:
             found[-1].more.append(f"{count(self.more, 'more warning')} can be given.")
@@ -156,38 +157,38 @@ class ScriptLint:
         self.things: list[Thing] = []
         self.said: set[tuple[str, ...]] = set()
 
-    def warn(self, step: Step, place: int, words: str, path: Path) -> None:
-        self.lint.warn(step, f"script {self.number} op {place} {path[0]}", words, path)
+    def warn(self, op: Op, place: int, words: str, path: Path) -> None:
+        self.lint.warn(op, f"script {self.number} op {place} {path[0]}", words, path)
 
-    def look(self, steps: list[Step]) -> None:
-        for place, step in enumerate(steps, 1):
-            for path, name, kind in uses_of(step):
+    def look(self, ops: list[Op]) -> None:
+        for place, op in enumerate(ops, 1):
+            for path, name, kind in uses_of(op):
                 if name in self.names:
-                    self.look_at_use(step, place, path, name, kind)
-            if step.op == "await":
-                self.look_at_await(step, place)
-            self.follow(step, place)
+                    self.look_at_use(op, place, path, name, kind)
+            if op.name == "await":
+                self.look_at_await(op, place)
+            self.follow(op, place)
         for thing in self.things:
             if thing.begun and not thing.gone() and not (thing.is_handed and self.lint.others_end(self.number)):
                 name = quoted(thing.begun.fields["session"])
                 words = f"{name} is begun here, and nothing behind this op ends or destroys it"
                 self.warn(thing.begun, thing.begun_at, words, ("session",))
 
-    def look_at_use(self, step: Step, place: int, path: Path, name: str, kind: str | None) -> None:
+    def look_at_use(self, op: Op, place: int, path: Path, name: str, kind: str | None) -> None:
         """Whether a name may stand where it is used."""
         thing = self.names[name]
         gone = thing.gone()
         if kind and thing.kind and thing.kind != kind:
             words = f"{quoted(name)} is {with_article(thing.kind)}, and {with_article(kind)} is wanted here"
-            self.warn(step, place, words, path)
+            self.warn(op, place, words, path)
         elif gone and (name, gone.destroyed) not in self.said:
             self.said.add((name, gone.destroyed))
             what = "it" if gone is thing else f"the {gone.kind} that it was made from"
-            self.warn(step, place, f"{quoted(name)} is used behind {gone.destroyed}, which destroys {what}", path)
+            self.warn(op, place, f"{quoted(name)} is used behind {gone.destroyed}, which destroys {what}", path)
 
-    def look_at_await(self, step: Step, place: int) -> None:
+    def look_at_await(self, op: Op, place: int) -> None:
         """Whether a mark may be set before the script comes to wait for it."""
-        mark, device = step.fields["mark"], self.lint.device
+        mark, device = op.fields["mark"], self.lint.device
         setters = self.lint.setters.get(mark, [])
         is_set = any(number != self.number or at < place for number, at in setters)
         if device is None or is_set or ("mark", mark) in device or ("await", str(mark)) in self.said:
@@ -198,33 +199,33 @@ class ScriptLint:
         else:
             other = "the device's text has no such line" if self.lint.has_device else "no device's text is given"
             words = f"nobody sets mark {mark}: no script has such an op, and {other}"
-        self.warn(step, place, words, ("mark",))
+        self.warn(op, place, words, ("mark",))
 
-    def thing(self, step: Step, field: str) -> Thing | None:
+    def thing(self, op: Op, field: str) -> Thing | None:
         """What a field of an op names."""
-        name = step.fields.get(field)
+        name = op.fields.get(field)
         return self.names.get(name) if isinstance(name, str) else None
 
-    def follow(self, step: Step, place: int) -> None:
+    def follow(self, op: Op, place: int) -> None:
         """What an op does to what its names stand for."""
-        field = next((it for it in step.fields if it in WANTED or it == "value"), "")
-        used = self.thing(step, field)
+        field = next((it for it in op.fields if it in WANTED or it == "value"), "")
+        used = self.thing(op, field)
         if used and used.kind not in (None, WANTED.get(field, used.kind)):
             # a call with a handle of another kind is refused
             used = None
-        if used and step.op.startswith("destroy_"):
-            used.destroyed = used.destroyed or f"op {place} ({step.op})"
-        elif used and step.op == "begin_session":
-            used.begun, used.begun_at = step, place
-        elif used and step.op == "end_session":
+        if used and op.name.startswith("destroy_"):
+            used.destroyed = used.destroyed or f"op {place} ({op.name})"
+        elif used and op.name == "begin_session":
+            used.begun, used.begun_at = op, place
+        elif used and op.name == "end_session":
             used.begun = None
-        elif used and step.op == "mark":
+        elif used and op.name == "mark":
             used.is_handed = True
-        if "as" in step.fields:
-            kind = kind_given(step, self.lint.kinds)
-            parent = self.thing(step, MADE_FROM.get(kind or "", ""))
-            thing = Thing(kind, parent, is_handed=step.op == "await")
-            self.names[step.fields["as"]] = thing
+        if "as" in op.fields:
+            kind = kind_given(op, self.lint.kinds)
+            parent = self.thing(op, MADE_FROM.get(kind or "", ""))
+            thing = Thing(kind, parent, is_handed=op.name == "await")
+            self.names[op.fields["as"]] = thing
             self.things.append(thing)
 
 

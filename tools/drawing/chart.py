@@ -5,8 +5,7 @@ from collections import Counter
 
 from drawing import text
 from drawing.columns import ASIDE, BIN_WIDTH, LEFT, Column, Piece
-from drawing.replay import Arrow, Change, Session, Wait, in_units
-from drawing.report import Call
+from drawing.replay import Arrow, Change, Session, Wait, in_units, is_bad, is_fault
 from drawing.scene import (
     AXIS_HEIGHT,
     BOLD,
@@ -24,6 +23,7 @@ from drawing.scene import (
     way_of,
 )
 from drawing.text import escaped
+from reports.reading import Call
 
 SHAPES = {
     "met": '<circle class="shape" r="5"/>',
@@ -70,8 +70,8 @@ def titled(words: str) -> str:
 
 def kind_of(call: Call) -> str:
     """The shape that a call is drawn by."""
-    if call.is_bad:
-        return "fault" if call.is_fault else "refused"
+    if is_bad(call):
+        return "fault" if is_fault(call) else "refused"
     if call.code == "XR_SESSION_LOSS_PENDING":
         return "pending"
     if call.name in ("leave", "ended"):
@@ -217,7 +217,7 @@ class Chart:
         return list(drawn.values())
 
     def _arrow_ends(self, arrow: Arrow) -> tuple[float, float, float, float]:
-        source, target = self.lanes[arrow.source.actor], self.lanes[arrow.target.actor]
+        source, target = self.lanes[arrow.source.who], self.lanes[arrow.target.who]
         return self.x_of(arrow.source.place), source.line, self.x_of(arrow.target.place), target.line
 
     def _is_far(self, arrow: Arrow) -> bool:
@@ -260,7 +260,7 @@ class Chart:
         if len(node.calls) > 1:
             label = f"{len(node.calls)} getters", ""
             said = f"{text.counted(len(node.calls), 'getter')} of {lane.name}\n" + "\n".join(
-                f"{it.name} {it.code} {it.values}".strip() for it in node.calls[:8]
+                f"{it.name} {it.code} {it.text}".strip() for it in node.calls[:8]
             )
         kind = "refused" if node.refused and len(node.calls) > 1 else kind_of(call)
         return f'<g class="call {kind}" tabindex="0" {at}>{titled(said)}{SHAPES[kind]}{slanted(label)}</g>'

@@ -4,7 +4,7 @@ from __future__ import annotations
 from array import array
 from dataclasses import dataclass
 
-from drawing.report import COMPOSITOR, DEVICE, Call
+from reports.reading import COMPOSITOR, DEVICE, Call
 
 PLAIN_PLACES = 400
 MOST_COLUMNS = 8_000
@@ -55,15 +55,15 @@ class Piece:
 
 def _is_dull(call: Call) -> bool:
     """Whether a call may go into a sum: nothing about it is told by where it stands."""
-    if call.actor == COMPOSITOR or call.name in _TELLING:
+    if call.who == COMPOSITOR or call.name in _TELLING:
         return False
-    return call.actor == DEVICE or call.code in ("XR_SUCCESS", "XR_EVENT_UNAVAILABLE")
+    return call.who == DEVICE or call.code in ("XR_SUCCESS", "XR_EVENT_UNAVAILABLE")
 
 
 def _repeats(call: Call, earlier: Call) -> bool:
     """Whether a call is made once more with the same outcome, as by who tries again and again."""
-    is_same = (call.actor, call.name, call.code) == (earlier.actor, earlier.name, earlier.code)
-    return is_same and call.name not in _TELLING and call.actor != COMPOSITOR
+    is_same = (call.who, call.name, call.code) == (earlier.who, earlier.name, earlier.code)
+    return is_same and call.name not in _TELLING and call.who != COMPOSITOR
 
 
 def _end_of_run(ordered: list[Call], start: int) -> int:

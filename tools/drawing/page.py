@@ -7,6 +7,7 @@ from drawing.chart import DEFS, Chart, names_of_axis, names_of_lanes, num
 from drawing.columns import Piece
 from drawing.legend import legend_of
 from drawing.picture import STYLE
+from drawing.replay import is_fault, is_refused
 from drawing.scene import HEAD_HEIGHT, Scene
 from drawing.status import facts_of, status_of
 from drawing.table import table_of
@@ -66,8 +67,8 @@ def _overview(scene: Scene) -> str:
     items = []
     for piece in scene.pieces:
         calls = scene.ordered[piece.first - 1 : piece.last]
-        refused = sum(call.is_refused for call in calls)
-        is_cut = any(call.is_fault for call in calls)
+        refused = sum(is_refused(call) for call in calls)
+        is_cut = any(is_fault(call) for call in calls)
         words = f"places {number(piece.first)} to {number(piece.last)}, {number(refused)} refused"
         words += ", the end of the device's text" if is_cut else ""
         bad = f' class="bad" aria-label="{words}"' if refused or is_cut else ""

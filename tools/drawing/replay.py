@@ -2,15 +2,30 @@
 from __future__ import annotations
 
 from collections.abc import Iterable
-from dataclasses import dataclass, field
+from dataclasses import dataclass
 
-from drawing.report import COMPOSITOR, DEVICE, Call, Report
-from states import LAST, next_state
+from machine import sessions
+from reports.reading import COMPOSITOR, DEVICE, Call, Report
 
 STATES = ("IDLE", "READY", "SYNCHRONIZED", "VISIBLE", "FOCUSED", "STOPPING", "EXITING", "LOSS_PENDING")
 
 # the calls that may have to wait; `frame` and `ended` are what `next_frame` told
 MAY_WAIT = frozenset(("await", "wait_frame", "wait_image", "frame", "ended"))
+
+# what isn't an event of the device, but its end: it couldn't be read on, or a line is malformed
+FAULTS = ("fault", "garbled")
+
+
+def is_refused(call: Call) -> bool:
+    return call.code.startswith("XR_ERROR_")
+
+
+def is_fault(call: Call) -> bool:
+    return call.what in FAULTS
+
+
+def is_bad(call: Call) -> bool:
+    return is_refused(call) or is_fault(call)
 
 
 @dataclass
@@ -24,38 +39,72 @@ class Change:
     is_lost: bool
 
 
-@dataclass
-class Session:
-    """A session as the rules of docs/MACHINE.md have it: derived, since a report prints only what was polled."""
+class Session(sessions.Session):
+    """A session as the machine has it: derived, since a report prints only what was polled."""
 
-    ordinal: int
-    state: str = "IDLE"
-    is_running: bool = False
-    is_asked_to_exit: bool = False
-    is_lost: bool = False
-    changes: list[Change] = field(default_factory=list)
-    ended: int | None = None
+    def __init__(self, ordinal: int) -> None:
+        super().__init__(ordinal, ordinal)
+        self.changes: list[Change] = []
+        self.ended: int | None = None
 
-    def _next_state(self, wish: str) -> str | None:
-        return next_state(self.state, wish, self.is_asked_to_exit)
-
-    def settle(self, place: int, wish: str, first: str | None = None) -> None:
-        """Goes to a first state, if one is given, and then on by the rows of the machine until none fits."""
-        passed = []
-        following = first or self._next_state(wish)
-        while following:
-            self.state = following
-            passed.append(following)
-            following = self._next_state(wish)
-        self._note(place, passed)
-
-    def _note(self, place: int, passed: list[str]) -> None:
+    def note(self, place: int, events: list[str]) -> None:
+        """Keeps what these events tell of it, and whether it runs and is lost."""
+        passed = [it.rpartition(" ")[2] for it in events]
         was_running, was_lost = (
             (self.changes[-1].is_running, self.changes[-1].is_lost) if self.changes else (False, False)
         )
         told = passed + (["device lost"] if self.is_lost and not was_lost else [])
         if told or was_running != self.is_running:
             self.changes.append(Change(place, passed, told, self.is_running, self.is_lost))
+
+    def hears(self, call: Call, wish: str) -> None:
+        """What an event of the device does, behind which this is its wish."""
+        is_lost = call.name == "lost" or is_fault(call)
+        self.is_lost = self.is_lost or is_lost
+        self.note(call.place, self.lose() if call.name == "loss" else self.settle(wish))
+
+    def follows(self, call: Call, wish: str) -> None:
+        """What a call that was met does."""
+        first = ""
+        if call.name == "begin_session":
+            self.set_running(True)
+        elif call.name == "end_session":
+            self.set_running(False)
+            first = "IDLE" if self.state == "STOPPING" else ""
+        elif call.name == "request_exit_session":
+            self.is_asked_to_exit = True
+        elif call.name == "end_frame" and self.is_running and self.state == "READY":
+            first = "SYNCHRONIZED"
+        self.note(call.place, self.enter(first, wish) if first else self.settle(wish))
+
+
+def sessions_of(ordered: Iterable[Call]) -> list[Session]:
+    """The sessions of a run with the states that they go through. At most one is live, so no name is needed to find it."""
+    found: list[Session] = []
+    live: list[Session] = []
+    wish = "rest"
+    for call in ordered:
+        if call.actor == DEVICE:
+            wish = call.text if call.name == "wish" else wish
+            for session in live:
+                session.hears(call, wish)
+        elif call.name == "create_session" and call.is_met:
+            live = [*live, Session(len(found) + 1)]
+            found += live[-1:]
+            live[-1].note(call.place, live[-1].enter("IDLE", wish))
+        elif call.name in ("destroy_session", "destroy_instance") and call.is_met:
+            for session in live:
+                session.ended = call.place
+            live = []
+        elif call.is_met:
+            for session in live:
+                session.follows(call, wish)
+    return found
+
+
+def scripts_of(report: Report) -> list[str]:
+    """The names of the scripts."""
+    return [it for it in report.actors if it not in (DEVICE, COMPOSITOR)]
 
 
 @dataclass
@@ -82,72 +131,13 @@ class Arrow:
     is_early: bool = False
 
 
-class _Sessions:
-    """The sessions of a run, call by call."""
-
-    def __init__(self) -> None:
-        self.all: list[Session] = []
-        self.live: list[Session] = []
-        self.wish = "rest"
-
-    def create(self, place: int) -> None:
-        session = Session(len(self.all) + 1)
-        self.all.append(session)
-        self.live.append(session)
-        session.settle(place, self.wish, "IDLE")
-
-    def end(self, place: int) -> None:
-        for session in self.live:
-            session.ended = place
-        self.live.clear()
-
-    def device(self, call: Call) -> None:
-        if call.name == "wish":
-            self.wish = call.values
-        for session in self.live:
-            if call.name in ("lost", "fault", "garbled"):
-                session.is_lost = True
-            goes = call.name == "loss" and session.state not in LAST
-            session.settle(call.place, self.wish, "LOSS_PENDING" if goes else None)
-
-    def call(self, call: Call) -> None:
-        """A call of a script that was met. At most one session is live, so no name is needed to find it."""
-        if call.name == "create_session":
-            self.create(call.place)
-        elif call.name in ("destroy_session", "destroy_instance"):
-            self.end(call.place)
-        for session in self.live:
-            first = None
-            if call.name == "begin_session":
-                session.is_running = True
-            elif call.name == "end_session":
-                session.is_running = False
-                first = "IDLE" if session.state == "STOPPING" else None
-            elif call.name == "request_exit_session":
-                session.is_asked_to_exit = True
-            elif call.name == "end_frame" and session.is_running and session.state == "READY":
-                first = "SYNCHRONIZED"
-            session.settle(call.place, self.wish, first)
-
-
-def sessions_of(ordered: Iterable[Call]) -> list[Session]:
-    """The sessions of a run with the states that they go through."""
-    sessions = _Sessions()
-    for call in ordered:
-        if call.actor == DEVICE:
-            sessions.device(call)
-        elif call.is_met:
-            sessions.call(call)
-    return sessions.all
-
-
 def mark_of(call: Call) -> int | None:
     """The mark that a call sets or awaits, where it is known."""
     if call.name not in ("mark", "await"):
         return None
     if call.actor == DEVICE:
-        return int(call.values)
-    return call.args["mark"] if call.args else None
+        return int(call.text)
+    return call.arguments["mark"] if call.arguments else None
 
 
 def arrows_of(ordered: Iterable[Call], waits: Iterable[Wait]) -> list[Arrow]:
@@ -163,14 +153,14 @@ def arrows_of(ordered: Iterable[Call], waits: Iterable[Wait]) -> list[Arrow]:
         elif call.name == "await" and mark in first:
             source = first[mark]
             text = (
-                f"mark {mark}: set by {source.actor} at place {source.place}, awaited by {call.actor} at {call.place}"
+                f"mark {mark}: set by {source.who} at place {source.place}, awaited by {call.who} at {call.place}"
             )
-            arrows.append(Arrow(source, call, text, is_early=(call.actor, call.place) not in held_back))
+            arrows.append(Arrow(source, call, text, is_early=(call.who, call.place) not in held_back))
         elif call.name == "end_frame" and call.is_met:
             ends.append(call)
-        elif call.name == "frame" and call.index <= len(ends):
-            source = ends[call.index - 1]
-            text = f"frame {call.index}: ended at place {source.place}, taken at {call.place}"
+        elif call.name == "frame" and call.number <= len(ends):
+            source = ends[call.number - 1]
+            text = f"frame {call.number}: ended at place {source.place}, taken at {call.place}"
             arrows.append(Arrow(source, call, text, is_frame=True))
     return arrows
 
@@ -179,7 +169,7 @@ class _Turns:
     """Whose turn it was when: turns go round by the scripts in order, the device and the compositor."""
 
     def __init__(self, report: Report) -> None:
-        self.order = {actor: i for i, actor in enumerate((*report.scripts, DEVICE, COMPOSITOR))}
+        self.order = {actor: i for i, actor in enumerate((*scripts_of(report), DEVICE, COMPOSITOR))}
         self.ordered = report.ordered()
         self.first_marks: dict[int, int] = {}
         for call in self.ordered:
@@ -196,7 +186,7 @@ class _Turns:
         last = 0 if start else count - 1 - own
         passed = 0
         for call in self.ordered[start : end - 1]:
-            behind = (self.order[call.actor] - own) % count
+            behind = (self.order[call.who] - own) % count
             passed += behind <= last
             last = behind
         return passed
@@ -214,9 +204,8 @@ class _Turns:
 
 
 def _give_backs(call: Call) -> int:
-    """In how many turns behind a frame, at most, the compositor gives back an image, which has no place."""
-    layers = call.values.split(" ")[4:] if call.name == "frame" else []
-    return sum(layer.count(",") + 1 for layer in layers)
+    """In how many turns behind a frame, at most, the compositor gives back an image, which has no place; and one turn more."""
+    return 1 + sum(len(layer["stamps"]) for layer in call.values["layers"]) if call.name == "frame" else 0
 
 
 def waits_of(report: Report) -> list[Wait]:
@@ -224,9 +213,9 @@ def waits_of(report: Report) -> list[Wait]:
     turns = _Turns(report)
     waits = [wait for actor, calls in report.actors.items() for wait in turns.waits(actor, calls)]
     for waiter in report.stuck:
-        places = [call.place for call in report.actors[waiter.actor] if call.is_counted]
-        what = awaited(waiter.name, waiter.mark)
-        waits.append(Wait(waiter.actor, places[-1] if places else 0, None, f"waits for {what}"))
+        places = [call.place for call in report.actors[waiter.who] if call.is_counted]
+        what = awaited(waiter.name, mark_of(waiter))
+        waits.append(Wait(waiter.who, places[-1] if places else 0, None, f"waits for {what}"))
     return waits
 
 
@@ -247,9 +236,9 @@ def awaited(name: str, mark: int | None) -> str:
 def clock_of(report: Report) -> list[tuple[int, int]]:
     """The places at which the device's clock goes on, and what it shows from there."""
     shown = [(0, 0)]
-    for call in report.actors[DEVICE]:
-        if call.name == "clock" and int(call.values) > shown[-1][1]:
-            shown.append((call.place, int(call.values)))
+    for call in report.device:
+        if call.name == "clock" and int(call.text) > shown[-1][1]:
+            shown.append((call.place, int(call.text)))
     return shown
 
 

@@ -5,8 +5,10 @@ from dataclasses import dataclass, field
 from math import cos, radians, sin
 
 from drawing import columns as cols
-from drawing import replay, scenario, text
-from drawing.report import COMPOSITOR, DEVICE, Call, Report
+from drawing import replay, text
+from drawing.replay import is_fault, is_refused, scripts_of
+from reports.reading import COMPOSITOR, DEVICE, Call, Report
+from scenarios.reading import Scripts
 
 SLANT = 40
 SIN, COS = sin(radians(SLANT)), cos(radians(SLANT))
@@ -36,7 +38,7 @@ class Node:
 
     @property
     def refused(self) -> int:
-        return sum(call.is_refused for call in self.calls)
+        return sum(is_refused(call) for call in self.calls)
 
     @property
     def pending(self) -> int:
@@ -63,16 +65,15 @@ def label_of(call: Call) -> tuple[str, str]:
     if name in ("mark", "await") and mark:
         name = f"{name} {mark}"
     elif name == "clock":
-        return f"clock {replay.in_units(int(call.values))}", ""
+        return f"clock {replay.in_units(int(call.text))}", ""
     elif name == "frame":
-        number, _, time, *_ = call.values.split(" ")
-        return f"frame {number}", replay.in_units(int(time))
-    elif call.actor in (DEVICE, COMPOSITOR):
-        return text.cut(f"{call.name} {call.values}".strip(), 28), ""
+        return f"frame {call.number}", replay.in_units(call.values["time"])
+    elif call.who in (DEVICE, COMPOSITOR):
+        return text.cut(f"{call.name} {call.text}".strip(), 28), ""
     if call.code == "XR_SUCCESS":
         if name == "wait_frame":
-            return name, f"for {replay.in_units(int(call.values.split(' ')[1]))}"
-        return name, text.cut(f"{GIVEN.get(call.name, '')}{call.values}", 24) if call.name not in UNTOLD else ""
+            return name, f"for {replay.in_units(int(call.text.split(' ')[1]))}"
+        return name, text.cut(f"{GIVEN.get(call.name, '')}{call.text}", 24) if call.name not in UNTOLD else ""
     return name, call.code.removeprefix("XR_").removeprefix("ERROR_")
 
 
@@ -87,28 +88,33 @@ def way_of(states: list[str]) -> str:
     return " \u2192 ".join(states if len(states) < 4 else [states[0], "\u2026", states[-1]])
 
 
+def words_of(call: Call) -> str:
+    """What a report has of an event or a frame behind its name."""
+    return f"{call.number} {call.text}" if call.what == "frame" else call.text
+
+
 def faults_of(calls: list[Call]) -> list[str]:
     """Words for what isn't an event but the end of a device's text."""
     words = {"fault": "fault", "garbled": "garbled line"}
-    return [f"1 {words[call.name]}" for call in calls if call.is_fault]
+    return [f"1 {words[call.name]}" for call in calls if is_fault(call)]
 
 
 def said_of(call: Call) -> str:
     """What is shown of a call where one points at it: place, actor, name, arguments, code, values."""
-    number = f" {text.number(call.index)}" if call.index else ""
-    what = {DEVICE: "event", COMPOSITOR: "turn"}.get(call.actor, "call")
+    number = f" {text.number(call.number)}" if call.number else ""
+    what = {DEVICE: "event", COMPOSITOR: "turn"}.get(call.who, "call")
     place = f"place {text.number(call.place)}" if call.is_counted else f"publication {text.number(call.place)}"
-    front = f"{place} \u00b7 {call.actor}" + ("" if call.is_fault else f", {what}{number}")
-    if call.is_fault:
-        why = f"line {call.values} of its text is malformed" if call.values else "its text couldn't be read on"
-        return f"{front}\n{call.name} {call.values}".strip() + f"\n{why}; the run went on without the device"
+    front = f"{place} \u00b7 {call.who}" + ("" if is_fault(call) else f", {what}{number}")
+    if is_fault(call):
+        why = f"line {call.text} of its text is malformed" if call.text else "its text couldn't be read on"
+        return f"{front}\n{call.name} {call.text}".strip() + f"\n{why}; the run went on without the device"
     if call.name == "clock":
-        return f"{front}\nclock {call.values}\n{replay.in_units(int(call.values))} of device time"
-    args = text.arguments(call.args) if call.args else call.values if not call.code else ""
+        return f"{front}\nclock {call.text}\n{replay.in_units(int(call.text))} of device time"
+    args = text.arguments(call.arguments) if call.arguments else words_of(call) if not call.code else ""
     lines = [
         front,
         f"{call.name} {args}".strip(),
-        f"{call.code} {text.cut(call.values)}".strip() if call.code else "",
+        f"{call.code} {text.cut(call.text)}".strip() if call.code else "",
         call.note,
     ]
     return "\n".join(line for line in lines if line)
@@ -117,7 +123,7 @@ def said_of(call: Call) -> str:
 class Scene:
     """A run, laid out."""
 
-    def __init__(self, report: Report, scripts: list[list[scenario.Op]] | None, title: str) -> None:
+    def __init__(self, report: Report, scripts: Scripts | None, title: str) -> None:
         self.report, self.scripts, self.title = report, scripts, title
         self.ordered = report.ordered()
         self.sessions = replay.sessions_of(self.ordered)
@@ -127,7 +133,7 @@ class Scene:
         self.columns = cols.columns_of(self.ordered)
         self.index = cols.index_of(self.columns, len(self.ordered))
         self._note_calls()
-        self.lanes = [self._lane(actor) for actor in (*report.scripts, DEVICE, COMPOSITOR)] + self._session_lanes()
+        self.lanes = [self._lane(actor) for actor in (*scripts_of(report), DEVICE, COMPOSITOR)] + self._session_lanes()
         self.pieces = cols.pieces_of(self.columns, self._lines_of_labels())
         self.height = self._place_lanes()
 
@@ -137,10 +143,10 @@ class Scene:
         for arrow in self.arrows:
             source, target = arrow.source, arrow.target
             if arrow.is_frame:
-                target.note = f"from the end_frame of {source.actor} at place {text.number(source.place)}"
+                target.note = f"from the end_frame of {source.who} at place {text.number(source.place)}"
             else:
                 way = "its mark was set already, by" if arrow.is_early else "released by the mark of"
-                target.note = f"{way} {source.actor} at place {text.number(source.place)}"
+                target.note = f"{way} {source.who} at place {text.number(source.place)}"
         for actor, calls in self.report.actors.items():
             for call in calls:
                 start = starts.get((actor, call.place))
@@ -150,7 +156,7 @@ class Scene:
 
     def _lane(self, actor: str) -> Lane:
         calls = self.report.actors[actor]
-        refused = sum(call.is_refused for call in calls)
+        refused = sum(is_refused(call) for call in calls)
         faults = faults_of(calls)
         what = {DEVICE: "event", COMPOSITOR: "turn"}.get(actor, "call")
         more = [text.counted(len(calls) - len(faults), what), *([f"{text.number(refused)} refused"] if refused else [])]
@@ -199,8 +205,11 @@ class Scene:
             top += lane.height
         return top
 
-    def lane_of(self, actor: str) -> Lane:
-        return next(lane for lane in self.lanes if lane.name == actor)
-
     def setters_of(self, mark: int) -> list[tuple[str, int]]:
-        return scenario.setters(self.report, self.scripts, mark) if self.scripts else []
+        """The ops, by script and number, that would set a mark and were not made."""
+        found = []
+        for number, ops in enumerate(self.scripts or [], 1):
+            made = len(self.report.scripts[number - 1])
+            ahead = enumerate(ops[made:], made + 1)
+            found += [(f"script {number}", at) for at, op in ahead if op.name == "mark" and op.fields["mark"] == mark]
+        return found

@@ -3,23 +3,24 @@ from __future__ import annotations
 
 from collections import Counter
 
-from drawing.replay import awaited, in_units
-from drawing.report import COMPOSITOR, DEVICE, Call, Waiter
+from drawing.replay import awaited, in_units, is_fault, is_refused, mark_of
 from drawing.scene import MEANINGS, Scene, faults_of
 from drawing.text import counted, escaped, number
+from reports.reading import Call
 
 MOST_OPEN = 3
 MOST_CODES = 4
 
 
-def _why_stuck(scene: Scene, waiter: Waiter) -> str:
+def _why_stuck(scene: Scene, waiter: Call) -> str:
     """Who waits for what, and who would have given it."""
-    words = f"<b>{escaped(waiter.actor)}</b> waits for {awaited(waiter.name, waiter.mark)}"
-    if waiter.index:
-        words += f" in its call {number(waiter.index)}"
-    if waiter.name != "await" or not waiter.mark or not scene.scripts:
+    mark = mark_of(waiter)
+    words = f"<b>{escaped(waiter.who)}</b> waits for {awaited(waiter.name, mark)}"
+    if waiter.number:
+        words += f" in its call {number(waiter.number)}"
+    if waiter.name != "await" or not mark or not scene.scripts:
         return f"<li>{words}.</li>"
-    setters = [f"{actor} in its call {number(index)}" for actor, index in scene.setters_of(waiter.mark)[:3]]
+    setters = [f"{actor} in its call {number(index)}" for actor, index in scene.setters_of(mark)[:3]]
     if setters:
         return f"<li>{words}, which {' or '.join(setters)} would set, and didn't get to.</li>"
     rest = "What the device's text has behind its last event isn't in a report."
@@ -40,8 +41,8 @@ def _who_waits(scene: Scene) -> str:
 
 def _where_first(scene: Scene, call: Call) -> str:
     """Where a call stands; in a run of many pieces as a link to its piece."""
-    last = [it.place for it in scene.report.actors[call.actor][: call.index] if it.is_counted]
-    words = f"call {number(call.index)} of {call.actor}"
+    last = [it.place for it in scene.report.actors[call.who][: call.number] if it.is_counted]
+    words = f"call {number(call.number)} of {call.who}"
     words += f" at place {number(call.place)}" if call.is_counted else ""
     piece = next((it for it in scene.pieces if last and it.first <= last[-1] <= it.last), None)
     return f'<a href="#piece-{piece.number}">{words}</a>' if piece and len(scene.pieces) > 1 else words
@@ -49,7 +50,7 @@ def _where_first(scene: Scene, call: Call) -> str:
 
 def _refusals(scene: Scene, calls: list[Call]) -> str:
     """How many calls were refused, by which codes, and where the first stands."""
-    refused = sorted((call for call in calls if call.is_refused), key=lambda call: (call.place, call.index))
+    refused = sorted((call for call in calls if is_refused(call)), key=lambda call: (call.place, call.number))
     if not refused:
         return ""
     codes = Counter(call.code for call in refused).most_common()
@@ -63,7 +64,7 @@ def _refusals(scene: Scene, calls: list[Call]) -> str:
 
 
 def _script_calls(scene: Scene) -> list[Call]:
-    return [call for actor in scene.report.scripts for call in scene.report.actors[actor]]
+    return [call for calls in scene.report.scripts for call in calls]
 
 
 def status_of(scene: Scene) -> str:
@@ -80,16 +81,16 @@ def status_of(scene: Scene) -> str:
 def facts_of(scene: Scene) -> str:
     """Counts of what there is in the run."""
     calls = _script_calls(scene)
-    device = scene.report.actors[DEVICE]
+    device = scene.report.device
     pending = sum(call.code == "XR_SESSION_LOSS_PENDING" for call in calls)
     facts = [
         counted(len(scene.ordered), "place"),
         counted(len(calls), "script call"),
-        counted(sum(call.is_refused for call in calls), "refused", "refused"),
+        counted(sum(is_refused(call) for call in calls), "refused", "refused"),
         counted(pending, "with the loss pending", "with the loss pending") if pending else "",
-        counted(sum(not call.is_fault for call in device), "device event"),
+        counted(sum(not is_fault(call) for call in device), "device event"),
         *faults_of(device),
-        counted(sum(call.name == "frame" for call in scene.report.actors[COMPOSITOR]), "frame taken", "frames taken"),
+        counted(len(scene.report.frames), "frame taken", "frames taken"),
         counted(len(scene.sessions), "session"),
     ]
     shown = [fact.partition(" ") for fact in facts if fact and not fact.startswith(("0 f", "0 se"))]

@@ -3,10 +3,10 @@ from __future__ import annotations
 
 from drawing import text
 from drawing.agree import UNTOLD
-from drawing.replay import in_units
-from drawing.report import Call
-from drawing.scene import Scene
+from drawing.replay import in_units, is_bad, scripts_of
+from drawing.scene import Scene, words_of
 from drawing.text import counted, escaped, number
+from reports.reading import Call
 
 MOST_ROWS = 20_000
 ROWS_IN_A_PART = 500
@@ -22,32 +22,32 @@ HEADS = (
 
 
 def _row(call: Call) -> str:
-    kind = " class=r" if call.is_bad else " class=p" if call.code == "XR_SESSION_LOSS_PENDING" else ""
-    args = text.arguments(call.args) if call.args else "" if call.code else call.values
-    values = text.cut(call.values) if call.code else ""
+    kind = " class=r" if is_bad(call) else " class=p" if call.code == "XR_SESSION_LOSS_PENDING" else ""
+    args = text.arguments(call.arguments) if call.arguments else "" if call.code else words_of(call)
+    values = text.cut(call.text) if call.code else ""
     if call.name == "clock":
-        values = in_units(int(call.values))
+        values = in_units(int(call.text))
     more = "; ".join(it for it in (values, call.note) if it)
     name = escaped(f"{call.name} {args}".strip())
     place = call.place if call.is_counted else f"({call.place})"
-    front = f"<tr{kind}><td class=n>{place}<td>{call.actor}<td class=n>{call.index or ''}"
+    front = f"<tr{kind}><td class=n>{place}<td>{call.who}<td class=n>{call.number or ''}"
     return f"{front}<td>{name}<td>{call.code}<td>{escaped(more)}"
 
 
 def _all_calls(scene: Scene) -> list[Call]:
     """All calls in the order of their places; a getter behind the counted call of its script that went before it."""
     getters: dict[tuple[str, int], list[Call]] = {}
-    for actor in scene.report.scripts:
+    for actor in scripts_of(scene.report):
         last = 0
         for call in scene.report.actors[actor]:
             if call.is_counted:
                 last = call.place
             else:
                 getters.setdefault((actor, last), []).append(call)
-    rows = [it for actor in scene.report.scripts for it in getters.get((actor, 0), [])]
+    rows = [it for actor in scripts_of(scene.report) for it in getters.get((actor, 0), [])]
     for call in scene.ordered:
         rows.append(call)
-        rows += getters.get((call.actor, call.place), [])
+        rows += getters.get((call.who, call.place), [])
     return rows
 
 
@@ -75,7 +75,7 @@ def _parts(rows: list[Call], words: str) -> str:
 def table_of(scene: Scene) -> str:
     """All calls as text. Behind the most rows that are shown stand those alone that were refused or are a fault."""
     rows = _all_calls(scene)
-    bad = [it for it in rows[MOST_ROWS:] if it.is_bad]
+    bad = [it for it in rows[MOST_ROWS:] if is_bad(it)]
     left_out = len(rows) - len(rows[:MOST_ROWS]) - len(bad)
     notes = [UNTOLD] if scene.scripts else []
     if any(not it.is_counted for it in rows):

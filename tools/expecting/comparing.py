@@ -6,8 +6,8 @@ from typing import NamedTuple
 from expecting.expectations import Wanted
 from expecting.running import Run
 from expecting.words import Word, differing
-from reporting.report import Made, Report
-from reporting.scenario import op_at
+from reports.joining import op_at
+from reports.reading import Call, Report
 
 NOTHING_RAN = "nothing, since no call was made: the scenario is refused"
 
@@ -40,7 +40,7 @@ def looked_at(name: str, wanted: Wanted, expected: str, came: str | None, missin
     return Looked(name, wanted.line, column, word is None, came, expected, op)
 
 
-def words_of_call(made: Made) -> str:
+def words_of_call(made: Call) -> str:
     return f"{made.code} {made.text}".rstrip()
 
 
@@ -67,7 +67,7 @@ def look_at_calls(calls: dict[tuple[int, int], Wanted], run: Run) -> list[Looked
     return [look_at_call(wanted, *place, run) for place, wanted in calls.items()]
 
 
-def look_at_numbered(wanted: Wanted, made: list[Made], what: str, missing: str) -> Looked:
+def look_at_numbered(wanted: Wanted, made: list[Call], what: str, missing: str) -> Looked:
     """Compares a frame or an event."""
     name = f"{what} {wanted.number}"
     came = None
@@ -111,21 +111,14 @@ def look_at_end(wanted: Wanted, name: str, came: str) -> Looked:
 
 def look_at_stuck(wanted: Wanted, report: Report) -> Looked:
     """Whether the actor waits for ever, as the line has it."""
-    found = [stuck_line(it) for it in report.stuck]
+    found = [it.waits for it in report.stuck]
     came = ", ".join(found) or "nobody"
     return Looked("stuck", wanted.line, wanted.words[0].column, wanted.text in found, came, wanted.text)
 
 
-def stuck_line(made: Made) -> str:
-    """The line of a report for an actor that waits for ever."""
-    if made.script:
-        return f"thread {made.script} {made.number} {made.op}"
-    return f"{made.actor} {made.op} {made.text}".rstrip()
-
-
 def ended_with(run: Run) -> str:
     """The status and the program's line, and who waits for ever."""
-    waits = ", ".join(stuck_line(it) for it in run.report.stuck) if run.report else ""
+    waits = ", ".join(it.waits for it in run.report.stuck) if run.report else ""
     return run.words + (f" ({waits})" if waits else "")
 
 

@@ -4,11 +4,11 @@ from __future__ import annotations
 import re
 from typing import NamedTuple
 
-from checking.places import nearest, visible
 from expecting.words import Word, fits, words_of
-from reporting.report import MOST_SCRIPTS, OPS
-from reporting.scenario import Scripts
-from reporting.values import CODES
+from reports.reading import MOST_SCRIPTS
+from reports.values import CODES, OPS
+from scenarios.reading import Scripts
+from shown import nearest, visible
 
 # the statuses that a text can bring about
 STATUSES = ("0", "4", "5", "6", "7")

@@ -7,11 +7,12 @@ import subprocess
 import tempfile
 from typing import IO, NamedTuple
 
-from checking.files import reason_of
-from checking.places import one_line, visible
-from reporting.ends import Refused, complain, shown
-from reporting.report import NoReport, Report, read_report
-from reporting.scenario import NoScenario, Scripts, check_scenario, read_scenario
+from ends import Refused, complain, shown
+from files import reason_of
+from reports.joining import join
+from reports.reading import NoReport, Report, read_report
+from scenarios.reading import NoScenario, Scripts, scripts_in
+from shown import one_line, visible
 
 PROGRAM = "./xrsim"
 FRONT = "xrsim: "
@@ -92,8 +93,8 @@ def run_scenario(name: str, data: bytes, device: str | None) -> Run:
         report = read_report(printed)
         if report.status != status:
             raise NoReport(f"its status is {report.status}, and the program ended with {status}")
-        scripts = read_scenario(data)
-        check_scenario(report, scripts)
+        scripts = scripts_in(data)
+        join(report, scripts)
     except NoReport as e:
         what = f"what {shown(program())} printed is no report of {shown(name)}"
         raise Refused(f"nothing can be compared: {what}: {e}") from None

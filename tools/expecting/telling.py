@@ -4,8 +4,8 @@ from __future__ import annotations
 import xml.etree.ElementTree as xml
 from typing import NamedTuple
 
-from checking.places import visible
 from expecting.comparing import Looked
+from shown import visible
 
 
 class Told(NamedTuple):

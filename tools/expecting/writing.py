@@ -1,17 +1,13 @@
 """Makes a file of expectations from a run, for a reader to check."""
 from __future__ import annotations
 
-import os
-import tempfile
-
-from checking.files import reason_of
-from expecting.comparing import stuck_line, words_of_call
+from ends import Refused, is_same_file, shown
+from expecting.comparing import words_of_call
 from expecting.running import Run
-from reporting.ends import Refused, is_same_file, shown
-from reporting.report import Made, Report
+from reports.reading import Call, Report
 
 
-def call_line(made: Made) -> str:
+def call_line(made: Call) -> str:
     return f"{made.script} {made.number} {made.op} {words_of_call(made)}"
 
 
@@ -33,7 +29,7 @@ def written(run: Run, scenario: str, device: str | None) -> str:
     frames = [f"frame {it.number} {it.text}" for it in report.frames]
     lines += ["", "# the compositor", f"frames {len(frames)}", *frames, *(["ended"] if report.has_ended else [])]
     lines += ["", "# the device", *device_lines(report), "", "# the end"]
-    lines += [f"stuck {stuck_line(it)}" for it in report.stuck] + [f"status {run.status}"]
+    lines += [f"stuck {it.waits}" for it in report.stuck] + [f"status {run.status}"]
     return "\n".join(lines) + "\n"
 
 
@@ -42,32 +38,3 @@ def keep_inputs(name: str, inputs: list[str | None]) -> None:
     for it in inputs:
         if it is not None and is_same_file(name, it):
             raise Refused(f"{shown(name)} is an input too, and isn't written over")
-
-
-def put(name: str, data: bytes) -> None:
-    """Writes a file whole or not at all; what is no plain file, as a pipe, is written to."""
-    target = os.path.realpath(name)
-    try:
-        if os.path.exists(target) and not os.path.isfile(target):
-            with open(target, "wb") as file:
-                file.write(data)
-            return
-        replace(target, data)
-    except (OSError, ValueError) as e:
-        why = reason_of(e) if isinstance(e, OSError) else str(e)
-        raise Refused(f"{shown(name)} can't be written: {why}") from None
-
-
-def replace(target: str, data: bytes) -> None:
-    """Writes beside a file, and puts that in its place."""
-    handle, room = tempfile.mkstemp(prefix=".expect-", dir=os.path.dirname(target))
-    try:
-        with open(handle, "wb") as file:
-            file.write(data)
-        mask = os.umask(0)
-        os.umask(mask)
-        os.chmod(room, 0o666 & ~mask)
-        os.replace(room, target)
-    except BaseException:
-        os.unlink(room)
-        raise

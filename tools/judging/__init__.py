@@ -1,1 +1,1 @@
-"""What tools/legal is made of: the machine of docs/MACHINE.md with all its calls, and the replay of a report by it."""
+"""What tools/legal has of its own: the replay of a report by the machine."""

@@ -1,7 +1,5 @@
-//! `xr_bench` measures calls, texts and runs: calls on a core of one application, how many ops a second `serde_json` reads of a
-//! round of calls as a scenario, how many lines a second a device text is read, how many calls and turns a second a run of eight
-//! scripts makes, and how long three scenarios take to be read; or turns of threads at a counter under the lock. A measure and no
-//! test. It touches the clock, threads and standard output.
+//! `xr_bench` measures calls on a core, the reading of scenarios and of a device's text, runs, and turns of threads under the lock.
+//! It is a measure and no test. It touches the clock, threads and standard output.
 #![tactic(auto)]
 
 ghost use Rattle.std.specs.Prelude.{◌≤◌, IfSome};

@@ -51,7 +51,7 @@ impl Bindings {
     /// xrSuggestInteractionProfileBindings.
     pub fn suggest(&mut self, alloc: Global, profile: Profile, list: &[Bound]) -> Code
         requires sources { list_all is_source list.now ≡ true }
-        ensures kept { self.new ≡ unless (first_of (suggest_refusals list.now (is_out_of_memory result))) self.old (with_suggestions self.old profile list.now) }
+        ensures state { self.new ≡ unless (first_of (suggest_refusals list.now (is_out_of_memory result))) self.old (with_suggestions self.old profile list.now) }
         ensures code { result ≡ code_by (first_of (suggest_refusals list.now (is_out_of_memory result))) }
         ensures memory { is_out_of_memory result ≡ true → first_of (number_checks list.now) ≡ None }
     {

@@ -112,7 +112,7 @@ fn has(list: &[Bound], action: u64) -> bool
 /// all are for others, so nothing is moved before one is found that isn't.
 fn keep_others(list: &mut [Bound], left: usize, action: u64) -> usize
     requires { left ≤ length list.old }
-    ensures kept { take result list.new ≡ filter (λ b. not (b.action == action)) (take left list.old) }
+    ensures list { take result list.new ≡ filter (λ b. not (b.action == action)) (take left list.old) }
     ensures within { result ≤ left }
 {
     if !has(&list[..left], action) {

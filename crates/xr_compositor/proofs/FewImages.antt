@@ -12,9 +12,9 @@ use Rattle.xr_model.specs.machine.Calls.{Entry}
 use Rattle.xr_model.specs.machine.State.{Settings, State, opening}
 use Rattle.xr_model.specs.scenario.InRange.{Each}
 use Rattle.xr_model.proofs.CellCounts.{within}
-use Rattle.xr_model.proofs.FrameImages.{IsBelow}
 use Rattle.xr_model.proofs.Rows.{itself, or_true}
-use Rattle.xr_model.proofs.SoundImages.{IsSound, is_taken, sound_history}
+use Rattle.xr_model.proofs.SoundImages.{sound_history}
+use Rattle.xr_model.specs.laws.Soundness.{IsBelow, IsSound, is_taken}
 
 -- how often the first slots are among these
 abbrev sum_to : ℕ → List Image → ℕ

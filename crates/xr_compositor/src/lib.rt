@@ -1,4 +1,5 @@
-//! A turn of the compositor: a frame is taken and shown, and all of its images are given back.
+//! A turn of the compositor: a frame is taken and shown, and all of its images are given back. It knows no lists, scripts
+//! or threads.
 #![tactic(auto)]
 
 ghost use Rattle.std.specs.Prelude.{◌≡◌, ◌+◌, ◌<◌, ◌^◌, false};

@@ -21,13 +21,13 @@ use Rattle.xr_types.specs.declared.calls.Call.TheVariants as ask
 use Rattle.xr_model.specs.machine.Rule.{Rule, Did, nothing_done, refusals, or_short, told_on, unless_refused, carried_out}
 use Rattle.xr_model.specs.machine.State.{CoreState, CellReads, WholeCore}
 use Rattle.xr_model.specs.machine.PartAnswers.{or_refused}
-use Rattle.xr_model.proofs.HeldFits.{IsAside}
 use Rattle.xr_model.proofs.OverCells.{IsQuiet, still_call, quiet_aside, told_nothing, no_calls}
 use Rattle.xr_core.specs.declared.halt.Halt.{Halt}
 use Rattle.xr_core.specs.declared.halt.Halt.TheVariants.{Refused, NotReady}
 use Rattle.xr_core.specs.inside.Deciding.{DecidesOver, DecidesAlong, DecidesCells, MayTouch}
 use Rattle.xr_core.proofs.Deciding.{err_decides, effect_decides, unshort}
 use Rattle.xr_core.proofs.Plain.{gives_size}
+use Rattle.xr_model.specs.laws.Soundness.{IsAside}
 
 -- ---- calls that touch no cells
 

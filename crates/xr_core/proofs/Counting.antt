@@ -10,8 +10,7 @@ use Rattle.xr_types.specs.declared.calls.Step.TheVariants as step
 use Rattle.xr_types.specs.declared.code.Code.{Code}
 use Rattle.xr_types.specs.Code.{is_out_of_memory}
 use Rattle.xr_model.specs.machine.CellCalls.{CellCall}
-use Rattle.xr_model.specs.machine.Publishing.{publishes}
-use Rattle.xr_types.specs.CallKinds.{is_getter, is_locked}
+use Rattle.xr_types.specs.CallKinds.{is_getter, is_locked, publishes}
 use Rattle.xr_model.specs.machine.Calls.{Entry}
 use Rattle.xr_model.specs.machine.Refusals.{first_of}
 use Rattle.xr_model.specs.machine.State.{CoreState, CellReads}

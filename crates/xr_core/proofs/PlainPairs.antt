@@ -15,8 +15,9 @@ use Rattle.xr_types.specs.CallKinds.{is_locked}
 use Rattle.xr_model.specs.machine.State.{CoreState, State, WholeCore, Settings, opening_core}
 use Rattle.xr_model.proofs.CellCounts.{still_counted, waiting_counts, pending_few}
 use Rattle.xr_model.proofs.OverCells.{plainly, waits_where}
-use Rattle.xr_model.proofs.SoundImages.{StateIsSound, sound_step, sound_opening}
+use Rattle.xr_model.proofs.SoundImages.{sound_step, sound_opening}
 use Rattle.xr_core.specs.inside.Plainly.{IsPlain}
+use Rattle.xr_model.specs.laws.Soundness.{StateIsSound}
 
 abbrev whole : WholeCore → PlainImages → State
 whole core cells = record { core = core.kept; cells = record { stamps = cells.stamps; held = core.held } }

@@ -2,7 +2,12 @@
 use Rattle.xr_types.specs.declared.calls.Call.{Call}
 use Rattle.xr_types.specs.declared.calls.Call.TheVariants as ask
 use Rattle.xr_model.proofs.OverCells.{IsQuiet}
+-- rows: import of groups
 use Rattle.xr_core.specs.inside.Groups.{IsInstanceCall, IsPathCall, IsSessionCall, IsSpaceCall, IsSetCall, IsGetter, IsFrameCall, IsOwnCall}
+
+-- rows: end
+
+-- rows: quiet groups
 
 pub quiet_instance : (r : Call) → IsInstanceCall r → IsQuiet r
 quiet_instance (ask.CreateInstance major minor) group = tt
@@ -26,7 +31,7 @@ quiet_session ask.Leave group = absurd group
 quiet_session _ group = absurd group
 
 pub quiet_space : (r : Call) → IsSpaceCall r → IsQuiet r
-quiet_space (ask.CreateReferenceSpace session what offset) group = tt
+quiet_space (ask.CreateReferenceSpace session kind offset) group = tt
 quiet_space (ask.CreateActionSpace session action sub offset) group = tt
 quiet_space (ask.DestroySpace space) group = tt
 quiet_space (ask.LocateSpace space base time) group = tt
@@ -61,3 +66,5 @@ quiet_own (ask.Mark number value) group = tt
 quiet_own (ask.AwaitMark number) group = tt
 quiet_own ask.Leave group = tt
 quiet_own _ group = absurd group
+
+-- rows: end

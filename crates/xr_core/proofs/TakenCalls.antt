@@ -17,10 +17,10 @@ use Rattle.xr_model.specs.machine.OverCells.{World, MayApply}
 use Rattle.xr_types.specs.declared.calls.Call.TheVariants as ask
 use Rattle.xr_model.specs.machine.Rules.Frames.{chains_behind, shown_behind, with_frame_taken}
 use Rattle.xr_model.specs.machine.State.{CoreState, WholeCore}
-use Rattle.xr_model.proofs.HeldFits.{IsAside}
 use Rattle.xr_model.proofs.OverCells.{told_nothing}
 use Rattle.xr_core.specs.declared.halt.Halt.TheVariants.{Refused, NotReady}
 use Rattle.xr_core.specs.inside.Deciding.{DecidesAlong}
+use Rattle.xr_model.specs.laws.Soundness.{IsAside}
 
 module _ {C : Type 0} (does : C → CellCall → C → Type 0) (s : CoreState) (who : Actor) where
   abbrev pub beside : CoreState → List Image → C → Lent → World C

@@ -1,8 +1,7 @@
 // A core: its inside decides each call, and here alone it is counted.
 ghost use Rattle.std.specs.Prelude.{◌≡◌, ◌≤ℤ◌, pos, ◌≤◌, [], ◌<◌, ◌^◌, ◌+◌, ◌↔◌, ◌&&◌, is_none, IfOk, IsTrue, length, not, if◌then◌else◌};
 ghost use Rattle.xr_types.specs.declared.limits.TheConstants.{MOST_SCRIPTS};
-ghost use Rattle.xr_model.specs.machine.Publishing.{publishes};
-ghost use Rattle.xr_types.specs.CallKinds.{is_getter, is_locked};
+ghost use Rattle.xr_types.specs.CallKinds.{is_getter, is_locked, publishes};
 ghost use Rattle.xr_model.specs.machine.Marks.{is_set};
 ghost use Rattle.xr_model.specs.machine.State.{with_apps, opening_core};
 ghost use Rattle.xr_model.specs.machine.Machine.{IsPresent};
@@ -10,14 +9,14 @@ ghost use Rattle.xr_model.specs.machine.Refusals.{first_of};
 ghost use Rattle.xr_model.specs.machine.Rule.{refusals};
 ghost use Rattle.xr_model.specs.machine.Rules.Frames.{wait_frame_rule, is_frame_awaited};
 ghost use Rattle.xr_model.specs.machine.CoreCalls.{MayMake};
-ghost use Rattle.xr_model.specs.machine.OverCells.{MayApply, AppliesOver};
+ghost use Rattle.xr_model.specs.machine.OverCells.{MayApply, AppliesOver, world};
 
 use crate::halt::{Halt, refusal};
 use crate::uncounted::Uncounted;
 use std::alloc::Global;
 use std::marker::Model;
 use xr_model::{Cells, Machine};
-use xr_types::{Actor, Call, Code, DeviceEvent, Image, NoMemory, Reply, Shown, Step};
+use xr_types::{Actor, Call, Image, NoMemory, Reply, Shown, Step};
 
 /// What the machine of one thread has beside its cells: what it keeps, and the images of the frame taken last that aren't given
 /// back. Memory for path texts and suggestions is taken from its allocator.
@@ -42,30 +41,6 @@ impl Model for Core {
     ghost invariant = { λ c. (length c.inside.kept.handles.given ≤ c.calls) × (c.inside.kept.created ≤ c.calls) × (c.inside.kept.ended ≤ c.calls) };
 }
 
-/// Whether a call that is answered so publishes what getters answer from.
-fn publishes(call: &Call<'_>, code: Code) -> bool
-    ensures { result ≡ publishes call.now code }
-{
-    match call {
-        Call::CreateSession { .. }
-        | Call::DestroySession { .. }
-        | Call::CreateAction { .. }
-        | Call::DestroyAction { .. }
-        | Call::DestroyActionSet { .. }
-        | Call::DestroyInstance { .. }
-        | Call::AttachSets { .. }
-        | Call::SyncActions { .. } => matches!(
-            code,
-            Code::Success | Code::SessionLossPending | Code::SessionNotFocused
-        ),
-        Call::Device(event) => matches!(
-            event,
-            DeviceEvent::Loss | DeviceEvent::Lost | DeviceEvent::Fault | DeviceEvent::Garbled(_)
-        ),
-        _ => false,
-    }
-}
-
 /// Answers a call that is made. It is counted where it is a locked one, and what it publishes has its place.
 fn answered(calls: &mut u64, published: &mut u64, call: &Call<'_>, mut reply: Reply) -> Step
     requires { calls.old < 2 ^ 44 }
@@ -81,7 +56,7 @@ fn answered(calls: &mut u64, published: &mut u64, call: &Call<'_>, mut reply: Re
     } else {
         0
     };
-    if publishes(call, reply.code) {
+    if call.publishes(reply.code) {
         *published = place;
     }
     if call.is_locked() {
@@ -175,7 +150,7 @@ impl Core {
         requires calls { self.old.kept.locked < 2 ^ 44 }
         requires may { MayMake self.old.kept who call.now (length text.old) }
         requires cells { MayApply C.may C.does self.old cells.old who call.now }
-        ensures { AppliesOver C.does (record { core = self.old; cells = cells.old; lent = record { text = text.old; frame = shown.old } }) (record { core = self.new; cells = cells.new; lent = record { text = text.new; frame = shown.new } }) who call.now result }
+        ensures { AppliesOver C.does (world self.old cells.old text.old shown.old) (world self.new cells.new text.new shown.new) who call.now result }
     {
         let reply = match self
             .inside

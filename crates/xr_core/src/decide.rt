@@ -1,13 +1,11 @@
 // How one call is decided but for the compositor's: by the group that it belongs to, a file of `calls` each. No group is
 // inlined here, so that a call pays for the locals of its own group alone.
-ghost use Rattle.std.specs.Prelude.{◌≡◌, ◌<◌, ◌^◌, true, length, List};
+ghost use Rattle.std.specs.Prelude.{length, List};
 ghost use Rattle.xr_types.specs.declared.frames.Image.{Image};
 ghost use Rattle.xr_types.specs.declared.frames.Shown.{Shown};
-ghost use Rattle.xr_model.specs.machine.CoreCalls.{Fits, asked};
-ghost use Rattle.xr_model.specs.machine.Rule.{is_by};
-ghost use Rattle.xr_model.specs.machine.Machine.{IsPresent};
-ghost use Rattle.xr_model.proofs.HeldFits.{IsAside};
-ghost use Rattle.xr_core.specs.inside.Deciding.{DecidesAlong, MayTouch};
+ghost use Rattle.xr_model.specs.machine.CoreCalls.{MayMake};
+ghost use Rattle.xr_core.specs.inside.Deciding.{CountsFit, DecidesAlong, MayTouch, kept_world};
+ghost use Rattle.xr_model.specs.laws.Soundness.{IsAside};
 
 use crate::bound::Draft;
 use crate::halt::Halt;
@@ -29,18 +27,14 @@ impl Parts {
         call: &Call<'_>,
         text: &mut [u8],
     ) -> Result<Reply, Halt>
-        requires given { length self.old.handles.given < 2 ^ 44 }
-        requires created { self.old.created < 2 ^ 44 }
-        requires ended { self.old.ended < 2 ^ 44 }
-        requires present { IsPresent self.old who }
-        requires caller { is_by (asked who call.now).caller who ≡ true }
-        requires numbers { (asked who call.now).in_range ≡ true }
-        requires buffer { Fits (asked who call.now).lent (length text.old) }
+        requires counts { CountsFit self.old }
+        requires may { MayMake self.old who call.now (length text.old) }
         requires aside { IsAside call.now }
         requires cells { MayTouch C.may C.does self.old cells.old call.now }
-        ensures { (held : List Image) (frame : Shown) → DecidesAlong C.does (record { core = record { kept = self.old; held = held }; cells = cells.old; lent = record { text = text.old; frame = frame } }) (record { core = record { kept = self.new; held = held }; cells = cells.new; lent = record { text = text.new; frame = frame } }) who call.now result }
+        ensures { (held : List Image) (frame : Shown) → DecidesAlong C.does (kept_world self.old held cells.old text.old frame) (kept_world self.new held cells.new text.new frame) who call.now result }
     {
         match call {
+            // rows: the arms
             Call::DestroyInstance { instance } => self.destroy_instance(cells, *instance),
             Call::CreateInstance { .. } | Call::GetSystem { .. } | Call::PollEvent { .. } =>
                 self.instance_call(call),
@@ -87,6 +81,7 @@ impl Parts {
             Call::Mark { .. } | Call::AwaitMark { .. } | Call::Leave => self.own_call(who, call),
             Call::Device(event) => self.device_event(*event),
             Call::NextFrame | Call::ImageDone => unreachable!(),
+            // rows: end
         }
     }
 }

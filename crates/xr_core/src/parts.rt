@@ -1,9 +1,9 @@
 // What a core keeps, and what all calls do to it. It counts no call, and touches no part's inside.
-ghost use Rattle.std.specs.Prelude.{◌≡◌, ◌≤ℤ◌, pos, ◌≢◌, ◌≤◌, ◌<◌, ◌^◌, ◌↔◌, ◌||◌, [], ◌∷◌, IfOk, IsTrue, true, false, length, map, if◌then◌else◌};
+ghost use Rattle.std.specs.Prelude.{◌≡◌, ◌≤ℤ◌, pos, ◌≢◌, ◌≤◌, ◌<◌, ◌^◌, ◌↔◌, ◌||◌, [], ◌∷◌, IfOk, IsTrue, true, false, length, map};
 ghost use Rattle.xr_model.specs.machine.Bindings.{without_suggestions};
 ghost use Rattle.xr_model.specs.machine.CellCalls.{MayCall, Leads, free_calls};
 ghost use Rattle.xr_model.specs.machine.Chains.{is_place_used, left_in_places, freed_in_places};
-ghost use Rattle.xr_model.specs.machine.Destroyed.{has_action, without_handle, freed_by};
+ghost use Rattle.xr_model.specs.machine.Destroyed.{without_handle, freed_by};
 ghost use Rattle.xr_model.specs.machine.Handles.{is_live, row_of, has_room, no_handle, no_room, was_given, with_handle};
 ghost use Rattle.xr_model.specs.machine.HandlePlaces.{limit_of};
 ghost use Rattle.xr_model.specs.machine.LiveSessions.{still_live};
@@ -11,14 +11,13 @@ ghost use Rattle.xr_model.specs.machine.Refusals.{first_of};
 ghost use Rattle.xr_model.specs.machine.Sets.{without_inputs};
 ghost use Rattle.xr_model.specs.machine.SessionLife.{is_lost};
 ghost use Rattle.xr_model.specs.machine.SessionRule.{loss_of, code_on};
-ghost use Rattle.xr_model.specs.machine.Spaces.{without_spaces, left_spaces};
-ghost use Rattle.xr_model.specs.machine.Sync.{no_columns, left_columns};
+ghost use Rattle.xr_model.specs.machine.Spaces.{without_spaces};
 ghost use Rattle.xr_model.specs.machine.Rules.Device.{with_changes};
 ghost use Rattle.xr_model.specs.machine.Rules.Session.{life_of};
 ghost use Rattle.xr_model.specs.machine.Rules.Spaces.{session_above};
 ghost use Rattle.xr_model.specs.machine.State.{with_apps, opening_core};
 ghost use Rattle.xr_model.specs.machine.Machine.{IsPresent};
-ghost use Rattle.xr_core.specs.inside.Changes.{change_by};
+ghost use Rattle.xr_core.specs.inside.Changes.{change_by, with_places_left};
 ghost use Rattle.xr_model.specs.machine.PartAnswers.{or_refused};
 
 use crate::device_values::DeviceValues;
@@ -166,7 +165,7 @@ fn shows_all(handles: &Handles, handle: u64) -> bool
 pub(crate) fn give(handles: &mut Handles, kind: Kind, parent: u64) -> u64
     requires few { length handles.old.given < 2 ^ 44 }
     requires room { has_room handles.old kind ≡ true }
-    ensures kept { handles.new ≡ with_handle handles.old kind parent result }
+    ensures state { handles.new ≡ with_handle handles.old kind parent result }
     ensures fresh { (result ≢ 0) × (was_given handles.old result ≡ false) }
     ensures row { length (row_of handles.old kind) ≡ limit_of kind }
 {
@@ -291,10 +290,7 @@ impl Parts {
     /// that is so.
     #[tactic(auto, using(crate::proofs::LeftPlaces::columns_same, crate::proofs::LeftPlaces::spaces_same))]
     fn leave_places(&mut self, all: bool)
-        ensures { self.new ≡ record self.old {
-          columns = if all then no_columns else left_columns (has_action self.old.handles.actions) self.old.columns;
-          spaces = left_spaces (has_action self.old.handles.actions) self.old.spaces;
-        } }
+        ensures { self.new ≡ with_places_left all self.old }
     {
         let there = self.handles.actions();
         self.spaces.leave(&there);

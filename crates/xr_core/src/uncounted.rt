@@ -1,19 +1,17 @@
 // A core whose calls aren't counted: what its parts keep and the images that are held, and how each call is decided.
-ghost use Rattle.std.specs.Prelude.{◌≡◌, ◌≤◌, ◌<◌, ◌^◌, [], true, take, drop, length, slice_get, IfOk, ℕ, List};
+ghost use Rattle.std.specs.Prelude.{◌≡◌, ◌≤◌, [], take, drop, length, slice_get, IfOk, ℕ, List};
 ghost use Rattle.xr_types.specs.declared.calls.Actor.{Actor};
 ghost use Rattle.xr_types.specs.declared.limits.TheConstants.{MOST_SCRIPTS};
 ghost use Rattle.xr_model.specs.machine.CellCalls.{MayCall, Leads, peek_calls, return_calls};
-ghost use Rattle.xr_model.specs.machine.CoreCalls.{Lent, Fits, asked};
+ghost use Rattle.xr_model.specs.machine.CoreCalls.{Lent, MayMake};
 ghost use Rattle.std.specs.List.{list_all};
 ghost use Rattle.xr_model.specs.machine.Frames.{is_empty};
 ghost use Rattle.xr_model.specs.machine.Images.{first_images};
 ghost use Rattle.xr_model.specs.machine.Rules.Frames.{with_frame_taken};
-ghost use Rattle.xr_model.specs.machine.Machine.{IsPresent};
-ghost use Rattle.xr_model.specs.machine.OverCells.{MayApply};
+ghost use Rattle.xr_model.specs.machine.OverCells.{MayApply, world};
 ghost use Rattle.xr_types.specs.declared.calls.Call.TheVariants as ask;
-ghost use Rattle.xr_model.specs.machine.Rule.{is_by};
 ghost use Rattle.xr_model.specs.machine.State.{with_apps, opening_core};
-ghost use Rattle.xr_core.specs.inside.Deciding.{DecidesAlong};
+ghost use Rattle.xr_core.specs.inside.Deciding.{CountsFit, DecidesAlong};
 
 use crate::bound::Draft;
 use crate::halt::{Halt, done, giving, refused};
@@ -107,7 +105,7 @@ impl Uncounted {
     #[inline(never)]
     fn next_frame<C: Cells>(&mut self, cells: &mut C, shown: &mut Shown) -> Result<Reply, Halt>
         requires may { self.old.held ≡ [] → (stamps : List ℕ) → MayCall C.may C.does cells.old (peek_calls (first_images self.old.kept.frames.pending) stamps) }
-        ensures { (who : Actor) (text : List ℕ) → DecidesAlong C.does (record { core = self.old; cells = cells.old; lent = record { text = text; frame = shown.old } }) (record { core = self.new; cells = cells.new; lent = record { text = text; frame = shown.new } }) who ask.NextFrame result }
+        ensures { (who : Actor) (text : List ℕ) → DecidesAlong C.does (world self.old cells.old text shown.old) (world self.new cells.new text shown.new) who ask.NextFrame result }
     {
         if !self.holds_none() {
             return refused(Code::CallOrderInvalid);
@@ -161,15 +159,10 @@ impl Uncounted {
         text: &mut [u8],
         shown: &mut Shown,
     ) -> Result<Reply, Halt>
-        requires given { length self.old.kept.handles.given < 2 ^ 44 }
-        requires created { self.old.kept.created < 2 ^ 44 }
-        requires ended { self.old.kept.ended < 2 ^ 44 }
-        requires present { IsPresent self.old.kept who }
-        requires caller { is_by (asked who call.now).caller who ≡ true }
-        requires numbers { (asked who call.now).in_range ≡ true }
-        requires buffer { Fits (asked who call.now).lent (length text.old) }
+        requires counts { CountsFit self.old.kept }
+        requires may { MayMake self.old.kept who call.now (length text.old) }
         requires cells { MayApply C.may C.does self.old cells.old who call.now }
-        ensures { DecidesAlong C.does (record { core = self.old; cells = cells.old; lent = record { text = text.old; frame = shown.old } }) (record { core = self.new; cells = cells.new; lent = record { text = text.new; frame = shown.new } }) who call.now result }
+        ensures { DecidesAlong C.does (world self.old cells.old text.old shown.old) (world self.new cells.new text.new shown.new) who call.now result }
     {
         match call {
             Call::NextFrame => self.next_frame(cells, shown),

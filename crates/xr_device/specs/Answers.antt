@@ -59,7 +59,7 @@ may_tell e = checks e && is_of_line e
 
 -- ---- what was to come, and what is still to come
 
--- the line of this number is none
+-- the line of this number is malformed
 abbrev pub garbled : ℕ → DeviceStream
 garbled number = record { events = []; ending = garbled_at number }
 

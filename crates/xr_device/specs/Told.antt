@@ -13,7 +13,7 @@ use Rattle.xr_device.specs.declared.told.Told.{Told}
 pub record IsChecked (e : DeviceEvent) : Type 0 where
   pub checked : checks e ≡ true
 
--- the event that comes next, and whether it is the last: an event, the end, a line that is none, or a fault
+-- the event that comes next, and whether it is the last: an event, the end, a malformed line, or a fault
 abbrev pub Comes : Prospect → Prospect → Option DeviceEvent → Bool → Type 0
 Comes old new (Some e) false = Tells old.remaining new.remaining (next.Event e) × IsTold e × (new.bound < old.bound) × (new.faults ≡ old.faults) × (new.given ≡ old.given + 1)
 Comes old new None true = Tells old.remaining new.remaining next.End × (new.bound ≤ old.bound) × (new.faults ≡ old.faults) × (new.given ≡ old.given)
@@ -25,5 +25,6 @@ Comes old new _ _ = ⊥
 pub record HasTold (old : Prospect) (told : Told) (new : Prospect) : Type 0 where
   pub comes : Comes old new told.event told.is_last
   pub checked : IfSome told.event IsChecked
+  pub over : told.is_last ≡ true → new.over ≡ true
   pub later : old.faults ≤ new.faults
   pub reads : ReadsOn old new

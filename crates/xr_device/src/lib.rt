@@ -29,7 +29,7 @@ pub enum Next {
     Event(DeviceEvent),
     /// It has no more events.
     End,
-    /// This line of its text is none.
+    /// The line of this number is malformed.
     Garbled(u64),
     /// It couldn't be read on.
     Failed,

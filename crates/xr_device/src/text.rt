@@ -1,10 +1,10 @@
 // A device text that is read line by line.
-ghost use Rattle.std.specs.Prelude.{◌≡◌, ◌≤◌, ◌<◌, ◌+◌, false, [], length, option_map};
-ghost use Rattle.xr_io.specs.Outside.{left_of, Rose};
+ghost use Rattle.std.specs.Prelude.{◌≡◌, ◌≤◌, ◌+◌, false, [], length, option_map};
+ghost use Rattle.xr_io.specs.Outside.{left_of};
 ghost use Rattle.xr_model.specs.device_text.DeviceText.{told_in};
 ghost use Rattle.xr_device.specs.Answers.{IsTold, OnEvent};
-ghost use Rattle.xr_device.specs.inside.Steps.{OnGoing, OnAnswer, OnStepFailed, Steps, UnlessStepFailed, given_behind, StaysOnTime, StaysInLines, FailsBehindLines};
-ghost use Rattle.xr_device.specs.Texts.{told, reading_of, KeepsTold, IsFrontLine, IsUndecided, UsedLines, SameText, steps_left};
+ghost use Rattle.xr_device.specs.inside.Steps.{OnAnswer, OnStepFailed, Steps, CountsOn, CountsFaults, LosesNothing, MayReadMore, StaysOnTime, StaysInLines, KeepsLines};
+ghost use Rattle.xr_device.specs.Texts.{told, reading_of, IsFrontLine, UsedLines, SameText};
 
 use crate::Next;
 use crate::held::{Held, ROOM};
@@ -75,20 +75,12 @@ impl<S: Source> Text<S> {
     pub(crate) fn step(&mut self) -> Step
         ensures told { Steps (told self.old) (told self.new) result }
         ensures sound { OnAnswer result (λ a. OnEvent a (λ e. IsTold e)) }
-        ensures fewer { OnGoing result (steps_left self.new < steps_left self.old) }
-        ensures used { self.old.used ≤ self.new.used }
-        ensures limit { self.new.used ≤ MOST_DEVICE }
-        ensures event { OnAnswer result (λ a. OnEvent a (λ _. self.old.used < self.new.used)) }
-        ensures given { self.new.given ≡ given_behind result self.old.given }
-        ensures later { self.old.source.faults ≤ self.new.source.faults }
-        ensures cause { OnStepFailed result (Rose self.old.source.faults self.new.source.faults) }
-        ensures kept { UnlessStepFailed result (self.new.source.faults ≡ self.old.source.faults) }
-        ensures whole { OnStepFailed result (KeepsTold (told self.old) (told self.new)) }
-        ensures undecided { OnStepFailed result (IsUndecided self.new.used self.new.held) }
+        ensures counts { CountsOn self.old self.new result }
+        ensures faults { CountsFaults self.old.source.faults self.new.source.faults result }
+        ensures whole { LosesNothing self.old self.new result }
         ensures same { SameText self.old self.new }
         ensures on_time { StaysOnTime self.old self.new result }
-        ensures lines { StaysInLines self.old self.new result }
-        ensures fails { FailsBehindLines self.old self.new result }
+        ensures lines { KeepsLines self.old self.new result }
     {
         match front_of(self.held.as_slice(), self.used, self.ended) {
             Front::Line { bytes, size } => self.use_line(bytes, size),
@@ -103,11 +95,8 @@ impl<S: Source> Text<S> {
         requires { IsFrontLine self.old.used self.old.held self.old.ended bytes size }
         ensures told { Steps (told self.old) (told self.new) result }
         ensures sound { OnAnswer result (λ a. OnEvent a (λ e. IsTold e)) }
-        ensures fewer { steps_left self.new < steps_left self.old }
-        ensures used { self.old.used < self.new.used }
-        ensures limit { self.new.used ≤ MOST_DEVICE }
+        ensures counts { CountsOn self.old self.new result }
         ensures unfailed { OnStepFailed result ⊥ }
-        ensures given { self.new.given ≡ given_behind result self.old.given }
         ensures same { SameText self.old self.new }
         ensures source { self.new.source ≡ self.old.source }
         ensures ended { self.new.ended ≡ self.old.ended }
@@ -130,22 +119,15 @@ impl<S: Source> Text<S> {
 
     /// Reads more of the source, where the held bytes decide no line.
     fn read_more(&mut self) -> Step
-        requires undecided { IsUndecided self.old.used self.old.held }
-        requires unended { self.old.ended ≡ false }
+        requires open { MayReadMore self.old }
         ensures told { Steps (told self.old) (told self.new) result }
-        ensures fewer { OnGoing result (steps_left self.new < steps_left self.old) }
-        ensures used { self.new.used ≡ self.old.used }
-        ensures given { self.new.given ≡ self.old.given }
         ensures failed { OnAnswer result (λ a. a ≡ Next.Failed) }
-        ensures later { self.old.source.faults ≤ self.new.source.faults }
-        ensures cause { OnAnswer result (λ _. Rose self.old.source.faults self.new.source.faults) }
-        ensures kept { OnGoing result (self.new.source.faults ≡ self.old.source.faults) }
-        ensures whole { OnAnswer result (λ _. KeepsTold (told self.old) (told self.new)) }
-        ensures undecided { OnAnswer result (λ _. IsUndecided self.new.used self.new.held) }
+        ensures counts { CountsOn self.old self.new result }
+        ensures faults { CountsFaults self.old.source.faults self.new.source.faults result }
+        ensures whole { LosesNothing self.old self.new result }
         ensures same { SameText self.old self.new }
         ensures on_time { StaysOnTime self.old self.new result }
-        ensures lines { StaysInLines self.old self.new result }
-        ensures fails { FailsBehindLines self.old self.new result }
+        ensures lines { KeepsLines self.old self.new result }
     {
         let held = self.held.as_slice().len();
         let most = (ROOM - held).min(MOST_DEVICE + 1 - self.used - held);

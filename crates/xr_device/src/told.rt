@@ -4,8 +4,8 @@ ghost use Rattle.xr_device.specs.Told.{HasTold};
 use crate::{Device, Next};
 use xr_types::DeviceEvent;
 
-/// The event whose call comes next, if there is one, and whether it is the last: nothing comes behind it. A line that is
-/// none and a fault are events of their own, and the last.
+/// The event whose call comes next, if there is one, and whether it is the last: nothing comes behind it. A malformed line and a fault
+/// are events of their own, and the last.
 #[derive(Clone, Copy)]
 pub struct Told {
     pub event: Option<DeviceEvent>,

@@ -19,11 +19,12 @@ use Rattle.xr_model.specs.machine.History.{calls_of}
 use Rattle.xr_model.specs.runs.Lists.{events_in}
 use Rattle.xr_model.specs.report.RunEnding.{is_garbled}
 use Rattle.xr_model.specs.runs.Robin.{device_calls, last_event}
-use Rattle.xr_serial.specs.Ran.{settings_of, Gave, Ran}
+use Rattle.xr_serial.specs.Ran.{Ran}
 use Rattle.xr_drive.specs.Top.{told_under}
 use Rattle.xr_drive.specs.Run.{IsClean}
 use Rattle.xr_drive.specs.TopLaws.{KeepsClean}
 use Rattle.xr_drive.proofs.Status.{clean_front, clean_both}
+use Rattle.xr_runs.specs.Runs.{settings_of, Gave}
 
 -- ---- one line
 

@@ -17,13 +17,13 @@ use Rattle.xr_device.specs.Prospect.{Prospect}
 use Rattle.xr_device.specs.Kinds.{TextReading, taken_by, begun_at, is_late, of_text}
 use Rattle.xr_device.specs.Answers.{ReadsOn}
 use Rattle.xr_device.specs.WholeLines.{told_whole, GaveWholeLines}
-use Rattle.xr_serial.specs.Ran.{FailsBehind}
 use Rattle.xr_drive.specs.Run.{HowRan, RunBy, FailsAtLines}
 use Rattle.xr_drive.specs.Files.{IsStart, DeviceClosed}
 use Rattle.xr_drive.specs.Top.{IsWithin}
 use Rattle.xr_drive.specs.declared.input.Stop.{Stop}
 use Rattle.xr_drive.specs.inside.Input.{TakesMore}
 use Rattle.xr_drive.specs.inside.CallParts.{IsJustOpened}
+use Rattle.xr_runs.specs.Runs.{FailsBehind}
 
 -- all bytes are left of a file that was just opened
 pub all_left : (bytes : Option (List ℕ)) → option_map (drop 0) bytes ≡ bytes

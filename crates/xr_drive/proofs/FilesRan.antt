@@ -12,12 +12,12 @@ use Rattle.xr_model.specs.device_text.DeviceText.{ends}
 use Rattle.xr_device.specs.Prospect.{Prospect}
 use Rattle.xr_device.specs.Kinds.{Stored, of_list, TextReading, of_text}
 use Rattle.xr_device.specs.Answers.{ReadsOn}
-use Rattle.xr_serial.specs.Ran.{FailsBehind}
 use Rattle.xr_drive.specs.Run.{HowRan}
 use Rattle.xr_drive.specs.Top.{SameCounts, IsWithin, NoneLeftOpen, SameBytes}
 use Rattle.xr_drive.specs.Files.{FilesUnrun, FilesRan, ReadAlone, ReadBeside, DeviceClosed}
 use Rattle.xr_drive.specs.declared.faults.RunFault.TheVariants as run_fault
 use Rattle.xr_drive.proofs.DeviceRead.{closed_which, ends_within, runs_so}
+use Rattle.xr_runs.specs.Runs.{FailsBehind}
 
 -- what a run says of how lists came beside a device that was so before it and is so behind it
 abbrev pub CameSo : HowRan → Scenario → Prospect → Prospect → Lists → Type 0

@@ -14,11 +14,11 @@ use Rattle.xr_model.specs.scenario.Scenario.{scenario_of}
 use Rattle.xr_model.specs.device_text.DeviceText.{told_in}
 use Rattle.xr_model.specs.report.RunEnding.{is_fault, ending_of}
 use Rattle.xr_device.specs.Kinds.{TextReading, taken_by, begun_at, is_late, of_text}
-use Rattle.xr_serial.specs.Ran.{CanBeRun}
 use Rattle.xr_drive.specs.Run.{HowRan, RunBy}
 use Rattle.xr_drive.specs.Top.{text_of, RunsText, known_under, SameCounts, OpensInTurn, NoneLeftOpen, SameBytes, IsDeviceAskedFor, KeepsFile, UnlessNamed, IfNamed, IsWithin, TakesWithin}
 use Rattle.xr_drive.specs.declared.faults.RunFault.{RunFault}
 use Rattle.xr_drive.specs.declared.faults.RunFault.TheVariants.{OpenFault, ReadFault, Refused, NoMemory}
+use Rattle.xr_runs.specs.Runs.{CanBeRun}
 
 -- ---- why files weren't run
 

@@ -1,10 +1,10 @@
 // The files of a run: they are opened and read before it, and its report is written behind it.
-ghost use Rattle.std.specs.Prelude.{◌≡◌, ◌+◌, true, false, take, IfOk, IfErr, IfSome, Some, None, IsErr};
+ghost use Rattle.std.specs.Prelude.{◌≡◌, ◌+◌, true, take, IfOk, IfErr, IfSome, Some, None, IsErr};
 ghost use Rattle.xr_types.specs.declared.limits.TheConstants.{MOST_SCENARIO};
 ghost use Rattle.xr_io.specs.Outside.{AreUnasked};
 ghost use Rattle.xr_io.specs.declared.Which.{Which};
 ghost use Rattle.xr_command.specs.Reads.{shown};
-ghost use Rattle.xr_drive.specs.Top.{is_unrun, IsWithin, SameBytes};
+ghost use Rattle.xr_drive.specs.Top.{is_unrun};
 ghost use Rattle.xr_drive.specs.Files.{FilesUnrun, IsScenarioOf, ReadAlone, ReadBeside, DeviceClosed, ReportsFiles};
 ghost use Rattle.xr_drive.specs.inside.Input.{RoseIfStopped, KeptUnlessFailed};
 ghost use Rattle.xr_drive.specs.inside.CallParts.{IsJustOpened, UnreadBy, ReadOut};
@@ -38,15 +38,8 @@ fn read_text<'n, O: Opener<'n>>(
     requires fresh { IsJustOpened Which.Scenario (O.S.state source) }
     ensures bytes { IfOk result (λ text. IfSome (O.S.state source).bytes (λ bytes. text.items ≡ take (MOST_SCENARIO + 1) bytes)) }
     ensures cause { IfErr result (RoseIfStopped ((O.files opener.old).read_faults Which.Scenario) ((O.files opener.new).read_faults Which.Scenario)) }
-    ensures asked { (which : Which) → (O.files opener.new).asked which ≡ (O.files opener.old).asked which }
-    ensures opens { (which : Which) → (O.files opener.new).open_faults which ≡ (O.files opener.old).open_faults which }
-    ensures reads { (O.files opener.new).read_faults Which.Device ≡ (O.files opener.old).read_faults Which.Device }
-    ensures kept { KeptUnlessFailed ((O.files opener.old).read_faults Which.Scenario) ((O.files opener.new).read_faults Which.Scenario) result }
-    ensures within { IsWithin (MOST_SCENARIO + 1) ((O.files opener.new).taken Which.Scenario) }
-    ensures untaken { (O.files opener.new).taken Which.Device ≡ (O.files opener.old).taken Which.Device }
-    ensures closed { (O.files opener.new).is_open Which.Scenario ≡ false }
-    ensures stays { (O.files opener.new).is_open Which.Device ≡ (O.files opener.old).is_open Which.Device }
-    ensures same { SameBytes (O.files opener.old) (O.files opener.new) }
+    ensures counts { KeptUnlessFailed ((O.files opener.old).read_faults Which.Scenario) ((O.files opener.new).read_faults Which.Scenario) result }
+    ensures out { ReadOut (O.files opener.old) (O.files opener.new) }
 {
     let mut source = source;
     match read_all(alloc, &mut source) {

@@ -2,7 +2,7 @@
 ghost use Rattle.std.specs.Prelude.{◌≡◌, ◌≤◌, ◌<◌, ◌+◌, ◌++◌, ℕ, List, length, take, IfOk, IfSome, vec_len};
 ghost use Rattle.std.specs.Io.KnownBytes.{Consumes, IsAtEnd};
 ghost use Rattle.xr_io.specs.Outside.{left_of};
-ghost use Rattle.xr_drive.specs.inside.Input.{HasReadCause, TakesMore};
+ghost use Rattle.xr_drive.specs.inside.Input.{HasReadCause, IsSameFile, TakesMore};
 
 use std::alloc::Global;
 use xr_io::Source;
@@ -26,8 +26,7 @@ fn read_piece<S: Source>(source: &mut S, text: &mut Vec<u8>, room: usize) -> Res
     ensures len { IfOk result (λ n. (vec_len text.new ≡ vec_len text.old + n) × (n ≤ room)) }
     ensures bytes { IfOk result (λ n. (read : List ℕ) × (text.new.items ≡ text.old.items ++ read) × Consumes (left_of (S.state source.old)) (left_of (S.state source.new)) read) }
     ensures end { IfOk result (λ n. n ≡ 0 → IsAtEnd (left_of (S.state source.new))) }
-    ensures same { (S.state source.new).bytes ≡ (S.state source.old).bytes }
-    ensures which { (S.state source.new).which ≡ (S.state source.old).which }
+    ensures same { IsSameFile (S.state source.old) (S.state source.new) }
     ensures cause { HasReadCause (S.state source.old).faults (S.state source.new).faults result }
     ensures taken { TakesMore room (S.state source.old) (S.state source.new) result }
     ensures count { IfOk result (λ n. (S.state source.new).taken.count ≡ (S.state source.old).taken.count + n) }

@@ -1,8 +1,6 @@
-//! The top call, over any files and any output: from the words and the files' bytes to the bytes of the report, with
-//! the status of each way to end, its number, and the line that tells it. It knows the crates below by their public
-//! clauses alone. `serial` has the call. `files` has its parts before a run and behind it, which know no way to run: a call
-//! of another way to run is made of the same parts. Reading and writing are private.
-//! `program` adds what a program does with a status. A program gives them real files and standard output.
+//! The top call, over any files and any output: from the words and the files' bytes to the bytes of the report, with the status of each
+//! way to end, its number, and the line that tells it. `serial` has the call, `files` its parts before a run and behind it, which know no
+//! way to run, and `program` what a program does with a status.
 #![tactic(auto)]
 
 mod explanation;

@@ -11,7 +11,7 @@ pub fn write_all<K: Sink>(sink: &mut K, bytes: &[u8]) -> Result<(), Failed>
     ensures written { OnOk result (Appends (K.output sink.old).bytes (K.output sink.new).bytes bytes.now) }
     ensures part { OnErr result ((n : ℕ) × Appends (K.output sink.old).bytes (K.output sink.new).bytes (take n bytes.now)) }
     ensures cause { HasCause (K.output sink.old).faults (K.output sink.new).faults result }
-    ensures kept { OnOk result ((K.output sink.new).faults ≡ (K.output sink.old).faults) }
+    ensures counts { OnOk result ((K.output sink.new).faults ≡ (K.output sink.old).faults) }
 {
     let mut done = 0;
     while done < bytes.len() {

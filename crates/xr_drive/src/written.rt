@@ -31,7 +31,7 @@ pub(crate) fn write_text<K: Sink>(
 ) -> Result<(), Unwritten>
     ensures means { MeansWritten (text_of (shown_form form.now) lists.now) (K.output sink.old) (K.output sink.new) result }
     ensures cause { RoseIfUnwritten (K.output sink.old) (K.output sink.new) result }
-    ensures kept { KeptUnlessUnwritten (K.output sink.old) (K.output sink.new) result }
+    ensures counts { KeptUnlessUnwritten (K.output sink.old) (K.output sink.new) result }
 {
     let Ok(text) = text_of(alloc, form, lists) else {
         return Err(Unwritten::NoMemory);

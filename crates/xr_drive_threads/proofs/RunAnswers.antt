@@ -12,7 +12,6 @@ use Rattle.xr_device.specs.Kinds.{Stored, of_list, TextReading, of_text}
 use Rattle.xr_device.specs.Prospect.{Prospect}
 use Rattle.xr_runtime.specs.declared.close.Closed.{Closed}
 use Rattle.xr_runtime.specs.Closing.{history_of}
-use Rattle.xr_serial.specs.Ran.{FailsBehind}
 use Rattle.xr_threads.specs.declared.threads.Ended.{Ended}
 use Rattle.xr_threads.specs.Threads.{RanOnThreads}
 use Rattle.xr_drive.specs.Files.{FilesUnrun, FilesAnswer, ReadAlone, ReadBeside, DeviceClosed}
@@ -20,6 +19,7 @@ use Rattle.xr_drive.specs.declared.faults.RunFault.TheVariants as run_fault
 use Rattle.xr_drive.proofs.FilesRan.{CameSo, alone_ran, beside_ran, beside_short}
 use Rattle.xr_drive_threads.specs.Top.{RanClosed}
 use Rattle.xr_drive_threads.specs.inside.Runs.{lists_or_fault, files_run}
+use Rattle.xr_runs.specs.Runs.{FailsBehind}
 
 -- how the lists of a run came, beside a device that was so before it and is so behind it
 abbrev CameFrom : Closed → Scenario → Prospect → Prospect → Lists → Type 0

@@ -48,7 +48,7 @@ impl Events {
     /// What is told next, which is then told no more: the count of lost events where there are any, else the
     /// oldest event. Nothing where nothing was lost and none waits. OpenXR 1.0 chapter 2, xrPollEvent.
     pub fn poll(&mut self) -> Option<Event>
-        ensures kept { self.new ≡ behind_poll self.old }
+        ensures state { self.new ≡ behind_poll self.old }
         ensures event { result ≡ polled self.old }
     {
         if self.lost > 0 {

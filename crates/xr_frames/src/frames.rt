@@ -64,9 +64,9 @@ impl Frames {
     pub fn wait(&mut self, clock: i64, base: i64, period: i64, render: bool) -> Option<FrameState>
         requires { pos 1 ≤ℤ period }
         ensures waits { result ≡ None → (is_frame_held_back self.old ≡ true) × (self.new ≡ self.old) }
-        ensures waited { IfSome result (λ state. (is_frame_held_back self.old ≡ false)
-            × (state ≡ record { time = predicted_time self.old.frame_loop.predicted clock base period; period = period; render = render })
-            × (self.new ≡ record self.old { frame_loop = waited_loop self.old.frame_loop state.time })) }
+        ensures free { IfSome result (λ state. is_frame_held_back self.old ≡ false) }
+        ensures predicts { IfSome result (λ state. state ≡ record { time = predicted_time self.old.frame_loop.predicted clock base period; period = period; render = render }) }
+        ensures waited { IfSome result (λ state. self.new ≡ record self.old { frame_loop = waited_loop self.old.frame_loop state.time }) }
     {
         if self.is_held_back() {
             return None;
@@ -105,7 +105,7 @@ impl Frames {
     /// xrBeginFrame.
     pub fn begin(&mut self) -> Code
         ensures code { result ≡ (if self.old.frame_loop.has_waited then begun_code self.old.frame_loop else Code.CallOrderInvalid) }
-        ensures kept { self.new ≡ (if self.old.frame_loop.has_waited then record self.old { frame_loop = begun_loop self.old.frame_loop } else self.old) }
+        ensures state { self.new ≡ (if self.old.frame_loop.has_waited then record self.old { frame_loop = begun_loop self.old.frame_loop } else self.old) }
     {
         if !self.has_waited {
             return Code::CallOrderInvalid;

@@ -3,8 +3,8 @@ use Rattle.std.specs.Prelude.{ℕ, List}
 use Rattle.xr_types.specs.declared.handles.Slot.{Slot}
 use Rattle.xr_model.specs.machine.Handles.{Handles}
 use Rattle.xr_model.specs.laws.HandleLaws.{StandOnce}
-use Rattle.xr_model.proofs.Destroying.{AreKnown}
 use Rattle.xr_handles.specs.Numbers.{counted}
+use Rattle.xr_model.specs.laws.Soundness.{AreKnown}
 
 -- the handles of these rows, of which so many were given
 abbrev pub rows_of : ℕ → List Slot → List Slot → List Slot → List Slot → List Slot → List Slot → Handles

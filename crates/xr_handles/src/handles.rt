@@ -190,7 +190,7 @@ impl Handles {
     #[tactic(auto, using(crate::proofs::Numbers::new_number, crate::proofs::Numbers::count_of))]
     pub fn give(&mut self, kind: Kind, parent: u64) -> Answer
         requires { length self.old.given < 2 ^ 44 }
-        ensures kept { self.new ≡ unless (first_of (no_room self.old kind ∷ [])) self.old (with_handle self.old kind parent result.number) }
+        ensures state { self.new ≡ unless (first_of (no_room self.old kind ∷ [])) self.old (with_handle self.old kind parent result.number) }
         ensures answer { result ≡ answer_by (first_of (no_room self.old kind ∷ [])) (next_number self.old) }
         ensures fresh { was_given self.old (next_number self.old) ≡ false }
         ensures row { length (row_of self.old kind) ≡ limit_of kind }
@@ -214,7 +214,7 @@ impl Handles {
     /// Destroys a handle and all below it, and lists them: a level behind the one above it. Below an action nothing stands.
     pub fn destroy(&mut self, handle: u64, destroyed: &mut ArrayVec<u64, MOST_HANDLES>)
         requires { destroyed.old.items ≡ [] }
-        ensures kept { self.new ≡ without self.old handle }
+        ensures state { self.new ≡ without self.old handle }
         ensures destroyed { destroyed.new.items ≡ model.destroyed_by self.old handle }
     {
         if self.is_live(Kind::Action, handle) {

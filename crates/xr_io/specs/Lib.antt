@@ -1,5 +1,5 @@
 pub mod Outside
-pub mod Requests
+pub mod Asked
 pub mod Files
 pub mod Memory
 pub mod Held

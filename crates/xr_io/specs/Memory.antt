@@ -6,7 +6,7 @@ use Rattle.xr_io.specs.declared.Taken.{Taken}
 use Rattle.xr_io.specs.declared.Which.{Which}
 use Rattle.xr_io.specs.declared.Which.TheVariants.{Scenario, Device}
 use Rattle.xr_io.specs.Outside.{SourceState, is_end, next_count, raised_if, taken_with}
-use Rattle.xr_io.specs.Requests.{BothRequests}
+use Rattle.xr_io.specs.Asked.{Asked}
 
 -- whether the call of this number is one of the list
 abbrev pub is_listed : List ℕ → ℕ → Bool
@@ -114,7 +114,7 @@ pub record Holding : Type 0 where
   pub files : List File
   pub scenario_fails : FailingCalls
   pub device_fails : FailingCalls
-  pub requests : BothRequests
+  pub asked : Asked
 
 -- what is to fail of one of the two
 abbrev pub failing_of : Holding → Which → FailingCalls
@@ -132,11 +132,11 @@ abbrev pub fails_to_open : Holding → Which → List ℕ → Bool
 fails_to_open opener which name =
     (failing_of opener which).opening || is_none (bytes_under opener.files name)
 
--- the opener with other requests
-abbrev pub with_requests : Holding → BothRequests → Holding
-with_requests opener requests = record {
+-- the opener with other asked
+abbrev pub with_asked : Holding → Asked → Holding
+with_asked opener asked = record {
   files = opener.files;
   scenario_fails = opener.scenario_fails;
   device_fails = opener.device_fails;
-  requests = requests;
+  asked = asked;
 }

@@ -5,10 +5,10 @@ ghost use Rattle.std.specs.Prelude.{◌≡◌, false, length, None, IfOk, is_err
 ghost use Rattle.std.specs.Io.{ReadsAtMost, WritesAtMost};
 ghost use Rattle.xr_io.specs.declared.Which.{Which};
 ghost use Rattle.xr_io.specs.Outside.{none_taken, just_opened, WasRead, Opened, Closed, Wrote, raised_if};
-ghost use Rattle.xr_io.specs.Requests.{asked_as, is_open_of, open_faults_of, read_faults_of, taken_of, files_of, no_requests, after_opening, after_closing};
+ghost use Rattle.xr_io.specs.Asked.{asked_as, is_open_of, open_faults_of, read_faults_of, taken_of, files_of, none_asked, after_opening, after_closing};
 ghost use Rattle.xr_io.specs.Files.{no_bytes, seen_of, is_write_fault};
 
-use crate::requests::Requests;
+use crate::asked::Asked;
 use crate::{Opener, Sink, Source, Taken, Which, is_end};
 use std::fs;
 use std::io::{ErrorKind, Print, Read};
@@ -92,28 +92,28 @@ impl<F: Read> Source for FileSource<F> {
 #[derive(Drop)]
 pub struct FileOpener<'r, 'n, R: Files> {
     files: &'r R,
-    requests: Requests<'n>,
+    asked: Asked<'n>,
 }
 
 impl<'r, 'n, R: Files> Model for FileOpener<'r, 'n, R> {
-    ghost use Rattle.xr_io.specs.Requests.{BothRequests};
+    ghost use Rattle.xr_io.specs.Asked.{Asked};
 
-    ghost Value = { BothRequests };
+    ghost Value = { Asked };
 
-    ghost view = { λ opener. opener.requests };
+    ghost view = { λ opener. opener.asked };
 }
 
 impl<'r, 'n, R: Files> FileOpener<'r, 'n, R> {
     /// An opener that was asked for nothing.
     pub fn new(files: &'r R) -> FileOpener<'r, 'n, R>
-        ensures new { result ≡ no_requests }
+        ensures new { result ≡ none_asked }
         ensures asked { (w : Which) → asked_as result w ≡ None }
         ensures closed { (w : Which) → is_open_of result w ≡ false }
         ensures taken { (w : Which) → taken_of result w ≡ none_taken }
     {
         FileOpener {
             files,
-            requests: Requests::new(),
+            asked: Asked::new(),
         }
     }
 
@@ -121,21 +121,21 @@ impl<'r, 'n, R: Files> FileOpener<'r, 'n, R> {
     pub fn open_faults(&self, which: Which) -> u64
         ensures { result ≡ open_faults_of self.now which }
     {
-        self.requests.open_faults(which)
+        self.asked.open_faults(which)
     }
 
     /// What was taken of this one's closed source.
     pub fn taken(&self, which: Which) -> Taken
         ensures { result ≡ taken_of self.now which }
     {
-        self.requests.taken(which)
+        self.asked.taken(which)
     }
 
     /// How many closed sources of this one had a fault.
     pub fn read_faults(&self, which: Which) -> u64
         ensures { result ≡ read_faults_of self.now which }
     {
-        self.requests.read_faults(which)
+        self.asked.read_faults(which)
     }
 }
 
@@ -156,10 +156,10 @@ impl<'r, 'n, R: Files> Opener<'n> for FileOpener<'r, 'n, R> {
         ensures new { self.new ≡ after_opening self.old which name.now (is_err result) }
     {
         let Ok(file) = fs::open(self.files, name) else {
-            self.requests.open(which, name, true);
+            self.asked.open(which, name, true);
             return Err(Failed);
         };
-        self.requests.open(which, name, false);
+        self.asked.open(which, name, false);
         Ok(FileSource {
             file,
             opened_as: which,
@@ -178,7 +178,7 @@ impl<'r, 'n, R: Files> Opener<'n> for FileOpener<'r, 'n, R> {
         // All of that at once, exactly.
         ensures new { self.new ≡ after_closing self.old source.opened_as source.faults source.taken }
     {
-        self.requests
+        self.asked
             .close(source.opened_as, source.faults, source.taken);
     }
 }

@@ -7,9 +7,9 @@
 ghost use Rattle.std.specs.Prelude.{◌≡◌, None, IfOk};
 ghost use Rattle.xr_io.specs.Outside.{SourceState, just_opened, is_end, WasRead, Files, Opened, Closed, Output, Wrote};
 
+mod asked;
 mod files;
 mod memory;
-mod requests;
 
 pub use files::{FileOpener, FileSource, StdSink};
 pub use memory::{Failing, MemoryFile, MemoryOpener, MemorySink, MemorySource};

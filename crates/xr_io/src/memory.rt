@@ -3,11 +3,11 @@
 ghost use Rattle.std.specs.Prelude.{◌≡◌, ◌↔◌, [], false, length, Some, None, IsTrue, IsErr, IfOk, option_map};
 ghost use Rattle.xr_io.specs.declared.Which.{Which};
 ghost use Rattle.xr_io.specs.Outside.{none_taken, just_opened, WasRead, Opened, Closed, Wrote};
-ghost use Rattle.xr_io.specs.Requests.{asked_as, is_open_of, open_faults_of, read_faults_of, taken_of, files_of, no_requests, after_opening, after_closing};
-ghost use Rattle.xr_io.specs.Memory.{seen_of, is_listed, given_count, fails_to_read, buffer_after_read, after_read, taken_count, fails_to_write, after_write, bytes_under, failing_of, fails_to_open, with_requests};
+ghost use Rattle.xr_io.specs.Asked.{asked_as, is_open_of, open_faults_of, read_faults_of, taken_of, files_of, none_asked, after_opening, after_closing};
+ghost use Rattle.xr_io.specs.Memory.{seen_of, is_listed, given_count, fails_to_read, buffer_after_read, after_read, taken_count, fails_to_write, after_write, bytes_under, failing_of, fails_to_open, with_asked};
 ghost use Rattle.xr_io.specs.Held.{held_files, failing_calls};
 
-use crate::requests::Requests;
+use crate::asked::Asked;
 use crate::{Opener, Sink, Source, Taken, Which, is_end};
 use std::alloc::{AllocError, Global};
 use std::marker::Model;
@@ -269,7 +269,7 @@ pub struct MemoryOpener<'a, 'n> {
     files: &'a [MemoryFile<'a>],
     scenario_fails: Failing<'a>,
     device_fails: Failing<'a>,
-    requests: Requests<'n>,
+    asked: Asked<'n>,
 }
 
 impl<'a, 'n> Model for MemoryOpener<'a, 'n> {
@@ -283,7 +283,7 @@ impl<'a, 'n> Model for MemoryOpener<'a, 'n> {
       files = held_files opener.files.now;
       scenario_fails = failing_calls opener.scenario_fails;
       device_fails = failing_calls opener.device_fails;
-      requests = opener.requests;
+      asked = opener.asked;
     } };
 }
 
@@ -299,52 +299,52 @@ impl<'a, 'n> MemoryOpener<'a, 'n> {
           files = held_files files.now;
           scenario_fails = failing_calls scenario_fails.entry;
           device_fails = failing_calls device_fails.entry;
-          requests = no_requests;
+          asked = none_asked;
         } }
-        ensures asked { (w : Which) → asked_as result.requests w ≡ None }
-        ensures closed { (w : Which) → is_open_of result.requests w ≡ false }
-        ensures taken { (w : Which) → taken_of result.requests w ≡ none_taken }
+        ensures asked { (w : Which) → asked_as result.asked w ≡ None }
+        ensures closed { (w : Which) → is_open_of result.asked w ≡ false }
+        ensures taken { (w : Which) → taken_of result.asked w ≡ none_taken }
     {
         MemoryOpener {
             files,
             scenario_fails,
             device_fails,
-            requests: Requests::new(),
+            asked: Asked::new(),
         }
     }
 
     /// How often opening this one has failed.
     pub fn open_faults(&self, which: Which) -> u64
-        ensures { result ≡ open_faults_of self.now.requests which }
+        ensures { result ≡ open_faults_of self.now.asked which }
     {
-        self.requests.open_faults(which)
+        self.asked.open_faults(which)
     }
 
     /// What was taken of this one's closed source.
     pub fn taken(&self, which: Which) -> Taken
-        ensures { result ≡ taken_of self.now.requests which }
+        ensures { result ≡ taken_of self.now.asked which }
     {
-        self.requests.taken(which)
+        self.asked.taken(which)
     }
 
     /// How many closed sources of this one had a fault.
     pub fn read_faults(&self, which: Which) -> u64
-        ensures { result ≡ read_faults_of self.now.requests which }
+        ensures { result ≡ read_faults_of self.now.asked which }
     {
-        self.requests.read_faults(which)
+        self.asked.read_faults(which)
     }
 }
 
 impl<'a, 'n> Opener<'n> for MemoryOpener<'a, 'n> {
     type S = MemorySource<'a>;
 
-    ghost files = { λ opener. files_of (bytes_under opener.files) opener.requests };
+    ghost files = { λ opener. files_of (bytes_under opener.files) opener.asked };
 
     /// `Failed` comes exactly where this one's opening is to fail or no file has the name, and
     /// there alone the count rises.
     fn open_file(&mut self, which: Which, name: &'n str) -> Result<MemorySource<'a>, Failed>
-        requires first { asked_as self.old.requests which ≡ None }
-        ensures opened { Opened which name.now (files_of (bytes_under self.old.files) self.old.requests) (files_of (bytes_under self.new.files) self.new.requests) result }
+        requires first { asked_as self.old.asked which ≡ None }
+        ensures opened { Opened which name.now (files_of (bytes_under self.old.files) self.old.asked) (files_of (bytes_under self.new.files) self.new.asked) result }
         ensures source { IfOk result (λ source.
             seen_of source ≡ just_opened (bytes_under self.old.files name.now) which) }
 
@@ -353,8 +353,8 @@ impl<'a, 'n> Opener<'n> for MemoryOpener<'a, 'n> {
         ensures failing { IfOk result (λ source.
             source.failing ≡ (failing_of self.old which).reads) }
         ensures calls { IfOk result (λ source. source.calls ≡ 0) }
-        ensures new { self.new ≡ with_requests self.old
-            (after_opening self.old.requests which name.now
+        ensures new { self.new ≡ with_asked self.old
+            (after_opening self.old.asked which name.now
             (fails_to_open self.old which name.now)) }
     {
         let fails = match which {
@@ -363,22 +363,22 @@ impl<'a, 'n> Opener<'n> for MemoryOpener<'a, 'n> {
         };
         if !fails.open {
             if let Some(bytes) = bytes_under(self.files, name) {
-                self.requests.open(which, name, false);
+                self.asked.open(which, name, false);
                 return Ok(MemorySource::new(which, bytes, fails.reads));
             }
         }
-        self.requests.open(which, name, true);
+        self.asked.open(which, name, true);
         Err(Failed)
     }
 
     fn close(&mut self, source: MemorySource<'a>)
-        ensures closed { Closed (seen_of source.entry) (files_of (bytes_under self.old.files) self.old.requests) (files_of (bytes_under self.new.files) self.new.requests) }
+        ensures closed { Closed (seen_of source.entry) (files_of (bytes_under self.old.files) self.old.asked) (files_of (bytes_under self.new.files) self.new.asked) }
 
         // All of that at once, exactly.
-        ensures new { self.new ≡ with_requests self.old
-            (after_closing self.old.requests source.entry.opened_as source.entry.faults source.entry.taken) }
+        ensures new { self.new ≡ with_asked self.old
+            (after_closing self.old.asked source.entry.opened_as source.entry.faults source.entry.taken) }
     {
         let taken = source.taken();
-        self.requests.close(source.opened_as, source.faults, taken);
+        self.asked.close(source.opened_as, source.faults, taken);
     }
 }

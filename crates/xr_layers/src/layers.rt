@@ -5,6 +5,7 @@ ghost use Rattle.xr_model.specs.machine.Layers.{frame_checks, form_checks, layer
 ghost use Rattle.xr_model.specs.machine.PartAnswers.{code_by};
 ghost use Rattle.xr_model.specs.machine.Refusals.{first_of, unless, when};
 ghost use Rattle.xr_model.specs.machine.PartAnswers.{or_refused};
+ghost use Rattle.xr_layers.specs.Filled.{filled};
 
 use crate::images::images_of;
 use crate::look::Look;
@@ -133,11 +134,7 @@ fn show<L: Look>(
 /// stays as it was. OpenXR 1.0 chapter 10, xrEndFrame.
 pub fn check<L: Look>(time: i64, blend: Blend, layers: &[Layer], look: &L, out: &mut Frame) -> Code
     ensures code { result ≡ code_by (first_of (frame_checks (L.look look.now) time blend layers.now)) }
-    ensures frame { out.new ≡ unless (first_of (frame_checks (L.look look.now) time blend layers.now)) out.old (record out.old {
-      time = time;
-      layers = layers_of (L.look look.now) layers.now;
-      images = with_images_of [] (layers_of (L.look look.now) layers.now);
-    }) }
+    ensures frame { out.new ≡ unless (first_of (frame_checks (L.look look.now) time blend layers.now)) out.old (filled out.old time (L.look look.now) layers.now) }
 {
     match show(time, blend, layers, look) {
         Ok(shown) => {

@@ -15,13 +15,14 @@ use Rattle.xr_model.specs.laws.HandleLaws.{StandOnce}
 use Rattle.xr_model.specs.laws.ListLaws.{attaches_live, ListedWhereLive}
 use Rattle.xr_model.proofs.Rows.{both_of, not_true, has_put}
 use Rattle.xr_model.proofs.Keyed.{IsRow, all_found}
-use Rattle.xr_model.proofs.Destroying.{AreKnown, known_step, known_opening}
+use Rattle.xr_model.proofs.Destroying.{known_step, known_opening}
 use Rattle.xr_model.proofs.StandOnce.{once_step, none_once, handles_stand_once}
 use Rattle.xr_model.proofs.Orphans.{no_orphans}
 use Rattle.xr_model.proofs.DestroyingTakes.{action_parent, roots_after}
 use Rattle.xr_model.proofs.ListSteps.{Has}
 use Rattle.xr_model.proofs.Lists.{Kept, all_weaker, all_left, all_map, set_gone, kept_step, none_kept, all_kept, listed_live}
 use Rattle.xr_model.proofs.SessionSteps.{kept_by_step}
+use Rattle.xr_model.specs.laws.Soundness.{AreKnown}
 
 abbrev pub AttachLive : Handles → List Session → Type 0
 AttachLive h xs = list_all (attaches_live h) xs ≡ true

@@ -7,12 +7,12 @@ use Rattle.xr_types.specs.declared.handles.Kind.TheVariants as kind
 use Rattle.xr_model.specs.machine.Calls.{Entry}
 use Rattle.xr_types.specs.declared.calls.Call.{Call}
 use Rattle.xr_types.specs.declared.calls.Call.TheVariants as ask
-use Rattle.xr_model.specs.machine.Handles.{Handles, has, is_live, no_handle, was_given, without, destroyed_by}
+use Rattle.xr_model.specs.machine.Handles.{Handles, has, is_live, no_handle, was_given, without, destroyed_by, is_among}
 use Rattle.xr_model.specs.machine.Refusals.{Refusal, when, first_of}
-use Rattle.xr_model.specs.machine.SessionLife.{Life, is_lost, Changed, unchanged, lost_session}
+use Rattle.xr_model.specs.machine.SessionLife.{Life, is_lost, Changed, unchanged, lost_session, started_session}
 use Rattle.xr_model.specs.machine.LiveSessions.{Session, session_at, attached_in, with_life, with_attached, with_session_at, without_sets, still_live, each_changed}
 use Rattle.xr_model.specs.machine.Rule.{Rule, Effect, refusals, unless_refused, told_on}
-use Rattle.xr_model.specs.machine.Rules.Session.{life_of}
+use Rattle.xr_model.specs.machine.Rules.Session.{life_of, new_session}
 use Rattle.xr_model.specs.machine.State.{CoreState, State, opening}
 use Rattle.xr_model.specs.machine.Machine.{step, rule, reads_of, IsAllowed}
 use Rattle.xr_model.specs.machine.History.{after, opening_clocks, clocks_after, IsLegalFrom}
@@ -21,12 +21,9 @@ use Rattle.xr_model.specs.laws.ListLaws.{attaches, AttachesOnce, seals, Attachin
 use Rattle.xr_model.proofs.Histories.{after_is_in_turn}
 use Rattle.xr_model.proofs.Rows.{same_key, is_false, both_of, not_true}
 use Rattle.xr_model.proofs.Keyed.{key_of, which_more, which_left, which_map}
-use Rattle.xr_model.proofs.Destroying.{AreKnown, known_after, known_opening}
+use Rattle.xr_model.proofs.Destroying.{known_after, known_opening}
 use Rattle.xr_model.proofs.DestroyedForGood.{clocks_behind, legal_behind}
 use Rattle.xr_model.specs.machine.Sets.{Set, attach_checks, set_at, is_sealed, sealed_by, sets_named}
-use Rattle.xr_model.specs.machine.Rules.Session.{new_session}
-use Rattle.xr_model.specs.machine.SessionLife.{started_session}
-use Rattle.xr_model.specs.machine.Handles.{is_among}
 use Rattle.std.specs.List.{find, filter}
 use Rattle.xr_model.proofs.HandleSteps.{first_fails}
 use Rattle.xr_model.proofs.ListSteps.{none_behind}
@@ -34,6 +31,7 @@ use Rattle.xr_model.proofs.AtomsAndSeals.{first_doesnt, sealed_in, found_sealed,
 use Rattle.xr_model.proofs.SessionAnswers.{none_with, none_in, first_none}
 use Rattle.xr_model.proofs.SessionSteps.{kept_by_step}
 use Rattle.xr_model.proofs.LostSessions.{new_session_given, sessions_are_listed}
+use Rattle.xr_model.specs.laws.Soundness.{AreKnown}
 
 -- a handle that was given, and whose session has attached sets if it is listed
 record Has (session : ℕ) (h : Handles) (xs : List Session) : Type 0 where

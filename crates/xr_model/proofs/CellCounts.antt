@@ -1,5 +1,5 @@
 -- The counts in plain cells stay those of the state, along the cell calls of every entry.
-use Rattle.std.proofs.Common.{◌≡◌, ◌≤◌, ◌<◌, ◌==◌, ◌+◌, ◌-◌, ◌*◌, ◌^◌, ℕ, ℤ, zero, suc, Bool, true, false, List, [], ◌∷◌, ◌++◌, drop, length, Option, Some, None, refl, sym, ap, ◌∙◌, arith, append-nil, true≢false}
+use Rattle.std.proofs.Common.{◌≡◌, ◌≤◌, ◌<◌, ◌==◌, ◌+◌, ◌-◌, ◌^◌, ℕ, ℤ, zero, suc, Bool, true, false, List, [], ◌∷◌, ◌++◌, drop, length, Option, Some, None, refl, sym, ap, ◌∙◌, arith, append-nil, true≢false}
 use Rattle.std.specs.Prelude.{min, slice_get, slice_set, unwrap_or, if◌then◌else◌}
 use Rattle.std.specs.List.{list_all}
 use Rattle.std.proofs.lemmas.Bool.Decides.{nat_tests}
@@ -7,7 +7,6 @@ use Rattle.xr_types.specs.declared.frames.Blend.{Blend}
 use Rattle.xr_types.specs.declared.frames.Image.{Image}
 use Rattle.xr_types.specs.declared.frames.Layer.{Layer}
 use Rattle.xr_types.specs.Frames.{PendingFrame}
-use Rattle.xr_types.specs.declared.handles.TheConstants.{SWAPCHAINS}
 use Rattle.xr_model.specs.machine.Images.{Stamped, times_in, uses_of, count_of, slot_of}
 use Rattle.xr_model.specs.machine.CellCalls.{CellCall, pin, claim, free, stamp, peek, give_back, claim_calls, pin_calls, free_calls, stamp_calls, peek_calls, return_calls, Leads}
 use Rattle.xr_model.specs.machine.PlainImages.{PlainImages, PlainDoes, count_at}
@@ -31,7 +30,8 @@ use Rattle.xr_model.proofs.LaterPoses.{set_length}
 use Rattle.xr_model.proofs.FrameOrder.{clear}
 use Rattle.xr_model.proofs.FrameImages.{IsLast, each_so, times_left}
 use Rattle.xr_model.proofs.ImageOwners.{uses_few}
-use Rattle.xr_model.proofs.SoundImages.{IsSound, submitted_images}
+use Rattle.xr_model.proofs.SoundImages.{submitted_images}
+use Rattle.xr_model.specs.laws.Soundness.{IsSound, AreCounted}
 
 -- ---- one place of a list
 
@@ -132,11 +132,6 @@ pins_count (i ∷ images) c d each few (m, h, rest) k =
     one q there false apart = others_stay c.counts (slot_of i) q (count_at c (slot_of i) + 1) apart ∙ omega arith
 
 -- ---- the counts
-
--- there is a count for each image of each place, and it is how often the image is used
-pub record AreCounted (c : PlainImages) (pending : List PendingFrame) (held : List Image) : Type 0 where
-  pub all : length c.counts ≡ 3 * SWAPCHAINS
-  pub counts : (k : ℕ) → count_at c k ≡ count_of pending held k
 
 uses_more : (fs : List PendingFrame) (f : PendingFrame) (k : ℕ) → uses_of (fs ++ f ∷ []) k ≡ uses_of fs k + times_in f.images k
 uses_more [] f k = omega arith

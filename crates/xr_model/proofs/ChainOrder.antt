@@ -27,11 +27,12 @@ use Rattle.xr_model.specs.machine.Rules.Frames.{chains_behind}
 use Rattle.xr_model.specs.machine.Machine.{core_step, rule, step, reads_of, IsGiven, IsAllowed}
 use Rattle.xr_model.specs.laws.DecidedEntries.{Decided, decided, past_from, past_of, creates_static, on_chain, asked_chain, is_static_creation, is_static_chain, is_acquire_image, is_wait_image, is_release_image}
 use Rattle.xr_model.proofs.Rows.{hasnt_free, hasnt_cleared, itself, same_key, both_of, neither_of, not_true, not_zero}
-use Rattle.xr_model.proofs.Destroying.{AreKnown, known_step, known_opening}
+use Rattle.xr_model.proofs.Destroying.{known_step, known_opening}
 use Rattle.xr_model.proofs.Successes.{success_succeeds, success_still}
 use Rattle.xr_model.proofs.FrameOrder.{IsClear, clear, goes, by_rule, all_fail, none_first, not_false, is_live_by}
 use Rattle.xr_model.proofs.StandOnce.{chain_same}
 use Rattle.xr_model.proofs.HandleSteps.{is_chain_creation, kept_by_step}
+use Rattle.xr_model.specs.laws.Soundness.{AreKnown}
 
 -- ---- counts
 

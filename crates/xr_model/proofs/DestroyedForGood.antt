@@ -12,14 +12,12 @@ use Rattle.xr_model.specs.machine.HandlePlaces.{kind_of}
 use Rattle.xr_model.specs.machine.State.{State, opening}
 use Rattle.xr_model.specs.machine.Machine.{step, rule, reads_of}
 use Rattle.xr_model.specs.machine.History.{after, opening_clocks, clocks_after, IsLegalFrom}
-use Rattle.xr_model.specs.laws.HandleLaws.{destroys, DestroyedForGood}
-use Rattle.xr_model.proofs.Histories.{after_is_in_turn}
-use Rattle.xr_model.proofs.Rows.{same_key, both_of, not_true}
-use Rattle.xr_model.specs.laws.HandleLaws.{count_in, places_with, StandOnce}
-use Rattle.xr_model.proofs.Histories.{fronts_are_legal}
-use Rattle.xr_model.proofs.Rows.{uncounted, counted, cleared_same, going_none}
+use Rattle.xr_model.specs.laws.HandleLaws.{destroys, DestroyedForGood, count_in, places_with, StandOnce}
+use Rattle.xr_model.proofs.Histories.{after_is_in_turn, fronts_are_legal}
+use Rattle.xr_model.proofs.Rows.{same_key, both_of, not_true, uncounted, counted, cleared_same, going_none}
 use Rattle.xr_model.proofs.StandOnce.{handles_stand_once}
-use Rattle.xr_model.proofs.Destroying.{IsOver, AreKnown, and_false, absent_kind, known_after, known_opening, over_after, over_without, destroyed}
+use Rattle.xr_model.proofs.Destroying.{IsOver, and_false, absent_kind, known_after, known_opening, over_after, over_without, destroyed}
+use Rattle.xr_model.specs.laws.Soundness.{AreKnown}
 
 -- ---- nothing stands below a space or a swapchain
 

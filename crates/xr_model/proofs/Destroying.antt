@@ -16,15 +16,7 @@ use Rattle.xr_model.specs.machine.Machine.{step, reads_of, IsGiven, IsAllowed}
 use Rattle.xr_model.specs.machine.History.{after, clocks_after, IsLegalFrom}
 use Rattle.xr_model.proofs.Rows.{same_key, both_of, neither_of, not_true, hasnt_put, hasnt_free, hasnt_cleared, cleared_away}
 use Rattle.xr_model.proofs.HandleSteps.{gives_handle, kept_by_step}
-
--- the handle stands in no row
-pub record IsAbsent (h : Handles) (handle : ℕ) : Type 0 where
-  pub instances : has h.instances handle ≡ false
-  pub sessions : has h.sessions handle ≡ false
-  pub sets : has h.sets handle ≡ false
-  pub actions : has h.actions handle ≡ false
-  pub spaces : has h.spaces handle ≡ false
-  pub chains : has h.chains handle ≡ false
+use Rattle.xr_model.specs.laws.Soundness.{IsAbsent, AreKnown}
 
 pub and_false : (b : Bool) → b && false ≡ false
 and_false true = refl
@@ -84,9 +76,6 @@ absent_put h kind parent given handle other a =
     record { instances = b.instances; sessions = b.sessions; sets = b.sets; actions = b.actions; spaces = b.spaces; chains = b.chains }
 
 -- ---- each live handle was given
-
-abbrev pub AreKnown : Handles → Type 0
-AreKnown h = (handle : ℕ) → (handle == 0) ≡ false → was_given h handle ≡ false → IsAbsent h handle
 
 pub known_put : (h : Handles) (kind : Kind) (parent given : ℕ) → AreKnown h → AreKnown (with_handle h kind parent given)
 known_put h kind parent given known handle nz new =

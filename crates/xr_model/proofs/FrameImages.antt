@@ -22,7 +22,7 @@ use Rattle.xr_model.specs.laws.Owners.{has_image}
 use Rattle.xr_model.proofs.Rows.{same_key, itself, both_of, neither_of, not_true}
 use Rattle.xr_model.proofs.FrameOrder.{none_first, none_of}
 use Rattle.xr_model.proofs.ChainPlaces.{none_is_not, same_some, found_good, found_at}
-use Rattle.xr_model.proofs.SoundPlaces.{LastFits}
+use Rattle.xr_model.specs.laws.Soundness.{LastFits, IsBelow, AreOnce, EachOf, AreAmong, OptIsSound}
 
 -- ---- lists of images
 
@@ -38,10 +38,6 @@ pub each_left : (P : Image → Type 0) (n : ℕ) (images : List Image) → Each 
 each_left P zero images each = each
 each_left P (suc n) [] each = tt
 each_left P (suc n) (i ∷ images) each = each_left P n images each.1
-
--- an index below 3
-abbrev pub IsBelow : Image → Type 0
-IsBelow i = i.index < 3
 
 -- two images stand apart unless they are the same
 pub slots_apart : (i : Image) (place n : ℕ) → IsBelow i → n < 3 → slot_of i ≡ 3 * place + n → (i.place ≡ place) × (i.index ≡ n)
@@ -89,10 +85,6 @@ times_elsewhere place n less (i ∷ images) each none =
 
 -- ---- each image once
 
-pub record AreOnce (P : Image → Type 0) (images : List Image) : Type 0 where
-  pub each : Each P images
-  pub once : (k : ℕ) → times_in images k ≤ 1
-
 module _ (P : Image → Type 0) (below : (i : Image) → P i → IsBelow i) where
   once_more : (images : List Image) (i : Image) → AreOnce P images → P i → AreOnce P (with_image images i)
   once_more images i are good = by (has_image i images) refl
@@ -112,20 +104,11 @@ module _ (P : Image → Type 0) (below : (i : Image) → P i → IsBelow i) wher
   once_all images [] are each = are
   once_all images (i ∷ more) are each = once_all (with_image images i) more (once_more images i are each.0) each.1
 
--- each image of these layers
-abbrev pub EachOf : (Image → Type 0) → List FrameLayer → Type 0
-EachOf P [] = Unit {0}
-EachOf P (l ∷ ls) = Each P (images_of_layer l) × EachOf P ls
-
 pub once_of : (P : Image → Type 0) → ((i : Image) → P i → IsBelow i) → (images : List Image) (ls : List FrameLayer) → AreOnce P images → EachOf P ls → AreOnce P (with_images_of images ls)
 once_of P below images [] are each = are
 once_of P below images (l ∷ ls) are each = once_of P below (with_images images (images_of_layer l)) ls (once_all P below images (images_of_layer l) are each.0) each.1
 
 -- ---- all images of the layers
-
--- each image of these layers is among these images
-abbrev pub AreAmong : List Image → List FrameLayer → Type 0
-AreAmong images ls = EachOf (λ i. has_image i images ≡ true) ls
 
 or_with : (a b : Bool) → b ≡ true → a || b ≡ true
 or_with true b e = refl
@@ -178,11 +161,6 @@ pub record IsLast (chains : List Chain) (i : Image) : Type 0 where
   pub last : chain.last ≡ Some i.index
   pub named : (chain.handle == 0) ≡ false
   pub below : IsBelow i
-
--- each place is sound
-abbrev pub OptIsSound : (Chain → Type 0) → Option Chain → Type 0
-OptIsSound P None = Unit {0}
-OptIsSound P (Some c) = P c
 
 -- what is found as the chain of a handle has it
 pub is_named : (handle : ℕ) (c : Chain) → is_chain handle c ≡ true → c.handle ≡ handle

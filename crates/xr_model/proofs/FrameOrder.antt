@@ -36,7 +36,8 @@ use Rattle.xr_model.specs.laws.OrderLaws.{WaitsAndBegins}
 use Rattle.xr_model.proofs.Successes.{success_still, begun_succeeds}
 use Rattle.xr_model.specs.laws.DecidedEntries.{Decided, decided, past_from, past_of, is_begin_session, is_end_session, is_wait_frame, is_begin_frame, is_end_frame, period_session, period, waits, begins, is_begun}
 use Rattle.xr_model.proofs.Rows.{itself, same_key, neither_of, put_is_first, put_first}
-use Rattle.xr_model.proofs.Destroying.{AreKnown, known_step, known_opening, and_false}
+use Rattle.xr_model.proofs.Destroying.{known_step, known_opening, and_false}
+use Rattle.xr_model.specs.laws.Soundness.{AreKnown}
 
 -- ---- counts
 

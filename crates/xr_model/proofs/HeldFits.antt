@@ -16,6 +16,7 @@ use Rattle.xr_model.specs.machine.Machine.{effect, rule, step, reads_of, held_af
 use Rattle.xr_model.specs.machine.History.{after}
 use Rattle.xr_model.specs.laws.DecidedEntries.{Decided, decided, past_from, past_of, taken_images, given_back}
 use Rattle.xr_model.proofs.FrameOrder.{clear, not_false}
+use Rattle.xr_model.specs.laws.Soundness.{IsAside}
 
 -- ---- what a call did
 
@@ -27,12 +28,6 @@ did_kept P s short f nothing done = by (refusal short f) f.on
     by None None = done
     by None (Some loss) = done
     by (Some r) on = nothing
-
--- the compositor's calls
-abbrev pub IsAside : Call → Type 0
-IsAside ask.NextFrame = ⊥
-IsAside ask.ImageDone = ⊥
-IsAside _ = Unit {0}
 
 -- nothing was taken or given back
 pub record LeavesHeld (did : Did) : Type 0 where

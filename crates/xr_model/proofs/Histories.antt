@@ -7,8 +7,7 @@ use Rattle.xr_types.specs.declared.code.Code.TheVariants.{Success, SessionLossPe
 use Rattle.xr_model.specs.machine.SessionRule.{Loss}
 use Rattle.xr_model.proofs.Successes.{success_still, begun_succeeds}
 use Rattle.xr_types.specs.declared.device.DeviceEvent.TheVariants as event
-use Rattle.xr_model.specs.machine.Publishing.{is_published}
-use Rattle.xr_types.specs.CallKinds.{is_locked}
+use Rattle.xr_types.specs.CallKinds.{is_locked, is_published}
 use Rattle.xr_model.specs.machine.Calls.{Entry, Outcome}
 use Rattle.xr_types.specs.declared.calls.Call.{Call}
 use Rattle.xr_types.specs.declared.calls.Call.TheVariants as ask

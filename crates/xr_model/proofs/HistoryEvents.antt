@@ -21,7 +21,7 @@ use Rattle.xr_model.specs.machine.History.{after, opening_clocks, clocks_after, 
 use Rattle.xr_model.specs.laws.SessionLaws.{AreListed}
 use Rattle.xr_model.specs.laws.EventLaws.{QueueStep, push, poll, pushes_of, is_count, event_told, losses_told, Trace, with_push, with_poll, traced, no_trace, AddsUp, pushed_all, is_of_session, event_given, trace_by, trace_from, ComeBy, CameBy, HistoriesAddUp, EventsGo, polls, ends, end_in}
 use Rattle.xr_model.proofs.Rows.{both_of, neither_of, not_true}
-use Rattle.xr_model.proofs.Destroying.{AreKnown, known_step, known_after, known_opening}
+use Rattle.xr_model.proofs.Destroying.{known_step, known_after, known_opening}
 use Rattle.xr_model.proofs.DestroyedForGood.{clocks_behind, legal_behind}
 use Rattle.xr_model.proofs.Histories.{fronts_are_legal}
 use Rattle.xr_model.proofs.LostSessions.{listed_after, sessions_are_listed}
@@ -29,6 +29,7 @@ use Rattle.xr_model.proofs.QueueTraces.{events_add_up}
 use Rattle.xr_model.proofs.SessionAnswers.{none_in, first_none}
 use Rattle.xr_model.proofs.StatesTold.{apart_step, all_apart, told_step}
 use Rattle.xr_model.proofs.ToldStates.{AreApart}
+use Rattle.xr_model.specs.laws.Soundness.{AreKnown}
 
 -- ---- steps of a queue
 

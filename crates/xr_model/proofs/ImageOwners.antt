@@ -24,7 +24,7 @@ use Rattle.xr_model.specs.laws.Owners.{has_image, has_behind, is_applications, t
 use Rattle.xr_model.specs.laws.DecidedEntries.{Decided, decided, past_from, past_of}
 use Rattle.xr_model.proofs.Histories.{fronts_are_legal}
 use Rattle.xr_model.proofs.Rows.{same_key, both_of}
-use Rattle.xr_model.proofs.Destroying.{AreKnown, known_step, known_opening}
+use Rattle.xr_model.proofs.Destroying.{known_step, known_opening}
 use Rattle.xr_model.proofs.DestroyedForGood.{legal_behind}
 use Rattle.xr_model.proofs.Orphans.{no_orphans, under_step}
 use Rattle.xr_model.proofs.StandOnce.{none_once, once_step, handles_stand_once}
@@ -32,10 +32,10 @@ use Rattle.xr_model.proofs.FrameOrder.{clear, none_first, is_ready_to}
 use Rattle.xr_model.proofs.FrameLists.{at_most_three}
 use Rattle.xr_model.proofs.ChainOrder.{OptFits, chains_history}
 use Rattle.xr_model.proofs.ChainPlaces.{same_some, found_good, found_at}
-use Rattle.xr_model.proofs.SoundPlaces.{PlaceIsSound}
-use Rattle.xr_model.proofs.FrameImages.{OptIsSound, is_named, times_left}
-use Rattle.xr_model.proofs.SoundImages.{AreSound, StateIsSound, IsIdle, effect_kept, wait_some, is_unused, sound_step, sound_opening, sound_history}
+use Rattle.xr_model.proofs.FrameImages.{is_named, times_left}
+use Rattle.xr_model.proofs.SoundImages.{effect_kept, wait_some, is_unused, sound_step, sound_opening, sound_history}
 use Rattle.xr_model.proofs.ImageSteps.{image_steps, not_waited}
+use Rattle.xr_model.specs.laws.Soundness.{AreKnown, PlaceIsSound, OptIsSound, AreSound, StateIsSound, IsIdle}
 
 -- ---- places
 

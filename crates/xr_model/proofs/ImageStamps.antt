@@ -26,10 +26,11 @@ use Rattle.xr_model.proofs.Histories.{fronts_are_legal}
 use Rattle.xr_model.proofs.Rows.{same_key, neither_of, is_false}
 use Rattle.xr_model.proofs.FrameOrder.{clear, none_first, not_false}
 use Rattle.xr_model.proofs.ChainPlaces.{found_good, found_at, any_found, suc_apart}
-use Rattle.xr_model.proofs.FrameImages.{IsBelow, each_left, times_elsewhere}
-use Rattle.xr_model.proofs.SoundImages.{AreSound, StateIsSound, IsIdle, is_taken, effect_kept, paint_some, sound_history}
+use Rattle.xr_model.proofs.FrameImages.{each_left, times_elsewhere}
+use Rattle.xr_model.proofs.SoundImages.{effect_kept, paint_some, sound_history}
 use Rattle.xr_model.proofs.ImageSteps.{was_waited}
 use Rattle.xr_model.proofs.ImageOwners.{owners_fit}
+use Rattle.xr_model.specs.laws.Soundness.{IsBelow, AreSound, StateIsSound, IsIdle, is_taken}
 
 -- ---- stamps that are set
 

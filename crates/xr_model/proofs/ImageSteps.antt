@@ -28,10 +28,10 @@ use Rattle.xr_model.proofs.Rows.{same_key, neither_of}
 use Rattle.xr_model.proofs.FrameOrder.{clear, none_first, not_false, is_live_by}
 use Rattle.xr_model.proofs.HeldFits.{none_is_empty}
 use Rattle.xr_model.proofs.ChainPlaces.{found_good, found_at, any_found, set_at, changed_is_set, new_is_set, left_at, goes_with, freed_at}
-use Rattle.xr_model.proofs.SoundPlaces.{is_live_in, IsBare, PlaceIsSound, oldest_stays}
-use Rattle.xr_model.proofs.FrameImages.{OptIsSound}
+use Rattle.xr_model.proofs.SoundPlaces.{oldest_stays}
 use Rattle.xr_model.proofs.UntouchedChains.{set_leaves_chains, action_leaves_chains}
-use Rattle.xr_model.proofs.SoundImages.{StateIsSound, effect_kept, acquire_some, wait_some, paint_some, uses_more}
+use Rattle.xr_model.proofs.SoundImages.{effect_kept, acquire_some, wait_some, paint_some, uses_more}
+use Rattle.xr_model.specs.laws.Soundness.{is_live_in, IsBare, PlaceIsSound, OptIsSound, StateIsSound}
 
 -- ---- counts
 

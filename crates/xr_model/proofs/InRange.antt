@@ -50,6 +50,7 @@ module _ (P Q : Sort → ℕ → Type 0) (f : (sort : Sort) (place : ℕ) → P 
   layer-weaker (Quad space image pose) h = (use-weaker _ _ _ space h.0, sub_image-weaker image h.1, h.2)
 
   pub formed-weaker : (o : Op) → IsFormed P o → IsFormed Q o
+  -- rows: formed-weaker
   formed-weaker (op.CreateInstance major minor) h = (h.0, h.1)
   formed-weaker (op.DestroyInstance instance) h = use-weaker _ _ _ instance h
   formed-weaker (op.PollEvent instance) h = use-weaker _ _ _ instance h
@@ -87,3 +88,4 @@ module _ (P Q : Sort → ℕ → Type 0) (f : (sort : Sort) (place : ℕ) → P 
   formed-weaker (op.EndFrame session time blend layers) h = (use-weaker _ _ _ session h.0, use-weaker _ _ _ time h.1, list-weaker 32 (IsLayer P) (IsLayer Q) layer-weaker layers h.2)
   formed-weaker (op.Mark mark value) h = (h.0, value-weaker (nat_le mark 32) value h.1)
   formed-weaker (op.Await mark) h = h
+  -- rows: end

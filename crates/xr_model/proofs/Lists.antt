@@ -1,48 +1,38 @@
 -- The lists of what is kept by its handle, after every legal history.
-use Rattle.std.proofs.Common.{◌≡◌, ◌≢◌, ◌≤◌, ◌+◌, ◌==◌, ◌&&◌, ◌||◌, ◌⊎◌, inl, inr, ℕ, ℤ, not, Bool, true, false, List, [], ◌∷◌, ◌++◌, map, Option, Some, None, refl, sym, ap, subst, ◌∙◌, arith, true≢false}
-use Rattle.std.specs.Prelude.{is_some, if◌then◌else◌}
-use Rattle.std.specs.List.{filter, list_all}
+use Rattle.std.proofs.Common.{◌≡◌, ◌≢◌, ◌≤◌, ◌+◌, ◌==◌, ◌&&◌, ◌||◌, ◌⊎◌, inl, inr, ℕ, ℤ, not, Bool, true, false, List, [], ◌∷◌, ◌++◌, map, Option, Some, None, refl, sym, ap, subst, ◌∙◌, arith, true≢false, zero, suc}
+use Rattle.std.specs.Prelude.{is_some, if◌then◌else◌, slice_set, filter_map, option_map, replicate, is_none}
+use Rattle.std.specs.List.{filter, list_all, position_from, cons_option}
 use Rattle.xr_types.specs.declared.handles.Kind.TheVariants.{Action, Space}
 use Rattle.xr_types.specs.declared.handles.Slot.{Slot}
 use Rattle.xr_types.specs.declared.input.Bound.{Bound}
 use Rattle.xr_model.specs.machine.Calls.{Entry}
-use Rattle.xr_model.specs.machine.Handles.{Handles, has, is_live, is_among, was_given, first_free, put_in, going, cleared, destroyed_instances, destroyed_parents, destroyed_by, without, without_alone, with_handle}
+use Rattle.xr_model.specs.machine.Handles.{Handles, has, is_live, is_among, was_given, first_free, put_in, going, cleared, destroyed_instances, destroyed_parents, destroyed_by, without, without_alone, with_handle, free, goes}
 use Rattle.xr_model.specs.machine.Sets as inputs
-use Rattle.xr_model.specs.machine.Sets.{Sets, Set, action_at, set_at, sealed_by}
+use Rattle.xr_model.specs.machine.Sets.{Sets, Set, action_at, set_at, sealed_by, with_action, without_inputs, is_in_sealed_set}
 use Rattle.xr_model.specs.machine.Spaces as spaces
 use Rattle.xr_model.specs.machine.Destroyed.{has_action, spaces_left}
-use Rattle.xr_model.specs.machine.Spaces.{Spaces, space_at, with_left}
-use Rattle.xr_model.specs.machine.State.{CoreState, State}
+use Rattle.xr_model.specs.machine.Spaces.{Spaces, space_at, with_left, without_space, without_spaces}
+use Rattle.xr_model.specs.machine.State.{CoreState, State, Settings, opening}
 use Rattle.xr_model.specs.machine.Machine.{step, reads_of, IsAllowed}
 use Rattle.xr_model.specs.laws.HandleLaws.{count_in, places_with, StandOnce}
-use Rattle.xr_model.proofs.Rows.{itself, same_key, is_false, both_of, not_true, not_zero, neither_of, counted, uncounted, hasnt_cleared}
-use Rattle.xr_model.proofs.Keyed.{IsRow, row_more, row_left, found_map}
-use Rattle.xr_model.proofs.HandleSteps.{gives_handle}
+use Rattle.xr_model.proofs.Rows.{itself, same_key, is_false, both_of, not_true, not_zero, neither_of, counted, uncounted, hasnt_cleared, put_first, put_is_first, one_later, later_is_some, has_put, hasnt_free}
+use Rattle.xr_model.proofs.Keyed.{IsRow, row_more, row_left, found_map, which_more, which_left}
+use Rattle.xr_model.proofs.HandleSteps.{gives_handle, first_fails}
 use Rattle.xr_model.proofs.DestroyingTakes.{any_append, none_going, one_going, one_cleared, parent_in}
-use Rattle.std.specs.Prelude.{slice_set, filter_map, option_map, replicate}
-use Rattle.std.specs.List.{position_from, cons_option}
-use Rattle.std.proofs.Common.{zero, suc}
 use Rattle.xr_types.specs.declared.code.Code.TheVariants.{HandleInvalid, ActionsetsAlreadyAttached, PathInvalid, PathUnsupported}
 use Rattle.xr_types.specs.declared.handles.TheConstants.{ACTION_SETS, ACTIONS, SPACES}
 use Rattle.xr_types.specs.declared.input.Binding.{Binding}
 use Rattle.xr_types.specs.declared.input.Pick.{Pick}
 use Rattle.xr_types.specs.declared.input.Profile.{Profile}
-use Rattle.xr_model.specs.machine.Handles.{free, goes}
 use Rattle.xr_model.specs.machine.Bindings.{without_suggestions, profile_place}
 use Rattle.xr_model.specs.machine.Refusals.{when, first_of}
-use Rattle.xr_model.specs.machine.Sets.{with_action, without_inputs, is_in_sealed_set}
 use Rattle.xr_model.specs.machine.Paths.{text_at}
-use Rattle.std.specs.Prelude.{is_none}
-use Rattle.xr_model.specs.machine.Spaces.{without_space, without_spaces}
-use Rattle.xr_model.specs.machine.State.{Settings, opening}
 use Rattle.xr_model.specs.machine.History.{after, opening_clocks, clocks_after, IsLegal, IsLegalFrom}
 use Rattle.xr_model.specs.machine.Rules.Bindings.{pick_of, binding_checks, bindings_checks, bound_of, suggested}
-use Rattle.xr_model.proofs.Rows.{put_first, put_is_first, one_later, later_is_some, has_put, hasnt_free}
-use Rattle.xr_model.proofs.Keyed.{which_more, which_left}
-use Rattle.xr_model.proofs.HandleSteps.{first_fails}
 use Rattle.xr_model.proofs.ListSteps.{Has, kept_by_step, none_behind, none_front}
-use Rattle.xr_model.proofs.Destroying.{AreKnown, known_step, known_opening}
+use Rattle.xr_model.proofs.Destroying.{known_step, known_opening}
 use Rattle.xr_model.proofs.StandOnce.{given_one, once_step, none_once}
+use Rattle.xr_model.specs.laws.Soundness.{AreKnown}
 
 -- ---- what goes with a handle is what isn't live behind it
 

@@ -20,7 +20,8 @@ use Rattle.xr_model.proofs.Rows.{itself, same_key, is_false}
 use Rattle.xr_model.proofs.Listed.{listed_none, listed_lives, listed_each, listed_more, listed_left}
 use Rattle.xr_model.proofs.Keyed.{which_map}
 use Rattle.xr_model.proofs.SessionSteps.{kept_by_step}
-use Rattle.xr_model.proofs.Destroying.{AreKnown, known_step, known_opening}
+use Rattle.xr_model.proofs.Destroying.{known_step, known_opening}
+use Rattle.xr_model.specs.laws.Soundness.{AreKnown}
 
 -- ---- a session's handle is new
 

@@ -5,14 +5,13 @@ use Rattle.xr_types.specs.declared.calls.Actor.{Actor}
 use Rattle.xr_types.specs.declared.calls.Actor.TheVariants.{App, Compositor, Device}
 use Rattle.xr_model.specs.machine.Publication.{Publication, publication_of}
 use Rattle.xr_model.specs.machine.Reads.{reads}
-use Rattle.xr_types.specs.CallKinds.{is_getter, is_locked}
+use Rattle.xr_types.specs.CallKinds.{is_getter, is_locked, is_leave}
 use Rattle.xr_model.specs.machine.Calls.{Entry, Outcome, Exchange, is_actor}
 use Rattle.xr_types.specs.declared.calls.Call.{Call}
 use Rattle.xr_types.specs.declared.calls.Call.TheVariants as ask
 use Rattle.xr_model.specs.machine.State.{State, opening}
 use Rattle.xr_model.specs.machine.Machine.{IsAllowed, IsPresent, ready, step}
 use Rattle.xr_model.specs.machine.History.{after, calls_from, clock_of, with_clock, clocks_after, opening_clocks, StartsAt, IsLegalFrom}
-use Rattle.xr_model.specs.laws.MomentLaws.{is_leave}
 use Rattle.xr_model.specs.laws.PublicationLaws.{NonePublishes, none_is_by, GettersMove}
 use Rattle.xr_model.proofs.DestroyedForGood.{clocks_behind, legal_behind}
 use Rattle.xr_model.proofs.GetterSteps.{getters_change_nothing, getters_are_ready, getters_read}

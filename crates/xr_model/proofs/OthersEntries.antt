@@ -7,7 +7,7 @@ use Rattle.xr_types.specs.declared.device.DeviceEvent.{DeviceEvent}
 use Rattle.xr_types.specs.declared.device.DeviceEvent.TheVariants as event
 use Rattle.xr_types.specs.declared.frames.Image.{Image}
 use Rattle.xr_model.specs.machine.Refusals.{Refusal}
-use Rattle.xr_types.specs.CallKinds.{is_locked}
+use Rattle.xr_types.specs.CallKinds.{is_locked, is_leave}
 use Rattle.xr_model.specs.machine.Calls.{Entry, is_actor}
 use Rattle.xr_types.specs.declared.calls.Call.{Call}
 use Rattle.xr_types.specs.declared.calls.Call.TheVariants as ask
@@ -19,11 +19,12 @@ use Rattle.xr_model.specs.machine.Machine.{IsPresent, effect, held_after, reads_
 use Rattle.xr_model.specs.machine.History.{clock_of, with_clock, clocks_after, IsLegalFrom}
 use Rattle.xr_model.specs.laws.ImageLaws.{is_compositor_call}
 use Rattle.xr_model.specs.laws.Moments.{clocks_over, moment_after}
-use Rattle.xr_model.specs.laws.MomentLaws.{is_leave, leaves_by_none, ActorsStay, ClocksStay, HeldImagesStay}
+use Rattle.xr_model.specs.laws.MomentLaws.{leaves_by_none, ActorsStay, ClocksStay, HeldImagesStay}
 use Rattle.xr_model.specs.laws.PublicationLaws.{none_is_by}
-use Rattle.xr_model.proofs.HeldFits.{IsAside, LeavesHeld, leaves_held}
+use Rattle.xr_model.proofs.HeldFits.{LeavesHeld, leaves_held}
 use Rattle.xr_model.proofs.Rows.{both_of, itself, is_false, not_true, same_key}
 use Rattle.xr_model.proofs.UserAtoms.{set_other}
+use Rattle.xr_model.specs.laws.Soundness.{IsAside}
 
 -- ---- who has left
 

@@ -24,7 +24,8 @@ use Rattle.xr_model.specs.machine.Rules.Spaces.{session_above}
 use Rattle.xr_model.specs.machine.Machine.{effect, rule, core_ready, IsGiven, reads_of, waited_image, cell_calls, as_unused, held_after}
 use Rattle.xr_model.specs.machine.CoreCalls.{Lent, left_in, entry_of, CoreApplies, Applies}
 use Rattle.xr_model.specs.machine.OverCells.{entry_by, AppliesOver}
-use Rattle.xr_model.proofs.HeldFits.{did_kept, IsAside}
+use Rattle.xr_model.proofs.HeldFits.{did_kept}
+use Rattle.xr_model.specs.laws.Soundness.{IsAside}
 
 -- ---- what a call does to cells
 

@@ -14,13 +14,15 @@ use Rattle.xr_model.specs.machine.State.{State, opening}
 use Rattle.xr_model.specs.machine.Machine.{step, reads_of}
 use Rattle.xr_model.specs.machine.History.{after}
 use Rattle.xr_model.specs.runs.Scripts.{request_for}
-use Rattle.xr_model.specs.runs.Robin.{Agenda, script, events, compositor, actor_of, with_start, next_call, is_ended, agenda_after, is_next_ready, next_move, IsCallOf, agendas_behind, IsRobinFrom, script_agendas, device_agendas, first_agendas, agendas_left}
+use Rattle.xr_model.specs.runs.Robin.{Agenda, script, events, compositor, actor_of, next_call, is_ended, agenda_after, is_next_ready, next_move, IsCallOf, agendas_behind, IsRobinFrom, script_agendas, device_agendas, first_agendas, agendas_left}
+use Rattle.xr_types.specs.CallKinds.{with_start}
 use Rattle.xr_model.specs.laws.RunLaws.{has_turns, count_of}
 use Rattle.xr_model.specs.laws.RobinLaws.{NobodyReadyIsPassedOver, RunsEndWhereNobodyIsReady, call_holding, ImagesAreGivenBackFirst}
 use Rattle.xr_model.proofs.Rows.{neither_of, or_true}
 use Rattle.xr_model.proofs.Turns.{count_more, falls, actor_itself}
 use Rattle.xr_model.proofs.RobinTurns.{moved, one_call, once_in_order, first_ordered, turns_make_ready_calls, stuck_where_nobody_is_ready}
-use Rattle.xr_model.proofs.HeldFits.{IsAside, leaves_held}
+use Rattle.xr_model.proofs.HeldFits.{leaves_held}
+use Rattle.xr_model.specs.laws.Soundness.{IsAside}
 
 -- ---- the call at a place of a run
 

@@ -14,7 +14,7 @@ use Rattle.xr_model.specs.machine.Handles.{no_handle}
 use Rattle.xr_model.specs.machine.LiveSessions.{Session, session_at, life_in}
 use Rattle.xr_model.specs.machine.Paths.{with_text}
 use Rattle.xr_model.specs.machine.Publication.{publication_of, first_seen, user_atom, atom_of_user}
-use Rattle.xr_model.specs.machine.Publishing.{publishes, is_published}
+use Rattle.xr_types.specs.CallKinds.{publishes, is_published}
 use Rattle.xr_model.specs.machine.Refusals.{Refusal, when}
 use Rattle.xr_model.specs.machine.Calls.{Entry}
 use Rattle.xr_types.specs.declared.calls.Call.{Call}

@@ -8,7 +8,7 @@ use Rattle.xr_types.specs.declared.input.User.{User}
 use Rattle.xr_types.specs.declared.input.User.TheVariants as user
 use Rattle.xr_model.specs.machine.Handles.{is_live, is_among, destroyed_by}
 use Rattle.xr_model.specs.machine.Publication.{Publication, publication_of}
-use Rattle.xr_model.specs.machine.Publishing.{publishes}
+use Rattle.xr_types.specs.CallKinds.{publishes}
 use Rattle.xr_model.specs.machine.Reads.{published_behind, published_from}
 use Rattle.xr_model.specs.machine.Refusals.{Refusal, when}
 use Rattle.xr_model.specs.machine.Calls.{Entry}
@@ -24,7 +24,7 @@ use Rattle.xr_types.specs.declared.device.DeviceEvent.{DeviceEvent}
 use Rattle.xr_types.specs.declared.device.DeviceEvent.TheVariants as event
 use Rattle.xr_model.specs.laws.HandleLaws.{AreUnder, StandOnce}
 use Rattle.xr_model.specs.laws.PublicationLaws.{PublishedIsCurrent}
-use Rattle.xr_model.proofs.Destroying.{AreKnown, known_step, known_opening}
+use Rattle.xr_model.proofs.Destroying.{known_step, known_opening}
 use Rattle.xr_model.proofs.FrameOrder.{length_put, length_cleared}
 use Rattle.xr_model.proofs.HandleSteps as handles
 use Rattle.xr_model.proofs.ListSteps.{Has}
@@ -34,6 +34,7 @@ use Rattle.xr_model.proofs.Orphans.{under_step}
 use Rattle.xr_model.proofs.PublishedContents.{contents_stay}
 use Rattle.xr_model.proofs.StandOnce.{once_step, none_once}
 use Rattle.xr_model.proofs.UserAtoms.{known_user, declared_known, KnowsDeclared}
+use Rattle.xr_model.specs.laws.Soundness.{AreKnown}
 
 -- ---- what an entry leaves of the atoms that are declared
 

@@ -6,7 +6,7 @@ use Rattle.xr_types.specs.declared.calls.Actor.{Actor}
 use Rattle.xr_types.specs.declared.calls.Actor.TheVariants.{App, Compositor, Device}
 use Rattle.xr_types.specs.declared.device.DeviceEvent.{DeviceEvent}
 use Rattle.xr_types.specs.declared.scenario.Op.{Op}
-use Rattle.xr_types.specs.CallKinds.{is_locked}
+use Rattle.xr_types.specs.CallKinds.{is_locked, with_start}
 use Rattle.xr_model.specs.machine.Calls.{Entry, Outcome, is_actor}
 use Rattle.xr_types.specs.declared.calls.Call.{Call}
 use Rattle.xr_types.specs.declared.calls.Call.TheVariants as ask
@@ -14,7 +14,7 @@ use Rattle.xr_model.specs.machine.State.{State, opening}
 use Rattle.xr_model.specs.machine.Machine.{step, ready}
 use Rattle.xr_model.specs.machine.History.{opening_clocks, clock_of, with_clock, clocks_after, StartsAt}
 use Rattle.xr_model.specs.runs.Scripts.{request_for}
-use Rattle.xr_model.specs.runs.Robin.{Agenda, script, events, compositor, actor_of, next_call, with_start, is_ended, agenda_after, NextMove, next_move, IsCallOf, agendas_after, agendas_behind, script_agendas, device_agendas, first_agendas}
+use Rattle.xr_model.specs.runs.Robin.{Agenda, script, events, compositor, actor_of, next_call, is_ended, agenda_after, NextMove, next_move, IsCallOf, agendas_after, agendas_behind, script_agendas, device_agendas, first_agendas}
 use Rattle.xr_model.specs.laws.RunLaws.{count_of, AreReadyFrom, CallsAreReady}
 use Rattle.xr_model.proofs.MarkValues.{set_there, set_other, places_differ}
 use Rattle.xr_model.proofs.Turns.{bit, count_more, falls, actor_itself}

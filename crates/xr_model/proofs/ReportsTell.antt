@@ -116,6 +116,7 @@ location_plain (gives.Location (location.Factors base_offset base_sample sample 
 location_plain _ = (refl, refl)
 
 success_plain : (c : CallName) (m : Made) → has_no_at m.text ≡ true → IsPlain (success_values c m)
+-- rows: success_plain
 success_plain call.GetSystem m none = number_plain m.reply.gives
 success_plain call.StringToPath m none = number_plain m.reply.gives
 success_plain call.AcquireImage m none = number_plain m.reply.gives
@@ -128,6 +129,7 @@ success_plain call.GetVector m none = vector_plain m.reply.gives
 success_plain call.GetPoseActive m none = active_plain m.reply.gives
 success_plain call.WaitFrame m none = frame_plain m.reply.gives
 success_plain call.Await m none = mark_plain m.mark m.reply.gives
+-- rows: end
 success_plain _ m none = (refl, refl)
 
 too_small_plain : (c : CallName) (g : Gives) → IsPlain (too_small_values c g)

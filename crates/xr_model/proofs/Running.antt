@@ -20,9 +20,10 @@ use Rattle.xr_model.specs.laws.SessionLaws.{AreListed, is_session_creation, crea
 use Rattle.xr_model.specs.laws.SessionLifeLaws.{begins, ends, begun_after, was_begun, RunningIsBegunAndNotEnded}
 use Rattle.xr_model.proofs.Rows.{same_key, both_of}
 use Rattle.xr_model.proofs.Listed.{listed_none}
-use Rattle.xr_model.proofs.Destroying.{AreKnown, known_step, known_opening}
+use Rattle.xr_model.proofs.Destroying.{known_step, known_opening}
 use Rattle.xr_model.proofs.LostSessions.{new_session_given, listed_after}
 use Rattle.xr_model.proofs.SessionLives.{life_after, Follows, lived}
+use Rattle.xr_model.specs.laws.Soundness.{AreKnown}
 
 -- ---- what a request does to a life
 

@@ -14,7 +14,8 @@ use Rattle.xr_model.specs.machine.Machine.{step}
 use Rattle.xr_model.specs.machine.History.{calls_from}
 use Rattle.xr_model.specs.runs.NameValues.{no_values}
 use Rattle.xr_model.specs.runs.Scripts.{request_for, unstarted, FollowsFrom}
-use Rattle.xr_model.specs.runs.Robin.{Agenda, script, events, compositor, actor_of, next_call, with_start, is_ended, agenda_after, NextMove, next_move, IsCallOf, agendas_after, agendas_behind, script_agendas, device_agendas, first_agendas, agendas_of}
+use Rattle.xr_model.specs.runs.Robin.{Agenda, script, events, compositor, actor_of, next_call, is_ended, agenda_after, NextMove, next_move, IsCallOf, agendas_after, agendas_behind, script_agendas, device_agendas, first_agendas, agendas_of}
+use Rattle.xr_types.specs.CallKinds.{with_start}
 use Rattle.xr_model.specs.runs.Lists.{events_in}
 use Rattle.xr_model.specs.laws.RunLaws.{script_of, count_of, CallsFollowScripts}
 use Rattle.xr_model.proofs.Turns.{bit, count_more, falls, same_actor, actor_itself}

@@ -37,9 +37,10 @@ use Rattle.xr_model.proofs.InRange.{each-weaker}
 use Rattle.xr_model.proofs.HeldFits.{did_kept}
 use Rattle.xr_model.proofs.FrameOrder.{clear, none_first, not_false}
 use Rattle.xr_model.proofs.ChainPlaces.{any_found, found_at, found_good}
-use Rattle.xr_model.proofs.FrameImages.{AreAmong, times_elsewhere}
-use Rattle.xr_model.proofs.SoundImages.{AreSound, IsIdle, StateIsSound, is_taken, effect_kept, paint_some, sound_step, sound_opening}
+use Rattle.xr_model.proofs.FrameImages.{times_elsewhere}
+use Rattle.xr_model.proofs.SoundImages.{effect_kept, paint_some, sound_step, sound_opening}
 use Rattle.xr_model.proofs.FrameLists.{frame_if, taken_if, moves, frames_stay, is_frame_move}
+use Rattle.xr_model.specs.laws.Soundness.{AreAmong, AreSound, IsIdle, StateIsSound, is_taken}
 
 -- ---- images of layers
 

@@ -38,48 +38,11 @@ use Rattle.xr_model.proofs.StandOnce.{given_one}
 use Rattle.xr_model.proofs.FrameOrder.{clear, goes, none_first, none_of, not_false, is_live_by, is_ready_to}
 use Rattle.xr_model.proofs.HeldFits.{none_is_empty}
 use Rattle.xr_model.proofs.ChainPlaces.{same_some, found_good, found_at, any_found, set_at, changed_is_set, new_is_set, left_at, length_left, length_changed, length_new}
-use Rattle.xr_model.proofs.SoundPlaces.{is_live_in, PlaceIsSound, oldest_below, new_is_sound, free_is_sound, acquired_is_sound, waited_is_sound, released_is_sound, sound_with_more, left_is_sound, waited_isnt_last, oldest_stays}
-use Rattle.xr_model.proofs.FrameImages.{each_so, IsBelow, slots_apart, times_none, times_left, AreOnce, once_of, AreAmong, are_among, IsLast, OptIsSound, is_named, layers_are_last}
+use Rattle.xr_model.proofs.SoundPlaces.{oldest_below, new_is_sound, free_is_sound, acquired_is_sound, waited_is_sound, released_is_sound, sound_with_more, left_is_sound, waited_isnt_last, oldest_stays}
+use Rattle.xr_model.proofs.FrameImages.{each_so, slots_apart, times_none, times_left, once_of, are_among, IsLast, is_named, layers_are_last}
+use Rattle.xr_model.specs.laws.Soundness.{is_live_in, PlaceIsSound, IsBelow, AreOnce, OptIsSound, FrameIsSound, AreSound, is_taken, IsIdle, AreLeft, IsSound, StateIsSound}
 
 -- ---- what holds
-
--- a frame has each of its images once, with an index below 3, and those of all its layers
-pub record FrameIsSound (f : PendingFrame) : Type 0 where
-  pub images : AreOnce IsBelow f.images
-  pub among : AreAmong f.images f.layers
-
-abbrev pub AreSound : List PendingFrame → Type 0
-AreSound [] = Unit {0}
-AreSound (f ∷ fs) = FrameIsSound f × AreSound fs
-
--- a chain or a destroyed chain has the place
-abbrev pub is_taken : Option Chain → Bool
-is_taken None = false
-is_taken (Some c) = not (c.handle == 0)
-
--- the image that this place's application waited for is unused
-abbrev pub IsIdle : List PendingFrame → List Image → ℕ → Option Chain → Type 0
-IsIdle pending held place None = Unit {0}
-IsIdle pending held place (Some c) = c.has_waited ≡ true → count_of pending held (3 * place + oldest_of c.acquired) ≡ 0
-
--- these are what is left of those without some of the first
-pub record AreLeft (held shown : List Image) : Type 0 where
-  pub gone : ℕ
-  pub are : held ≡ drop gone shown
-
--- There are all places, and each is sound; a free place is unused, and so is each image that an application waited for; each
--- frame and the images of the one taken last are sound, and those that are held are left of these.
-pub record IsSound (row : List Slot) (chains : List Chain) (pending : List PendingFrame) (shown held : List Image) : Type 0 where
-  pub all : length chains ≡ SWAPCHAINS
-  pub places : (p : ℕ) → OptIsSound (PlaceIsSound row) (slice_get chains p)
-  pub unused : (p : ℕ) → is_taken (slice_get chains p) ≡ false → is_place_used pending shown p ≡ false
-  pub idle : (p : ℕ) → IsIdle pending held p (slice_get chains p)
-  pub frames : AreSound pending
-  pub last : AreOnce IsBelow shown
-  pub left : AreLeft held shown
-
-abbrev pub StateIsSound : State → Type 0
-StateIsSound s = IsSound s.core.handles.chains s.core.chains s.core.frames.pending s.core.shown_images s.cells.held
 
 -- ---- one place changes
 

@@ -1,39 +1,16 @@
 -- What holds of each place of a row of swapchains, and that calls on images keep it.
 use Rattle.std.proofs.Common.{◌≡◌, ◌+◌, ◌<◌, ◌≤◌, ◌==◌, ◌&&◌, ◌||◌, ℕ, Bool, true, false, not, List, [], ◌∷◌, ◌++◌, length, drop, Option, Some, None, refl, sym, subst, ◌∙◌, arith, true≢false}
 use Rattle.std.specs.Prelude.{if◌then◌else◌}
-use Rattle.std.specs.List.{list_any}
 use Rattle.std.proofs.lemmas.Bool.Decides.{nat_tests}
 use Rattle.xr_types.specs.declared.handles.Slot.{Slot}
 use Rattle.xr_model.specs.machine.Chains.{Chain, free_place, kept_place, new_chain, is_acquire_wrong, is_wait_wrong, is_paint_wrong, oldest_of, index_behind, unless_acquired, acquiring, waiting, releasing, left_in_place}
 use Rattle.xr_model.specs.machine.Frames.{is_empty}
-use Rattle.xr_model.specs.machine.Handles.{Handles, has}
+use Rattle.xr_model.specs.machine.Handles.{Handles}
 use Rattle.xr_model.proofs.Rows.{same_key, neither_of}
 use Rattle.xr_model.proofs.FrameOrder.{not_false}
+use Rattle.xr_model.specs.laws.Soundness.{head_or, IsRun, most_acquired, is_acquired, LastFits, is_live_in, PlaceIsSound}
 
 -- ---- indices
-
--- the first of these, or this one where there are none
-abbrev pub head_or : ℕ → List ℕ → ℕ
-head_or n [] = n
-head_or n (k ∷ ks) = k
-
--- The indices follow one another, the next one follows the last of them, and all are below 3.
-abbrev pub IsRun : Bool → List ℕ → ℕ → Type 0
-IsRun fixed [] next = next < 3
-IsRun fixed (k ∷ ks) next = (k < 3) × (head_or next ks ≡ index_behind fixed k) × IsRun fixed ks next
-
--- how many may be acquired: all three, and the one of a static chain once
-abbrev pub most_acquired : Bool → ℕ → ℕ
-most_acquired true next = next
-most_acquired false next = 3
-
-abbrev pub is_acquired : ℕ → List ℕ → Bool
-is_acquired k ks = list_any (λ n. n == k) ks
-
--- an index that was released last isn't acquired
-abbrev pub LastFits : Option ℕ → List ℕ → Type 0
-LastFits None ks = Unit {0}
-LastFits (Some n) ks = (n < 3) × (is_acquired n ks ≡ false)
 
 behind_below : (fixed : Bool) (k : ℕ) → index_behind fixed k < 3
 behind_below true k = omega arith
@@ -86,26 +63,6 @@ more_is_some [] n = refl
 more_is_some (k ∷ ks) n = refl
 
 -- ---- a place
-
--- a live swapchain has this handle, where these are the swapchains' handles
-abbrev pub is_live_in : List Slot → ℕ → Bool
-is_live_in row handle = not (handle == 0) && has row handle
-
--- a place that is free or that a destroyed chain keeps: nothing else is left of a chain
-pub record IsBare (c : Chain) : Type 0 where
-  pub acquired : c.acquired ≡ []
-  pub has_waited : c.has_waited ≡ false
-  pub last : c.last ≡ None
-  pub gone : (c.handle == 0) || c.is_destroyed ≡ true
-
--- What holds of a place: the indices of its chain are in order, few enough are acquired, the one released last isn't, one is
--- waited for only where some are acquired, and it is bare where its chain isn't live.
-pub record PlaceIsSound (row : List Slot) (c : Chain) : Type 0 where
-  pub run : IsRun c.is_static c.acquired c.next
-  pub few : length c.acquired ≤ most_acquired c.is_static c.next
-  pub last : LastFits c.last c.acquired
-  pub some : c.has_waited ≡ true → is_empty c.acquired ≡ false
-  pub bare : is_live_in row c.handle ≡ false → IsBare c
 
 pub bare_is_sound : (row : List Slot) (handle : ℕ) → PlaceIsSound row (kept_place handle)
 bare_is_sound row handle = record {

@@ -17,7 +17,8 @@ use Rattle.xr_model.specs.machine.Machine.{step, rule, reads_of, IsAllowed, IsGi
 use Rattle.xr_model.specs.machine.History.{after, opening_clocks, clocks_after, IsLegalFrom}
 use Rattle.xr_model.proofs.Rows.{itself, same_key, is_false, hasnt_free, neither_of, not_zero, put_first, put_is_first, has_put, hasnt_put}
 use Rattle.xr_model.proofs.HandleSteps.{kept_by_step, gives_handle}
-use Rattle.xr_model.proofs.Destroying.{IsAbsent, AreKnown, known_step, known_opening}
+use Rattle.xr_model.proofs.Destroying.{known_step, known_opening}
+use Rattle.xr_model.specs.laws.Soundness.{IsAbsent, AreKnown}
 
 -- ---- counting
 

@@ -26,7 +26,7 @@ use Rattle.xr_model.specs.machine.History.{after, opening_clocks, clocks_after, 
 use Rattle.xr_model.specs.laws.SessionLaws.{AreListed}
 use Rattle.xr_model.specs.laws.EventLaws.{state_at, last_told, AreTold, polls, ends, StatesAreTold}
 use Rattle.xr_model.proofs.Rows.{itself, same_key, is_false}
-use Rattle.xr_model.proofs.Destroying.{AreKnown, known_step, known_after, known_opening}
+use Rattle.xr_model.proofs.Destroying.{known_step, known_after, known_opening}
 use Rattle.xr_model.proofs.DestroyedForGood.{legal_behind}
 use Rattle.xr_model.proofs.HandleSteps.{succeeds}
 use Rattle.xr_model.proofs.Histories.{fronts_are_legal}
@@ -34,6 +34,7 @@ use Rattle.xr_model.proofs.Listed.{handle_of, listed_none}
 use Rattle.xr_model.proofs.LostSessions.{new_session_given, listed_after, sessions_are_listed}
 use Rattle.xr_model.proofs.SessionSteps.{kept_by_step}
 use Rattle.xr_model.proofs.ToldStates.{states_of, one_told, last_here, last_else, last_new, own_states, AreApart, listed_state, state_before, state_new, ordinal_new, apart_more, apart_lives, state_else, state_here, ordinal_here, state_found, state_attached, left_state, apart_left, state_map, apart_map, changes_of, each_told, listed_each, apart_each, own_each, last_each}
+use Rattle.xr_model.specs.laws.Soundness.{AreKnown}
 
 -- ---- listed sessions have handles of their own
 

@@ -20,8 +20,9 @@ use Rattle.xr_model.specs.machine.State.{Settings, State, opening}
 use Rattle.xr_model.specs.machine.Machine.{step}
 use Rattle.xr_model.specs.machine.History.{calls_of}
 use Rattle.xr_model.specs.runs.Scripts.{request_for}
-use Rattle.xr_model.specs.runs.Robin.{Agenda, script, events, compositor, actor_of, with_start, is_ended, agenda_after, next_move, agendas_behind, script_agendas, device_agendas, first_agendas, agendas_left, agendas_of, scripts_to, in_round}
-use Rattle.xr_model.specs.runs.Lists.{listed_name, mark_awaited, waiting_of}
+use Rattle.xr_model.specs.runs.Robin.{Agenda, script, events, compositor, actor_of, is_ended, agenda_after, next_move, agendas_behind, script_agendas, device_agendas, first_agendas, agendas_left, agendas_of, scripts_to, in_round}
+use Rattle.xr_model.specs.runs.Lists.{mark_awaited, waiting_of}
+use Rattle.xr_types.specs.CallKinds.{listed_name, with_start}
 use Rattle.xr_model.specs.laws.RunLaws.{script_of, name_of_op, mark_behind, is_unfinished, has_turns, count_of, apps_to, next_of, StuckNamesTheUnfinished}
 use Rattle.xr_model.proofs.Turns.{bit, falls, same_actor}
 use Rattle.xr_model.proofs.RobinTurns.{AreCalls, moved, all_calls, all_turned, once_in_order, first_ordered}

@@ -273,6 +273,7 @@ location_tells _ h first second e = absurd first
 
 success_tells : (c : CallName) (m n : Made) → IsPrinted c m.mark m.reply.gives → IsPrinted c n.mark n.reply.gives → success_values c m ≡ success_values c n
     → without_handles m.reply.gives ≡ without_handles n.reply.gives
+-- rows: success_tells
 success_tells call.GetSystem m n first second e = number_tells m.reply.gives n.reply.gives first second e
 success_tells call.StringToPath m n first second e = number_tells m.reply.gives n.reply.gives first second e
 success_tells call.AcquireImage m n first second e = number_tells m.reply.gives n.reply.gives first second e
@@ -285,6 +286,7 @@ success_tells call.GetVector m n first second e = vector_tells m.reply.gives n.r
 success_tells call.GetPoseActive m n first second e = active_tells m.reply.gives n.reply.gives first second e
 success_tells call.WaitFrame m n first second e = frame_tells m.reply.gives n.reply.gives first second e
 success_tells call.Await m n first second e = mark_tells m.mark n.mark m.reply.gives n.reply.gives first.0 second.0 first.1 second.1 e
+-- rows: end
 success_tells _ m n first second e = absurd first
 
 pub values_tell_what_was_given : ValuesTellWhatWasGiven

@@ -29,3 +29,4 @@ pub mod ReportLaws
 pub mod Moments
 pub mod MomentLaws
 pub mod FewCalls
+pub mod Soundness

@@ -24,7 +24,6 @@ pub mod CellCalls
 pub mod PlainImages
 pub mod State
 pub mod Destroyed
-pub mod Publishing
 pub mod Rule
 pub mod SessionRule
 pub mod Publication

@@ -66,19 +66,19 @@ pub fn fronts_are_legal()
     ensures { FrontsAreLegal }
 {}
 
-/// Each exchange of an actor is the call and the outcome at the position of that entry of the actor.
+/// Each exchange of an actor is the call and the outcome at the position of that entry.
 #[tactic(auto, using(crate::proofs::Exchanges::exchanges_stand))]
 pub fn exchanges_stand()
     ensures { ExchangesStand }
 {}
 
-/// Calls that were answered one after another are a legal history, and the answers are the machine's.
+/// Calls that `apply` answers one after another are a legal history with the machine's replies, bytes and frames.
 #[tactic(auto, using(crate::proofs::AnsweredCalls::answers_are_a_history))]
 pub fn answers_are_a_history()
     ensures { AnswersAreAHistory }
 {}
 
-/// After every history, each live handle's parent is live.
+/// After every history no live handle, of a swapchain too, is without its parent.
 pub fn no_orphans()
     ensures { NoOrphans }
 {}
@@ -95,7 +95,7 @@ pub fn handles_stand_once()
     ensures { HandlesStandOnce }
 {}
 
-/// Destroying takes exactly the handle and what is below it, and leaves all else that lives.
+/// In a legal history destroying takes exactly the handle and what is below it by parents, and leaves all else that lives.
 #[tactic(auto, using(crate::proofs::DestroyingTakes::destroying_takes))]
 pub fn destroying_takes()
     ensures { DestroyingTakes }
@@ -119,19 +119,20 @@ pub fn sessions_are_listed()
     ensures { SessionsAreListed }
 {}
 
-/// A call on a session is answered by its loss exactly where the session is live and the device was lost after its
-/// creation.
+/// After a legal history a call on a session, or on a live space or swapchain of it, answers `XR_ERROR_SESSION_LOST` exactly where
+/// the session is live and the device was lost after its creation.
 pub fn lost_sessions()
     ensures { LostSessions }
 {}
 
-/// A call on a session is answered by a pending loss exactly where nothing refuses it and the session is in that state.
+/// A call on a session, or on a live space or swapchain of it, answers `XR_SESSION_LOSS_PENDING` exactly where it would else
+/// succeed plainly and the session is in that state.
 #[tactic(auto, using(crate::proofs::SessionAnswers::pending_losses))]
 pub fn pending_losses()
     ensures { PendingLosses }
 {}
 
-/// The line that a report prints for an event of a device's text reads back as that event.
+/// The line that a report prints for an event of a device's text, with its numbers in range, reads back as that event.
 #[tactic(auto, using(crate::proofs::LinesBack::lines_read_back))]
 pub fn lines_read_back()
     ensures { LinesReadBack }
@@ -156,12 +157,12 @@ pub fn sealed_stays()
     ensures { SealedStays }
 {}
 
-/// A call that destroys a handle takes exactly what is within it out of the lists, and keeps their order.
+/// In a legal history a call that destroys a handle takes exactly what is within it out of the lists, and keeps their order.
 pub fn destroying_filters()
     ensures { DestroyingFilters }
 {}
 
-/// A session attaches action sets at most once.
+/// In a legal history a session attaches action sets at most once.
 #[tactic(auto, using(crate::proofs::Attaching::attaches_once))]
 pub fn attaches_once()
     ensures { AttachesOnce }
@@ -172,7 +173,7 @@ pub fn creating_leaves_places()
     ensures { CreatingLeavesPlaces }
 {}
 
-/// A call that destroys a handle leaves the parent and the place of all that is not within it.
+/// In a legal history a call that destroys a handle leaves the parent and the place of all that is not within it.
 pub fn destroying_leaves_places()
     ensures { DestroyingLeavesPlaces }
 {}
@@ -183,7 +184,7 @@ pub fn attaching_seals()
     ensures { AttachingSeals }
 {}
 
-/// A new session has attached nothing.
+/// In a legal history a new session has attached nothing.
 #[tactic(auto, using(crate::proofs::Attaching::new_sessions_are_bare))]
 pub fn new_sessions_are_bare()
     ensures { NewSessionsAreBare }
@@ -195,7 +196,7 @@ pub fn atoms_go()
     ensures { AtomsGo }
 {}
 
-/// Of each origin so many samples are kept at most.
+/// Of each origin at most 16 samples are kept.
 #[tactic(auto, using(crate::proofs::Samples::samples_are_few))]
 pub fn samples_are_few()
     ensures { SamplesAreFew }
@@ -324,7 +325,7 @@ pub fn device_awaits_marks()
     ensures { DeviceAwaitsMarks }
 {}
 
-/// What refuses a call, in its order, is what the table of answers says.
+/// What refuses a call, in its order, is what the table of answers says, a frame's layers layer by layer.
 pub fn refusals_are_the_table()
     ensures { RefusalsAreTheTable }
 {}
@@ -341,12 +342,14 @@ pub fn suggestions_are_the_last_taken()
     ensures { SuggestionsAreTheLastTaken }
 {}
 
-/// What polls told, what was lost and what waits adds up to what was pushed, in its order.
+/// What polls told, what was lost and what waits adds up to what was pushed, in its order, as long as no more is pushed than the
+/// count of lost events can hold.
 pub fn events_add_up()
     ensures { EventsAddUp }
 {}
 
-/// Each call but a poll and the instance's end tells the states of the listed sessions, and the last one told is where each is.
+/// In a legal history each call but a poll and the instance's end tells the states of the listed sessions, and the last one told is
+/// where each is.
 pub fn states_are_told()
     ensures { StatesAreTold }
 {}
@@ -357,26 +360,28 @@ pub fn events_go()
     ensures { EventsGo }
 {}
 
-/// As long as the instance isn't ended, what polls told, what was lost and what waits adds up to the states that came.
+/// So it is with the states of sessions that come in a legal history, from where nothing waits and nothing was lost, as long as the
+/// instance isn't ended and no more come than the count of lost events can hold.
 pub fn histories_add_up()
     ensures { HistoriesAddUp }
 {}
 
-/// In every legal history the begun frames of a running period are at most those waited for, and these at most one more.
+/// In every legal history the frames begun in the running period of a live session are at most those waited for, and these at most
+/// one more.
 #[tactic(auto, using(crate::proofs::FrameOrder::waits_and_begins))]
 pub fn waits_and_begins()
     ensures { WaitsAndBegins }
 {}
 
-/// After a legal history, a call is answered as out of order exactly where no earlier refusal of it holds and the counts
-/// over the history say so.
+/// After a legal history, a call is answered as out of order exactly where nothing ahead of the call order refuses it, and counting
+/// over the history finds the disorder.
 #[tactic(auto, using(crate::proofs::CallOrders::call_order))]
 pub fn call_order()
     ensures { CallOrder }
 {}
 
-/// The frames that were shown, and then those that are pending, with the stamps of now, are those that were submitted, with the
-/// stamps of then.
+/// After a legal history the frames that were shown, and then those that are pending with the stamps of now, are those that were
+/// submitted, in order, with the stamps of then.
 #[tactic(auto, using(crate::proofs::ShownFrames::frames_as_submitted))]
 pub fn frames_as_submitted()
     ensures { FramesAsSubmitted }
@@ -394,13 +399,15 @@ pub fn at_most_three()
     ensures { AtMostThree }
 {}
 
-/// After every history, the frames that were taken are at most half of the calls to begin or to end a frame.
+/// After every history, the frames that were taken are at most half of the calls to begin or to end a frame, whoever made them and
+/// however they were answered.
 #[tactic(auto, using(crate::proofs::TakenFrames::taken_are_half))]
 pub fn taken_are_half()
     ensures { TakenAreHalf }
 {}
 
-/// A predicted time is the least time of the grid that is later than the last one and the clock, or the largest time.
+/// With a period of at least 1, the predicted time is the least one of the grid that is later than the last one and the clock, or
+/// the largest time where that is larger.
 #[tactic(auto, using(crate::proofs::PredictedTimes::times_are_predicted))]
 pub fn times_are_predicted()
     ensures { TimesArePredicted }
@@ -424,7 +431,8 @@ pub fn free_places_are_unused()
     ensures { FreePlacesAreUnused }
 {}
 
-/// After every legal history, the state says whether an application owns an image, and how often the image is used.
+/// After every legal history an application owns an image exactly where the swapchain in its place has it as the one that was
+/// waited for, and its count is how much more often frames came to use it than it was given back.
 pub fn owners_are_in_the_state()
     ensures { OwnersAreInTheState }
 {}
@@ -435,13 +443,13 @@ pub fn no_two_owners()
     ensures { NoTwoOwners }
 {}
 
-/// A wait that succeeds gets an image that nobody owned.
+/// In a legal history a wait that succeeds gets an image that nobody owned.
 #[tactic(auto, using(crate::proofs::ImageOwners::waited_image_is_nobodys))]
 pub fn waited_image_is_nobodys()
     ensures { WaitedImageIsNobodys }
 {}
 
-/// An entry changes an image's count and its owner by what it did, whatever the call.
+/// In a legal history an entry, whatever its call, changes an image's count and its owner just by what it says it did.
 pub fn images_step()
     ensures { ImagesStep }
 {}
@@ -452,7 +460,7 @@ pub fn counts_are_few()
     ensures { CountsAreFew }
 {}
 
-/// While the compositor owns an image, its stamp stays.
+/// In a legal history the stamp of an image stays while the compositor owns it.
 #[tactic(auto, using(crate::proofs::ImageStamps::stamps_stay))]
 pub fn stamps_stay()
     ensures { StampsStay }
@@ -476,37 +484,38 @@ pub fn giving_back_keeps_ready()
     ensures { GivingBackKeepsReady }
 {}
 
-/// A boolean is down after a sync exactly where one of its live bindings is.
+/// Where all live bindings of a column are of booleans, it is 1 exactly where one of them is down, and else 0.
 #[tactic(auto, using(crate::proofs::SyncFinds::booleans_are_down_once))]
 pub fn booleans_are_down_once()
     ensures { BooleansAreDownOnce }
 {}
 
-/// A float is the value of one of its live bindings, the first of those that are furthest from zero.
+/// Where all live bindings of a column are of floats, and there are some, it has the value of the first of those that are furthest
+/// from zero.
 #[tactic(auto, using(crate::proofs::SyncFinds::floats_are_largest))]
 pub fn floats_are_largest()
     ensures { FloatsAreLargest }
 {}
 
-/// A vector is the value of one of its live bindings, the first of those that are longest.
+/// Where all live bindings of a column are of vectors, and there are some, it has the value of the first of those that are longest.
 #[tactic(auto, using(crate::proofs::SyncFinds::vectors_are_longest))]
 pub fn vectors_are_longest()
     ensures { VectorsAreLongest }
 {}
 
-/// A pose is that of the first live binding.
+/// Where all live bindings of a column are of poses, and each picks one, the column has that of the first.
 #[tactic(auto, using(crate::proofs::SyncFinds::poses_are_the_first))]
 pub fn poses_are_the_first()
     ensures { PosesAreTheFirst }
 {}
 
-/// A column without a live binding is inactive, and shows nothing of what it showed.
+/// A column without a live binding is inactive: zero, unchanged, at time 0, without a pose.
 #[tactic(auto, using(crate::proofs::SyncColumns::nothing_is_inactive))]
 pub fn nothing_is_inactive()
     ensures { NothingIsInactive }
 {}
 
-/// What changes is active.
+/// A column that has changed is active.
 #[tactic(auto, using(crate::proofs::SyncColumns::changed_is_active))]
 pub fn changed_is_active()
     ensures { ChangedIsActive }
@@ -518,13 +527,13 @@ pub fn first_column_is_of_all()
     ensures { FirstColumnIsOfAll }
 {}
 
-/// The column of a user path that the action doesn't declare is inactive.
+/// A column is inactive whose user path no binding of its action declares.
 #[tactic(auto, using(crate::proofs::SyncColumns::undeclared_is_inactive))]
 pub fn undeclared_is_inactive()
     ensures { UndeclaredIsInactive }
 {}
 
-/// What a path picks is one of thirty identifiers and outputs, and rows of inputs, or of poses.
+/// What a path picks of a controller has an identifier below 30, and rows of inputs, or for a pose of poses.
 #[tactic(auto, using(crate::proofs::PickRanges::picks_are_in_range))]
 pub fn picks_are_in_range()
     ensures { PicksAreInRange }
@@ -554,14 +563,14 @@ pub fn published_is_current()
     ensures { PublishedIsCurrent }
 {}
 
-/// A getter may stand at each place from a publication to the next: the history stays legal, and every actor's calls come to what
-/// they came to.
+/// A getter may stand at each place from a publication to the next, among other actors' calls: the history stays legal, and every
+/// actor's calls come to what they came to.
 #[tactic(auto, using(crate::proofs::MovedGetters::getters_move))]
 pub fn getters_move()
     ensures { GettersMove }
 {}
 
-/// The words of a publication give it back.
+/// A publication is read back from its words, where its numbers have room in them.
 #[tactic(auto, using(crate::proofs::WordsBack::words_give_back))]
 pub fn words_give_back()
     ensures { WordsGiveBack }
@@ -573,7 +582,7 @@ pub fn publications_fit()
     ensures { PublicationsFit }
 {}
 
-/// What a getter reads of the words of a publication is what it reads of the publication.
+/// Where its numbers have room, a getter reads of the words of a publication what it reads of the publication.
 #[tactic(auto, using(crate::proofs::WordsBack::words_are_read))]
 pub fn words_are_read()
     ensures { WordsAreRead }
@@ -646,7 +655,8 @@ pub fn images_are_given_back_first()
     ensures { ImagesAreGivenBackFirst }
 {}
 
-/// A report with places tells each script's calls, their codes, values and places.
+/// A report with places tells each script's calls, their codes, printed values and places, where numbers have 64 bits and no text
+/// has an `@`, as no path has.
 #[tactic(auto, using(crate::proofs::ReportsTell::reports_tell_the_calls))]
 pub fn reports_tell_the_calls()
     ensures { ReportsTellTheCalls }
@@ -670,7 +680,7 @@ pub fn event_lines_tell_the_event()
     ensures { EventLinesTellTheEvent }
 {}
 
-/// A legal history with one more entry that may come is legal.
+/// A legal history with one more entry that is allowed and ready, and that begins a wait at its actor's clock, is legal.
 #[tactic(auto, using(crate::proofs::GrowingHistories::legal_grows))]
 pub fn legal_grows()
     ensures { LegalGrows }
@@ -700,13 +710,13 @@ pub fn entries_are_by_actors()
     ensures { EntriesAreByActors }
 {}
 
-/// Who is there stays there, until it leaves itself.
+/// In a legal history an application that is there stays there over the entries of others, and over its own but `leave`.
 #[tactic(auto, using(crate::proofs::OthersEntries::actors_stay))]
 pub fn actors_stay()
     ensures { ActorsStay }
 {}
 
-/// The clock at which the next wait of an actor begins stays over the entries of others.
+/// In a legal history the clock at which the next wait of an actor begins stays over the entries of others.
 #[tactic(auto, using(crate::proofs::OthersEntries::clocks_stay))]
 pub fn clocks_stay()
     ensures { ClocksStay }
@@ -718,13 +728,14 @@ pub fn held_images_stay()
     ensures { HeldImagesStay }
 {}
 
-/// Where a number may add a call that it may ask for, its calls are few afterwards.
+/// Where a number may add a call that it may ask for, its calls are few afterwards: at most 2^40 of the device and of each application,
+/// and of the compositor those that show a frame and one that tells the end.
 #[tactic(auto, using(crate::proofs::FewCalls::few_more))]
 pub fn few_more()
     ensures { FewMore }
 {}
 
-/// Where the calls of each number are few, fewer than 2^44 calls of a legal history are counted.
+/// Where the calls of each number are few, of eight applications at most, fewer than 2^44 calls of a legal history are counted.
 #[tactic(auto, using(crate::proofs::FewCalls::locked_are_few))]
 pub fn locked_are_few()
     ensures { LockedAreFew }

@@ -94,7 +94,7 @@ impl Paths {
     /// one for which there is no memory (`OutOfMemory`); each leaves all as it was. No other call takes
     /// memory. OpenXR 1.0 section 6.2, xrStringToPath.
     pub fn intern(&mut self, alloc: Global, text: &[u8]) -> Answer
-        ensures kept { self.new ≡ unless (first_of (intern_refusals self.old text.now (is_out_of_memory result.code))) self.old (with_text self.old text.now) }
+        ensures state { self.new ≡ unless (first_of (intern_refusals self.old text.now (is_out_of_memory result.code))) self.old (with_text self.old text.now) }
         ensures answer { result ≡ answer_by (first_of (intern_refusals self.old text.now (is_out_of_memory result.code))) (atom_of self.old text.now) }
         ensures memory { is_out_of_memory result.code ≡ true → may_want_memory self.old text.now ≡ true }
     {

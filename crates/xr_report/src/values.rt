@@ -188,6 +188,7 @@ fn push_success(out: &mut Vec<u8>, made: &Made) -> Result<(), AllocError>
 {
     let gives = made.reply.gives;
     match made.name {
+        // rows: the values
         CallName::GetSystem | CallName::StringToPath | CallName::AcquireImage => {
             push_number_given(out, gives)
         }
@@ -200,6 +201,7 @@ fn push_success(out: &mut Vec<u8>, made: &Made) -> Result<(), AllocError>
         CallName::GetPoseActive => push_active(out, gives),
         CallName::WaitFrame => push_frame(out, gives),
         CallName::Await => push_mark(out, made.mark, gives),
+        // rows: end
         _ => Ok(()),
     }
 }

@@ -1,4 +1,5 @@
 //! The rule over the words: a ticket lock around a machine's value, and one history of all calls, which the proofs alone keep.
+//! It knows no call, and when one is ready by laws of the model alone.
 #![tactic(auto)]
 
 mod held;

@@ -5,7 +5,7 @@ use Rattle.xr_types.specs.declared.calls.Call.{Call}
 use Rattle.xr_types.specs.declared.calls.Call.TheVariants as ask
 use Rattle.xr_types.specs.declared.calls.Reply.{Reply}
 use Rattle.xr_model.specs.machine.CoreCalls.{Lent}
-use Rattle.xr_model.specs.runs.Robin.{with_start}
+use Rattle.xr_types.specs.CallKinds.{with_start}
 use Rattle.xr_runtime.specs.Passes.{AppCalls}
 use Rattle.xr_runtime.specs.declared.passes.AppPass.{AppPass}
 

@@ -12,7 +12,8 @@ use Rattle.xr_model.specs.machine.Rule.{is_by}
 use Rattle.xr_model.specs.machine.State.{State}
 use Rattle.xr_model.specs.laws.ImageLaws.{is_compositor_call}
 use Rattle.xr_model.specs.laws.Moments.{Moment, opening_moment, moment_after, clocks_over, IsLegalAt}
-use Rattle.xr_model.specs.laws.MomentLaws.{is_leave, leaves_by_none}
+use Rattle.xr_model.specs.laws.MomentLaws.{leaves_by_none}
+use Rattle.xr_types.specs.CallKinds.{is_leave}
 use Rattle.xr_model.specs.laws.PublicationLaws.{none_is_by}
 use Rattle.xr_model.proofs.Histories.{after_is_in_turn}
 use Rattle.xr_model.proofs.OthersEntries.{actors_stay, clocks_stay, held_images_stay}

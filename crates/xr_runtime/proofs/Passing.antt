@@ -10,7 +10,7 @@ use Rattle.xr_types.specs.declared.frames.Image.{Image}
 use Rattle.xr_model.specs.machine.CoreCalls.{Lent, MayAsk}
 use Rattle.xr_model.specs.machine.History.{after, clock_of, with_clock, clocks_after, opening_clocks, StartsAt}
 use Rattle.xr_model.specs.machine.Machine.{IsPresent, step}
-use Rattle.xr_types.specs.CallKinds.{is_locked}
+use Rattle.xr_types.specs.CallKinds.{is_locked, is_leave}
 use Rattle.xr_model.specs.machine.Calls.{Entry, Exchange, is_actor}
 use Rattle.xr_types.specs.declared.calls.Call.{Call}
 use Rattle.xr_types.specs.declared.calls.Call.TheVariants as ask
@@ -18,7 +18,7 @@ use Rattle.xr_model.specs.machine.State.{State, opening, with_apps}
 use Rattle.xr_model.specs.laws.FewCalls.{how_many, is_end, tells_end}
 use Rattle.xr_model.specs.laws.ImageLaws.{is_compositor_call, is_next_frame}
 use Rattle.xr_model.specs.laws.Moments.{Moment, opening_moment, moment_after, clocks_over, exchange_at, actor_at}
-use Rattle.xr_model.specs.laws.MomentLaws.{is_leave, leaves_by_none}
+use Rattle.xr_model.specs.laws.MomentLaws.{leaves_by_none}
 use Rattle.xr_model.proofs.MarkValues.{set_there}
 use Rattle.xr_model.proofs.OthersEntries.{actors_stay}
 use Rattle.xr_rule.specs.Seats.{IsBetween}
@@ -174,6 +174,7 @@ module _ (table : TableId) (old new : AppPass) (what : Call) (reply : Reply) (be
           counts = calls_are ∙ (ap (λ (z : ℕ). z + 1) may.is.counts ∙ sym (calls_more m n what reply before after between c));
         };
         same = app_is;
+        counted = calls_are;
         left_is = left_is;
         called = c;
       }

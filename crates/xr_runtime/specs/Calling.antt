@@ -1,5 +1,5 @@
 -- What a call under the lock asks of its seat, and what it tells.
-use Rattle.std.specs.Prelude.{◌≡◌, ◌^◌, ◌<◌, ℕ, suc, zero, ℤ, pos, ◌≤ℤ◌, true, List, [], length, Option}
+use Rattle.std.specs.Prelude.{◌≡◌, ◌^◌, ◌<◌, ℕ, suc, zero, ℤ, pos, ◌≤ℤ◌, true, List, [], length, Option, Some, None}
 use Rattle.atomic_table.specs.Table.{Me}
 use Rattle.xr_types.specs.declared.calls.Actor.{Actor}
 use Rattle.xr_types.specs.declared.calls.Reply.{Reply}
@@ -13,6 +13,7 @@ use Rattle.xr_model.specs.laws.FewCalls.{how_many, tells_end}
 use Rattle.xr_model.specs.laws.ImageLaws.{is_next_frame}
 use Rattle.xr_model.specs.laws.Moments.{Moment, opening_moment, moment_after, actor_at}
 use Rattle.xr_rule.specs.declared.held.Held.{Held}
+use Rattle.xr_runtime.specs.declared.calling.Answered.{Answered}
 use Rattle.xr_rule.specs.Plays.{Decides}
 use Rattle.xr_rule.specs.Seats.{IsBetween}
 use Rattle.xr_rule.specs.View.{Know, View, number_in, calls_in}
@@ -72,3 +73,8 @@ pub record Reads (k : Know) (clock : ℤ) (images : ℕ) : Type 0 where
 pub record Waited (m : Has) (before after : Lent) (n : Has) : Type 0 where
   pub same : n ≡ m
   pub unwritten : after ≡ before
+
+-- the call was made, with what is read of the core behind it, or it wasn't
+abbrev pub CalledOrWaited : Has → Call → Option Answered → Lent → Lent → Has → Type 0
+CalledOrWaited m what None before after n = Waited m before after n
+CalledOrWaited m what (Some a) before after n = Called m what a.reply before after n × Reads n.0.know a.clock a.images

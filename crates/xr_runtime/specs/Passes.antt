@@ -11,7 +11,7 @@ use Rattle.xr_model.specs.machine.Machine.{IsPresent}
 use Rattle.xr_types.specs.declared.calls.Call.{Call}
 use Rattle.xr_model.specs.machine.State.{State}
 use Rattle.xr_model.specs.laws.FewCalls.{how_many, is_end, tells_end}
-use Rattle.xr_model.specs.laws.MomentLaws.{is_leave}
+use Rattle.xr_types.specs.CallKinds.{is_leave}
 use Rattle.xr_rule.specs.declared.held.Held.{Held}
 use Rattle.xr_rule.specs.Seats.{IsBetween, IsFresh}
 use Rattle.xr_rule.specs.View.{View, number_in, calls_in}
@@ -54,10 +54,12 @@ pub record MayCall (table : TableId) (p : AppPass) : Type 0 where
   pub here : p.left ≡ false
   pub few : p.calls < 2 ^ 40
 
--- The call was made by its seat, which had so much lent, and the pass keeps its promise; it has left where the call says so.
+-- The call was made by its seat, which had so much lent, and the pass keeps its promise: it has counted the call, and has left where
+-- the call says so.
 pub record AppCalls (table : TableId) (old : AppPass) (what : Call) (before after : Lent) (reply : Reply) (new : AppPass) : Type 0 where
   pub is : IsApp table new
   pub same : new.app ≡ old.app
+  pub counted : new.calls ≡ old.calls + 1
   pub left_is : new.left ≡ is_leave what
   pub called : Called old.seat.me what reply before after new.seat.me
 

@@ -1,24 +1,15 @@
 //! The call of an application, which every named one is a line over.
 ghost use Rattle.std.specs.Prelude.{◌≡◌, if◌then◌else◌, length};
 ghost use Rattle.xr_types.specs.declared.calls.Actor.TheVariants.{App};
-ghost use Rattle.xr_model.specs.laws.MomentLaws.{is_leave};
-ghost use Rattle.xr_model.specs.machine.CoreCalls.{MayAsk};
+ghost use Rattle.xr_model.specs.machine.CoreCalls.{as_lent, MayAsk};
 ghost use Rattle.xr_model.specs.machine.History.{StartsAt};
-ghost use Rattle.xr_types.specs.CallKinds.{is_locked};
-ghost use Rattle.xr_model.specs.runs.Robin.{with_start};
+ghost use Rattle.xr_types.specs.CallKinds.{is_locked, with_start};
 ghost use Rattle.xr_runtime.specs.Passes.{table_of, MayCall, AppMay, AppCalls, AnswersText};
 
 use crate::calling::{Answered, Runtime};
 use crate::passes::AppPass;
 use std::sync::Wait;
 use xr_types::{Actor, Call, Reply, Shown};
-
-// whether the application leaves by it
-fn leaves(call: &Call<'_>) -> bool
-    ensures { result ≡ is_leave call.now }
-{
-    matches!(call, Call::Leave)
-}
 
 // the clock at which a wait begins behind a call: a call that is counted moves it
 fn next_clock(call: &Call<'_>, pass: &AppPass, answered: &Answered) -> i64
@@ -44,11 +35,11 @@ impl Runtime {
         requires may { MayCall (table_of self.now) pass.old }
         requires asks { MayAsk (App pass.old.app) call.now (length text.old) }
         requires starts { StartsAt pass.old.clock call.now }
-        ensures called { AppCalls (table_of self.now) pass.old call.now (record { text = text.old; frame = shown.old }) (record { text = text.new; frame = shown.new }) result pass.new }
+        ensures called { AppCalls (table_of self.now) pass.old call.now (as_lent text.old shown.old) (as_lent text.new shown.new) result pass.new }
     {
         let answered = self.make(rt, &mut pass.seat, Actor::App(pass.app), call, text, shown);
         pass.calls += 1;
-        pass.left = leaves(call);
+        pass.left = call.is_leave();
         pass.clock = next_clock(call, pass, &answered);
         answered.reply
     }

@@ -1,6 +1,7 @@
 // One private call under the lock, which every public call is made of.
-ghost use Rattle.std.specs.Prelude.{◌≡◌, ◌≤ℤ◌, pos, length, MatchOption};
-ghost use Rattle.xr_runtime.specs.Calling.{MayMake, Called, Reads, Waited};
+ghost use Rattle.std.specs.Prelude.{◌≡◌, ◌≤ℤ◌, pos, length};
+ghost use Rattle.xr_model.specs.machine.CoreCalls.{as_lent};
+ghost use Rattle.xr_runtime.specs.Calling.{MayMake, Called, CalledOrWaited, Reads};
 
 use std::sync::Wait;
 use xr_core::PlainCore;
@@ -50,7 +51,7 @@ impl Runtime {
         requires own { seat.old.table_id ≡ self.now.table.table.shared.table_id }
         requires may { MayMake seat.old.me who call.now (length text.old) }
         ensures own { seat.new.table_id ≡ seat.old.table_id }
-        ensures made { MatchOption result (Waited seat.old.me (record { text = text.old; frame = shown.old }) (record { text = text.new; frame = shown.new }) seat.new.me) (λ a. Called seat.old.me call.now a.reply (record { text = text.old; frame = shown.old }) (record { text = text.new; frame = shown.new }) seat.new.me × Reads seat.new.me.0.know a.clock a.images) }
+        ensures made { CalledOrWaited seat.old.me call.now result (as_lent text.old shown.old) (as_lent text.new shown.new) seat.new.me }
     {
         let lock = Lock { table: &self.table };
         let mut held = lock.take(rt, seat);
@@ -81,7 +82,7 @@ impl Runtime {
         requires own { seat.old.table_id ≡ self.now.table.table.shared.table_id }
         requires may { MayMake seat.old.me who call.now (length text.old) }
         ensures own { seat.new.table_id ≡ seat.old.table_id }
-        ensures called { Called seat.old.me call.now result.reply (record { text = text.old; frame = shown.old }) (record { text = text.new; frame = shown.new }) seat.new.me }
+        ensures called { Called seat.old.me call.now result.reply (as_lent text.old shown.old) (as_lent text.new shown.new) seat.new.me }
         ensures reads { Reads seat.new.me.0.know result.clock result.images }
     {
         let mut tries = 0u32;

@@ -1,4 +1,5 @@
 //! The calls of the threads of a run, each by its pass: every call is one entry of one legal history.
+//! It knows passes and the lock, and neither threads nor scripts; what a call does is the core's.
 #![tactic(auto)]
 
 mod app_calls;

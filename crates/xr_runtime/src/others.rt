@@ -3,7 +3,7 @@ ghost use Rattle.std.specs.Prelude.{◌≡◌, ◌<◌, ◌^◌, ℕ, List, [], 
 ghost use Rattle.xr_types.specs.Device.{checks};
 ghost use Rattle.xr_model.specs.laws.FewCalls.{is_end};
 ghost use Rattle.xr_model.specs.laws.ImageLaws.{is_compositor_call, is_next_frame};
-ghost use Rattle.xr_model.specs.machine.CoreCalls.{Lent, MayAsk};
+ghost use Rattle.xr_model.specs.machine.CoreCalls.{Lent, as_lent, MayAsk};
 ghost use Rattle.xr_types.specs.declared.calls.Call.TheVariants as ask;
 ghost use Rattle.xr_types.specs.declared.calls.Actor.TheVariants.{Compositor};
 ghost use Rattle.xr_runtime.specs.Passes.{table_of, IsCompositor, Composes, IsDevice, Tells};
@@ -35,7 +35,7 @@ impl Runtime {
         requires asks { MayAsk Compositor call.now 0 }
         requires its_own { is_compositor_call call.now ≡ true }
         requires none_held { is_next_frame call.now ≡ true → pass.old.held ≡ 0 }
-        ensures called { (text : List ℕ) × Composes (table_of self.now) pass.old call.now (record { text = []; frame = shown.old }) (record { text = text; frame = shown.new }) result pass.new }
+        ensures called { (text : List ℕ) × Composes (table_of self.now) pass.old call.now (as_lent [] shown.old) (as_lent text shown.new) result pass.new }
     {
         let answered = self.make(rt, &mut pass.seat, Actor::Compositor, call, &mut [], shown);
         pass.calls += 1;
@@ -50,7 +50,7 @@ impl Runtime {
         requires unended { pass.old.ended ≡ false }
         requires few { pass.old.calls < 2 ^ 63 }
         requires none_held { pass.old.held ≡ 0 }
-        ensures called { (text : List ℕ) × Composes (table_of self.now) pass.old ask.NextFrame (record { text = []; frame = out.old }) (record { text = text; frame = out.new }) result pass.new }
+        ensures called { (text : List ℕ) × Composes (table_of self.now) pass.old ask.NextFrame (as_lent [] out.old) (as_lent text out.new) result pass.new }
     {
         self.compose(rt, pass, &Call::NextFrame, out)
     }

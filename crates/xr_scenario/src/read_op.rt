@@ -14,6 +14,7 @@ use crate::keys::only_its_keys;
 use serde_json::Value;
 use std::alloc::Global;
 use xr_scenario_fields::{Fault, NamedOps, ReadOp, last_value};
+// rows: import of readers
 use xr_scenario_frame::{
     acquire_image, begin_frame, create_action_space, create_reference_space, create_swapchain,
     destroy_space, destroy_swapchain, end_frame, locate_space, paint, release_image, wait_frame,
@@ -28,6 +29,7 @@ use xr_scenario_session::{
     end_session, get_system, mark, path_to_string, poll_event, request_exit_session,
     string_to_path,
 };
+// rows: end
 use xr_types::{CallName, FieldName, What};
 
 /// The ops among which a name of so many bytes stands, if it is one.
@@ -35,6 +37,7 @@ fn ops_of_size(size: usize) -> &'static [CallName]
     ensures { HasAllOfSize size result.now }
 {
     match size {
+        // rows: ops by size
         4 => &[CallName::Mark],
         5 => &[CallName::Paint, CallName::Await],
         9 => &[CallName::GetFloat, CallName::EndFrame],
@@ -80,6 +83,7 @@ fn ops_of_size(size: usize) -> &'static [CallName]
         19 => &[CallName::CreateActionSpace],
         20 => &[CallName::RequestExitSession],
         22 => &[CallName::CreateReferenceSpace],
+        // rows: end
         _ => CallName::ops(),
     }
 }
@@ -134,6 +138,7 @@ fn op_in<'v>(
     ensures formed { IfOk result (λ l. IsFormed (IsKnownPlace named_ops.now) l.op) }
 {
     match row {
+        // rows: the readers
         CallName::CreateInstance => create_instance(value),
         CallName::DestroyInstance => destroy_instance(named_ops, value),
         CallName::PollEvent => poll_event(named_ops, value),
@@ -174,6 +179,7 @@ fn op_in<'v>(
         CallName::Leave | CallName::Device | CallName::NextFrame | CallName::ImageDone => Err(
             Fault::Wrong(What::Op),
         ),
+        // rows: end
     }
 }
 

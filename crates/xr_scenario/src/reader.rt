@@ -42,7 +42,7 @@ fn keep<'v>(
     sort: Option<Sort>,
     name: Option<&'v str>,
 ) -> Result<(), ScenarioFault>
-    ensures kept { OnOk result (named_ops.new ≡ with_name_of place sort (option_map (λ n. n.now) name.entry) named_ops.old) }
+    ensures names { OnOk result (named_ops.new ≡ with_name_of place sort (option_map (λ n. n.now) name.entry) named_ops.old) }
     ensures cause { IfErr result (λ e. e ≡ NoMemory) }
 {
     let Some(sort) = sort else {
@@ -69,7 +69,7 @@ fn room_for<T>(alloc: Global, count: usize) -> Result<Vec<T>, ScenarioFault>
 }
 
 fn add<T: Drop>(list: &mut Vec<T>, item: T) -> Result<(), ScenarioFault>
-    ensures kept { OnOk result (list.new.items ≡ list.old.items ++ item ∷ []) }
+    ensures list { OnOk result (list.new.items ≡ list.old.items ++ item ∷ []) }
     ensures cause { IfErr result (λ e. e ≡ NoMemory) }
 {
     if list.push(item).is_err() {

@@ -13,6 +13,7 @@ pub(crate) fn keys_of(row: CallName, version: u8) -> &'static [FieldName]
         return &[];
     }
     match row {
+        // rows: the keys
         CallName::CreateInstance => &[
             FieldName::Op,
             FieldName::Major,
@@ -131,5 +132,6 @@ pub(crate) fn keys_of(row: CallName, version: u8) -> &'static [FieldName]
         CallName::Mark => &[FieldName::Op, FieldName::Mark, FieldName::Value],
         CallName::Await => &[FieldName::Op, FieldName::Mark, FieldName::As],
         CallName::Leave | CallName::Device | CallName::NextFrame | CallName::ImageDone => &[],
+        // rows: end
     }
 }

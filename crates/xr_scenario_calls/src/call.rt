@@ -2,11 +2,15 @@
 ghost use Rattle.std.specs.Prelude.{◌≡◌};
 ghost use Rattle.xr_model.specs.scenario.ScriptForm.{IsInRange};
 ghost use Rattle.xr_model.specs.runs.Scripts.{request_for};
+// rows: import of groups
 ghost use Rattle.xr_scenario_calls.specs.inside.Groups.{IsInstanceOp, IsSessionOp, IsSpaceOp, IsActionOp, IsStateOp, IsImageOp, IsFrameOp};
+// rows: end
 
 use crate::lists::{layers_for, list_for};
 use crate::{Names, Scratch};
 use xr_types::{Call, Items, Op};
+
+// rows: calls of groups
 
 /// The call of an op on an instance, its system, its paths or its events.
 fn instance_call<'a>(op: &'a Op, names: &Names) -> Call<'a>
@@ -283,6 +287,8 @@ fn frame_call<'a>(op: &'a Op, names: &Names, scratch: &'a mut Scratch) -> Call<'
     }
 }
 
+// rows: end
+
 /// The call that an op asks for, where the ops before it gave these names. Its lists stand in `scratch`,
 /// its texts in the op. The start of a `WaitImage` is 0: it isn't the script's to tell.
 #[inline(always)]
@@ -291,6 +297,7 @@ pub fn call_of<'a>(op: &'a Op, names: &Names, scratch: &'a mut Scratch) -> Call<
     ensures { result ≡ request_for names.now op.now }
 {
     match op {
+        // rows: the groups
         Op::Mark { mark, value } => Call::Mark {
             mark: *mark,
             value: names.value_of(*value),
@@ -331,5 +338,6 @@ pub fn call_of<'a>(op: &'a Op, names: &Names, scratch: &'a mut Scratch) -> Call<
         Op::WaitFrame { .. } | Op::BeginFrame { .. } | Op::EndFrame { .. } => frame_call(
             op, names, scratch,
         ),
+        // rows: end
     }
 }

@@ -1,14 +1,13 @@
-//! The call that an op asks for, with its names replaced by what earlier calls gave, and what a list says of it. It knows ops, replies and calls, and neither texts nor the machine's state. It takes memory once for each script.
+//! The call that an op asks for, with its names replaced by what earlier calls gave. It knows ops, replies and calls, and neither texts nor
+//! the machine's state. It takes memory once for each script.
 #![tactic(auto)]
 
 mod call;
-mod listed;
 mod lists;
 mod names;
 mod room;
 mod scratch;
 
 pub use call::call_of;
-pub use listed::{op_mark, op_start};
 pub use names::Names;
 pub use scratch::Scratch;

@@ -19,6 +19,8 @@ use xr_scenario_fields::{
 };
 use xr_types::{FieldName, MOST_LISTED, Op};
 
+// rows: the readers
+
 /// Reads `begin_frame`: `session`.
 #[inline(never)]
 pub fn begin_frame<'v>(named_ops: &NamedOps<'_>, value: &'v Value) -> Result<ReadOp<'v>, Fault>
@@ -226,3 +228,5 @@ pub fn end_frame<'v>(
     };
     Ok(ReadOp { op, name: None })
 }
+
+// rows: end

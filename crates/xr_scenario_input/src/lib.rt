@@ -16,6 +16,8 @@ use std::alloc::Global;
 use xr_scenario_fields::{Fault, NamedOps, ReadOp, atom, handle, list, name, small, text, word};
 use xr_types::{FieldName, MOST_ACTIVE, MOST_ATTACHED, MOST_BINDINGS, MOST_SUBACTIONS, Op};
 
+// rows: the readers
+
 /// Reads `create_action_set`: `instance`, `name`, `localized`, `priority`, `as`?.
 #[inline(never)]
 pub fn create_action_set<'v>(
@@ -223,3 +225,5 @@ pub fn get_pose_active<'v>(named_ops: &NamedOps<'_>, value: &'v Value) -> Result
     };
     Ok(ReadOp { op, name: None })
 }
+
+// rows: end

@@ -20,6 +20,8 @@ use xr_scenario_fields::{
 };
 use xr_types::{FieldName, MOST_CAPACITY, Op};
 
+// rows: the readers
+
 /// Reads `create_instance`: `major`, `minor`, `as`?.
 #[inline(never)]
 pub fn create_instance<'v>(value: &'v Value) -> Result<ReadOp<'v>, Fault>
@@ -201,3 +203,5 @@ pub fn await_mark<'v>(value: &'v Value) -> Result<ReadOp<'v>, Fault>
     let op = Op::Await { mark };
     Ok(ReadOp { op, name })
 }
+
+// rows: end

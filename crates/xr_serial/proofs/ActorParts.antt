@@ -7,8 +7,9 @@ use Rattle.xr_types.specs.declared.scenario.Op.{Op}
 use Rattle.xr_types.specs.declared.scenario.Scenario.{Scenario}
 use Rattle.xr_model.specs.machine.State.{State}
 use Rattle.xr_model.specs.runs.Robin.{Agenda}
-use Rattle.xr_serial.specs.inside.RunState.{AppState, SideState, CompositorState, RunState}
+use Rattle.xr_serial.specs.inside.RunState.{AppState, CompositorState, RunState}
 use Rattle.xr_serial.specs.inside.Turns.{script_part, script_parts, device_part, compositor_part, parts_of, actors_of}
+use Rattle.xr_runs.specs.Sides.{SideState}
 
 -- ---- the applications
 

@@ -21,7 +21,7 @@ use Rattle.xr_model.specs.scenario.ScriptForm.{IsInForm, AllInForm}
 use Rattle.xr_model.specs.runs.Scripts.{request_for}
 use Rattle.xr_model.specs.runs.Lists.{done_at, made_at}
 use Rattle.xr_model.specs.runs.Robin.{Agenda, script, agenda_after, clock_behind}
-use Rattle.xr_serial.specs.inside.Made.{IsAnswered, exchange_of, calls_with}
+use Rattle.xr_serial.specs.inside.Made.{IsAnswered, calls_with}
 use Rattle.xr_serial.specs.inside.RunState.{AppState, RunState}
 use Rattle.xr_device.specs.Prospect.{Prospect}
 use Rattle.xr_serial.specs.inside.Sides.{app_with, app_left, op_request, OpMade, OpWaits, OpTurn, Leaves}
@@ -36,6 +36,7 @@ use Rattle.xr_serial.proofs.Steps.{IsAgendaOf, Goes, AreSo, trace_behind, made_t
 use Rattle.xr_serial.proofs.Pending.{brings, op_brings}
 use Rattle.xr_serial.proofs.Work.{work_set, getters_set, getters_more, one_of_both, not_fewer}
 use Rattle.xr_serial.proofs.KeptApplications.{op_more, leave_more, one_more}
+use Rattle.xr_runs.specs.Sides.{exchange_of}
 
 -- the lists of a run that is kept have the lengths of its scenario
 pub all_of : (scenario : Scenario) (s : State) (run : RunState) (calls : Actor → List Exchange) (start now : Prospect) → RunKept scenario s run calls start now → AreAll scenario run

@@ -23,23 +23,24 @@ use Rattle.xr_types.specs.declared.calls.Gives.TheVariants.{Ended}
 use Rattle.xr_types.specs.declared.frames.Shown.{Shown}
 use Rattle.xr_model.specs.laws.FrameLaws.{shown_from}
 use Rattle.xr_model.specs.machine.Machine.{step}
-use Rattle.xr_serial.specs.inside.Made.{exchange_of}
 use Rattle.xr_model.specs.report.RunEnding.{is_fault}
 use Rattle.xr_model.specs.runs.Lists.{end_of, done_from, frames_in, events_in, lists_to, lists_of, made_from, waiting_of}
-use Rattle.xr_serial.specs.Ran.{settings_of, OfEachScript, GoesOn, a_frame, an_image, IsEnd, IsWhole, FailsBehind, Ran}
+use Rattle.xr_serial.specs.Ran.{Ran}
 use Rattle.xr_serial.specs.inside.RunState.{AppState, RunState}
 use Rattle.xr_device.specs.Prospect.{Prospect}
-use Rattle.xr_serial.specs.inside.Turns.{script_part, script_parts, device_part, compositor_part, pending_list, parts_of, actors_of, from_turn, joined, AreHeldBack}
+use Rattle.xr_serial.specs.inside.Turns.{script_part, script_parts, device_part, compositor_part, parts_of, actors_of, from_turn, joined, AreHeldBack}
 use Rattle.xr_serial.specs.inside.PastOfRun.{IsRest}
-use Rattle.xr_serial.specs.inside.RunInvariant.{AppKept, AllGoOn, EndKept, events_told, RunInvariant}
+use Rattle.xr_serial.specs.inside.RunInvariant.{AppKept, EndKept, events_told, RunInvariant}
 use Rattle.xr_serial.specs.inside.AtEnd.{app_next, apps_next, next_name, next_calls, lists_at}
 use Rattle.xr_serial.proofs.TurnOrder.{none_turn, all_held}
 use Rattle.xr_serial.proofs.ActorParts.{AreAll, parts_count}
-use Rattle.xr_serial.proofs.Lending.{IsHidden, shows_none}
 use Rattle.xr_serial.proofs.Ops.{name_is, op_hidden}
 use Rattle.xr_serial.proofs.AppTurns.{all_of}
-use Rattle.xr_serial.proofs.Failing.{fails_behind}
 use Rattle.xr_serial.proofs.Ending.{Gives, gives, events_sound, in_round_is, device_held}
+use Rattle.xr_runs.specs.Sides.{exchange_of, pending_list, AllGoOn}
+use Rattle.xr_runs.specs.Runs.{settings_of, OfEachScript, GoesOn, a_frame, an_image, IsEnd, IsWhole, FailsBehind}
+use Rattle.xr_runs.proofs.CallTexts.{IsHidden, shows_none}
+use Rattle.xr_runs.proofs.Failing.{fails_behind}
 
 filled : (w : Waiting) (ws : List Waiting) → w ∷ ws ≡ [] → ⊥
 filled w ws h = cc

@@ -12,18 +12,15 @@ use Rattle.xr_model.specs.machine.History.{IsLegalFrom}
 use Rattle.xr_model.specs.device_text.DeviceText.{DeviceStream}
 use Rattle.xr_model.specs.runs.NameValues.{no_values}
 use Rattle.xr_model.specs.runs.Robin.{Agenda, script, script_agendas, device_agendas, compositor, first_agendas}
-use Rattle.xr_serial.specs.Ran.{settings_of}
 use Rattle.xr_serial.specs.inside.RunState.{AppState, RunState}
 use Rattle.xr_device.specs.Prospect.{Prospect}
-use Rattle.xr_serial.specs.inside.Sides.{new_app}
+use Rattle.xr_serial.specs.inside.Sides.{new_app, first_run}
 use Rattle.xr_serial.specs.inside.Turns.{script_parts, joined, parts_of}
-use Rattle.xr_serial.specs.inside.RunInvariant.{AppKept, GivesMore, RunInvariant}
+use Rattle.xr_serial.specs.inside.RunInvariant.{AppKept, RunInvariant}
 use Rattle.xr_serial.proofs.TurnOrder.{joined-append}
 use Rattle.xr_serial.proofs.Work.{work_at_start, no_getters}
-
--- a run before its first call
-abbrev pub start_of : Scenario → RunState
-start_of scenario = record { apps = map new_app scenario.scripts; side = record { pending = None; over = false; events = []; calls = [] }; compositor = record { frames = []; replies = []; done = []; ended = None } }
+use Rattle.xr_runs.specs.Runs.{settings_of}
+use Rattle.xr_runs.specs.Sides.{GivesMore}
 
 gives_all : (told : Option DeviceStream) → GivesMore told told []
 gives_all None = tt
@@ -51,7 +48,7 @@ scripts_joined : (number : ℕ) (scripts : List (List Op)) → joined (script_pa
 scripts_joined number [] = refl
 scripts_joined number (ops ∷ scripts) = ap (λ (l : List Agenda). script number 1 ops (no_values (length ops)) (pos 0) ∷ l) (scripts_joined (number + 1) scripts)
 
-parts_joined : (scenario : Scenario) (rest : List DeviceEvent) → first_agendas scenario rest ≡ joined (parts_of scenario (opening (settings_of scenario)) (start_of scenario) rest)
+parts_joined : (scenario : Scenario) (rest : List DeviceEvent) → first_agendas scenario rest ≡ joined (parts_of scenario (opening (settings_of scenario)) (first_run scenario) rest)
 parts_joined scenario rest =
     let scripts : List (List Agenda) = script_parts 1 scenario.scripts (map new_app scenario.scripts) in
     sym
@@ -68,7 +65,7 @@ app_starts ops = record {
   whole = λ all e. absurd (true≢false (sym e));
 }
 
-pub starts : (scenario : Scenario) (start : Prospect) → start.bound ≤ 16777216 → RunInvariant scenario 0 0 (opening (settings_of scenario)) (start_of scenario) start start
+pub starts : (scenario : Scenario) (start : Prospect) → start.bound ≤ 16777216 → RunInvariant scenario 0 0 (opening (settings_of scenario)) (first_run scenario) start start
 starts scenario start few =
     let work = work_at_start scenario.scripts in
     let none_read = no_getters scenario.scripts in
@@ -85,7 +82,7 @@ starts scenario start few =
           done = λ more. refl;
         };
         order = λ rest ok. record {
-          coming = parts_of scenario (opening (settings_of scenario)) (start_of scenario) rest;
+          coming = parts_of scenario (opening (settings_of scenario)) (first_run scenario) rest;
           passed = [];
           order_is = refl;
           count = refl;

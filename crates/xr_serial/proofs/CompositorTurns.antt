@@ -22,19 +22,20 @@ use Rattle.xr_model.specs.machine.State.{CoreState, State}
 use Rattle.xr_model.specs.machine.Rules.Frames.{told_frame, oldest_shown}
 use Rattle.xr_model.specs.runs.Robin.{compositor, next_call, is_ended}
 use Rattle.xr_model.specs.runs.Lists.{frames_in, reply_if_shown, replies_in}
-use Rattle.xr_serial.specs.inside.Made.{IsAnswered, exchange_of, calls_with}
+use Rattle.xr_serial.specs.inside.Made.{IsAnswered, calls_with}
 use Rattle.xr_serial.specs.inside.RunState.{CompositorState, RunState}
 use Rattle.xr_device.specs.Prospect.{Prospect}
 use Rattle.xr_serial.specs.inside.Sides.{compositor_with, FrameMade, FrameWaits, FrameTurn, ImageReturned}
 use Rattle.xr_serial.specs.inside.Turns.{compositor_part, parts_of, actors_of, turn_behind, AreHeldBack}
-use Rattle.xr_serial.specs.inside.RunInvariant.{AllGoOn, EndKept, CompositorKept, end_work, frames_work, shown_work, events_told, trace_of, RunInvariant}
-use Rattle.xr_serial.specs.Ran.{GoesOn, a_frame, an_image}
+use Rattle.xr_serial.specs.inside.RunInvariant.{EndKept, CompositorKept, end_work, frames_work, shown_work, events_told, trace_of, RunInvariant}
 use Rattle.xr_serial.specs.inside.PastOfRun.{Standing}
 use Rattle.xr_serial.proofs.OnlyLeaveLeaves.{call_keeps}
 use Rattle.xr_serial.proofs.ActorParts.{AreAll, compositor_at, compositor_set}
 use Rattle.xr_serial.proofs.Steps.{Goes, trace_behind, made_turn, same_parts}
 use Rattle.xr_serial.proofs.KeptApplications.{others_more}
 use Rattle.xr_serial.proofs.AppTurns.{all_of, are_so, passes}
+use Rattle.xr_runs.specs.Sides.{exchange_of, AllGoOn}
+use Rattle.xr_runs.specs.Runs.{GoesOn, a_frame, an_image}
 
 -- ---- what its calls come to
 

@@ -12,22 +12,23 @@ use Rattle.xr_model.specs.machine.CoreCalls.{entry_of}
 use Rattle.xr_model.specs.machine.State.{State}
 use Rattle.xr_model.specs.runs.Robin.{Agenda, events, device_agendas}
 use Rattle.xr_model.specs.runs.Lists.{made_at, events_in}
-use Rattle.xr_serial.specs.inside.Made.{exchange_of, calls_with}
-use Rattle.xr_serial.specs.inside.RunState.{SideState, RunState}
+use Rattle.xr_serial.specs.inside.Made.{calls_with}
+use Rattle.xr_serial.specs.inside.RunState.{RunState}
 use Rattle.xr_device.specs.Prospect.{Prospect}
 use Rattle.xr_device.specs.Told.{Comes}
-use Rattle.xr_serial.specs.inside.Sides.{side_asked, side_with, EventMade, EventWaits, EventTurn}
-use Rattle.xr_serial.specs.inside.Turns.{pending_list, device_part, parts_of, actors_of, turn_behind, AreHeldBack}
+use Rattle.xr_serial.specs.inside.Sides.{EventMade, EventWaits, EventTurn}
+use Rattle.xr_serial.specs.inside.Turns.{device_part, parts_of, actors_of, turn_behind, AreHeldBack}
 use Rattle.xr_serial.specs.inside.PastOfRun.{Trace, Standing}
-use Rattle.xr_serial.specs.inside.RunInvariant.{DeviceKept, side_work, frames_work, events_told, trace_of, RunInvariant}
+use Rattle.xr_serial.specs.inside.RunInvariant.{side_work, frames_work, events_told, trace_of, RunInvariant}
 use Rattle.xr_serial.proofs.Pending.{brings}
 use Rattle.xr_serial.proofs.Holding.{call_holds}
 use Rattle.xr_serial.proofs.OnlyLeaveLeaves.{call_keeps}
 use Rattle.xr_serial.proofs.ActorParts.{AreAll, device_at, device_set}
 use Rattle.xr_serial.proofs.Steps.{Goes, trace_behind, made_turn, same_parts, device_tells, device_ends}
 use Rattle.xr_serial.proofs.KeptApplications.{others_more}
-use Rattle.xr_serial.proofs.DeviceAnswers.{is_open, tells_event, tells_end, tells_garbled, tells_fault, events_snoc, event_kept}
 use Rattle.xr_serial.proofs.AppTurns.{all_of, are_so, passes}
+use Rattle.xr_runs.specs.Sides.{exchange_of, SideState, side_asked, side_with, pending_list, DeviceKept}
+use Rattle.xr_runs.proofs.DeviceAnswers.{is_open, tells_event, tells_end, tells_garbled, tells_fault, events_snoc, event_kept}
 
 -- a run with this of its device
 abbrev pub with_side : RunState → SideState → RunState

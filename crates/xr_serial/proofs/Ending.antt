@@ -1,10 +1,9 @@
 -- Where nobody can go on: what the device gave, and who is left in the order of a round.
 use Rattle.std.proofs.Common.{◌≡◌, ◌⊎◌, inl, inr, ◌+◌, ◌<◌, ◌≤◌, ℕ, zero, suc, Bool, true, false, List, [], ◌∷◌, ◌++◌, length, drop, take, get_or, Option, Some, None, refl, sym, ap, subst, ◌∙◌, arith, append_assoc, append-nil, length-append, true≢false, add-one}
-use Rattle.std.specs.Prelude.{if◌then◌else◌, ◌||◌, ◌≢◌}
+use Rattle.std.specs.Prelude.{if◌then◌else◌, ◌≢◌}
 use Rattle.std.proofs.lemmas.List.{take-append-drop, take_more, take_all}
 use Rattle.std.specs.List.{list_any}
-use Rattle.std.proofs.lemmas.Bool.{or_left, ne_eqb, eq-eqb}
-use Rattle.std.proofs.lemmas.List.Folds.{list_any-append}
+use Rattle.std.proofs.lemmas.Bool.{ne_eqb, eq-eqb}
 use Rattle.xr_types.specs.declared.calls.Actor.{Actor}
 use Rattle.xr_types.specs.declared.calls.Actor.TheVariants.{App, Compositor, Device}
 use Rattle.xr_types.specs.declared.calls.Reply.{Reply}
@@ -19,14 +18,16 @@ use Rattle.xr_model.specs.device_text.DeviceText.{DeviceStream, Ending, ends, ga
 use Rattle.xr_model.specs.report.RunEnding.{is_fault}
 use Rattle.xr_model.specs.runs.Robin.{Agenda, actor_of, device_agendas, device_calls, last_event, agendas_of, scripts_to, in_round}
 use Rattle.xr_model.specs.runs.Lists.{events_in}
-use Rattle.xr_serial.specs.Ran.{Gave, IsLineEvent, AreLineEvents, AreSound}
-use Rattle.xr_serial.specs.inside.RunState.{AppState, SideState, RunState}
+use Rattle.xr_serial.specs.inside.RunState.{AppState, RunState}
 use Rattle.xr_device.specs.Prospect.{Prospect}
-use Rattle.xr_serial.specs.inside.Turns.{script_part, script_parts, compositor_part, device_part, pending_list, from_turn, joined, AreHeldBack}
+use Rattle.xr_serial.specs.inside.Turns.{script_part, script_parts, compositor_part, device_part, from_turn, joined, AreHeldBack}
 use Rattle.xr_serial.specs.inside.PastOfRun.{IsRest}
-use Rattle.xr_serial.specs.inside.RunInvariant.{GivesMore, Came, DeviceKept, events_told}
+use Rattle.xr_serial.specs.inside.RunInvariant.{events_told}
 use Rattle.xr_serial.proofs.TurnOrder.{held_append, joined-append, joined-snoc}
 use Rattle.xr_serial.proofs.ActorParts.{AreAll, length-script_parts}
+use Rattle.xr_runs.specs.Runs.{Gave, IsLineEvent, AreLineEvents, AreSound}
+use Rattle.xr_runs.specs.Sides.{SideState, pending_list, GivesMore, Came, DeviceKept}
+use Rattle.xr_runs.proofs.Failing.{fault_last}
 
 -- ---- what the device gave
 
@@ -41,15 +42,6 @@ pub record Gives (side : SideState) (calls : List Exchange) (start now : Prospec
   pub gave : Gave start.remaining count events ending
   pub calls_are : device_calls events ending ≡ events_told side calls ++ rest
   pub fault : list_any is_fault (events_in calls) ≡ true → Rose start.faults now.faults
-
-back_true : (a b : Bool) → a ≡ false → a || b ≡ true → b ≡ true
-back_true a b none h = subst (λ (x : Bool). x || b ≡ true) none h
-
--- a fault among the calls made is the device's last
-pub fault_last : (given closing made more : List DeviceEvent) → given ++ closing ≡ made ++ more → list_any is_fault given ≡ false → list_any is_fault made ≡ true → list_any is_fault closing ≡ true
-fault_last given closing made more same none h =
-    back_true (list_any is_fault given) (list_any is_fault closing) none
-    (sym (list_any-append is_fault given closing) ∙ ap (list_any is_fault) same ∙ list_any-append is_fault made more ∙ or_left (list_any is_fault made) (list_any is_fault more) h)
 
 open_calls : (given more last begun : List DeviceEvent) → given ++ [] ≡ begun → (given ++ more) ++ last ≡ begun ++ more ++ last
 open_calls given more last begun same = ap (λ (l : List DeviceEvent). (l ++ more) ++ last) (sym (append-nil given) ∙ same)

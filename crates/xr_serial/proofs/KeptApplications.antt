@@ -1,5 +1,5 @@
 -- What is kept of the applications.
-use Rattle.std.proofs.Common.{◌≡◌, ◌+◌, ◌-◌, ◌<◌, ℕ, ℤ, suc, Bool, true, false, List, [], ◌∷◌, ◌++◌, length, drop, map, get_or, set, refl, sym, ap, ◌∙◌, arith, append_assoc, length-append, length-set, true≢false}
+use Rattle.std.proofs.Common.{◌≡◌, ◌+◌, ◌-◌, ◌<◌, ℕ, ℤ, Bool, true, false, List, [], ◌∷◌, ◌++◌, length, drop, map, get_or, set, refl, sym, ◌∙◌, arith, append_assoc, length-append, length-set, true≢false}
 use Rattle.std.specs.Prelude.{if◌then◌else◌, ◌==◌}
 use Rattle.std.proofs.lemmas.Bool.{eqb-true, eqb-false, eq-eqb, ne_eqb}
 use Rattle.std.proofs.lemmas.List.{get_or-set_same, get_or-set_other}
@@ -12,16 +12,13 @@ use Rattle.xr_model.specs.machine.Calls.{Outcome, Exchange}
 use Rattle.xr_types.specs.declared.calls.Call.TheVariants as ask
 use Rattle.xr_model.specs.machine.State.{State}
 use Rattle.xr_model.specs.runs.NameValues.{value_given}
-use Rattle.xr_model.specs.runs.Lists.{made_at, made_from}
-use Rattle.xr_serial.specs.inside.Made.{exchange_of, calls_with}
+use Rattle.xr_serial.specs.inside.Made.{calls_with}
 use Rattle.xr_serial.specs.inside.RunState.{AppState}
 use Rattle.xr_serial.specs.inside.Sides.{app_with, app_left, op_request}
 use Rattle.xr_serial.specs.inside.RunInvariant.{AppKept, AppsKept}
-use Rattle.xr_serial.proofs.Ops.{same_request}
-
-pub made_snoc : (place : ℕ) (calls : List Exchange) (t : Exchange) → made_from place (calls ++ t ∷ []) ≡ made_from place calls ++ made_at (place + length calls) t ∷ []
-made_snoc place [] t = let same : place ≡ place + 0 = omega arith in rw (← same) refl
-made_snoc place (u ∷ calls) t = let same : place + suc (length calls) ≡ place + 1 + length calls = omega arith in rw same (ap (λ (ms : List Made). made_at place u ∷ ms) (made_snoc (place + 1) calls t))
+use Rattle.xr_runs.specs.Sides.{exchange_of}
+use Rattle.xr_runs.proofs.OpCalls.{same_request}
+use Rattle.xr_runs.proofs.Listing.{made_snoc}
 
 drop_all : (ops : List Op) → drop (length ops) ops ≡ []
 drop_all ops = grind (arith, common_steps)

@@ -8,11 +8,9 @@ pub mod Pending
 pub mod Holding
 pub mod Work
 pub mod KeptApplications
-pub mod DeviceAnswers
 pub mod AppTurns
 pub mod DeviceTurns
 pub mod CompositorTurns
 pub mod AtStart
 pub mod Ending
 pub mod AtEnd
-pub mod Failing

@@ -22,7 +22,7 @@ use Rattle.xr_model.specs.machine.Images.{is_image, with_image, with_images, ima
 use Rattle.xr_model.specs.machine.Layers.{Look, layers_of}
 use Rattle.xr_model.specs.scenario.ScriptForm.{IsInRange}
 use Rattle.xr_model.specs.runs.NameValues.{layer_for}
-use Rattle.xr_model.specs.runs.Robin.{with_start}
+use Rattle.xr_types.specs.CallKinds.{with_start}
 use Rattle.xr_model.specs.runs.Scripts.{request_for}
 use Rattle.xr_model.specs.machine.State.{CoreState, State}
 use Rattle.xr_model.specs.machine.Rules.Device.{behind_event}

@@ -11,13 +11,14 @@ use Rattle.xr_model.specs.machine.CoreCalls.{entry_of, given_by}
 use Rattle.xr_model.specs.machine.State.{State}
 use Rattle.xr_model.specs.machine.History.{clock_of, clocks_after, StartsAt, IsLegalFrom, calls_from}
 use Rattle.xr_model.specs.runs.Robin.{Agenda, actor_of, next_call, agenda_after, is_next_ready, IsRobinFrom, agendas_left}
-use Rattle.xr_serial.specs.inside.Made.{IsAnswered, exchange_of, calls_with}
+use Rattle.xr_serial.specs.inside.Made.{IsAnswered, calls_with}
 use Rattle.xr_serial.specs.inside.Turns.{turn_behind, others_of, from_turn, joined, AreHeldBack, IsTurnOrder}
 use Rattle.xr_model.specs.runs.Lists.{done_at, done_from}
 use Rattle.xr_serial.specs.inside.PastOfRun.{Trace, IsRest, Past, Standing}
 use Rattle.xr_serial.proofs.Lending.{ready_any}
 use Rattle.xr_serial.proofs.TurnOrder.{Takes, takes_turn, passed_over, from_turn_is, from_turn_next, count_from, joined-snoc}
 use Rattle.std.proofs.lemmas.List.{set-get_or}
+use Rattle.xr_runs.specs.Sides.{exchange_of}
 
 -- ---- one call more in front of a history
 

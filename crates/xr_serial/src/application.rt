@@ -1,19 +1,15 @@
 // An application of a run: how far it is in its script, and what its calls gave.
-ghost use Rattle.std.specs.Prelude.{◌≡◌, ◌<◌, ◌≤◌, ◌≤ℤ◌, ◌^◌, ℕ, pos, List, false, true, IfOk, OnOk, length};
+ghost use Rattle.std.specs.Prelude.{◌≡◌, ◌<◌, ◌^◌, IfOk, OnOk, length};
 ghost use Rattle.xr_types.specs.declared.calls.Actor.TheVariants.{App};
 ghost use Rattle.xr_model.specs.scenario.ScriptForm.{IsInForm};
 ghost use Rattle.xr_model.specs.machine.Machine.{IsPresent};
-ghost use Rattle.xr_types.specs.CallKinds.{is_locked};
-ghost use Rattle.xr_model.specs.runs.Robin.{clock_behind};
-ghost use Rattle.xr_model.specs.runs.Scripts.{request_for};
 ghost use Rattle.xr_serial.specs.inside.Sides.{new_app, OpTurn, Leaves};
 
-use crate::calls::Listed;
 use crate::machine::{Machine, OpPlace};
 use std::alloc::Global;
 use std::marker::Model;
 use xr_scenario_calls::Names;
-use xr_types::{Actor, Call, CallName, Made, NoMemory, Op};
+use xr_types::{Actor, Call, Made, NoMemory, Op};
 
 /// An application on its way: how many ops of its script were made, what its names stand for, its calls, the clock after its
 /// last locked one in ns of device time, and whether it has left.
@@ -35,32 +31,6 @@ impl Model for Application {
     ghost view = { λ app. record { made = app.made; names = app.names; calls = app.calls.items; clock = app.clock; has_left = app.has_left } };
 
     ghost invariant = { λ app. (app.made < 2 ^ 22) × (pos 0 ≤ℤ app.clock) };
-}
-
-/// Whether the call of an op is a locked one. Getters are not.
-fn is_locked(op: &Op) -> bool
-    ensures { (values : List ℕ) → result ≡ is_locked (request_for values op.now) }
-{
-    !matches!(
-        op,
-        Op::GetBoolean { .. }
-            | Op::GetFloat { .. }
-            | Op::GetVector { .. }
-            | Op::GetPoseActive { .. }
-    )
-}
-
-/// The clock at which the next wait begins, once the call of an op was made: a getter leaves it.
-fn clock_behind(clock: &i64, op: &Op, machine: &Machine) -> i64
-    requires { pos 0 ≤ℤ clock.now }
-    ensures clock { (values : List ℕ) → result ≡ clock_behind clock.now (request_for values op.now) machine.now }
-    ensures begun { pos 0 ≤ℤ result }
-{
-    if is_locked(op) {
-        machine.clock()
-    } else {
-        *clock
-    }
 }
 
 impl Application {
@@ -101,14 +71,13 @@ impl Application {
         let at = OpPlace {
             app: number,
             op: place,
-            clock: self.clock,
         };
         let count = self.calls.len();
-        if !machine.make_op(alloc, at, op, &self.names, &mut self.calls)? {
+        let went = machine.make_op(alloc, at, op, &self.names, &mut self.clock, &mut self.calls)?;
+        if !went {
             return Ok(false);
         }
         self.names.learn(place, op, &self.calls[count].reply);
-        self.clock = clock_behind(&self.clock, op, machine);
         self.made += 1;
         Ok(true)
     }
@@ -124,17 +93,10 @@ impl Application {
         requires present { IsPresent machine.old.core (App number) }
         ensures { OnOk result (Leaves number self.old self.new machine.old machine.new) }
     {
-        let listed = Listed {
-            op: self.made as u32 + 1,
-            name: CallName::Leave,
-            mark: 0,
-            start: 0,
-        };
         let who = Actor::App(number);
-        if !machine
-            .lender
-            .make(alloc, who, &Call::Leave, listed, &mut self.calls)?
-        {
+        let place = self.made as u32 + 1;
+        let lender = &mut machine.lender;
+        if !lender.make(alloc, who, &Call::Leave, place, &mut self.calls)? {
             unreachable!()
         }
         self.clock = machine.clock();

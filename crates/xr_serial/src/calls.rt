@@ -5,27 +5,15 @@ ghost use Rattle.xr_types.specs.declared.calls.Actor.TheVariants.{Compositor};
 ghost use Rattle.xr_types.specs.declared.frames.Shown.{Shown};
 ghost use Rattle.xr_types.specs.declared.calls.Call.TheVariants as ask;
 ghost use Rattle.xr_model.specs.machine.Machine.{IsPresent};
-ghost use Rattle.xr_model.specs.machine.CoreCalls.{MayAsk, Applies};
+ghost use Rattle.xr_model.specs.machine.CoreCalls.{MayAsk, Applies, as_lent};
 ghost use Rattle.xr_serial.specs.inside.Made.{CallTurn, ComposedOrWaits};
 ghost use Rattle.xr_types.specs.CallKinds.{lent_size};
 
 use std::alloc::Global;
 use std::marker::Model;
 use xr_core::PlainCore;
-use xr_types::{Actor, Bytes, Call, CallName, MOST_CAPACITY, Made, NoMemory, Reply, Shown, Step};
-
-/// How many bytes a call of a script is lent at most: the largest `capacity` of the format.
-const MOST_LENT: usize = MOST_CAPACITY as usize;
-
-/// What the list of an actor says of a call beside what it came to: the place of its op from 1, its name, the mark that it awaits
-/// (else 0), and when its wait began, in ns of device time (else 0).
-#[derive(Clone, Copy)]
-pub(crate) struct Listed {
-    pub(crate) op: u32,
-    pub(crate) name: CallName,
-    pub(crate) mark: u8,
-    pub(crate) start: i64,
-}
+use xr_runs::MOST_LENT;
+use xr_types::{Actor, Bytes, Call, Made, NoMemory, Reply, Shown, Step};
 
 /// The core, with the buffer that its calls are lent. Contracts see it as the machine's state.
 #[derive(Drop)]
@@ -54,7 +42,7 @@ fn ask(
     requires asks { MayAsk who call.now (lent_size call.now) }
     requires present { IsPresent core.old.core who }
     requires few { lent_size call.now ≤ length buffer.old }
-    ensures applies { Applies core.old core.new who call.now (record { text = take (lent_size call.now) buffer.old; frame = shown.old }) (record { text = take (lent_size call.now) buffer.new; frame = shown.new }) result }
+    ensures applies { Applies core.old core.new who call.now (as_lent (take (lent_size call.now) buffer.old) shown.old) (as_lent (take (lent_size call.now) buffer.new) shown.new) result }
     ensures size { length buffer.new ≡ length buffer.old }
 {
     let lent = &mut buffer[..call.lent_size() as usize];
@@ -86,21 +74,22 @@ impl Lender {
         }
     }
 
-    /// Makes a call, which is lent as many bytes as it asks for, and keeps it with what it came to at the end of its actor's list,
-    /// or leaves all as it was, where it has to wait; whether it was made. Refused only by want of memory.
+    /// Makes a call, which is lent as many bytes as it asks for, and lists it with what it came to at the end of its actor's list, as
+    /// the call of the op at this place from 1; or leaves all as it was, where it has to wait. Tells whether it was made. Refused
+    /// only by want of memory.
     pub(crate) fn make(
         &mut self,
         alloc: Global,
         who: Actor,
         call: &Call<'_>,
-        listed: Listed,
+        place: u32,
         list: &mut Vec<Made>,
     ) -> Result<bool, NoMemory>
         requires calls { self.old.core.locked < 2 ^ 44 }
         requires asks { MayAsk who call.now (lent_size call.now) }
         requires present { IsPresent self.old.core who }
         requires few { lent_size call.now ≤ MOST_CAPACITY }
-        ensures { IfOk result (λ went. CallTurn self.old self.new who call.now listed list.old.items list.new.items went) }
+        ensures { IfOk result (λ went. CallTurn self.old self.new who call.now place list.old.items list.new.items went) }
     {
         let Lender { core, buffer } = self;
         let mut shown = Shown::default();
@@ -109,15 +98,7 @@ impl Lender {
         };
         let written = reply.gives.written_size(call.lent_size()) as usize;
         let text = Bytes::from_slice(alloc, &buffer[..written])?;
-        let made = Made {
-            op: listed.op,
-            name: listed.name,
-            mark: listed.mark,
-            start: listed.start,
-            reply,
-            text,
-        };
-        list.push(made)?;
+        list.push(call.listed(place, reply, text))?;
         Ok(true)
     }
 

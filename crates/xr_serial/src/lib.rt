@@ -8,7 +8,8 @@ ghost use Rattle.std.specs.List.{list_any};
 ghost use Rattle.xr_io.specs.Outside.{Rose};
 ghost use Rattle.xr_model.specs.report.RunEnding.{is_fault};
 ghost use Rattle.xr_device.specs.Answers.{ReadsOn};
-ghost use Rattle.xr_serial.specs.Ran.{CanBeRun, Ran, FailsBehind};
+ghost use Rattle.xr_serial.specs.Ran.{Ran};
+ghost use Rattle.xr_runs.specs.Runs.{CanBeRun, FailsBehind};
 
 mod application;
 mod calls;

@@ -1,5 +1,5 @@
 // The core, and the calls of its actors in their turns.
-ghost use Rattle.std.specs.Prelude.{◌≡◌, ◌<◌, ◌≤◌, ◌≤ℤ◌, ◌^◌, ℕ, ℤ, pos, List, true, false, IfOk, length, not};
+ghost use Rattle.std.specs.Prelude.{◌≡◌, ◌<◌, ◌≤◌, ◌≤ℤ◌, ◌^◌, ℕ, ℤ, pos, List, true, false, IfOk, length, not, if◌then◌else◌};
 ghost use Rattle.xr_types.specs.declared.limits.TheConstants.{MOST_SCRIPTS};
 ghost use Rattle.xr_types.specs.declared.calls.Actor.TheVariants.{App, Compositor};
 ghost use Rattle.xr_model.specs.machine.Machine.{IsPresent, ready};
@@ -7,16 +7,16 @@ ghost use Rattle.xr_types.specs.declared.calls.Call.TheVariants as ask;
 ghost use Rattle.xr_model.specs.machine.State.{with_apps, opening};
 ghost use Rattle.xr_model.specs.scenario.ScriptForm.{IsInRange};
 ghost use Rattle.xr_model.specs.machine.Frames.{is_empty};
-ghost use Rattle.xr_model.specs.runs.Robin.{with_start};
+ghost use Rattle.xr_types.specs.CallKinds.{with_start};
+ghost use Rattle.xr_model.specs.runs.Robin.{clock_behind};
 ghost use Rattle.xr_model.specs.runs.Scripts.{request_for};
 ghost use Rattle.xr_serial.specs.inside.Made.{CallTurn, asked};
-ghost use Rattle.xr_serial.specs.inside.Sides.{listed_op};
 
-use crate::calls::{Lender, Listed};
+use crate::calls::Lender;
 use std::alloc::Global;
 use std::marker::Model;
 use xr_core::PlainCore;
-use xr_scenario_calls::{Names, Scratch, call_of, op_mark, op_start};
+use xr_scenario_calls::{Names, Scratch, call_of};
 use xr_types::{Actor, Call, Made, NoMemory, Op};
 
 /// The core with what its calls are lent, and the room where the lists of a call stand while it is made. Contracts see it as the
@@ -35,33 +35,23 @@ impl Model for Machine {
     ghost view = { λ m. m.lender };
 }
 
-/// Where an op is made: the number of its application, its place in the script from 1, and the clock at which a wait begins, in
-/// ns of device time.
+/// Where an op is made: the number of its application, and its place in the script from 1.
 #[derive(Clone, Copy)]
 pub(crate) struct OpPlace {
     pub(crate) app: u8,
     pub(crate) op: u32,
-    pub(crate) clock: i64,
 }
 
-/// Has a call that waits for an image begin its wait at this clock, in ns of device time. Other calls stay.
-fn begin_wait(call: &mut Call<'_>, clock: &i64)
-    ensures { call.new ≡ with_start clock.now call.old }
+/// The clock at which the next wait begins, once this call was made: a getter leaves it.
+fn clock_behind(clock: i64, call: &Call<'_>, core: &PlainCore) -> i64
+    requires { pos 0 ≤ℤ clock }
+    ensures clock { result ≡ clock_behind clock call.now core.now }
+    ensures begun { pos 0 ≤ℤ result }
 {
-    if let Call::WaitImage { start, .. } = call {
-        *start = *clock;
-    }
-}
-
-/// What the list of an application says of the call of an op.
-fn listed(at: OpPlace, op: &Op) -> Listed
-    ensures { result ≡ listed_op at.op at.clock op.now }
-{
-    Listed {
-        op: at.op,
-        name: op.name(),
-        mark: op_mark(op),
-        start: op_start(at.clock, op),
+    if call.is_locked() {
+        core.clock()
+    } else {
+        clock
     }
 }
 
@@ -123,30 +113,36 @@ impl Machine {
         self.lender.core.next_frame_waits()
     }
 
-    /// Makes the call of an application's op and keeps it at the end of the application's list, or leaves all as it was, where it has to
-    /// wait; whether it was made. A mark that isn't set and a frame that is held back are seen before the call is made up, since a
-    /// script may wait for many rounds.
+    /// Makes the call of an application's op and lists it at the end of the application's list, or leaves all as it was, where it has to
+    /// wait; whether it was made. A wait for an image begins at `clock`, which is then the clock for the next one. A mark that isn't
+    /// set and a frame that is held back are seen before the call is made up, since a script may wait for many rounds.
     pub(crate) fn make_op(
         &mut self,
         alloc: Global,
         at: OpPlace,
         op: &Op,
         names: &Names,
+        clock: &mut i64,
         list: &mut Vec<Made>,
     ) -> Result<bool, NoMemory>
         requires calls { self.old.core.locked < 2 ^ 44 }
         requires present { IsPresent self.old.core (App at.app) }
         requires ranged { IsInRange op.now }
-        requires begun { pos 0 ≤ℤ at.clock }
-        ensures { IfOk result (λ went. CallTurn self.old self.new (App at.app) (with_start at.clock (request_for names.now op.now)) (listed_op at.op at.clock op.now) list.old.items list.new.items went) }
+        requires begun { pos 0 ≤ℤ clock.old }
+        ensures made { IfOk result (λ went. CallTurn self.old self.new (App at.app) (with_start clock.old (request_for names.now op.now)) at.op list.old.items list.new.items went) }
+        ensures clock { IfOk result (λ went. clock.new ≡ (if went then clock_behind clock.old (request_for names.now op.now) self.new else clock.old)) }
+        ensures begun { pos 0 ≤ℤ clock.new }
     {
         let Machine { lender, scratch } = self;
         if waits(&lender.core, op, names) {
             return Ok(false);
         }
         let mut call = call_of(op, names, scratch);
-        begin_wait(&mut call, &at.clock);
-        let who = Actor::App(at.app);
-        lender.make(alloc, who, &call, listed(at, op), list)
+        call.begin_wait(*clock);
+        if !lender.make(alloc, Actor::App(at.app), &call, at.op, list)? {
+            return Ok(false);
+        }
+        *clock = clock_behind(*clock, &call, &lender.core);
+        Ok(true)
     }
 }

@@ -1,13 +1,13 @@
 // A run on its way, turn by turn, until no unfinished actor can make its call.
 ghost use Rattle.std.specs.Prelude.{◌≡◌, ◌≤◌, ◌<◌, ◌+◌, ℕ, [], true, false, None, IfOk, OnOk, length, map, if◌then◌else◌};
 ghost use Rattle.xr_model.specs.machine.State.{opening};
-ghost use Rattle.xr_serial.specs.Ran.{CanBeRun, settings_of};
 ghost use Rattle.xr_device.specs.Prospect.{Prospect};
 ghost use Rattle.xr_device.specs.Answers.{ReadsOn};
-ghost use Rattle.xr_serial.specs.inside.Sides.{new_app};
+ghost use Rattle.xr_serial.specs.inside.Sides.{new_app, first_run};
 ghost use Rattle.xr_serial.specs.inside.Turns.{actors_of, turn_behind};
 ghost use Rattle.xr_serial.specs.inside.RunInvariant.{calls_made, RunInvariant};
-ghost use Rattle.xr_serial.specs.inside.KeptTurns.{StandsAt, KeepsTurn};
+ghost use Rattle.xr_serial.specs.inside.KeptTurns.{StandsAt, KeepsTurn, RunsOut};
+ghost use Rattle.xr_runs.specs.Runs.{CanBeRun};
 
 use crate::application::Application;
 use crate::compositor::CompositorSide;
@@ -48,7 +48,7 @@ fn start_apps(alloc: Global, scripts: &[Script]) -> Result<Vec<Application>, NoM
 
 /// A run before its first call.
 pub(crate) fn start(alloc: Global, scenario: &Scenario) -> Result<Run, NoMemory>
-    ensures { IfOk result (λ run. run ≡ record { apps = map new_app scenario.now.scripts; side = record { pending = None; over = false; events = []; calls = [] }; compositor = record { frames = []; replies = []; done = []; ended = None } }) }
+    ensures { IfOk result (λ run. run ≡ first_run scenario.now) }
 {
     let apps = start_apps(alloc, scenario.scripts.as_slice())?;
     Ok(Run {
@@ -76,8 +76,8 @@ fn app_turn(
 ) -> Result<bool, NoMemory>
     requires runs { CanBeRun scenario.now }
     requires within { place < length scenario.now.scripts }
-    requires kept { (now : Prospect) × StandsAt scenario.now place machine.old run.old now }
-    ensures kept { IfOk result (λ went. (now : Prospect) → KeepsTurn scenario.now place went machine.old run.old now machine.new run.new now) }
+    requires run { (now : Prospect) × StandsAt scenario.now place machine.old run.old now }
+    ensures run { IfOk result (λ went. (now : Prospect) → KeepsTurn scenario.now place went machine.old run.old now machine.new run.new now) }
     ensures counts { IfOk result (λ went. calls_made machine.new run.new ≡ calls_made machine.old run.old + (if went then 1 else 0)) }
 {
     let ops = scenario.scripts.as_slice()[place].as_slice();
@@ -103,8 +103,8 @@ fn device_turn<D: Device>(
     run: &mut Run,
 ) -> Result<bool, NoMemory>
     requires runs { CanBeRun scenario.now }
-    requires kept { StandsAt scenario.now (length scenario.now.scripts) machine.old run.old (D.prospect device.old) }
-    ensures kept { IfOk result (λ went. KeepsTurn scenario.now (length scenario.now.scripts) went machine.old run.old (D.prospect device.old) machine.new run.new (D.prospect device.new)) }
+    requires run { StandsAt scenario.now (length scenario.now.scripts) machine.old run.old (D.prospect device.old) }
+    ensures run { IfOk result (λ went. KeepsTurn scenario.now (length scenario.now.scripts) went machine.old run.old (D.prospect device.old) machine.new run.new (D.prospect device.new)) }
     ensures counts { IfOk result (λ went. calls_made machine.new run.new ≡ calls_made machine.old run.old + (if went then 1 else 0)) }
     ensures later { (D.prospect device.old).faults ≤ (D.prospect device.new).faults }
     ensures reads { ReadsOn (D.prospect device.old) (D.prospect device.new) }
@@ -124,8 +124,8 @@ fn compositor_turn(
     run: &mut Run,
 ) -> Result<bool, NoMemory>
     requires runs { CanBeRun scenario.now }
-    requires kept { (now : Prospect) × StandsAt scenario.now (length scenario.now.scripts + 1) machine.old run.old now }
-    ensures kept { IfOk result (λ went. (now : Prospect) → KeepsTurn scenario.now (length scenario.now.scripts + 1) went machine.old run.old now machine.new run.new now) }
+    requires run { (now : Prospect) × StandsAt scenario.now (length scenario.now.scripts + 1) machine.old run.old now }
+    ensures run { IfOk result (λ went. (now : Prospect) → KeepsTurn scenario.now (length scenario.now.scripts + 1) went machine.old run.old now machine.new run.new now) }
     ensures counts { IfOk result (λ went. calls_made machine.new run.new ≡ calls_made machine.old run.old + (if went then 1 else 0)) }
 {
     if run.compositor.ended.is_some() {
@@ -150,8 +150,8 @@ fn one_turn<D: Device>(
 ) -> Result<bool, NoMemory>
     requires runs { CanBeRun scenario.now }
     requires within { turn < actors_of scenario.now }
-    requires kept { StandsAt scenario.now turn machine.old run.old (D.prospect device.old) }
-    ensures kept { IfOk result (λ went. KeepsTurn scenario.now turn went machine.old run.old (D.prospect device.old) machine.new run.new (D.prospect device.new)) }
+    requires run { StandsAt scenario.now turn machine.old run.old (D.prospect device.old) }
+    ensures run { IfOk result (λ went. KeepsTurn scenario.now turn went machine.old run.old (D.prospect device.old) machine.new run.new (D.prospect device.new)) }
     ensures counts { IfOk result (λ went. calls_made machine.new run.new ≡ calls_made machine.old run.old + (if went then 1 else 0)) }
     ensures later { (D.prospect device.old).faults ≤ (D.prospect device.new).faults }
     ensures reads { ReadsOn (D.prospect device.old) (D.prospect device.new) }
@@ -176,10 +176,8 @@ pub(crate) fn go_on<D: Device>(
     run: &mut Run,
 ) -> Result<(), NoMemory>
     requires runs { CanBeRun scenario.now }
-    requires kept { (start : Prospect) × RunInvariant scenario.now 0 0 machine.old run.old start (D.prospect device.old) }
-    ensures kept { OnOk result ((start : Prospect)
-        → RunInvariant scenario.now 0 0 machine.old run.old start (D.prospect device.old)
-        → (turn : ℕ) × (turn < actors_of scenario.now) × RunInvariant scenario.now turn (actors_of scenario.now) machine.new run.new start (D.prospect device.new)) }
+    requires run { (start : Prospect) × RunInvariant scenario.now 0 0 machine.old run.old start (D.prospect device.old) }
+    ensures run { OnOk result (RunsOut scenario.now machine.old run.old (D.prospect device.old) machine.new run.new (D.prospect device.new)) }
     ensures later { (D.prospect device.old).faults ≤ (D.prospect device.new).faults }
     ensures reads { ReadsOn (D.prospect device.old) (D.prospect device.new) }
 {

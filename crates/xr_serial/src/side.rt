@@ -1,20 +1,16 @@
 // The device's side of a run: its next event, and its calls.
-ghost use Rattle.std.specs.Prelude.{◌≡◌, ◌≤◌, ◌<◌, ◌^◌, ℕ, [], true, false, Some, None, IfSome, IfOk, length};
-ghost use Rattle.xr_types.specs.declared.scenario.Scenario.{Scenario};
-ghost use Rattle.xr_model.specs.machine.State.{State};
-ghost use Rattle.xr_serial.specs.inside.RunState.{RunState};
-ghost use Rattle.xr_device.specs.Prospect.{Prospect};
+ghost use Rattle.std.specs.Prelude.{◌≡◌, ◌≤◌, ◌<◌, ◌^◌, [], true, false, Some, None, IfSome, IfOk, length};
+ghost use Rattle.xr_runs.specs.Sides.{SideState};
 ghost use Rattle.xr_device.specs.Answers.{ReadsOn};
 ghost use Rattle.xr_device.specs.Told.{IsChecked};
 ghost use Rattle.xr_serial.specs.inside.Sides.{EventTurn};
-ghost use Rattle.xr_serial.specs.inside.RunInvariant.{RunInvariant};
+ghost use Rattle.xr_serial.specs.inside.KeptTurns.{KeepsRun};
 
-use crate::calls::Listed;
 use crate::machine::Machine;
 use std::alloc::Global;
 use std::marker::Model;
 use xr_device::{Device, ask_next};
-use xr_types::{Actor, Call, CallName, DeviceEvent, Made, NoMemory};
+use xr_types::{Actor, Call, DeviceEvent, Made, NoMemory};
 
 /// A device on its way: its next event, where that is known, whether nothing more will come behind it, and the events
 /// whose calls were made, with these.
@@ -27,8 +23,6 @@ pub(crate) struct DeviceSide {
 }
 
 impl Model for DeviceSide {
-    ghost use Rattle.xr_serial.specs.inside.RunState.{SideState};
-
     ghost Value = { SideState };
 
     ghost view = { λ side. record { pending = side.pending; over = side.over; events = side.events.items; calls = side.calls.items } };
@@ -50,9 +44,7 @@ impl DeviceSide {
     /// Asks the device what comes next, where that isn't known and more may come.
     pub(crate) fn look<D: Device>(&mut self, device: &mut D)
         requires done { IfSome self.old.pending IsChecked }
-        ensures kept { (scenario : Scenario) (turn idle : ℕ) (s : State) (run : RunState) (start : Prospect)
-            → RunInvariant scenario turn idle s (record run { side = self.old }) start (D.prospect device.old)
-            → RunInvariant scenario turn idle s (record run { side = self.new }) start (D.prospect device.new) }
+        ensures run { KeepsRun self.old (D.prospect device.old) self.new (D.prospect device.new) }
         ensures known { self.new.pending ≡ None → self.new.over ≡ true }
         ensures done { IfSome self.new.pending IsChecked }
         ensures calls { self.new.calls ≡ self.old.calls }
@@ -79,17 +71,10 @@ impl DeviceSide {
         requires few { length self.old.calls < 2 ^ 31 }
         ensures { IfOk result (λ went. EventTurn event self.old self.new machine.old machine.new went) }
     {
-        let listed = Listed {
-            op: self.calls.len() as u32 + 1,
-            name: CallName::Device,
-            mark: 0,
-            start: 0,
-        };
         let call = Call::Device(event);
-        if !machine
-            .lender
-            .make(alloc, Actor::Device, &call, listed, &mut self.calls)?
-        {
+        let place = self.calls.len() as u32 + 1;
+        let lender = &mut machine.lender;
+        if !lender.make(alloc, Actor::Device, &call, place, &mut self.calls)? {
             return Ok(false);
         }
         self.events.push(event)?;

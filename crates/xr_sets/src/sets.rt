@@ -5,6 +5,7 @@ ghost use Rattle.std.specs.Option.{option_copied};
 ghost use Rattle.xr_model.specs.machine.PartAnswers.{code_by};
 ghost use Rattle.xr_model.specs.machine.Refusals.{first_of};
 ghost use Rattle.xr_model.specs.machine.Sets.{no_sets, same_text, set_at, action_at, set_priority, set_of_action, type_of_action, is_sealed, is_in_sealed_set, action_declares, set_declares, is_declared, set_checks, action_checks, action_label_checks, with_set, with_action, without_input, sets_named, with_sealed};
+ghost use Rattle.xr_sets.specs.NewActions.{new_action};
 
 use crate::action::Action;
 use crate::set::{Set, named_among, seal_sets};
@@ -120,14 +121,7 @@ impl Sets {
         requires room { length self.old.actions < 64 }
         requires name { first_of (action_checks self.old action.set action.name.now) ≡ None }
         requires label { first_of (action_label_checks self.old action.set action.localized.now) ≡ None }
-        ensures { self.new ≡ with_action self.old (record {
-          handle = action.entry.handle;
-          set = action.entry.set;
-          name = action.entry.name.now;
-          localized = action.entry.localized.now;
-          type = action.entry.kind;
-          declared = action.entry.declared;
-        }) }
+        ensures { self.new ≡ with_action self.old (new_action action.entry.handle action.entry.set action.entry.name.now action.entry.localized.now action.entry.kind action.entry.declared) }
     {
         self.actions.push_reserved(Action {
             handle: action.handle,

@@ -57,7 +57,7 @@ impl Life {
     /// (`SessionNotReady`), and any views but two (`ViewConfigurationTypeUnsupported`); each leaves all as it
     /// was. OpenXR 1.0 chapter 9, xrBeginSession.
     pub fn begin(&mut self, view: ViewConfig) -> Code
-        ensures kept { self.new ≡ unless (first_of (begin_refusals self.old view)) self.old (begun_session self.old) }
+        ensures state { self.new ≡ unless (first_of (begin_refusals self.old view)) self.old (begun_session self.old) }
         ensures code { result ≡ code_by (first_of (begin_refusals self.old view)) }
     {
         if self.lost {
@@ -79,7 +79,7 @@ impl Life {
     /// (`SessionNotStopping`); each leaves all as it was and tells nothing. OpenXR 1.0 chapter 9, xrEndSession.
     pub fn end(&mut self, wish: Wish, out: &mut Changes) -> Code
         requires { out.old ≡ [] }
-        ensures kept { self.new ≡ unless (first_of (end_refusals self.old)) self.old (ended_session wish self.old).life }
+        ensures state { self.new ≡ unless (first_of (end_refusals self.old)) self.old (ended_session wish self.old).life }
         ensures through { out.new ≡ unless (first_of (end_refusals self.old)) [] (ended_session wish self.old).through }
         ensures code { result ≡ code_by (first_of (end_refusals self.old)) }
     {
@@ -102,7 +102,7 @@ impl Life {
     /// all as it was and tells nothing. OpenXR 1.0 chapter 9, xrRequestExitSession.
     pub fn request_exit(&mut self, wish: Wish, out: &mut Changes) -> Code
         requires { out.old ≡ [] }
-        ensures kept { self.new ≡ unless (first_of (exit_refusals self.old)) self.old (exiting_session wish self.old).life }
+        ensures state { self.new ≡ unless (first_of (exit_refusals self.old)) self.old (exiting_session wish self.old).life }
         ensures through { out.new ≡ unless (first_of (exit_refusals self.old)) [] (exiting_session wish self.old).through }
         ensures code { result ≡ code_by (first_of (exit_refusals self.old)) }
     {

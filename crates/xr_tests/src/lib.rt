@@ -1,7 +1,6 @@
-//! Tests that are proved and run by the toolchain's gate. What a whole run prints is shown by the cases of files; here are worked
-//! runs of both top calls over files in memory (`rows`), and what no case shows: parts of the machine alone (`parts`), lines of a
-//! report (`reports`), files and outputs that fail (`faults`), a load beside the text that says the same (`loads`), and calls of
-//! threads under the lock (`lock`). It has nothing else.
+//! Tests that the gate proves and runs: worked runs of both top calls over files in memory (`rows`), and what no case shows: parts
+//! alone (`parts`), lines of a report (`reports`), files and outputs that fail (`faults`), a load beside its text (`loads`), and
+//! calls of threads under the lock (`lock`).
 #![tactic(auto)]
 
 #[cfg(test)]

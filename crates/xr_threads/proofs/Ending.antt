@@ -27,7 +27,6 @@ use Rattle.xr_runtime.specs.declared.passes.DevicePass.{DevicePass}
 use Rattle.xr_runtime.specs.declared.passes.Passes.{Passes}
 use Rattle.xr_runtime.specs.Closing.{Holds, history_of, IsClosed}
 use Rattle.xr_runtime.specs.Passes.{apps_of, IsCompositor, IsDevice}
-use Rattle.xr_serial.specs.Ran.{settings_of, OfEachScript}
 use Rattle.xr_workers.specs.declared.compositor.Composed.{Composed}
 use Rattle.xr_workers.specs.declared.device.DeviceMade.{DeviceMade}
 use Rattle.xr_workers.specs.Workers.{Adds, IsGated, turns_in, RanCompositor, RanDevice}
@@ -38,6 +37,7 @@ use Rattle.xr_threads.specs.inside.Ending.{AreListed}
 use Rattle.xr_threads.proofs.Places.{there, mapped}
 use Rattle.xr_threads.proofs.Shown.{all_shown}
 use Rattle.xr_threads.proofs.Workers.{all_calls}
+use Rattle.xr_runs.specs.Runs.{settings_of, OfEachScript}
 
 -- a list that is there
 there_if : {X : Type 0} (o : Option X) (P : X → Type 0) → is_some o ≡ true → IfSome o P → (x : X) × (o ≡ Some x) × P x

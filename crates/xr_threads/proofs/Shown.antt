@@ -15,7 +15,7 @@ use Rattle.xr_model.specs.machine.State.{State}
 use Rattle.xr_model.specs.runs.Lists.{frames_in}
 use Rattle.xr_model.proofs.Rows.{both_of}
 use Rattle.xr_rule.specs.Rule.{are_by_callers}
-use Rattle.xr_serial.proofs.Lending.{IsHidden, shows_none}
+use Rattle.xr_runs.proofs.CallTexts.{IsHidden, shows_none}
 
 -- a call of another than the compositor shows nothing
 hidden : (r : Call) (who : Actor) → is_by (asked who r).caller who ≡ true → is_actor Compositor who ≡ false → IsHidden r

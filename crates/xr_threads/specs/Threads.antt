@@ -5,6 +5,7 @@ use Rattle.xr_types.specs.declared.calls.Actor.TheVariants.{App, Compositor, Dev
 use Rattle.xr_types.specs.declared.device.DeviceEvent.{DeviceEvent}
 use Rattle.xr_types.specs.declared.made.Lists.{Lists}
 use Rattle.xr_types.specs.declared.scenario.Scenario.{Scenario}
+use Rattle.xr_device.specs.Prospect.{Prospect}
 use Rattle.xr_model.specs.device_text.DeviceText.{DeviceStream, Ending}
 use Rattle.xr_model.specs.laws.FrameLaws.{shown_from}
 use Rattle.xr_model.specs.laws.Laws.{count_locked}
@@ -16,8 +17,8 @@ use Rattle.xr_model.specs.runs.Lists.{lists_of}
 use Rattle.xr_rule.specs.Rule.{are_by_callers}
 use Rattle.xr_runtime.specs.declared.close.Closed.{Closed}
 use Rattle.xr_runtime.specs.Closing.{history_of}
-use Rattle.xr_serial.specs.Ran.{settings_of, Gave, AreSound, IsWhole}
 use Rattle.xr_workers.specs.Workers.{IsGated, turns_in}
+use Rattle.xr_runs.specs.Runs.{settings_of, Gave, AreSound, IsWhole}
 
 -- The lists of a history in which all have come to their end. How many counted calls came before an image was given back is not known.
 abbrev pub lists_on_threads : Settings → List Entry → Lists
@@ -39,6 +40,10 @@ pub record RanOnThreads (history : List Entry) (scenario : Scenario) (told : Opt
   pub no_others : (n : ℕ) → length scenario.scripts + 2 ≤ n → calls_by n (opening_moment (length scenario.scripts)) history ≡ []
   pub shown : lists.compositor ≡ shown_from (opening (settings_of scenario)) history
   pub made : lists ≡ lists_on_threads (settings_of scenario) history
+
+-- the same of a run beside a device, which gave as many events as are counted between these two looks at it
+abbrev pub RanBeside : List Entry → Scenario → Prospect → Prospect → Lists → Type 0
+RanBeside history scenario before now lists = (count : ℕ) × (now.given ≡ before.given + count) × RanOnThreads history scenario before.remaining count lists
 
 -- What a closed runtime stands for, also where memory was short for a list: a legal history, with so many counted calls. The gate was
 -- called before and behind each call of the scripts and of the device, and each turn of the compositor.

@@ -1,11 +1,11 @@
 // All actors of a run on their threads.
-ghost use Rattle.std.specs.Prelude.{◌≡◌, List, false, length};
+ghost use Rattle.std.specs.Prelude.{◌≡◌, List, length};
 ghost use Rattle.xr_types.specs.declared.calls.Actor.TheVariants.{Compositor, Device as Devices};
 ghost use Rattle.xr_model.specs.machine.Calls.{Exchange};
-ghost use Rattle.xr_runtime.specs.Passes.{table_of, IsCompositor, IsDevice};
-ghost use Rattle.xr_serial.specs.Ran.{CanBeRun};
+ghost use Rattle.xr_runtime.specs.Passes.{table_of, IsDevice};
 ghost use Rattle.xr_workers.specs.Workers.{Adds, IsGated, turns_in, RanDevice, RanCompositor};
-ghost use Rattle.xr_threads.specs.inside.Working.{MayWorkAll, HaveWorked};
+ghost use Rattle.xr_threads.specs.inside.Working.{MayWorkAll, MayRun, HaveWorked};
+ghost use Rattle.xr_runs.specs.Runs.{CanBeRun};
 
 use crate::app::{AppWorker, run_scripts};
 use std::sync::Wait;
@@ -60,12 +60,7 @@ pub(crate) fn run_actors<R: Threads + Wait + Sync, G: Gate + Sync, D: Device>(
     pass: &mut DevicePass,
 ) -> Listed
     requires runs { CanBeRun scenario.now }
-    requires may { MayWorkAll (table_of context.now.runtime.now) scenario.now workers.old.items }
-    requires compositor { IsCompositor (table_of context.now.runtime.now) compositor.old }
-    requires none_shown { (compositor.old.ended ≡ false) × (compositor.old.calls ≡ 0) }
-    requires none_held { compositor.old.held ≡ 0 }
-    requires device { IsDevice (table_of context.now.runtime.now) pass.old }
-    requires none_told { pass.old.calls ≡ 0 }
+    requires may { MayRun (table_of context.now.runtime.now) scenario.now workers.old.items compositor.old pass.old }
     ensures have { HaveWorked (G.came context.now.gate.now) (G.went context.now.gate.now) (table_of context.now.runtime.now) scenario.now workers.new.items }
     ensures count { length workers.new.items ≡ length workers.old.items }
     ensures composed { RanCompositor (table_of context.now.runtime.now) compositor.old compositor.new result.composed }

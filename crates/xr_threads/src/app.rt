@@ -2,8 +2,8 @@
 ghost use Rattle.std.specs.Prelude.{◌≡◌, ◌≤◌, ◌<◌, ◌+◌, ℕ, [], map, length, slice_index_or, vec_capacity, IfOk};
 ghost use Rattle.xr_types.specs.declared.limits.TheConstants.{MOST_SCRIPTS};
 ghost use Rattle.xr_runtime.specs.Passes.{table_of, AreFirst};
-ghost use Rattle.xr_serial.specs.Ran.{CanBeRun};
 ghost use Rattle.xr_threads.specs.inside.Working.{MayWork, HasWorked, MayWorkAll, HaveWorked, pass_of, Parted};
+ghost use Rattle.xr_runs.specs.Runs.{CanBeRun};
 
 use std::alloc::Global;
 use std::sync::Wait;

@@ -6,10 +6,14 @@ use Rattle.xr_types.specs.declared.scenario.Sort.{Sort}
 use Rattle.xr_types.specs.declared.scenario.Sort.TheVariants.{Handle, Atom, Number}
 use Rattle.xr_types.specs.declared.limits.TheConstants.{MOST_HANDLE_MARK}
 use Rattle.xr_types.specs.declared.names.CallName.{CallName}
+-- rows: import of names
 use Rattle.xr_types.specs.declared.names.CallName.TheVariants.{CreateInstance, DestroyInstance, PollEvent, GetSystem, StringToPath, PathToString, CreateSession, DestroySession, EndSession, RequestExitSession, BeginFrame, BeginSession, CreateReferenceSpace, CreateActionSpace, DestroySpace, LocateSpace, CreateActionSet, DestroyActionSet, CreateAction, DestroyAction, SuggestBindings, AttachSets, SyncActions, GetBoolean, GetFloat, GetVector, GetPoseActive, CreateSwapchain, DestroySwapchain, AcquireImage, ReleaseImage, WaitImage, Paint, WaitFrame, EndFrame, Mark, Await, Leave, Device, NextFrame, ImageDone}
+
+-- rows: end
 
 -- the name of an op
 abbrev pub call_name : Op → CallName
+-- rows: call_name
 call_name (op.CreateInstance major minor) = CreateInstance
 call_name (op.DestroyInstance instance) = DestroyInstance
 call_name (op.PollEvent instance) = PollEvent
@@ -48,8 +52,11 @@ call_name (op.EndFrame session time blend layers) = EndFrame
 call_name (op.Mark mark value) = Mark
 call_name (op.Await mark) = Await
 
+-- rows: end
+
 -- the name as scenarios and reports write it
 abbrev pub name_of_call : CallName → List ℕ
+-- rows: name_of_call
 name_of_call CreateInstance = codes "create_instance"
 name_of_call DestroyInstance = codes "destroy_instance"
 name_of_call PollEvent = codes "poll_event"
@@ -92,10 +99,14 @@ name_of_call Device = codes "device"
 name_of_call NextFrame = codes "next_frame"
 name_of_call ImageDone = codes "image_done"
 
+-- rows: end
+
 -- the ops in the order of the format
 abbrev pub all_ops : List CallName
 all_ops =
+    -- rows: all_ops
     CreateInstance ∷ DestroyInstance ∷ PollEvent ∷ GetSystem ∷ StringToPath ∷ PathToString ∷ CreateSession ∷ DestroySession ∷ EndSession ∷ RequestExitSession ∷ BeginFrame ∷ BeginSession ∷ CreateReferenceSpace ∷ CreateActionSpace ∷ DestroySpace ∷ LocateSpace ∷ CreateActionSet ∷ DestroyActionSet ∷ CreateAction ∷ DestroyAction ∷ SuggestBindings ∷ AttachSets ∷ SyncActions ∷ GetBoolean ∷ GetFloat ∷ GetVector ∷ GetPoseActive ∷ CreateSwapchain ∷ DestroySwapchain ∷ AcquireImage ∷ ReleaseImage ∷ WaitImage ∷ Paint ∷ WaitFrame ∷ EndFrame ∷ Mark ∷ Await ∷ []
+    -- rows: end
 
 -- what the value of a mark is
 abbrev pub mark_sort : ℕ → Sort
@@ -103,6 +114,7 @@ mark_sort mark = if nat_le mark MOST_HANDLE_MARK then Handle else Atom
 
 -- what the name that an op gives stands for, where its row has a name
 abbrev pub sort_of : Op → Option Sort
+-- rows: sort_of
 sort_of (op.CreateInstance major minor) = Some Handle
 sort_of (op.GetSystem instance form) = Some Number
 sort_of (op.StringToPath instance text) = Some Atom
@@ -114,4 +126,5 @@ sort_of (op.CreateAction set name kind subactions localized) = Some Handle
 sort_of (op.CreateSwapchain session format width height fixed) = Some Handle
 sort_of (op.WaitFrame session) = Some Number
 sort_of (op.Await mark) = Some (mark_sort mark)
+-- rows: end
 sort_of _ = None

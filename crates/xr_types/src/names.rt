@@ -8,6 +8,7 @@ use std::fmt;
 /// `image_done` are the compositor's.
 #[derive(Clone, Copy, Debug, PartialEq, Eq)]
 pub enum CallName {
+    // rows: the names
     CreateInstance,
     DestroyInstance,
     PollEvent,
@@ -49,6 +50,7 @@ pub enum CallName {
     Device,
     NextFrame,
     ImageDone,
+    // rows: end
 }
 
 impl CallName {
@@ -56,6 +58,7 @@ impl CallName {
     pub fn ops() -> &'static [CallName]
         ensures { result.now ≡ all_ops }
     {
+        // rows: the ops
         &[
             CallName::CreateInstance,
             CallName::DestroyInstance,
@@ -95,6 +98,7 @@ impl CallName {
             CallName::Mark,
             CallName::Await,
         ]
+        // rows: end
     }
 
     /// The name as scenarios and reports write it.
@@ -102,6 +106,7 @@ impl CallName {
         ensures { result.now ≡ name_of_call self }
     {
         match self {
+            // rows: names written
             CallName::CreateInstance => "create_instance",
             CallName::DestroyInstance => "destroy_instance",
             CallName::PollEvent => "poll_event",
@@ -143,6 +148,7 @@ impl CallName {
             CallName::Device => "device",
             CallName::NextFrame => "next_frame",
             CallName::ImageDone => "image_done",
+            // rows: end
         }
     }
 }

@@ -76,6 +76,7 @@ pub enum LayerUse {
 /// op's place.
 #[derive(Drop)]
 pub enum Op {
+    // rows: the ops
     CreateInstance {
         major: u32,
         minor: u32,
@@ -230,6 +231,7 @@ pub enum Op {
     Await {
         mark: u8,
     },
+    // rows: end
 }
 
 impl Op {
@@ -238,6 +240,7 @@ impl Op {
         ensures { result ≡ call_name self.now }
     {
         match self {
+            // rows: names by op
             Op::CreateInstance { .. } => CallName::CreateInstance,
             Op::DestroyInstance { .. } => CallName::DestroyInstance,
             Op::PollEvent { .. } => CallName::PollEvent,
@@ -275,6 +278,7 @@ impl Op {
             Op::EndFrame { .. } => CallName::EndFrame,
             Op::Mark { .. } => CallName::Mark,
             Op::Await { .. } => CallName::Await,
+            // rows: end
         }
     }
 
@@ -283,6 +287,7 @@ impl Op {
         ensures { result ≡ sort_of self.now }
     {
         match self {
+            // rows: sorts given
             Op::CreateInstance { .. }
             | Op::CreateSession { .. }
             | Op::CreateReferenceSpace { .. }
@@ -292,6 +297,7 @@ impl Op {
             | Op::CreateSwapchain { .. } => Some(Sort::Handle),
             Op::StringToPath { .. } => Some(Sort::Atom),
             Op::GetSystem { .. } | Op::WaitFrame { .. } => Some(Sort::Number),
+            // rows: end
             Op::Await { mark } => {
                 if *mark <= MOST_HANDLE_MARK {
                     Some(Sort::Handle)

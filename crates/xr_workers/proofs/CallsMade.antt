@@ -14,20 +14,19 @@ use Rattle.xr_types.specs.declared.scenario.Op.TheVariants as op
 use Rattle.xr_model.specs.machine.CoreCalls.{Lent, MayAsk, left_in}
 use Rattle.xr_model.specs.scenario.ScriptForm.{IsInRange}
 use Rattle.xr_model.specs.runs.Scripts.{request_for}
-use Rattle.xr_serial.proofs.Ops.{op_asks}
 use Rattle.xr_workers.specs.declared.script.Asked.{Asked}
 use Rattle.xr_model.specs.machine.Machine.{step}
 use Rattle.xr_model.specs.machine.Calls.{Entry, Exchange}
 use Rattle.xr_types.specs.declared.calls.Call.{Call}
+use Rattle.xr_types.specs.declared.calls.Call.TheVariants as ask
 use Rattle.xr_model.specs.machine.State.{State}
-use Rattle.xr_model.specs.runs.Robin.{with_start}
 use Rattle.xr_runtime.specs.Calling.{Called, behind, entry_by}
 use Rattle.xr_runtime.specs.Passes.{MayCall, AppCalls, AppAnswers, AnswersText}
 use Rattle.xr_runtime.specs.declared.passes.AppPass.{AppPass}
 use Rattle.xr_runtime.proofs.Passing.{seat_is}
-use Rattle.xr_types.specs.CallKinds.{lent_size, written_size}
-use Rattle.xr_serial.proofs.Lending.{text_fits}
+use Rattle.xr_types.specs.CallKinds.{lent_size, written_size, with_start}
 use Rattle.xr_workers.specs.inside.Made.{CallMade, AskedBy}
+use Rattle.xr_runs.proofs.CallTexts.{text_fits}
 
 -- ---- what was written
 
@@ -102,20 +101,12 @@ plain_made table old new what reply text may none a = made_plain table old new w
 pub text_made : (table : TableId) (old new : AppPass) (what : Call) (reply : Reply) (before after : List ℕ) → MayCall table old → AnswersText table old what before after reply new → CallMade table old what after reply new
 text_made table old new what reply before after may a = made_text table old new what reply (record { text = before; frame = a.0 }) (record { text = after; frame = a.1 }) may a.2
 
--- ---- an op's call
+-- ---- what is copied of it
 
-zero_start : (values : List ℕ) (o : Op) → with_start (pos 0) (request_for values o) ≡ request_for values o
-zero_start values (op.CreateInstance major minor) = refl
-zero_start values _ = refl
-
-pub op_may_ask : (number : ℕ) (values : List ℕ) (o : Op) (r : Call) (size : ℕ) → r ≡ request_for values o → size ≡ lent_size r → IsInRange o → MayAsk (App number) r size
-op_may_ask number values o r size is fits ranged =
-    let same : with_start (pos 0) (request_for values o) ≡ r = zero_start values o ∙ sym is in
-    let may = op_asks (pos 0) values number o (omega arith) ranged in
-    subst (λ (n : ℕ). MayAsk (App number) r n) (sym fits) (subst (λ (q : Call). MayAsk (App number) q (lent_size q)) same may)
-
-pub op_size : (values : List ℕ) (o : Op) (r : Call) → r ≡ request_for values o → lent_size (with_start (pos 0) (request_for values o)) ≡ lent_size r
-op_size values o r is = ap lent_size (zero_start values o ∙ sym is)
+-- when a wait begins says nothing of the buffer that a call is lent
+pub lent_begun : (clock : ℤ) (what : Call) → lent_size (with_start clock what) ≡ lent_size what
+lent_begun clock (ask.WaitImage chain timeout start) = refl
+lent_begun clock _ = refl
 
 pub asked_by : (table : TableId) (old new : AppPass) (what : Call) (lent : List ℕ) (asked : Asked) (written : ℕ) → CallMade table old what lent asked.reply new → written ≡ written_size asked.reply.gives (lent_size what)
     → IfSome asked.text (λ text. text ≡ take written lent) → AskedBy table old what asked new

@@ -26,17 +26,14 @@ use Rattle.xr_runtime.specs.Calling.{behind, entry_by}
 use Rattle.xr_runtime.specs.Passes.{IsDevice, Tells}
 use Rattle.xr_runtime.specs.declared.passes.DevicePass.{DevicePass}
 use Rattle.xr_runtime.proofs.Passing.{seat_is}
-use Rattle.xr_serial.specs.inside.Made.{exchange_of}
-use Rattle.xr_serial.specs.inside.RunInvariant.{GivesMore, DeviceKept}
-use Rattle.xr_serial.specs.inside.RunState.{SideState}
 use Rattle.xr_device.specs.Told.{Comes}
-use Rattle.xr_serial.specs.inside.Sides.{side_asked}
-use Rattle.xr_serial.proofs.DeviceAnswers.{tells_event, tells_end, tells_garbled, tells_fault, event_kept}
-use Rattle.xr_serial.proofs.Failing.{reads_on, fails_behind}
 use Rattle.xr_workers.specs.declared.device.DeviceMade.{DeviceMade}
 use Rattle.xr_workers.specs.Workers.{RanDevice}
 use Rattle.xr_workers.specs.inside.Telling.{MadeEvent, MadeEvents, side_of}
 use Rattle.xr_workers.proofs.CallsMade.{fits_at, none_written, is_none, text_at}
+use Rattle.xr_runs.specs.Sides.{exchange_of, GivesMore, DeviceKept, SideState, side_asked}
+use Rattle.xr_runs.proofs.DeviceAnswers.{tells_event, tells_end, tells_garbled, tells_fault, event_kept}
+use Rattle.xr_runs.proofs.Failing.{reads_on, fails_behind}
 
 as_exchange : (m : Moment) (e : Entry) → exchange_at m e ≡ exchange_of e.call (step m.state e).1
 unfolding exchange_at

@@ -28,12 +28,12 @@ use Rattle.xr_runtime.specs.Passes.{IsCompositor}
 use Rattle.xr_runtime.specs.declared.passes.CompositorPass.{CompositorPass}
 use Rattle.xr_compositor.specs.declared.Turned.TheVariants as turned
 use Rattle.xr_compositor.specs.Turns.{know_of, IsReturn, AreReturns, AsksForFrame, Turns}
-use Rattle.xr_serial.specs.Ran.{GoesOn, a_frame, an_image, IsEnd}
-use Rattle.xr_serial.specs.inside.RunInvariant.{AllGoOn}
 use Rattle.xr_workers.specs.declared.compositor.Composed.{Composed}
 use Rattle.xr_workers.specs.declared.compositor.Frames.{Frames}
 use Rattle.xr_workers.specs.inside.Composing.{KeepsFrame, Composes, ListsAll}
 use Rattle.xr_workers.specs.Workers.{Adds, turns_in, ListsFramesIf, RanCompositor}
+use Rattle.xr_runs.specs.Runs.{GoesOn, a_frame, an_image, IsEnd}
+use Rattle.xr_runs.specs.Sides.{AllGoOn}
 
 -- ---- how many turns there are
 

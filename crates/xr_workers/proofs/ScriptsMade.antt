@@ -7,29 +7,24 @@ use Rattle.xr_types.specs.declared.calls.Actor.{Actor}
 use Rattle.xr_types.specs.declared.calls.NoMemory.{NoMemory}
 use Rattle.xr_types.specs.declared.calls.Reply.{Reply}
 use Rattle.xr_types.specs.declared.made.Made.{Made}
-use Rattle.xr_types.specs.declared.names.CallName.TheVariants.{Leave}
 use Rattle.xr_types.specs.declared.scenario.Op.{Op}
 use Rattle.xr_types.specs.declared.scenario.Op.TheVariants as op
-use Rattle.xr_types.specs.Op.{call_name}
-use Rattle.xr_model.specs.laws.MomentLaws.{is_leave}
 use Rattle.xr_model.specs.machine.Calls.{Exchange}
 use Rattle.xr_types.specs.declared.calls.Call.{Call}
 use Rattle.xr_types.specs.declared.calls.Call.TheVariants as ask
-use Rattle.xr_model.specs.runs.Lists.{made_at, made_from, listed_name, mark_of, start_of}
+use Rattle.xr_model.specs.runs.Lists.{made_at, made_from}
 use Rattle.xr_model.specs.runs.NameValues.{no_values, with_name_value}
-use Rattle.xr_model.specs.runs.Robin.{with_start}
 use Rattle.xr_model.specs.runs.Scripts.{request_for, unstarted, FollowsFrom}
 use Rattle.xr_rule.specs.View.{calls_in}
 use Rattle.xr_runtime.specs.Passes.{IsApp, MayCall}
 use Rattle.xr_runtime.specs.declared.passes.AppPass.{AppPass}
-use Rattle.xr_types.specs.CallKinds.{written_size, lent_size}
-use Rattle.xr_scenario_calls.specs.Listed.{op_mark, op_start}
-use Rattle.xr_serial.proofs.KeptApplications.{made_snoc}
-use Rattle.xr_serial.proofs.Ops.{name_is, mark_is, start_is, same_request}
+use Rattle.xr_types.specs.CallKinds.{written_size, lent_size, with_start, listed_as, is_leave}
 use Rattle.xr_workers.specs.declared.script.Asked.{Asked}
 use Rattle.xr_workers.specs.inside.Made.{CallMade, AskedBy}
 use Rattle.xr_workers.specs.inside.Script.{Leads, MadeOps, MadeOp, MadeSome}
 use Rattle.xr_workers.specs.Workers.{Adds, IsGated, ListsScript, RanScript}
+use Rattle.xr_runs.proofs.Listing.{made_snoc}
+use Rattle.xr_runs.proofs.OpCalls.{same_request}
 
 -- ---- the gate
 
@@ -50,6 +45,15 @@ gated_one came went who a before behind n above within =
 
 -- ---- one op
 
+-- a wait that begins twice at a clock begins there
+pub begun_twice : (clock : ℤ) (what : Call) → with_start clock (with_start clock what) ≡ with_start clock what
+begun_twice clock (ask.WaitImage chain timeout start) = refl
+begun_twice clock _ = refl
+
+-- the call of an op, once its wait begins at this clock
+pub begun_call : (clock t : ℤ) (names : List ℕ) (o : Op) (made begun : Call) → begun ≡ with_start t made → t ≡ clock → made ≡ request_for names o → begun ≡ with_start clock (request_for names o)
+begun_call clock t names o made begun is at asks = is ∙ ap (λ (z : ℤ). with_start z made) at ∙ ap (with_start clock) asks
+
 op_stays : (clock : ℤ) (values : List ℕ) (o : Op) → is_leave (with_start clock (request_for values o)) ≡ false
 op_stays clock values (op.CreateInstance major minor) = refl
 op_stays clock values _ = refl
@@ -67,11 +71,10 @@ module _ (table : TableId) (place : ℕ) (o : Op) (old new : AppPass) (names lea
     lists = lists;
   }
 
-  pub op_listed : (text : List ℕ) (made : Made) → asked.text ≡ Some text → made ≡ record { op = place; name = call_name o; mark = op_mark o; start = op_start old.clock o; reply = asked.reply; text = text } → MadeOp table place o old new names learned (Some made)
+  pub op_listed : (text : List ℕ) (made : Made) → asked.text ≡ Some text → made ≡ listed_as (with_start old.clock (request_for names o)) place asked.reply text → MadeOp table place o old new names learned (Some made)
   op_listed text made some same =
-      let what : Call = with_start old.clock (request_for names o) in
       let wrote : text ≡ a.exchange.outcome.text = subst (λ (t : Option (List ℕ)). IfSome t (λ u. u ≡ a.exchange.outcome.text)) some a.writes in
-      op_made (Some made) (same ∙ sym (rw (a.asks, name_is old.clock names o, mark_is old.clock names o, start_is old.clock names o, a.replies, ← wrote) refl))
+      op_made (Some made) (same ∙ sym (rw (a.asks, a.replies, ← wrote) refl))
 
 -- ---- some ops
 
@@ -191,7 +194,7 @@ module _ (table : TableId) (ops : List Op) (old mid new : AppPass) (listed : Opt
   pub ran_short : (short : NoMemory) → RanScript table ops old new (Err short)
   ran_short short = ran_with (Err short) (s.count, follows_leave 1 (no_values (length ops)) (take s.count ops) s.calls s.values c.exchange s.made.leads c.asks)
 
-  pub ran_whole : (list : List Made) (last : Made) → listed ≡ Some list → last ≡ record { op = length ops + 1; name = Leave; mark = 0; start = pos 0; reply = reply; text = [] } → RanScript table ops old new (Ok (list ++ last ∷ []))
+  pub ran_whole : (list : List Made) (last : Made) → listed ≡ Some list → last ≡ listed_as ask.Leave (length ops + 1) reply [] → RanScript table ops old new (Ok (list ++ last ∷ []))
   ran_whole list last some is =
       let all = subst (λ (o : Option (List Made)). IfSome o (λ l. (s.count ≡ length ops) × (l ≡ made_from 1 s.calls))) some s.all in
       let whole : take s.count ops ≡ ops = ap (λ (n : ℕ). take n ops) all.0 ∙ take_all (length ops) ops (omega arith) in

@@ -24,9 +24,9 @@ use Rattle.xr_runtime.specs.declared.passes.AppPass.{AppPass}
 use Rattle.xr_runtime.specs.declared.passes.CompositorPass.{CompositorPass}
 use Rattle.xr_runtime.specs.declared.passes.DevicePass.{DevicePass}
 use Rattle.xr_runtime.specs.Passes.{IsApp, IsCompositor, IsDevice}
-use Rattle.xr_serial.specs.Ran.{Gave, FailsBehind, AreSound, IsEnd}
 use Rattle.xr_workers.specs.declared.compositor.Composed.{Composed}
 use Rattle.xr_workers.specs.declared.device.DeviceMade.{DeviceMade}
+use Rattle.xr_runs.specs.Runs.{Gave, FailsBehind, AreSound, IsEnd}
 
 -- of its own calls a pass has these more
 abbrev pub Adds : Know → Know → List Exchange → Type 0

@@ -12,7 +12,7 @@ use crate::gate::Gate;
 use crate::script::make_ops;
 use std::sync::Wait;
 use xr_runtime::AppPass;
-use xr_types::{Actor, Bytes, CallName, Made, MadeList, NoMemory, Op, Reply};
+use xr_types::{Actor, Bytes, Call, MadeList, NoMemory, Op, Reply};
 
 /// An application: its number, from 1, and its script.
 #[derive(Clone, Copy)]
@@ -56,15 +56,9 @@ pub fn run_script<R: Wait, G: Gate>(
     let Some(mut list) = made else {
         return Err(NoMemory);
     };
-    let last = Made {
-        op: script.ops.len() as u32 + 1,
-        name: CallName::Leave,
-        mark: 0,
-        start: 0,
-        reply,
-        text: Bytes::new(Vec::new(context.alloc)),
-    };
-    let Ok(()) = list.push(last) else {
+    let place = script.ops.len() as u32 + 1;
+    let text = Bytes::new(Vec::new(context.alloc));
+    let Ok(()) = list.push(Call::Leave.listed(place, reply, text)) else {
         return Err(NoMemory);
     };
     Ok(MadeList::new(list))

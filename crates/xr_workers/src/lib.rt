@@ -1,9 +1,8 @@
-//! The workers of a run on threads: an actor's calls by its pass, listed in the order in which they are made. A worker knows its
-//! actor's script or device and the runtime, and neither threads nor other workers.
+//! The workers of a run on threads: an actor's calls by its pass, listed in the order in which they are made, and the gate
+//! that is called round each call. A worker knows its actor's script or device and the runtime, and neither threads nor other workers.
 #![tactic(auto)]
 
 mod app;
-mod calls;
 mod compositor;
 mod context;
 mod device;

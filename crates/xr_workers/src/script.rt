@@ -2,25 +2,22 @@
 ghost use Rattle.std.specs.Prelude.{◌≡◌, ◌+◌, ◌≤◌, ◌<◌, ◌^◌, false, IfOk, length, option_map};
 ghost use Rattle.xr_types.specs.declared.calls.Actor.TheVariants.{App};
 ghost use Rattle.xr_model.specs.runs.NameValues.{no_values};
-ghost use Rattle.xr_model.specs.runs.Robin.{with_start};
-ghost use Rattle.xr_model.specs.runs.Scripts.{request_for};
+ghost use Rattle.xr_types.specs.CallKinds.{lent_size, with_start};
+ghost use Rattle.xr_model.specs.machine.CoreCalls.{MayAsk};
 ghost use Rattle.xr_model.specs.scenario.ScriptForm.{IsInRange, IsInForm};
 ghost use Rattle.xr_runtime.specs.Passes.{table_of, IsApp, MayCall};
 ghost use Rattle.xr_workers.specs.Workers.{IsGated};
 ghost use Rattle.xr_workers.specs.inside.Made.{AskedBy};
 ghost use Rattle.xr_workers.specs.inside.Script.{MadeOp, MadeSome};
 
-use crate::calls::make_call;
 use crate::context::Context;
 use crate::gate::Gate;
 use std::alloc::Global;
 use std::sync::Wait;
+use xr_runs::MOST_LENT;
 use xr_runtime::AppPass;
-use xr_scenario_calls::{Names, Scratch, call_of, op_mark, op_start};
-use xr_types::{Actor, Bytes, MOST_CAPACITY, Made, NoMemory, Op, Reply};
-
-/// How many bytes a call of a script is lent at most: the largest `capacity` of the format.
-const MOST_LENT: usize = MOST_CAPACITY as usize;
+use xr_scenario_calls::{Names, Scratch, call_of};
+use xr_types::{Actor, Bytes, Call, Made, NoMemory, Op, Reply};
 
 /// A script on its way: what its names stand for, and the room where the lists of a call and the bytes that it is lent stand.
 #[derive(Drop)]
@@ -73,44 +70,35 @@ impl Script {
             scratch,
             buffer,
         } = self;
-        let start = op_start(pass.clock(), op);
-        let answered = ask(context, app, op, names, scratch, buffer, pass);
+        let mut call = call_of(op, names, scratch);
+        call.begin_wait(pass.clock());
+        let answered = ask(context, app, &call, buffer, pass);
         let reply = answered.reply;
         names.learn(place, op, &reply);
         let text = answered.text?;
-        Some(Made {
-            op: place,
-            name: op.name(),
-            mark: op_mark(op),
-            start,
-            reply,
-            text,
-        })
+        Some(call.listed(place, reply, text))
     }
 }
 
-/// Makes the call of an op, which is lent the front of a buffer, and copies what it wrote.
+/// Makes a call, which is lent the front of a buffer, and copies what it wrote.
 fn ask<R: Wait, G: Gate>(
     context: &Context<'_, R, G>,
     app: u8,
-    op: &Op,
-    names: &Names,
-    scratch: &mut Scratch,
+    call: &Call<'_>,
     buffer: &mut [u8],
     pass: &mut AppPass,
 ) -> Asked
     requires may { MayCall (table_of context.now.runtime.now) pass.old }
     requires own { pass.old.app ≡ app }
-    requires ranged { IsInRange op.now }
-    requires size { MOST_LENT ≤ length buffer.old }
-    ensures made { AskedBy (table_of context.now.runtime.now) pass.old (with_start pass.old.clock (request_for names.now op.now)) result pass.new }
+    requires asks { MayAsk (App pass.old.app) call.now (lent_size call.now) }
+    requires size { lent_size call.now ≤ length buffer.old }
+    ensures made { AskedBy (table_of context.now.runtime.now) pass.old (with_start pass.old.clock call.now) result pass.new }
     ensures gated { IsGated (G.came context.now.gate.now) (G.went context.now.gate.now) (App app) pass.old.calls (pass.old.calls + 1) }
 {
     let number = pass.calls() + 1;
-    let call = call_of(op, names, scratch);
     let lent = &mut buffer[..call.lent_size() as usize];
     context.gate.before(Actor::App(app), number);
-    let reply = make_call(context.rt, context.runtime, pass, &call, lent);
+    let reply = context.runtime.call(context.rt, pass, call, lent);
     context.gate.after(Actor::App(app), number);
     let written = reply.gives.written_size(lent.len() as u64) as usize;
     let text = match Bytes::from_slice(context.alloc, &lent[..written]) {

@@ -1,6 +1,5 @@
-//! `xrsim` runs a scenario of OpenXR calls on the written machine, beside a device if one is named, and prints
-//! its report. The top calls are `xr_drive`'s and, on threads, `xr_drive_threads`', over any files and output, and so is what a
-//! program does with a status. This file makes the real ones; `help` has what the program says of itself.
+//! `xrsim` runs a scenario of OpenXR calls on the written machine, beside a device if one is named, and prints its report, by the
+//! top calls of `xr_drive` and `xr_drive_threads` with real files and output. `help` has what the program says of itself.
 #![tactic(auto)]
 
 mod help;

@@ -1,9 +1,10 @@
--- What changes sessions.
-use Rattle.std.specs.Prelude.{◌==◌, ℕ, ◌∷◌, List, [], Option, Some, None}
+-- What changes sessions, and what is left of inputs and spaces where actions are gone.
+use Rattle.std.specs.Prelude.{◌==◌, ℕ, Bool, ◌∷◌, List, [], Option, Some, None, if◌then◌else◌}
 use Rattle.std.specs.List.{position_from}
 use Rattle.xr_types.specs.declared.code.Code.{Code}
 use Rattle.xr_types.specs.declared.device.Wish.{Wish}
 use Rattle.xr_types.specs.declared.session.SessionState.{SessionState}
+use Rattle.xr_model.specs.machine.Destroyed.{has_action}
 use Rattle.xr_model.specs.machine.Frames.{reset_loop}
 use Rattle.xr_model.specs.machine.Refusals.{Refusal, first_of, unless}
 use Rattle.xr_types.specs.declared.calls.Call.{Call}
@@ -11,7 +12,9 @@ use Rattle.xr_types.specs.declared.calls.Call.TheVariants as ask
 use Rattle.xr_model.specs.machine.SessionLife.{Life, Changed, unchanged, settled_session, losing_session, lost_session, is_lost, begin_checks, begun_session, end_checks, ended_session, exit_checks, exiting_session}
 use Rattle.xr_model.specs.machine.PartAnswers.{code_by}
 use Rattle.xr_model.specs.machine.LiveSessions.{Session, session_at}
+use Rattle.xr_model.specs.machine.Spaces.{left_spaces}
 use Rattle.xr_model.specs.machine.State.{CoreState}
+use Rattle.xr_model.specs.machine.Sync.{no_columns, left_columns}
 use Rattle.xr_model.specs.machine.Rules.Session.{life_of, with_change, with_loop}
 use Rattle.xr_core.specs.declared.sessions.Change.{Change}
 use Rattle.xr_core.specs.declared.sessions.Change.TheVariants.{Settle, Loss, Lost}
@@ -69,6 +72,13 @@ with_period s RequestExit = s
 abbrev pub ordinal_in : Option Session → ℕ
 ordinal_in None = 0
 ordinal_in (Some x) = x.ordinal
+
+-- what actions show, and what spaces move with, is gone where no action stands; what they show is gone altogether where that is so
+abbrev pub with_places_left : Bool → CoreState → CoreState
+with_places_left all s = record s {
+  columns = if all then no_columns else left_columns (has_action s.handles.actions) s.columns;
+  spaces = left_spaces (has_action s.handles.actions) s.spaces;
+}
 
 -- where a session stands, from 0
 abbrev pub place_at : List Session → ℕ → Option ℕ

@@ -1,5 +1,5 @@
 -- What the method of one call says: how the parts decide it, before it is counted.
-use Rattle.std.specs.Prelude.{◌≡◌, ◌||◌, ◌&&◌, ℕ, Bool, List, true, false, not, is_some, length, None, Result, Ok, Err}
+use Rattle.std.specs.Prelude.{◌≡◌, ◌<◌, ◌^◌, ◌||◌, ◌&&◌, ℕ, Bool, List, true, false, not, is_some, length, None, Result, Ok, Err}
 use Rattle.xr_types.specs.Code.{is_success, is_out_of_memory}
 use Rattle.xr_types.specs.declared.calls.Actor.{Actor}
 use Rattle.xr_types.specs.declared.calls.Gives.{Gives}
@@ -13,7 +13,7 @@ use Rattle.xr_types.specs.declared.frames.Shown.{Shown}
 use Rattle.xr_model.specs.machine.CellCalls.{CellCall, MayCall, Leads}
 use Rattle.xr_model.specs.machine.CoreCalls.{Lent, left_in, given_by}
 use Rattle.xr_model.specs.machine.Machine.{rule_of, cell_calls, held_after, IsGiven}
-use Rattle.xr_model.specs.machine.OverCells.{World, entry_by, did_by}
+use Rattle.xr_model.specs.machine.OverCells.{World, world, entry_by, did_by}
 use Rattle.xr_model.specs.machine.Refusals.{first_of}
 use Rattle.xr_types.specs.declared.calls.Call.{Call}
 use Rattle.xr_model.specs.machine.Rule.{Rule, refusals, carried_out}
@@ -21,6 +21,12 @@ use Rattle.xr_model.specs.machine.State.{CoreState, CellReads}
 use Rattle.xr_types.specs.declared.calls.Reply.{Reply}
 use Rattle.xr_core.specs.declared.halt.Halt.{Halt}
 use Rattle.xr_core.specs.declared.halt.Halt.TheVariants.{Refused, NotReady}
+
+-- No count has come to its end: how many handles were given, how many sessions were created, and how many frames were ended.
+pub record CountsFit (s : CoreState) : Type 0 where
+  pub given : length s.handles.given < 2 ^ 44
+  pub created : s.created < 2 ^ 44
+  pub ended : s.ended < 2 ^ 44
 
 -- A call comes to this by its rule, which is told the handle that is given: it doesn't have to wait, a new handle is given
 -- exactly by a successful creation, memory is short only where the call takes some and nothing else refuses it, and what is
@@ -79,6 +85,10 @@ pub record DecidesAlong {C : Type 0} (does : C → CellCall → C → Type 0) (o
   pub cells : Leads does old.cells (cell_calls old.core.kept reads (entry_by who what (step_of result))) new.cells
   pub decides : DecidesTold reads who old.core.kept what new.core.kept result old.lent new.lent
   pub holds : new.core.held ≡ held_after old.core.held (did_by old.core.kept reads who what (step_of result))
+
+-- what the parts keep and the images that are held, beside cells, where a call is lent this buffer and this place for a frame
+abbrev pub kept_world : {C : Type 0} → CoreState → List Image → C → List ℕ → Shown → World C
+kept_world kept held = world (record { kept = kept; held = held })
 
 -- of a call that leaves what it is lent and what is held
 abbrev pub DecidesCells : {C : Type 0} → (C → CellCall → C → Type 0) → CoreState → Call → CoreState → Result Reply Halt → C → C → Type 0

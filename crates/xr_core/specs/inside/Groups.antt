@@ -2,6 +2,8 @@
 use Rattle.xr_types.specs.declared.calls.Call.{Call}
 use Rattle.xr_types.specs.declared.calls.Call.TheVariants as ask
 
+-- rows: the groups
+
 abbrev pub IsInstanceCall : Call → Type 0
 IsInstanceCall (ask.CreateInstance major minor) = Unit {0}
 IsInstanceCall (ask.GetSystem instance form) = Unit {0}
@@ -21,7 +23,7 @@ IsSessionCall (ask.RequestExitSession session) = Unit {0}
 IsSessionCall _ = ⊥
 
 abbrev pub IsSpaceCall : Call → Type 0
-IsSpaceCall (ask.CreateReferenceSpace session what offset) = Unit {0}
+IsSpaceCall (ask.CreateReferenceSpace session kind offset) = Unit {0}
 IsSpaceCall (ask.CreateActionSpace session action sub offset) = Unit {0}
 IsSpaceCall (ask.DestroySpace space) = Unit {0}
 IsSpaceCall (ask.LocateSpace space base time) = Unit {0}
@@ -64,3 +66,5 @@ IsOwnCall (ask.Mark number value) = Unit {0}
 IsOwnCall (ask.AwaitMark number) = Unit {0}
 IsOwnCall ask.Leave = Unit {0}
 IsOwnCall _ = ⊥
+
+-- rows: end

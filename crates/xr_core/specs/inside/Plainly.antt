@@ -2,8 +2,7 @@
 use Rattle.std.specs.Prelude.{◌≤◌, length}
 use Rattle.xr_model.specs.machine.PlainImages.{PlainImages}
 use Rattle.xr_model.specs.machine.State.{WholeCore}
-use Rattle.xr_model.proofs.CellCounts.{AreCounted}
-use Rattle.xr_model.proofs.SoundImages.{IsSound}
+use Rattle.xr_model.specs.laws.Soundness.{AreCounted, IsSound}
 
 -- The swapchains, frames and images are sound; no more frames are pending than calls were made; and the counts of images are
 -- those of the frames.

@@ -47,7 +47,7 @@ impl Parts {
     /// Suggests what bindings came to for a profile, where memory is found; nothing else refuses them.
     fn suggest(&mut self, alloc: Global, profile: Profile, bound: &[Bound]) -> Code
         requires sources { list_all is_source bound.now ≡ true }
-        ensures kept { self.new ≡ record self.old { suggestions = unless (first_of (suggest_refusals bound.now (is_out_of_memory result))) self.old.suggestions (with_suggestions self.old.suggestions profile bound.now) } }
+        ensures state { self.new ≡ record self.old { suggestions = unless (first_of (suggest_refusals bound.now (is_out_of_memory result))) self.old.suggestions (with_suggestions self.old.suggestions profile bound.now) } }
         ensures code { result ≡ code_by (first_of (suggest_refusals bound.now (is_out_of_memory result))) }
     {
         self.bindings.suggest(alloc, profile, bound)

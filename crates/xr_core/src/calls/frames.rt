@@ -94,9 +94,9 @@ impl Parts {
     /// Waits for a frame with this advice on rendering, or says by nothing that the call has to wait.
     fn wait(&mut self, render: bool) -> Option<FrameState>
         ensures waits { result ≡ None → (is_frame_held_back self.old.frames ≡ true) × (self.new ≡ self.old) }
-        ensures waited { IfSome result (λ state. (is_frame_held_back self.old.frames ≡ false)
-            × (state ≡ record { time = next_time self.old; period = self.old.device.period; render = render })
-            × (self.new ≡ with_loop self.old (waited_loop self.old.frames.frame_loop (next_time self.old)))) }
+        ensures free { IfSome result (λ state. is_frame_held_back self.old.frames ≡ false) }
+        ensures predicts { IfSome result (λ state. state ≡ record { time = next_time self.old; period = self.old.device.period; render = render }) }
+        ensures waited { IfSome result (λ state. self.new ≡ with_loop self.old (waited_loop self.old.frames.frame_loop (next_time self.old))) }
     {
         let device = &self.device;
         self.frames
@@ -126,7 +126,7 @@ impl Parts {
     /// Begins the frame that is waited for. A discarded frame is told as that, and a plain success is answered so.
     fn begin(&mut self, success: Code) -> Result<Code, Code>
         ensures code { result ≡ (if self.old.frames.frame_loop.has_waited then Ok (if self.old.frames.frame_loop.has_begun then Code.FrameDiscarded else success) else Err Code.CallOrderInvalid) }
-        ensures kept { self.new ≡ (if self.old.frames.frame_loop.has_waited then with_loop self.old (begun_loop self.old.frames.frame_loop) else self.old) }
+        ensures state { self.new ≡ (if self.old.frames.frame_loop.has_waited then with_loop self.old (begun_loop self.old.frames.frame_loop) else self.old) }
     {
         match self.frames.begin() {
             Code::Success => Ok(success),
@@ -262,7 +262,7 @@ impl Parts {
     /// Takes the frame that is pending longest, where one is.
     pub(crate) fn take(&mut self) -> Option<Frame>
         ensures frame { result ≡ slice_get self.old.frames.pending 0 }
-        ensures kept { self.new ≡ with_frame_taken self.old }
+        ensures state { self.new ≡ with_frame_taken self.old }
     {
         let frame = self.frames.pop()?;
         keep_images(&mut self.shown, frame.images.as_slice());

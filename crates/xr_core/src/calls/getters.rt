@@ -1,17 +1,10 @@
 // The getters of input (OpenXR 1.0 chapter 11, xrGetActionStateBoolean, xrGetActionStateFloat, xrGetActionStateVector2f and
 // xrGetActionStatePose). They change nothing.
-ghost use Rattle.std.specs.Prelude.{◌≡◌, option_map, option_and_then, unwrap_or, slice_get};
+ghost use Rattle.std.specs.Prelude.{◌≡◌};
 ghost use Rattle.std.specs.Option.{option_copied};
-ghost use Rattle.xr_types.specs.declared.handles.Kind.TheVariants as kind;
-ghost use Rattle.xr_model.specs.machine.HandlePlaces.{place_among};
-ghost use Rattle.xr_model.specs.machine.PartAnswers.{or_refused};
-ghost use Rattle.xr_model.specs.machine.Publication.{publication_of, published_at, getter_gives, is_same_type, shown_by, shown_of};
-ghost use Rattle.xr_model.specs.machine.Refusals.{first_of};
-ghost use Rattle.xr_model.specs.machine.Rule.{refusals};
-ghost use Rattle.xr_model.specs.machine.Rules.Sync.{getter_rule};
-ghost use Rattle.xr_model.specs.machine.SessionRule.{code_on};
+ghost use Rattle.xr_model.specs.machine.Publication.{is_same_type, shown_by, shown_of};
 ghost use Rattle.xr_core.specs.inside.Deciding.{Decides};
-ghost use Rattle.xr_core.specs.inside.Getters.{named_first, DecidesGetter};
+ghost use Rattle.xr_core.specs.inside.Getters.{named_first, shown_at, getter_reads, DecidesGetter};
 ghost use Rattle.xr_core.specs.inside.Groups.{IsGetter};
 
 use crate::halt::{Halt, giving};
@@ -124,7 +117,7 @@ impl Parts {
 
     /// What a column of an action shows to a getter of this type, and nothing where the action has no such column.
     fn shown(&self, wanted: ActionType, action: u64, column: usize) -> Gives
-        ensures { result ≡ unwrap_or (option_map (λ c. shown_by wanted (shown_of c)) (option_and_then (λ place. option_and_then (λ row. slice_get row column) (slice_get self.now.columns place)) (place_among self.now.handles kind.Action action))) Gives.Nothing }
+        ensures { result ≡ shown_at self.now wanted action column }
     {
         let Some(place) = self.handles.place_among(Kind::Action, action) else {
             return Gives::Nothing;
@@ -146,7 +139,7 @@ impl Parts {
         action: u64,
         sub: u64,
     ) -> Result<(Code, Gives), Code>
-        ensures { result ≡ or_refused (first_of (refusals (getter_rule self.now wanted session action sub))) (code_on (publication_of self.now).loss Code.Success, getter_gives (publication_of self.now) wanted (published_at (publication_of self.now) action) sub) }
+        ensures { result ≡ getter_reads self.now wanted session action sub }
     {
         let Some(live) = self.published_session(session) else {
             return Err(Code::HandleInvalid);

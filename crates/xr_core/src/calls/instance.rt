@@ -56,7 +56,7 @@ impl Parts {
     fn new_instance(&mut self) -> u64
         requires given { length self.old.handles.given < 2 ^ 44 }
         requires room { has_room self.old.handles kind.Instance ≡ true }
-        ensures kept { self.new ≡ record self.old { handles = with_handle self.old.handles kind.Instance 0 result } }
+        ensures state { self.new ≡ record self.old { handles = with_handle self.old.handles kind.Instance 0 result } }
         ensures fresh { (result ≢ 0) × (was_given self.old.handles result ≡ false) }
     {
         give(&mut self.handles, Kind::Instance, 0)

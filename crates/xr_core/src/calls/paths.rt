@@ -57,7 +57,7 @@ impl Parts {
 
     /// Asks for the atom of a text.
     fn intern(&mut self, alloc: Global, text: &[u8]) -> Answer
-        ensures kept { self.new ≡ record self.old { atoms = unless (first_of (intern_refusals self.old.atoms text.now (is_out_of_memory result.code))) self.old.atoms (with_text self.old.atoms text.now) } }
+        ensures state { self.new ≡ record self.old { atoms = unless (first_of (intern_refusals self.old.atoms text.now (is_out_of_memory result.code))) self.old.atoms (with_text self.old.atoms text.now) } }
         ensures answer { result ≡ answer_by (first_of (intern_refusals self.old.atoms text.now (is_out_of_memory result.code))) (atom_of self.old.atoms text.now) }
         ensures memory { is_out_of_memory result.code ≡ true → may_want_memory self.old.atoms text.now ≡ true }
     {

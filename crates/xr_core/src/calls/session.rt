@@ -68,7 +68,7 @@ impl Parts {
         requires given { length self.old.handles.given < 2 ^ 44 }
         requires created { self.old.created < 2 ^ 44 }
         requires room { has_room self.old.handles kind.Session ≡ true }
-        ensures kept { self.new ≡ with_session self.old instance result (started_session self.old.device.wish) }
+        ensures state { self.new ≡ with_session self.old instance result (started_session self.old.device.wish) }
         ensures fresh { (result ≢ 0) × (was_given self.old.handles result ≡ false) }
     {
         let handle = give(&mut self.handles, Kind::Session, instance);
@@ -97,7 +97,7 @@ impl Parts {
     fn change_life_at(&mut self, session: u64, place: usize, call: LifeCall) -> Code
         requires found { place_at self.old.sessions session ≡ Some place }
         requires within { place < length self.old.sessions }
-        ensures kept { self.new ≡ changed_life self.old session call }
+        ensures state { self.new ≡ changed_life self.old session call }
         ensures code { result ≡ answer_to call (life_of self.old session) }
     {
         change_life(

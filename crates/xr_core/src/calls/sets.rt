@@ -11,6 +11,7 @@ ghost use Rattle.xr_model.specs.machine.Rule.{refusals};
 ghost use Rattle.xr_model.specs.machine.SessionRule.{loss_of, code_on};
 ghost use Rattle.xr_model.specs.machine.Rules.Session.{life_of};
 ghost use Rattle.xr_model.specs.machine.Rules.Sets.{with_action_set, with_new_action, with_attached_sets, declared_by, create_action_set_rule, create_action_rule, attach_sets_rule};
+ghost use Rattle.xr_sets.specs.NewActions.{new_action};
 ghost use Rattle.xr_core.specs.inside.Changes.{place_at};
 ghost use Rattle.xr_core.specs.inside.Deciding.{Decides};
 ghost use Rattle.xr_core.specs.inside.Groups.{IsSetCall};
@@ -115,7 +116,7 @@ impl Parts {
         requires given { length self.old.handles.given < 2 ^ 44 }
         requires checked { first_of (set_checks self.old.sets name.now localized.now) ≡ None }
         requires room { has_room self.old.handles kind.ActionSet ≡ true }
-        ensures kept { self.new ≡ with_action_set self.old instance result name.now localized.now priority }
+        ensures state { self.new ≡ with_action_set self.old instance result name.now localized.now priority }
         ensures fresh { (result ≢ 0) × (was_given self.old.handles result ≡ false) }
     {
         let handle = give(&mut self.handles, Kind::ActionSet, instance);
@@ -199,14 +200,7 @@ impl Parts {
         requires name { first_of (action_checks self.old.sets action.set action.name.now) ≡ None }
         requires label { first_of (action_label_checks self.old.sets action.set action.localized.now) ≡ None }
         requires room { has_room self.old.handles kind.Action ≡ true }
-        ensures kept { self.new ≡ with_new_action self.old result (record {
-          handle = result;
-          set = action.entry.set;
-          name = action.entry.name.now;
-          localized = action.entry.localized.now;
-          type = action.entry.kind;
-          declared = action.entry.declared;
-        }) }
+        ensures state { self.new ≡ with_new_action self.old result (new_action result action.entry.set action.entry.name.now action.entry.localized.now action.entry.kind action.entry.declared) }
         ensures fresh { (result ≢ 0) × (was_given self.old.handles result ≡ false) }
     {
         let handle = give(&mut self.handles, Kind::Action, action.set);

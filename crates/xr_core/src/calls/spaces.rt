@@ -88,7 +88,7 @@ impl Parts {
     fn add_space(&mut self, session: u64, root: Root, offset: u64) -> u64
         requires given { length self.old.handles.given < 2 ^ 44 }
         requires room { has_room self.old.handles Kind.Space ≡ true }
-        ensures kept { self.new ≡ with_new_space self.old session result root offset }
+        ensures state { self.new ≡ with_new_space self.old session result root offset }
         ensures fresh { (result ≢ 0) × (was_given self.old.handles result ≡ false) }
     {
         let handle = give(&mut self.handles, Kind::Space, session);

@@ -1,14 +1,15 @@
 -- What one step through a device text does.
-use Rattle.std.specs.Prelude.{◌≡◌, ℕ, ◌+◌, ◌==◌, ◌||◌, false, List, ◌++◌, length, Option, Result, IfOk, OnOk, OnErr}
+use Rattle.std.specs.Prelude.{◌≡◌, ◌≤◌, ◌<◌, ℕ, ◌+◌, ◌==◌, ◌||◌, false, List, ◌++◌, length, Option, Result, IfOk, OnOk, OnErr}
 use Rattle.std.specs.Io.KnownBytes.{Keeps, Consumes, IsAtEnd}
-use Rattle.xr_io.specs.Outside.{HasCause, SourceState, left_of, taken_with, given_by}
+use Rattle.xr_io.specs.Outside.{HasCause, Rose, SourceState, left_of, taken_with, given_by}
+use Rattle.xr_types.specs.declared.limits.TheConstants.{MOST_DEVICE}
 use Rattle.xr_model.specs.device_text.DeviceText.{DeviceStream}
 use Rattle.xr_device.specs.declared.Next.{Next}
 use Rattle.xr_device.specs.declared.Next.TheVariants as next
 use Rattle.xr_device.specs.declared.text.Step.{Step}
 use Rattle.xr_device.specs.declared.text.Step.TheVariants as step
-use Rattle.xr_device.specs.Answers.{Tells, OnFailed, UnlessFailed, given_with}
-use Rattle.xr_device.specs.Texts.{Reading, late_in, text_of, UsedLines, KeepsTold}
+use Rattle.xr_device.specs.Answers.{Tells, OnEvent, OnFailed, UnlessFailed, given_with}
+use Rattle.xr_device.specs.Texts.{Reading, late_in, text_of, told, steps_left, UsedLines, KeepsTold, IsUndecided}
 use Rattle.xr_device.specs.WholeLines.{GaveWholeLines}
 
 -- The next bytes of a source were put behind those that are held, as many as the result says; 0 is the end.
@@ -68,6 +69,36 @@ StaysInLines before after step = UsedLines before → OnMore step (UsedLines aft
 -- where a read failed, the events of all whole lines that were taken were given
 abbrev pub FailsBehindLines : Reading → Reading → Step → Type 0
 FailsBehindLines before after step = UsedLines before → OnStepFailed step (GaveWholeLines (text_of after) (after.used + length after.held) after.given)
+
+-- Both of them.
+pub record KeepsLines (before after : Reading) (step : Step) : Type 0 where
+  pub stays : StaysInLines before after step
+  pub fails : FailsBehindLines before after step
+
+-- Steps that give no answer are fewer than are left; bytes that were used stay so, and are no more than a text may have; an event
+-- uses some, and is one more that was given.
+pub record CountsOn (before after : Reading) (step : Step) : Type 0 where
+  pub fewer : OnGoing step (steps_left after < steps_left before)
+  pub used : before.used ≤ after.used
+  pub limit : after.used ≤ MOST_DEVICE
+  pub event : OnAnswer step (λ a. OnEvent a (λ e. before.used < after.used))
+  pub given : after.given ≡ given_behind step before.given
+
+-- The count of faults rises where the text can't be read on, and else stays.
+pub record CountsFaults (before after : ℕ) (step : Step) : Type 0 where
+  pub later : before ≤ after
+  pub cause : OnStepFailed step (Rose before after)
+  pub same : UnlessStepFailed step (after ≡ before)
+
+-- Where the text can't be read on, nothing that is to come was lost, and the held bytes decide no line.
+pub record LosesNothing (before after : Reading) (step : Step) : Type 0 where
+  pub whole : OnStepFailed step (KeepsTold (told before) (told after))
+  pub undecided : OnStepFailed step (IsUndecided after.used after.held)
+
+-- The held bytes decide no line, and the source may have more.
+pub record MayReadMore (at : Reading) : Type 0 where
+  pub undecided : IsUndecided at.used at.held
+  pub unended : at.ended ≡ false
 
 -- What is told stays, or the answer tells of it.
 abbrev pub Steps : Option DeviceStream → Option DeviceStream → Step → Type 0

@@ -18,6 +18,11 @@ KeptUnlessFailed before now (Ok x) = now ≡ before
 KeptUnlessFailed before now (Err Failed) = Unit {0}
 KeptUnlessFailed before now (Err NoMemory) = now ≡ before
 
+-- it is the same file, with the same bytes
+pub record IsSameFile (old new : SourceState) : Type 0 where
+  pub bytes : new.bytes ≡ old.bytes
+  pub which : new.which ≡ old.which
+
 -- the next bytes of a source were taken, at most so many, or none
 pub record TakesMore {T : Type 0} (most : ℕ) (old new : SourceState) (result : Result T Stop) : Type 0 where
   pub few : new.taken.count ≤ old.taken.count + most

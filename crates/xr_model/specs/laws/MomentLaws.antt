@@ -3,8 +3,7 @@ use Rattle.std.specs.Prelude.{◌≡◌, ◌+◌, ◌≤◌, ◌<◌, ◌==◌, 
 use Rattle.std.specs.List.{list_all}
 use Rattle.xr_types.specs.declared.calls.Actor.{Actor}
 use Rattle.xr_model.specs.machine.Calls.{Entry, is_actor}
-use Rattle.xr_types.specs.declared.calls.Call.{Call}
-use Rattle.xr_types.specs.declared.calls.Call.TheVariants as ask
+use Rattle.xr_types.specs.CallKinds.{is_leave}
 use Rattle.xr_model.specs.machine.State.{State}
 use Rattle.xr_model.specs.machine.Machine.{IsPresent, step}
 use Rattle.xr_model.specs.machine.History.{clock_of}
@@ -56,10 +55,6 @@ abbrev pub EntriesAreByActors : Type 0
 EntriesAreByActors = (apps : ℕ) (es : List Entry) → IsLegalAt (opening_moment apps) es → IsByActors apps es
 
 -- ---- what others' entries leave
-
-abbrev pub is_leave : Call → Bool
-is_leave ask.Leave = true
-is_leave _ = false
 
 -- this actor doesn't leave by these
 abbrev pub leaves_by_none : Actor → List Entry → Bool

@@ -2,10 +2,9 @@
 use Rattle.std.specs.Prelude.{◌≡◌, not, Bool, true, false, List, [], ◌∷◌, ◌++◌, Some}
 use Rattle.std.specs.List.{list_all}
 use Rattle.xr_types.specs.declared.calls.Actor.{Actor}
-use Rattle.xr_types.specs.CallKinds.{is_getter}
+use Rattle.xr_types.specs.CallKinds.{is_getter, publishes}
 use Rattle.xr_model.specs.machine.Calls.{Entry, is_actor}
 use Rattle.xr_model.specs.machine.Publication.{publication_of}
-use Rattle.xr_model.specs.machine.Publishing.{publishes}
 use Rattle.xr_model.specs.machine.Reads.{published_last, reads}
 use Rattle.xr_model.specs.machine.State.{Settings, State, opening}
 use Rattle.xr_model.specs.machine.Machine.{ready, step}

@@ -1,5 +1,5 @@
--- Suggested bindings (OpenXR 1.0 chapter 11, xrSuggestInteractionProfileBindings). How many may be suggested at once is this
--- project's own.
+-- What is suggested for each profile (OpenXR 1.0 chapter 11, xrSuggestInteractionProfileBindings). How many may be suggested at
+-- once is this project's own.
 use Rattle.std.specs.Prelude.{ℕ, ◌==◌, not, nat_le, List, [], ◌∷◌, ◌++◌, Bool, length, map, replicate, slice_get, slice_set, unwrap_or}
 use Rattle.std.specs.List.{filter}
 use Rattle.xr_types.specs.declared.code.Code.TheVariants.{ValidationFailure, LimitReached, OutOfMemory}

@@ -1,6 +1,6 @@
--- Swapchains and their images (OpenXR 1.0 chapter 10, "Swapchain Image Management"). Formats, sizes, places, the number of images
--- of a chain, that one image is waited for at a time, and that an image which is acquired again can't be shown, are this
--- project's own.
+-- Swapchains in their places: what is acquired, waited for and released, and what is left where one goes (OpenXR 1.0 chapter
+-- 10, "Swapchain Image Management"). Formats, sizes, places, the number of images of a chain, that one image is waited for at a
+-- time, and that an image which is acquired again can't be shown, are this project's own.
 use Rattle.std.specs.Prelude.{ℕ, ◌+◌, ◌%◌, ◌==◌, ◌&&◌, ◌||◌, not, Bool, true, false, List, [], ◌∷◌, ◌++◌, length, drop, replicate, nat_le, Option, Some, None, option_map, unwrap_or, if◌then◌else◌}
 use Rattle.std.specs.List.{find, list_any, position_from}
 use Rattle.xr_types.specs.declared.code.Code.TheVariants.{LimitReached, ValidationFailure, SwapchainFormatUnsupported}

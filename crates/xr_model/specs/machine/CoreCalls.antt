@@ -25,6 +25,10 @@ pub record Lent : Type 0 where
   pub text : List ℕ
   pub frame : Shown
 
+-- this buffer, and this place for a frame
+abbrev pub as_lent : List ℕ → Shown → Lent
+as_lent text frame = record { text = text; frame = frame }
+
 -- the place of a frame once this one is shown, or none
 abbrev pub shown_over : Option Shown → Shown → Shown
 shown_over None before = before
@@ -32,7 +36,7 @@ shown_over (Some frame) before = frame
 
 -- what was lent, once a call has written these bytes and shown this frame, or none
 abbrev pub left_in : List ℕ → Option Shown → Lent → Lent
-left_in bytes shown lent = record { text = written_over bytes lent.text; frame = shown_over shown lent.frame }
+left_in bytes shown before = record { text = written_over bytes before.text; frame = shown_over shown before.frame }
 
 -- the handle that a reply gives, or 0
 abbrev pub given_by : Gives → ℕ

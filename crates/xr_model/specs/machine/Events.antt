@@ -1,4 +1,4 @@
--- The queue of events (OpenXR 1.0 chapter 2, xrPollEvent). How many it holds, that a full queue drops its
+-- The queue of events, and what a poll tells of it (OpenXR 1.0 chapter 2, xrPollEvent). How many it holds, that a full queue drops its
 -- oldest event, and that the lost ones are told first is this project's own.
 use Rattle.std.specs.Prelude.{ℕ, ◌+◌, ◌-◌, ◌^◌, ◌==◌, nat_lt, min, List, [], ◌∷◌, ◌++◌, length, drop, Option, Some, None, if◌then◌else◌}
 use Rattle.xr_types.specs.declared.limits.TheConstants.{EVENTS}

@@ -1,4 +1,4 @@
--- Where a live handle stands, and below which parent.
+-- Where a live handle stands, and below which parent, for the contracts of parts.
 use Rattle.std.specs.Prelude.{ℕ, ◌==◌, List, slice_index_or, Option, Some, None, option_map, if◌then◌else◌}
 use Rattle.std.specs.List.{position_from, find}
 use Rattle.xr_types.specs.declared.handles.Kind.{Kind}

@@ -21,7 +21,7 @@ pub record Session : Type 0 where
 abbrev pub session_at : List Session → ℕ → Option Session
 session_at xs handle = find (λ x. x.handle == handle) xs
 
--- its life; where there is none, that of a session that was never created, which nothing tells
+-- its life; where there is none, that of no session, whose refusal comes first
 abbrev pub no_life : Life
 no_life = record { state = Idle; running = false; exit = false; lost = false }
 

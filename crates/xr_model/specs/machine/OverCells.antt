@@ -1,15 +1,16 @@
 -- What a core is asked and answers beside cells of any kind, of which no more is known than what each call on them does.
-use Rattle.std.specs.Prelude.{◌≡◌, ℕ, Bool, false, length}
+use Rattle.std.specs.Prelude.{◌≡◌, ℕ, Bool, false, List, length}
 use Rattle.xr_types.specs.declared.calls.Actor.{Actor}
 use Rattle.xr_types.specs.declared.calls.Call.{Call}
 use Rattle.xr_types.specs.declared.calls.Step.{Step}
 use Rattle.xr_types.specs.declared.calls.Step.TheVariants.{Done, NotReady}
+use Rattle.xr_types.specs.declared.frames.Shown.{Shown}
 use Rattle.xr_model.specs.machine.CellCalls.{CellCall, MayCall, Leads}
 use Rattle.xr_model.specs.machine.Calls.{Entry}
 use Rattle.xr_model.specs.machine.Rule.{Did, nothing_done}
 use Rattle.xr_model.specs.machine.State.{CoreState, CellReads, WholeCore}
 use Rattle.xr_model.specs.machine.Machine.{effect, cell_calls, held_after}
-use Rattle.xr_model.specs.machine.CoreCalls.{Lent, entry_of, CoreApplies}
+use Rattle.xr_model.specs.machine.CoreCalls.{Lent, as_lent, entry_of, CoreApplies}
 
 -- ---- what a call meets
 
@@ -18,6 +19,10 @@ pub record World (C : Type 0) : Type 0 where
   pub core : WholeCore
   pub cells : C
   pub lent : Lent
+
+-- a core beside cells, where a call is lent this buffer and this place for a frame
+abbrev pub world : {C : Type 0} → WholeCore → C → List ℕ → Shown → World C
+world core cells text frame = record { core = core; cells = cells; lent = as_lent text frame }
 
 -- the entry of a call by its answer; of one that has to wait, one that gives no handle and finds memory
 abbrev pub entry_by : Actor → Call → Step → Entry

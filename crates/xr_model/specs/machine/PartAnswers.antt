@@ -1,4 +1,4 @@
--- What a part of the core answers by its refusals.
+-- What a part of the core answers by its refusals, for the contracts of parts.
 use Rattle.std.specs.Prelude.{ℕ, Option, Some, None, Result, Ok, Err}
 use Rattle.xr_types.specs.declared.code.Code.{Code}
 use Rattle.xr_types.specs.declared.code.Code.TheVariants.{Success}

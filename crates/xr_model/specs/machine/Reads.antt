@@ -8,7 +8,7 @@ use Rattle.xr_model.specs.machine.Calls.{Entry, Outcome}
 use Rattle.xr_types.specs.declared.calls.Call.{Call}
 use Rattle.xr_types.specs.declared.calls.Call.TheVariants as ask
 use Rattle.xr_model.specs.machine.Publication.{Publication, PublishedAction, publication_of, published_at, getter_handles, getter_checks, getter_gives}
-use Rattle.xr_model.specs.machine.Publishing.{publishes}
+use Rattle.xr_types.specs.CallKinds.{publishes}
 use Rattle.xr_model.specs.machine.Refusals.{Refusal, first_of}
 use Rattle.xr_model.specs.machine.SessionRule.{code_on, losses}
 use Rattle.xr_model.specs.machine.State.{Settings, State, opening}

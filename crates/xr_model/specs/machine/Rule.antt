@@ -10,10 +10,9 @@ use Rattle.xr_types.specs.declared.frames.Image.{Image}
 use Rattle.xr_types.specs.declared.handles.Kind.{Kind}
 use Rattle.xr_types.specs.declared.frames.Shown.{Shown}
 use Rattle.xr_model.specs.machine.Images.{Stamped}
-use Rattle.xr_types.specs.CallKinds.{is_getter, is_locked}
+use Rattle.xr_types.specs.CallKinds.{is_getter, is_locked, publishes}
 use Rattle.xr_model.specs.machine.Calls.{Outcome}
 use Rattle.xr_types.specs.declared.calls.Call.{Call}
-use Rattle.xr_model.specs.machine.Publishing.{publishes}
 use Rattle.xr_model.specs.machine.Refusals.{Refusal, when, first_of}
 use Rattle.xr_model.specs.machine.SessionRule.{Loss, code_on, losses}
 use Rattle.xr_model.specs.machine.State.{CoreState}

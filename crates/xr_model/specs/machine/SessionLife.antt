@@ -1,5 +1,5 @@
--- The states of a session (OpenXR 1.0 chapter 9, "Session Lifecycle"). What a device's wish, a loss and a lost device do
--- to a session is this project's own.
+-- The states of a session, and the table of what leads from one to another (OpenXR 1.0 chapter 9, "Session Lifecycle"). What a
+-- device's wish, a loss and a lost device do to a session is this project's own.
 use Rattle.std.specs.Prelude.{zero, suc, ℕ, ◌==◌, ◌&&◌, ◌||◌, Bool, true, false, not, List, [], ◌∷◌, Option, Some, None, if◌then◌else◌}
 use Rattle.std.specs.List.{find}
 use Rattle.xr_types.specs.declared.code.Code.TheVariants.{SessionLost, SessionRunning, SessionNotRunning, SessionNotReady, SessionNotStopping, ViewConfigurationTypeUnsupported}

@@ -83,6 +83,7 @@ location_values _ = []
 
 -- the values of a call that succeeded, by its name
 abbrev pub success_values : CallName → Made → List ℕ
+-- rows: success_values
 success_values call.GetSystem m = number_values m.reply.gives
 success_values call.StringToPath m = number_values m.reply.gives
 success_values call.AcquireImage m = number_values m.reply.gives
@@ -95,6 +96,7 @@ success_values call.GetVector m = vector_values m.reply.gives
 success_values call.GetPoseActive m = active_values m.reply.gives
 success_values call.WaitFrame m = frame_values m.reply.gives
 success_values call.Await m = mark_values m.mark m.reply.gives
+-- rows: end
 success_values _ m = []
 
 -- the values of a call whose buffer was too small

@@ -1,5 +1,5 @@
 -- What a history made: each application's calls with their replies, the frames that were shown, and how the compositor ended.
-use Rattle.std.specs.Prelude.{zero, suc, ℕ, ℤ, pos, ◌+◌, List, [], ◌∷◌, ◌++◌, map, Option, Some, None, if◌then◌else◌}
+use Rattle.std.specs.Prelude.{zero, suc, ℕ, ◌+◌, List, [], ◌∷◌, ◌++◌, map, Option, Some, None, if◌then◌else◌}
 use Rattle.xr_types.specs.declared.calls.Actor.TheVariants.{App, Compositor, Device}
 use Rattle.xr_types.specs.declared.calls.Reply.{Reply}
 use Rattle.xr_types.specs.declared.made.Lists.{Lists}
@@ -7,9 +7,9 @@ use Rattle.xr_types.specs.declared.made.Made.{Made}
 use Rattle.xr_types.specs.declared.made.Waiting.{Waiting}
 use Rattle.xr_types.specs.declared.device.DeviceEvent.{DeviceEvent}
 use Rattle.xr_types.specs.declared.device.DeviceEvent.TheVariants as event
-use Rattle.xr_types.specs.declared.names.CallName.{CallName}
 use Rattle.xr_types.specs.declared.names.CallName.TheVariants as call
 use Rattle.xr_model.specs.machine.Calls.{Entry, Exchange}
+use Rattle.xr_types.specs.CallKinds.{listed_as, listed_name}
 use Rattle.xr_types.specs.declared.calls.Call.{Call}
 use Rattle.xr_types.specs.declared.calls.Call.TheVariants as ask
 use Rattle.xr_types.specs.declared.frames.Shown.{Shown}
@@ -18,63 +18,9 @@ use Rattle.xr_model.specs.machine.Machine.{step}
 use Rattle.xr_model.specs.machine.History.{shown_if, calls_of}
 use Rattle.xr_model.specs.runs.Robin.{Agenda, script, events, compositor, next_call, in_round, is_ended}
 
--- the name by which a call is listed
-abbrev pub listed_name : Call → CallName
-listed_name (ask.CreateInstance major minor) = call.CreateInstance
-listed_name (ask.DestroyInstance instance) = call.DestroyInstance
-listed_name (ask.GetSystem instance form) = call.GetSystem
-listed_name (ask.StringToPath instance text) = call.StringToPath
-listed_name (ask.PathToString instance path capacity) = call.PathToString
-listed_name (ask.PollEvent instance) = call.PollEvent
-listed_name (ask.CreateSession instance system) = call.CreateSession
-listed_name (ask.DestroySession session) = call.DestroySession
-listed_name (ask.BeginSession session view) = call.BeginSession
-listed_name (ask.EndSession session) = call.EndSession
-listed_name (ask.RequestExitSession session) = call.RequestExitSession
-listed_name (ask.CreateReferenceSpace session kind offset) = call.CreateReferenceSpace
-listed_name (ask.CreateActionSpace session action sub offset) = call.CreateActionSpace
-listed_name (ask.DestroySpace space) = call.DestroySpace
-listed_name (ask.LocateSpace space base time) = call.LocateSpace
-listed_name (ask.CreateActionSet instance name localized priority) = call.CreateActionSet
-listed_name (ask.DestroyActionSet set) = call.DestroyActionSet
-listed_name (ask.CreateAction set name kind subs localized) = call.CreateAction
-listed_name (ask.DestroyAction action) = call.DestroyAction
-listed_name (ask.SuggestBindings instance profile list) = call.SuggestBindings
-listed_name (ask.AttachSets session sets) = call.AttachSets
-listed_name (ask.SyncActions session active) = call.SyncActions
-listed_name (ask.GetBoolean session action sub) = call.GetBoolean
-listed_name (ask.GetFloat session action sub) = call.GetFloat
-listed_name (ask.GetVector session action sub) = call.GetVector
-listed_name (ask.GetPoseActive session action sub) = call.GetPoseActive
-listed_name (ask.CreateSwapchain session format width height fixed) = call.CreateSwapchain
-listed_name (ask.DestroySwapchain chain) = call.DestroySwapchain
-listed_name (ask.AcquireImage chain) = call.AcquireImage
-listed_name (ask.WaitImage chain timeout start) = call.WaitImage
-listed_name (ask.Paint chain stamp) = call.Paint
-listed_name (ask.ReleaseImage chain) = call.ReleaseImage
-listed_name (ask.WaitFrame session) = call.WaitFrame
-listed_name (ask.BeginFrame session) = call.BeginFrame
-listed_name (ask.EndFrame session time blend layers) = call.EndFrame
-listed_name (ask.Mark number value) = call.Mark
-listed_name (ask.AwaitMark number) = call.Await
-listed_name ask.Leave = call.Leave
-listed_name (ask.Device what) = call.Device
-listed_name ask.NextFrame = call.NextFrame
-listed_name ask.ImageDone = call.ImageDone
-
--- the mark that a call awaits, else 0
-abbrev pub mark_of : Call → ℕ
-mark_of (ask.AwaitMark number) = number
-mark_of _ = 0
-
--- when a wait for an image began, else 0
-abbrev pub start_of : Call → ℤ
-start_of (ask.WaitImage chain timeout start) = start
-start_of _ = pos 0
-
 -- a call at its place in the script
 abbrev pub made_at : ℕ → Exchange → Made
-made_at place t = record { op = place; name = listed_name t.call; mark = mark_of t.call; start = start_of t.call; reply = t.outcome.reply; text = t.outcome.text }
+made_at place t = listed_as t.call place t.outcome.reply t.outcome.text
 
 -- calls, from a place on
 abbrev pub made_from : ℕ → List Exchange → List Made

@@ -10,7 +10,7 @@ use Rattle.xr_types.specs.declared.calls.Gives.TheVariants.{Ended}
 use Rattle.xr_types.specs.declared.scenario.Op.{Op}
 use Rattle.xr_types.specs.declared.scenario.Scenario.{Scenario}
 use Rattle.xr_model.specs.device_text.DeviceText.{Ending, ends, garbled_at}
-use Rattle.xr_types.specs.CallKinds.{is_locked}
+use Rattle.xr_types.specs.CallKinds.{is_locked, with_start}
 use Rattle.xr_model.specs.machine.Calls.{Entry, Outcome, is_actor}
 use Rattle.xr_types.specs.declared.calls.Call.{Call}
 use Rattle.xr_types.specs.declared.calls.Call.TheVariants as ask
@@ -32,11 +32,6 @@ abbrev pub actor_of : Agenda → Actor
 actor_of (script app place ops values clock) = App app
 actor_of (events e es) = Device
 actor_of (compositor held) = Compositor
-
--- a wait for an image begins at this clock
-abbrev pub with_start : ℤ → Call → Call
-with_start clock (ask.WaitImage chain timeout start) = ask.WaitImage chain timeout clock
-with_start clock what = what
 
 -- the call that an actor makes next
 abbrev pub next_call : Agenda → Call

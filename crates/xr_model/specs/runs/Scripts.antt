@@ -10,6 +10,7 @@ use Rattle.xr_model.specs.runs.NameValues.{value_of, time_of, binding_for, activ
 -- What an op asks, with its names replaced by the values that earlier ops gave. The start of a wait for
 -- an image is not the script's to tell, and is 0 here.
 abbrev pub request_for : List ℕ → Op → Call
+-- rows: request_for
 request_for values (op.CreateInstance major minor) = ask.CreateInstance major minor
 request_for values (op.DestroyInstance instance) = ask.DestroyInstance (value_of values instance)
 request_for values (op.PollEvent instance) = ask.PollEvent (value_of values instance)
@@ -47,6 +48,8 @@ request_for values (op.WaitFrame session) = ask.WaitFrame (value_of values sessi
 request_for values (op.EndFrame session time blend layers) = ask.EndFrame (value_of values session) (time_of values time) blend (map (layer_for values) layers)
 request_for values (op.Mark number value) = ask.Mark number (value_of values value)
 request_for values (op.Await number) = ask.AwaitMark number
+
+-- rows: end
 
 -- a request without the start of a wait for an image
 abbrev pub unstarted : Call → Call

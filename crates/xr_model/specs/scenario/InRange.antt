@@ -86,6 +86,7 @@ IsLayer P (Quad space image pose) = IsHandle P space × IsSubImage P image × (p
 
 -- An op whose numbers, texts and lists are in range, and of whose places this is so.
 abbrev pub IsFormed : (Sort → ℕ → Type 0) → Op → Type 0
+-- rows: IsFormed
 IsFormed P (op.CreateInstance major minor) = (major ≤ most_u32) × (minor ≤ most_u32)
 IsFormed P (op.DestroyInstance instance) = IsHandle P instance
 IsFormed P (op.PollEvent instance) = IsHandle P instance
@@ -123,3 +124,5 @@ IsFormed P (op.WaitFrame session) = IsHandle P session
 IsFormed P (op.EndFrame session time blend layers) = IsHandle P session × IsTime P time × AreAtMost MOST_LISTED (IsLayer P) layers
 IsFormed P (op.Mark mark value) = IsMark mark × IsValue P mark value
 IsFormed P (op.Await mark) = IsMark mark
+
+-- rows: end

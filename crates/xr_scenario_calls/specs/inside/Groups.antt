@@ -2,6 +2,8 @@
 use Rattle.xr_types.specs.declared.scenario.Op.{Op}
 use Rattle.xr_types.specs.declared.scenario.Op.TheVariants as op
 
+-- rows: the groups
+
 -- an instance, its system, its paths or its events
 abbrev pub IsInstanceOp : Op → Type 0
 IsInstanceOp (op.CreateInstance major minor) = Unit {0}
@@ -64,3 +66,5 @@ IsFrameOp (op.WaitFrame session) = Unit {0}
 IsFrameOp (op.BeginFrame session) = Unit {0}
 IsFrameOp (op.EndFrame session time blend layers) = Unit {0}
 IsFrameOp _ = ⊥
+
+-- rows: end

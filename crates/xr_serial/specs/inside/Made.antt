@@ -13,7 +13,8 @@ use Rattle.xr_model.specs.machine.CoreCalls.{entry_of}
 use Rattle.xr_model.specs.machine.State.{State}
 use Rattle.xr_model.specs.machine.Machine.{IsAllowed, ready, step}
 use Rattle.xr_types.specs.declared.made.Made.{Made}
-use Rattle.xr_serial.specs.declared.calls.Listed.{Listed}
+use Rattle.xr_model.specs.runs.Lists.{made_at}
+use Rattle.xr_runs.specs.Sides.{exchange_of}
 
 -- An answered call: its entry is allowed and ready, and the outcome and the new state are the machine's.
 pub record IsAnswered (old new : State) (who : Actor) (what : Call) (outcome : Outcome) : Type 0 where
@@ -41,25 +42,21 @@ outcome_with what reply text frame = record { reply = reply; text = text; shown 
 
 -- ---- a call that its actor keeps
 
--- a call in a list, by what the list says of it and what it came to
-abbrev pub made_with : Listed → Outcome → Made
-made_with listed outcome = record { op = listed.op; name = listed.name; mark = listed.mark; start = listed.start; reply = outcome.reply; text = outcome.text }
-
--- It was made, and stands at the end of the list.
-pub record CallMade (old new : State) (who : Actor) (what : Call) (listed : Listed) (list after : List Made) : Type 0 where
+-- It was made, and stands at the end of the list as the call of the op at this place.
+pub record CallMade (old new : State) (who : Actor) (what : Call) (place : ℕ) (list after : List Made) : Type 0 where
   pub outcome : Outcome
   pub call : IsAnswered old new who what outcome
-  pub kept : after ≡ list ++ made_with listed outcome ∷ []
+  pub listed : after ≡ list ++ made_at place (exchange_of what outcome) ∷ []
 
 -- It has to wait, and all is as it was.
 pub record CallWaits (old new : State) (who : Actor) (what : Call) (list after : List Made) : Type 0 where
   pub waits : ready old (asked who what) ≡ false
   pub same : new ≡ old
-  pub kept : after ≡ list
+  pub unlisted : after ≡ list
 
-abbrev pub CallTurn : State → State → Actor → Call → Listed → List Made → List Made → Bool → Type 0
-CallTurn old new who what listed list after true = CallMade old new who what listed list after
-CallTurn old new who what listed list after false = CallWaits old new who what list after
+abbrev pub CallTurn : State → State → Actor → Call → ℕ → List Made → List Made → Bool → Type 0
+CallTurn old new who what place list after true = CallMade old new who what place list after
+CallTurn old new who what place list after false = CallWaits old new who what list after
 
 -- ---- a call of the compositor, which puts its frame into a place
 
@@ -67,10 +64,6 @@ CallTurn old new who what listed list after false = CallWaits old new who what l
 abbrev pub ComposedOrWaits : State → State → Call → Shown → Option Reply → Type 0
 ComposedOrWaits old new what frame (Some reply) = (text : List ℕ) × IsAnswered old new Compositor what (outcome_with what reply text frame)
 ComposedOrWaits old new what frame None = (new ≡ old) × (ready old (asked Compositor what) ≡ false)
-
--- a call and what it came to
-abbrev pub exchange_of : Call → Outcome → Exchange
-exchange_of what outcome = record { call = what; outcome = outcome }
 
 -- each actor's calls, once this actor has made one more
 abbrev pub calls_with : (Actor → List Exchange) → Actor → Exchange → Actor → List Exchange

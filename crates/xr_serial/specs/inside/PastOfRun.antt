@@ -8,8 +8,8 @@ use Rattle.xr_model.specs.machine.State.{State, opening}
 use Rattle.xr_model.specs.machine.History.{opening_clocks, IsLegalFrom, calls_from}
 use Rattle.xr_model.specs.runs.Robin.{Agenda, first_agendas, IsRobinFrom, agendas_left}
 use Rattle.xr_model.specs.runs.Lists.{done_from}
-use Rattle.xr_serial.specs.Ran.{settings_of}
 use Rattle.xr_serial.specs.inside.Turns.{from_turn, IsTurnOrder}
+use Rattle.xr_runs.specs.Runs.{settings_of}
 
 -- What was made: each actor's calls, the clock after each application's last locked one, and for each image that was given back
 -- how many locked calls came before it.

@@ -1,6 +1,6 @@
 -- What the loop of a run keeps from turn to turn.
-use Rattle.std.specs.Prelude.{◌≡◌, ◌≤◌, ◌<◌, ℕ, ◌+◌, ◌*◌, ◌-◌, Bool, true, false, List, [], ◌∷◌, ◌++◌, length, drop, map, Option, Some, None, IfSome, is_some, slice_index_or, if◌then◌else◌}
-use Rattle.std.specs.List.{list_any, sum_by}
+use Rattle.std.specs.Prelude.{◌≡◌, ◌≤◌, ◌<◌, ℕ, ◌+◌, ◌*◌, ◌-◌, Bool, true, false, List, [], ◌∷◌, ◌++◌, length, drop, map, Option, Some, None, is_some, slice_index_or, if◌then◌else◌}
+use Rattle.std.specs.List.{sum_by}
 use Rattle.xr_types.specs.declared.calls.Actor.{Actor}
 use Rattle.xr_types.specs.declared.calls.Actor.TheVariants.{App, Compositor, Device}
 use Rattle.xr_types.specs.declared.calls.Gives.TheVariants.{Ended}
@@ -12,23 +12,16 @@ use Rattle.xr_types.specs.declared.names.CallName.TheVariants as call
 use Rattle.xr_types.specs.declared.scenario.Op.{Op}
 use Rattle.xr_types.specs.declared.scenario.Scenario.{Scenario}
 use Rattle.xr_types.specs.Frames.{PendingFrame}
-use Rattle.xr_io.specs.Outside.{Rose}
 use Rattle.xr_model.specs.machine.Calls.{Outcome, Exchange}
 use Rattle.xr_types.specs.declared.calls.Call.TheVariants as ask
 use Rattle.xr_model.specs.machine.State.{State}
 use Rattle.xr_model.specs.runs.Scripts.{FollowsFrom, FollowsBy}
-use Rattle.xr_model.specs.device_text.DeviceText.{DeviceStream, Ending}
-use Rattle.xr_model.specs.runs.Robin.{last_event}
-use Rattle.xr_model.specs.report.RunEnding.{is_fault}
 use Rattle.xr_model.specs.runs.Lists.{made_from, frames_in, replies_in, events_in}
-use Rattle.xr_serial.specs.inside.Made.{exchange_of}
-use Rattle.xr_serial.specs.inside.RunState.{AppState, SideState, CompositorState, RunState}
+use Rattle.xr_serial.specs.inside.RunState.{AppState, CompositorState, RunState}
 use Rattle.xr_device.specs.Prospect.{Prospect}
-use Rattle.xr_device.specs.Answers.{GaveItsLines}
-use Rattle.xr_device.specs.Told.{IsChecked}
-use Rattle.xr_serial.specs.inside.Turns.{parts_of, pending_list}
+use Rattle.xr_serial.specs.inside.Turns.{parts_of}
 use Rattle.xr_serial.specs.inside.PastOfRun.{Trace, Standing}
-use Rattle.xr_serial.specs.Ran.{Gave, AreLineEvents, GoesOn}
+use Rattle.xr_runs.specs.Sides.{exchange_of, SideState, pending_list, DeviceKept, AllGoOn}
 
 -- ---- an application
 
@@ -50,45 +43,7 @@ pub record AppsKept (scripts : List (List Op)) (s : State) (apps : List AppState
 
 -- ---- the device
 
--- The device has given these events so far, and more may come, as it told at the start.
-abbrev pub GivesMore : Option DeviceStream → Option DeviceStream → List DeviceEvent → Type 0
-GivesMore None now given = Unit {0}
-GivesMore (Some t) None given = ⊥
-GivesMore (Some t) (Some rest) given = t ≡ record { events = given ++ rest.events; ending = rest.ending }
-
--- Nothing more comes behind these events, but what it does last by its ending.
-pub record GaveAll (told : Option DeviceStream) (given closing : List DeviceEvent) (before now : ℕ) : Type 0 where
-  pub ending : Option Ending
-  pub gave : Gave told (length given) given ending
-  pub last : closing ≡ last_event ending
-  pub fault : list_any is_fault closing ≡ true → Rose before now
-
-abbrev pub Came : Prospect → Prospect → List DeviceEvent → List DeviceEvent → Bool → Type 0
-Came start now given closing true = GaveAll start.remaining given closing start.faults now.faults
-Came start now given closing false = GivesMore start.remaining now.remaining given × (closing ≡ [])
-
--- its calls, and what it has told of which the call isn't made yet
-pub record DeviceKept (side : SideState) (calls : List Exchange) (start now : Prospect) : Type 0 where
-  pub given : List DeviceEvent
-  pub closing : List DeviceEvent
-  pub begun : given ++ closing ≡ events_in calls ++ pending_list side.pending
-  pub came : Came start now given closing side.over
-  pub counted : now.given ≡ start.given + length given
-  pub faultless : list_any is_fault given ≡ false
-  pub sound : AreLineEvents given
-  pub done : IfSome side.pending IsChecked
-  pub list_is : side.calls ≡ made_from 1 calls
-  pub events_are : side.events ≡ events_in calls
-  pub later : start.faults ≤ now.faults
-  pub unfailed : list_any is_fault closing ≡ false → now.faults ≡ start.faults
-  pub lines : list_any is_fault closing ≡ true → GaveItsLines now
-
 -- ---- the compositor
-
--- behind each of these calls it goes on
-abbrev pub AllGoOn : List Exchange → Type 0
-AllGoOn [] = Unit {0}
-AllGoOn (t ∷ ts) = GoesOn t × AllGoOn ts
 
 -- none of its calls was told the end, or the last was
 abbrev pub EndKept : Option Reply → List Exchange → Type 0

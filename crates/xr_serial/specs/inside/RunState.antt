@@ -1,9 +1,9 @@
 -- What a run keeps of each actor, as contracts see it.
 use Rattle.std.specs.Prelude.{ℕ, ℤ, Bool, List, Option}
 use Rattle.xr_types.specs.declared.calls.Reply.{Reply}
-use Rattle.xr_types.specs.declared.device.DeviceEvent.{DeviceEvent}
 use Rattle.xr_types.specs.declared.made.Made.{Made}
 use Rattle.xr_types.specs.declared.frames.Shown.{Shown}
+use Rattle.xr_runs.specs.Sides.{SideState}
 
 -- An application: how many ops of its script were made, what its names stand for, its calls, the clock after its last locked one, and
 -- whether it has left.
@@ -13,14 +13,6 @@ pub record AppState : Type 0 where
   pub calls : List Made
   pub clock : ℤ
   pub has_left : Bool
-
--- The device: its next event, where that is known, whether nothing more will come behind it, and the events whose calls
--- were made, with these.
-pub record SideState : Type 0 where
-  pub pending : Option DeviceEvent
-  pub over : Bool
-  pub events : List DeviceEvent
-  pub calls : List Made
 
 -- The compositor: the frames that it was shown with the replies of these calls, for each image that it gave back how many locked
 -- calls came before, and the reply that told it the end.

@@ -1,37 +1,36 @@
 -- What a turn of an application, the device or the compositor does.
-use Rattle.std.specs.Prelude.{◌≡◌, ◌<◌, ◌≤◌, ℕ, ℤ, pos, ◌+◌, Bool, true, false, List, [], ◌∷◌, ◌++◌, length, drop, Option, Some, None}
+use Rattle.std.specs.Prelude.{◌≡◌, ℕ, ℤ, pos, ◌+◌, Bool, true, false, List, [], ◌∷◌, ◌++◌, length, drop, map, Option, Some, None}
 use Rattle.xr_types.specs.declared.calls.Actor.TheVariants.{App, Compositor, Device}
 use Rattle.xr_types.specs.declared.device.DeviceEvent.{DeviceEvent}
 use Rattle.xr_types.specs.declared.calls.Reply.{Reply}
 use Rattle.xr_types.specs.declared.frames.Shown.{Shown}
 use Rattle.xr_types.specs.declared.scenario.Op.{Op}
-use Rattle.xr_types.specs.declared.scenario.Op.TheVariants as op
+use Rattle.xr_types.specs.declared.scenario.Scenario.{Scenario}
 use Rattle.xr_model.specs.machine.Calls.{Outcome, Exchange}
 use Rattle.xr_types.specs.declared.calls.Call.{Call}
 use Rattle.xr_types.specs.declared.calls.Call.TheVariants as ask
 use Rattle.xr_model.specs.machine.State.{State}
 use Rattle.xr_model.specs.machine.Frames.{is_empty}
 use Rattle.xr_model.specs.scenario.ScriptForm.{IsInRange}
-use Rattle.xr_model.specs.runs.Robin.{with_start, clock_behind}
+use Rattle.xr_model.specs.runs.Robin.{clock_behind}
+use Rattle.xr_types.specs.CallKinds.{with_start}
 use Rattle.xr_model.specs.machine.Machine.{ready}
 use Rattle.xr_model.specs.runs.NameValues.{with_name_value, no_values}
 use Rattle.xr_model.specs.runs.Scripts.{request_for}
 use Rattle.xr_model.specs.runs.Lists.{made_at}
-use Rattle.xr_types.specs.Op.{call_name}
-use Rattle.xr_scenario_calls.specs.Listed.{op_mark, op_start}
-use Rattle.xr_serial.specs.declared.calls.Listed.{Listed}
-use Rattle.xr_serial.specs.inside.Made.{IsAnswered, asked, exchange_of}
-use Rattle.xr_serial.specs.inside.RunState.{AppState, SideState, CompositorState}
+use Rattle.xr_serial.specs.inside.Made.{IsAnswered, asked}
+use Rattle.xr_serial.specs.inside.RunState.{AppState, CompositorState, RunState}
+use Rattle.xr_runs.specs.Sides.{exchange_of, SideState, side_with}
 
 -- ---- an application
-
--- what its list says of an op's call, at this place and with this clock
-abbrev pub listed_op : ℕ → ℤ → Op → Listed
-listed_op place clock o = record { op = place; name = call_name o; mark = op_mark o; start = op_start clock o }
 
 -- an application before its first call
 abbrev pub new_app : List Op → AppState
 new_app ops = record { made = 0; names = no_values (length ops); calls = []; clock = pos 0; has_left = false }
+
+-- a run before its first call
+abbrev pub first_run : Scenario → RunState
+first_run scenario = record { apps = map new_app scenario.scripts; side = record { pending = None; over = false; events = []; calls = [] }; compositor = record { frames = []; replies = []; done = []; ended = None } }
 
 -- once the call of its next op was made, which leaves this clock
 abbrev pub app_with : AppState → Op → Exchange → ℤ → AppState
@@ -79,14 +78,6 @@ pub record Leaves (number : ℕ) (old new : AppState) (s after : State) : Type 0
   pub app : new ≡ app_left old (exchange_of ask.Leave outcome) after.core.device.clock
 
 -- ---- the device
-
--- the device's side once it was asked
-abbrev pub side_asked : SideState → Option DeviceEvent → Bool → SideState
-side_asked side pending over = record side { pending = pending; over = over }
-
--- once the event's call was made
-abbrev pub side_with : SideState → DeviceEvent → Exchange → SideState
-side_with side event t = record side { pending = None; events = side.events ++ event ∷ []; calls = side.calls ++ made_at (length side.calls + 1) t ∷ [] }
 
 -- the event's call was made
 pub record EventMade (event : DeviceEvent) (old new : SideState) (s after : State) : Type 0 where

@@ -8,6 +8,7 @@ use Rattle.xr_types.specs.declared.scenario.Scenario.{Scenario}
 use Rattle.xr_model.specs.machine.State.{State}
 use Rattle.xr_model.specs.runs.Robin.{Agenda, script, compositor, device_agendas, is_next_ready}
 use Rattle.xr_serial.specs.inside.RunState.{AppState, RunState}
+use Rattle.xr_runs.specs.Sides.{pending_list}
 
 -- ---- what is left of each actor: its agenda, or nothing where it has finished
 
@@ -19,10 +20,6 @@ script_part number ops app = if app.has_left then [] else script number (app.mad
 abbrev pub script_parts : ℕ → List (List Op) → List AppState → List (List Agenda)
 script_parts number (ops ∷ scripts) (app ∷ apps) = script_part number ops app ∷ script_parts (number + 1) scripts apps
 script_parts number _ _ = []
-
-abbrev pub pending_list : Option DeviceEvent → List DeviceEvent
-pending_list None = []
-pending_list (Some e) = e ∷ []
 
 -- a device by its next event, where that is known, and those behind it
 abbrev pub device_part : Option DeviceEvent → List DeviceEvent → List Agenda

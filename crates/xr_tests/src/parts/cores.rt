@@ -2,7 +2,7 @@
 ghost use Rattle.std.specs.Prelude.{◌<◌, ◌^◌, IsTrue, length};
 ghost use Rattle.xr_types.specs.declared.calls.Actor.TheVariants.{App, Compositor, Device};
 ghost use Rattle.xr_model.specs.machine.CoreCalls.{MayAsk, MayMake};
-ghost use Rattle.xr_model.specs.machine.OverCells.{AppliesOver};
+ghost use Rattle.xr_model.specs.machine.OverCells.{AppliesOver, world};
 ghost use Rattle.xr_model.specs.machine.PlainImages.{PlainDoes};
 
 use super::cells::Lent;
@@ -25,7 +25,7 @@ fn apply_lent(
 ) -> Step
     requires calls { core.old.kept.locked < 2 ^ 44 }
     requires may { MayMake core.old.kept who call.now (length text.old) }
-    ensures { AppliesOver PlainDoes (record { core = core.old; cells = cells.old; lent = record { text = text.old; frame = shown.old } }) (record { core = core.new; cells = cells.new; lent = record { text = text.new; frame = shown.new } }) who call.now result }
+    ensures { AppliesOver PlainDoes (world core.old cells.old text.old shown.old) (world core.new cells.new text.new shown.new) who call.now result }
 {
     let mut lent = Lent::of(cells);
     core.apply(&mut lent, who, call, text, shown)

@@ -1,16 +1,15 @@
 // Paths and their texts.
 use crate::ends::Row;
 
-const ROWS: &[Row] = &[
-    Row {
-        name: "a path and its text",
-        words: &["serial", "scenario.json"],
-        scenario: r#"{"version":1,"scripts":[[
+const A_PATH_AND_ITS_TEXT: Row = Row {
+    name: "a path and its text",
+    words: &["serial", "scenario.json"],
+    scenario: r#"{"version":1,"scripts":[[
 {"op":"create_instance","major":1,"minor":0,"as":"i"},
 {"op":"string_to_path","instance":"i","text":"/user/hand/left","as":"p"},
 {"op":"string_to_path","instance":"i","text":"/user/hand/left"},
 {"op":"path_to_string","instance":"i","path":"p","capacity":16}]]}"#,
-        report: "\
+    report: "\
 xrsim report 1
 thread 1
 1 create_instance XR_SUCCESS
@@ -23,16 +22,14 @@ ended
 device
 status 0
 ",
-        ..Row::EMPTY
-    },
+    ..Row::EMPTY
+};
+
+const ROWS: &[Row] = &[
+    A_PATH_AND_ITS_TEXT,
     Row {
         name: "a path and its text, with places",
         words: &["serial", "scenario.json", "--places"],
-        scenario: r#"{"version":1,"scripts":[[
-{"op":"create_instance","major":1,"minor":0,"as":"i"},
-{"op":"string_to_path","instance":"i","text":"/user/hand/left","as":"p"},
-{"op":"string_to_path","instance":"i","text":"/user/hand/left"},
-{"op":"path_to_string","instance":"i","path":"p","capacity":16}]]}"#,
         report: "\
 xrsim report 1
 thread 1
@@ -46,41 +43,18 @@ ended @6
 device
 status 0
 ",
-        ..Row::EMPTY
+        ..A_PATH_AND_ITS_TEXT
     },
     Row {
         name: "a path and its text, on threads",
         words: &["threads", "scenario.json"],
         on_threads: true,
-        scenario: r#"{"version":1,"scripts":[[
-{"op":"create_instance","major":1,"minor":0,"as":"i"},
-{"op":"string_to_path","instance":"i","text":"/user/hand/left","as":"p"},
-{"op":"string_to_path","instance":"i","text":"/user/hand/left"},
-{"op":"path_to_string","instance":"i","path":"p","capacity":16}]]}"#,
-        report: "\
-xrsim report 1
-thread 1
-1 create_instance XR_SUCCESS
-2 string_to_path XR_SUCCESS 1
-3 string_to_path XR_SUCCESS 1
-4 path_to_string XR_SUCCESS 16 /user/hand/left
-5 leave XR_SUCCESS
-compositor
-ended
-device
-status 0
-",
-        ..Row::EMPTY
+        ..A_PATH_AND_ITS_TEXT
     },
     Row {
         name: "a path and its text, on threads and with places",
         words: &["threads", "scenario.json", "--places"],
         on_threads: true,
-        scenario: r#"{"version":1,"scripts":[[
-{"op":"create_instance","major":1,"minor":0,"as":"i"},
-{"op":"string_to_path","instance":"i","text":"/user/hand/left","as":"p"},
-{"op":"string_to_path","instance":"i","text":"/user/hand/left"},
-{"op":"path_to_string","instance":"i","path":"p","capacity":16}]]}"#,
         report: "\
 xrsim report 1
 thread 1
@@ -94,7 +68,7 @@ ended @6
 device
 status 0
 ",
-        ..Row::EMPTY
+        ..A_PATH_AND_ITS_TEXT
     },
     Row {
         name: "texts that are paths, and texts that are none",

@@ -1,5 +1,5 @@
 -- The workers of a run.
-use Rattle.std.specs.Prelude.{◌≡◌, ◌<◌, ◌+◌, ℕ, Bool, true, List, [], map, length, slice_index_or, IfSome, IsTrue, is_some, unwrap_or}
+use Rattle.std.specs.Prelude.{◌≡◌, ◌<◌, ◌+◌, ℕ, Bool, true, false, List, [], map, length, slice_index_or, IfSome, IsTrue, is_some, unwrap_or}
 use Rattle.std.specs.List.{list_all}
 use Rattle.atomic_table.specs.Seated.{TableId}
 use Rattle.xr_types.specs.declared.calls.Actor.{Actor}
@@ -11,7 +11,9 @@ use Rattle.xr_model.specs.runs.Lists.{made_from}
 use Rattle.xr_model.specs.runs.Scripts.{Follows}
 use Rattle.xr_rule.specs.View.{calls_in}
 use Rattle.xr_runtime.specs.declared.passes.AppPass.{AppPass}
-use Rattle.xr_runtime.specs.Passes.{IsApp, IsFirst}
+use Rattle.xr_runtime.specs.declared.passes.CompositorPass.{CompositorPass}
+use Rattle.xr_runtime.specs.declared.passes.DevicePass.{DevicePass}
+use Rattle.xr_runtime.specs.Passes.{IsApp, IsFirst, IsCompositor, IsDevice}
 use Rattle.xr_workers.specs.Workers.{IsGated}
 use Rattle.xr_threads.specs.declared.app.AppWorker.{AppWorker}
 
@@ -27,6 +29,18 @@ pub record MayWork (table : TableId) (scenario : Scenario) (place : ℕ) (w : Ap
   pub within : place < length scenario.scripts
   pub first : IsFirst table (place + 1) w.pass
 
+abbrev pub MayWorkAll : TableId → Scenario → List AppWorker → Type 0
+MayWorkAll table scenario ws = (i : ℕ) (d : AppWorker) → i < length ws → MayWork table scenario i (slice_index_or ws i d)
+
+-- All actors may begin: each has a pass that has made no call yet.
+pub record MayRun (table : TableId) (scenario : Scenario) (ws : List AppWorker) (frames : CompositorPass) (events : DevicePass) : Type 0 where
+  pub scripts : MayWorkAll table scenario ws
+  pub compositor : IsCompositor table frames
+  pub none_shown : (frames.ended ≡ false) × (frames.calls ≡ 0)
+  pub none_held : frames.held ≡ 0
+  pub device : IsDevice table events
+  pub none_told : events.calls ≡ 0
+
 -- It has run: its pass is still its application's, the gate was called round each of its calls, and where these are listed they are those
 -- of its script, and then `leave`.
 pub record HasWorked (came went : Actor → ℕ → Type 0) (table : TableId) (scenario : Scenario) (place : ℕ) (w : AppWorker) : Type 0 where
@@ -34,9 +48,6 @@ pub record HasWorked (came went : Actor → ℕ → Type 0) (table : TableId) (s
   pub app_is : w.pass.app ≡ place + 1
   pub gated : IsGated came went (App (place + 1)) 0 (length (calls_made w.pass))
   pub lists : IfSome w.listed (λ list. Follows (slice_index_or scenario.scripts place []) (calls_made w.pass) × (list ≡ made_from 1 (calls_made w.pass)))
-
-abbrev pub MayWorkAll : TableId → Scenario → List AppWorker → Type 0
-MayWorkAll table scenario ws = (i : ℕ) (d : AppWorker) → i < length ws → MayWork table scenario i (slice_index_or ws i d)
 
 abbrev pub HaveWorked : (Actor → ℕ → Type 0) → (Actor → ℕ → Type 0) → TableId → Scenario → List AppWorker → Type 0
 HaveWorked came went table scenario ws = (i : ℕ) (d : AppWorker) → i < length ws → HasWorked came went table scenario i (slice_index_or ws i d)

@@ -8,10 +8,10 @@ use Rattle.xr_model.specs.machine.Calls.{Exchange}
 use Rattle.xr_model.specs.runs.Lists.{frames_in, replies_in}
 use Rattle.xr_runtime.specs.declared.passes.CompositorPass.{CompositorPass}
 use Rattle.xr_runtime.specs.Passes.{IsCompositor}
-use Rattle.xr_serial.specs.inside.RunInvariant.{AllGoOn}
 use Rattle.xr_workers.specs.declared.compositor.Composed.{Composed}
 use Rattle.xr_workers.specs.declared.compositor.Frames.{Frames}
 use Rattle.xr_workers.specs.Workers.{Adds, turns_in}
+use Rattle.xr_runs.specs.Sides.{AllGoOn}
 
 -- the frames with this one more, or nothing
 abbrev pub KeepsFrame : Option Frames → Shown → Reply → Option Frames → Type 0

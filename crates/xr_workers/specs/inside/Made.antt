@@ -4,10 +4,9 @@ use Rattle.atomic_table.specs.Seated.{TableId}
 use Rattle.xr_types.specs.declared.calls.Reply.{Reply}
 use Rattle.xr_model.specs.machine.Calls.{Exchange}
 use Rattle.xr_types.specs.declared.calls.Call.{Call}
-use Rattle.xr_model.specs.laws.MomentLaws.{is_leave}
 use Rattle.xr_runtime.specs.declared.passes.AppPass.{AppPass}
 use Rattle.xr_runtime.specs.Passes.{IsApp}
-use Rattle.xr_types.specs.CallKinds.{lent_size, written_size}
+use Rattle.xr_types.specs.CallKinds.{lent_size, written_size, is_leave}
 use Rattle.xr_workers.specs.declared.script.Asked.{Asked}
 use Rattle.xr_workers.specs.Workers.{Adds}
 

@@ -11,10 +11,8 @@ use Rattle.xr_model.specs.machine.Calls.{Outcome, Exchange}
 use Rattle.xr_types.specs.declared.calls.Call.TheVariants as ask
 use Rattle.xr_runtime.specs.declared.passes.DevicePass.{DevicePass}
 use Rattle.xr_runtime.specs.Passes.{IsDevice}
-use Rattle.xr_serial.specs.inside.Made.{exchange_of}
-use Rattle.xr_serial.specs.inside.RunInvariant.{DeviceKept}
-use Rattle.xr_serial.specs.inside.RunState.{SideState}
 use Rattle.xr_workers.specs.Workers.{Adds}
+use Rattle.xr_runs.specs.Sides.{exchange_of, DeviceKept, SideState}
 
 -- The event's call is one more of the pass's own, it writes nothing, and the pass keeps its promise.
 pub record MadeEvent (table : TableId) (old : DevicePass) (event : DeviceEvent) (reply : Reply) (new : DevicePass) : Type 0 where

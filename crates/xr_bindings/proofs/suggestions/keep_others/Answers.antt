@@ -17,7 +17,7 @@ loop-next-preserved c =
       | goal.else-bound-action w ↦ rw (w.list-is, w.kept-is) (left_out _ at.invariant (omega arith) w.if-bound-action.false)
     ]
 
-pub returns-then-not-has-clause-kept : goal.returns-then-not-has-clause-kept
-returns-then-not-has-clause-kept c =
+pub returns-then-not-has-clause-list : goal.returns-then-not-has-clause-list
+returns-then-not-has-clause-list c =
     let none : list_any (λ (b : Bound). b.action == c.args.action) (take c.args.left c.args.list.now) ≡ false = search rules in
     none_left_out (λ (b : Bound). b.action == c.args.action) (take c.args.left c.args.list.now) none

@@ -17,4 +17,4 @@ returns-in-Ok-read-clause-read g c =
 pub returns-clause-unread : goal.returns-clause-unread
 returns-clause-unread g c =
     let all : IfSome (g.O.S.Source.state c.args.source).bytes (λ bytes. c.as_slice.result.now ≡ take 1048577 bytes) = rw c.as_slice.ensures.value c.in-Ok.ensures.bytes in
-    rw c.of_scenario.ensures (refused_text _ c.as_slice.result.now (g.O.Opener.files c.args.opener.now) (g.O.Opener.files c.read_text.new.opener) c.in-Err-read.fault all c.in-Ok.ensures.kept c.in-Err-read.ensures.reads)
+    rw c.of_scenario.ensures (refused_text _ c.as_slice.result.now (g.O.Opener.files c.args.opener.now) (g.O.Opener.files c.read_text.new.opener) c.in-Err-read.fault all c.in-Ok.ensures.counts c.in-Err-read.ensures.reads)

@@ -1,4 +1,4 @@
--- Suggested bindings (OpenXR 1.0 chapter 11, xrSuggestInteractionProfileBindings).
+-- The rule of the call that suggests bindings (OpenXR 1.0 chapter 11, xrSuggestInteractionProfileBindings).
 use Rattle.std.specs.Prelude.{ℕ, true, List, [], ◌∷◌, ◌++◌, flat_map, filter_map, Option, Some, None, is_none, option_map, option_and_then}
 use Rattle.xr_types.specs.declared.code.Code.TheVariants.{PathInvalid, PathUnsupported, ActionsetsAlreadyAttached}
 use Rattle.xr_types.specs.declared.calls.Gives.TheVariants.{Nothing}

@@ -1,4 +1,4 @@
--- Frames (OpenXR 1.0 chapter 10).
+-- The rules of the calls on frames (OpenXR 1.0 chapter 10).
 use Rattle.std.specs.Prelude.{ℕ, ℤ, ◌+◌, ◌&&◌, ◌||◌, Bool, not, List, [], ◌∷◌, ◌++◌, Some, drop, Option, None, if◌then◌else◌}
 use Rattle.std.specs.List.{list_all}
 use Rattle.xr_types.specs.declared.code.Code.TheVariants.{SessionNotRunning}

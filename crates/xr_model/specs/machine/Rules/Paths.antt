@@ -1,4 +1,4 @@
--- Path texts and atoms (OpenXR 1.0 section 6.2).
+-- The rules of the calls on path texts and atoms (OpenXR 1.0 section 6.2).
 use Rattle.std.specs.Prelude.{ℕ, List, [], ◌∷◌, Some}
 use Rattle.xr_types.specs.declared.calls.Gives.TheVariants.{Number, Size}
 use Rattle.xr_types.specs.declared.handles.Kind.TheVariants.{Instance}

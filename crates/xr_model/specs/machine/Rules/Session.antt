@@ -1,4 +1,4 @@
--- Sessions (OpenXR 1.0 chapter 9, "Session").
+-- The rules of the calls on sessions (OpenXR 1.0 chapter 9, "Session").
 use Rattle.std.specs.Prelude.{ℕ, ◌+◌, ◌==◌, not, List, [], ◌∷◌, ◌++◌, Option, Some, None}
 use Rattle.xr_types.specs.declared.code.Code.TheVariants.{SystemInvalid}
 use Rattle.xr_types.specs.declared.calls.Gives.TheVariants.{Nothing, Handle}

@@ -1,4 +1,4 @@
--- Action sets and actions (OpenXR 1.0 chapter 11, "Action Sets" and "Actions").
+-- The rules of the calls on action sets and actions (OpenXR 1.0 chapter 11, "Action Sets" and "Actions").
 use Rattle.std.specs.Prelude.{ℕ, not, Bool, true, false, List, [], ◌∷◌, ◌++◌, map, slice_set, Option, Some, None, is_none, option_and_then}
 use Rattle.xr_types.specs.declared.code.Code.TheVariants.{PathInvalid, PathUnsupported}
 use Rattle.xr_types.specs.declared.calls.Gives.TheVariants.{Nothing, Handle}

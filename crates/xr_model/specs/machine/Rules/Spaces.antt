@@ -1,4 +1,4 @@
--- Spaces (OpenXR 1.0 chapter 7, "Spaces").
+-- The rules of the calls on spaces (OpenXR 1.0 chapter 7, "Spaces").
 use Rattle.std.specs.Prelude.{ℕ, ℤ, pos, int_le, [], ◌∷◌, ◌++◌, Some, unwrap_or}
 use Rattle.xr_types.specs.declared.code.Code.TheVariants.{TimeInvalid}
 use Rattle.xr_types.specs.declared.calls.Gives.TheVariants as gives

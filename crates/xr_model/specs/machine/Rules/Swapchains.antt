@@ -1,5 +1,5 @@
--- Swapchains and their images (OpenXR 1.0 chapter 10, "Swapchain Image Management"). Painting is this project's own, and so is
--- that a timeout runs on the device's clock from the caller's last locked call.
+-- The rules of the calls on swapchains and their images (OpenXR 1.0 chapter 10, "Swapchain Image Management"). Painting is this
+-- project's own, and so is that a timeout runs on the device's clock from the caller's last locked call.
 use Rattle.std.specs.Prelude.{ℕ, ℤ, pos, ◌-ℤ◌, ◌&&◌, ◌-◌, ◌^◌, int_le, Bool, not, List, [], ◌∷◌, ◌++◌, take, Some}
 use Rattle.xr_types.specs.declared.code.Code.TheVariants.{TimeoutExpired}
 use Rattle.xr_types.specs.declared.calls.Gives.TheVariants.{Nothing, Handle, Number}

@@ -12,7 +12,14 @@ use Rattle.xr_threads.proofs.threads.run.Goals as goal
 pub run_actors-listed-requires-clause-may : goal.run_actors-listed-requires-clause-may
 run_actors-listed-requires-clause-may g c κs within =
     let started = c.in_ok-runtime.ensures.started in
-    may_work_all (table_of c.in_ok-runtime.runtime) c.args.scenario.now c.in_ok-workers.workers.items c.in_ok-runtime.passes.apps.items c.in_ok-workers.ensures (started.count ∙ ap (λ (l : List (List Op)). length l) c.as_slice-count.ensures) started.passes
+    record {
+      scripts = may_work_all (table_of c.in_ok-runtime.runtime) c.args.scenario.now c.in_ok-workers.workers.items c.in_ok-runtime.passes.apps.items c.in_ok-workers.ensures (started.count ∙ ap (λ (l : List (List Op)). length l) c.as_slice-count.ensures) started.passes;
+      compositor = started.compositor;
+      none_shown = started.none_shown;
+      none_held = started.none_held;
+      device = started.device;
+      none_told = started.none_told;
+    }
 
 pub close-closed-requires : goal.close-closed-requires
 close-closed-requires g c =

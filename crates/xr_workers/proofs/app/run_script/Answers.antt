@@ -1,7 +1,8 @@
 use Rattle.std.proofs.Common.{rules, ◌≡◌, ◌+◌, ◌∙◌, List, [], ◌∷◌, ◌++◌, length, pos, refl, sym, subst, ap}
 use Rattle.std.specs.Prelude.{Ok}
 use Rattle.xr_types.specs.declared.made.Made.{Made}
-use Rattle.xr_types.specs.declared.names.CallName.TheVariants.{Leave}
+use Rattle.xr_types.specs.CallKinds.{listed_as}
+use Rattle.xr_types.specs.declared.calls.Call.TheVariants as ask
 use Rattle.xr_runtime.specs.Passes.{table_of}
 use Rattle.xr_workers.specs.Workers.{RanScript}
 use Rattle.xr_workers.proofs.ScriptsMade.{may_go_on, ran_short, ran_whole, some_mapped}
@@ -20,7 +21,7 @@ returns-in_default-push-clause-ran g c = ran_short (table_of c.args.context.now.
 
 pub returns-clause-ran : goal.returns-clause-ran
 returns-clause-ran g c =
-    let last : Made = record { op = length c.args.script.ops.now + 1; name = Leave; mark = 0; start = pos 0; reply = c.leave-reply.result; text = [] } in
+    let last : Made = listed_as ask.Leave (length c.args.script.ops.now + 1) c.leave-reply.result [] in
     let whole = ran_whole (table_of c.args.context.now.runtime.now) c.args.script.ops.now c.args.pass.now c.make_ops-made.new.pass c.leave-reply.new.pass _ c.leave-reply.result c.make_ops-made.ensures.made c.leave-reply.ensures.made c.in-Some.list.items last (some_mapped _ _ _ c.in-Some.is) refl in
-    let same : c.new-3.result ≡ c.in-Some.list.items ++ last ∷ [] = search rules in
+    let same : c.new-2.result ≡ c.in-Some.list.items ++ last ∷ [] = search rules in
     subst (λ (l : List Made). RanScript (table_of c.args.context.now.runtime.now) c.args.script.ops.now c.args.pass.now c.leave-reply.new.pass (Ok l)) (sym same) whole

@@ -1,32 +1,36 @@
-use Rattle.std.proofs.Common.{rules, ◌≡◌, ◌≤◌, ◌∙◌, pos, length, take, ap, sym, arith}
+use Rattle.std.proofs.Common.{rules, ◌≡◌, ◌≤◌, ◌∙◌, ℕ, length, take, ap, sym, subst, arith}
 use Rattle.std.proofs.lemmas.List.{length-take-le}
-use Rattle.xr_types.specs.CallKinds.{lent_size}
-use Rattle.xr_serial.proofs.Ops.{op_lent}
-use Rattle.xr_workers.proofs.CallsMade.{op_may_ask, op_size}
+use Rattle.xr_types.specs.CallKinds.{lent_size, written_size, with_start}
+use Rattle.xr_types.specs.declared.calls.Actor.TheVariants.{App}
+use Rattle.xr_model.specs.machine.CoreCalls.{MayAsk}
+use Rattle.xr_runtime.specs.Passes.{table_of}
+use Rattle.xr_workers.proofs.CallsMade.{text_made, asked_by, lent_begun}
 use Rattle.xr_workers.proofs.script.ask.Goals as goal
 
 pub slice_bounds-lent-end : goal.slice_bounds-lent-end
 slice_bounds-lent-end g c =
-    let small = op_lent (pos 0) c.args.names.now c.args.op.now c.requires.ranged in
-    let same = op_size c.args.names.now c.args.op.now c.call_of-call.result c.call_of-call.ensures in
     let size = c.lent_size.ensures in
     let room = c.requires.size in
-    omega (arith, small, same, size, room)
+    omega (arith, size, room)
 
 pub slice_bounds-lent-end-2 : goal.slice_bounds-lent-end-2
 slice_bounds-lent-end-2 g c =
-    let small = op_lent (pos 0) c.args.names.now c.args.op.now c.requires.ranged in
-    let same = op_size c.args.names.now c.args.op.now c.call_of-call.result c.call_of-call.ensures in
     let size = c.lent_size.ensures in
     let room = c.requires.size in
-    let within : c.lent_size.result ≤ length c.args.buffer.now = omega (arith, small, same, size, room) in
+    let within : c.lent_size.result ≤ length c.args.buffer.now = omega (arith, size, room) in
     sym (length-take-le c.lent_size.result c.args.buffer.now within)
 
-pub make_call-reply-requires : goal.make_call-reply-requires
-make_call-reply-requires g c =
-    let small = op_lent (pos 0) c.args.names.now c.args.op.now c.requires.ranged in
-    let same = op_size c.args.names.now c.args.op.now c.call_of-call.result c.call_of-call.ensures in
+pub call-reply-requires : goal.call-reply-requires
+call-reply-requires g c =
     let size = c.lent_size.ensures in
     let room = c.requires.size in
-    let within : c.lent_size.result ≤ length c.args.buffer.now = omega (arith, small, same, size, room) in
-    record { may = record { may = c.requires.may; asks = op_may_ask c.args.pass.now.app c.args.names.now c.args.op.now c.call_of-call.result (length (take c.lent_size.result c.args.buffer.now)) c.call_of-call.ensures (length-take-le c.lent_size.result c.args.buffer.now within ∙ size) c.requires.ranged } }
+    let within : c.lent_size.result ≤ length c.args.buffer.now = omega (arith, size, room) in
+    let fits : length (take c.lent_size.result c.args.buffer.now) ≡ lent_size c.args.call.now = length-take-le c.lent_size.result c.args.buffer.now within ∙ size in
+    record { may = record { may = c.requires.may; asks = subst (λ (n : ℕ). MayAsk (App c.args.pass.now.app) c.args.call.now n) (sym fits) c.requires.asks } }
+
+pub returns-clause-made : goal.returns-clause-made
+returns-clause-made g c =
+    let size : c.written_size-written.result ≡ written_size c.call-reply.result.gives (lent_size c.args.call.now) = search rules in
+    let begun : c.written_size-written.result ≡ written_size c.call-reply.result.gives (lent_size (with_start c.args.pass.now.clock c.args.call.now)) = size ∙ ap (written_size c.call-reply.result.gives) (sym (lent_begun c.args.pass.now.clock c.args.call.now)) in
+    let made = text_made (table_of c.args.context.now.runtime.now) c.args.pass.now c.call-reply.new.pass _ c.call-reply.result _ _ c.requires.may c.call-reply.ensures.called in
+    asked_by (table_of c.args.context.now.runtime.now) c.args.pass.now c.call-reply.new.pass _ _ (record { reply = c.call-reply.result; text = c.match-from_slice.text }) c.written_size-written.result made begun (search rules)

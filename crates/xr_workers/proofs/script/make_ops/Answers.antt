@@ -6,10 +6,10 @@ use Rattle.xr_model.specs.runs.NameValues.{no_values}
 use Rattle.xr_model.specs.scenario.ScriptForm.{IsInRange}
 use Rattle.xr_model.proofs.ScriptForm.{in_range-item}
 use Rattle.xr_runtime.specs.Passes.{table_of}
-use Rattle.xr_serial.proofs.Ops.{here_at}
 use Rattle.xr_workers.specs.inside.Script.{MadeOps}
 use Rattle.xr_workers.proofs.ScriptsMade.{none_made, some_made, all_made, may_go_on, values_are, calls_are, one_more, some_by, none_mapped, op_calls, op_gated, gated_none, lists_more}
 use Rattle.xr_workers.proofs.script.make_ops.Goals as goal
+use Rattle.xr_runs.proofs.OpCalls.{here_at}
 
 pub returns-in_default-clause-made : goal.returns-in_default-clause-made
 returns-in_default-clause-made g c = some_made (table_of c.args.context.now.runtime.now) c.args.ops.now 0 (no_values (length c.args.ops.now)) c.args.pass.now c.args.pass.now [] (omega arith) (none_made (table_of c.args.context.now.runtime.now) c.args.ops.now c.args.pass.now c.requires.is c.requires.first.0)

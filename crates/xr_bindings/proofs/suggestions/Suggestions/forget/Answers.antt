@@ -20,13 +20,13 @@ invariant_of-self c =
     subst (λ (o : Option (BoxedSlice Bound Global)). c.self.inside.left ≤ length (unwrap_or (option_map (λ list. list.items.items) o) [])) c.in-Some.is c.self.invariant.0 in
     let within = c.keep_others-self-inside.ensures.within in
     let most = c.self.invariant.1 in
-    rw (cut, append-nil c.keep_others-self-inside.new.list, take_all c.in-Some.list.items.len c.keep_others-self-inside.new.list (omega arith), c.keep_others-self-inside.ensures.kept, c.as_mut_slice.ensures.value)
+    rw (cut, append-nil c.keep_others-self-inside.new.list, take_all c.in-Some.list.items.len c.keep_others-self-inside.new.list (omega arith), c.keep_others-self-inside.ensures.list, c.as_mut_slice.ensures.value)
     (omega (arith, within, long), omega (arith, within, most), left_all is_source (λ b. not (b.action == c.args.action)) (take c.self.inside.left c.in-Some.list.items.items) all, left_all (λ (b : Bound). nat_le b.action c.self.inside.last) (λ b. not (b.action == c.args.action)) (take c.self.inside.left c.in-Some.list.items.items) before)
 
 pub returns-in-Some : goal.returns-in-Some
 returns-in-Some c =
     let cut = drop_all (length c.keep_others-self-inside.new.list) c.in-Some.list.items.items (omega arith) in
-    rw (cut, append-nil c.keep_others-self-inside.new.list, take_all c.in-Some.list.items.len c.keep_others-self-inside.new.list (omega arith), c.keep_others-self-inside.ensures.kept, ← c.self.view_is, c.in-Some.is, c.as_mut_slice.ensures.value) refl
+    rw (cut, append-nil c.keep_others-self-inside.new.list, take_all c.in-Some.list.items.len c.keep_others-self-inside.new.list (omega arith), c.keep_others-self-inside.ensures.list, ← c.self.view_is, c.in-Some.is, c.as_mut_slice.ensures.value) refl
 
 pub returns-then-action-self : goal.returns-then-action-self
 returns-then-action-self c =

@@ -1,8 +1,7 @@
-use Rattle.std.proofs.Common.{ℕ, List, sym, ap, subst, ◌∙◌, arith}
+use Rattle.std.proofs.Common.{◌<◌, ◌^◌, sym, ap, subst, ◌∙◌, arith}
 use Rattle.std.specs.Prelude.{Result, Ok, Err}
 use Rattle.xr_types.specs.declared.calls.Reply.{Reply}
-use Rattle.xr_types.specs.declared.frames.Shown.{Shown}
-use Rattle.xr_model.specs.machine.OverCells.{World, MayApply}
+use Rattle.xr_model.specs.machine.OverCells.{MayApply, world}
 use Rattle.xr_types.specs.CallKinds.{is_locked}
 use Rattle.xr_model.specs.machine.Machine.{IsPresent}
 use Rattle.xr_model.specs.machine.State.{WholeCore}
@@ -13,9 +12,6 @@ use Rattle.xr_core.proofs.Counting.{as_reply, made_over, waits_over, grown, coun
 use Rattle.xr_core.proofs.counted.Core.apply.Goals.{in-Ok, in-Err-Refused}
 use Rattle.xr_core.proofs.counted.Core.apply.Given.{Over}
 use Rattle.xr_core.proofs.counted.Core.apply.Goals as goal
-
-abbrev world : {C : Type 0} → WholeCore → C → List ℕ → Shown → World C
-world core cells text frame = record { core = core; cells = cells; lent = record { text = text; frame = frame } }
 
 -- what the inside decided comes to the reply that is answered
 comes : (g : Over) (c : goal.After-answered g) → DecidesAlong g.C.Cells.does (world c.self.inside.inside c.args.cells.now c.args.text.now c.args.shown.now) (world c.decide.new.self c.decide.new.cells c.decide.new.text c.decide.new.shown) c.args.who c.args.call.now (Ok c.match-decide.reply)
@@ -53,6 +49,18 @@ invariant_of-self-2 g c =
     let sessions = c.self.invariant.1 in
     let frames = c.self.invariant.2 in
     (omega (arith, given, count, handles), omega (arith, created, count, sessions), omega (arith, ended, count, frames))
+
+pub decide-requires-clause-counts : goal.decide-requires-clause-counts
+decide-requires-clause-counts g c =
+    let few = c.requires.calls in
+    let calls = subst (λ (w : WholeCore). w.kept.locked < 2 ^ 44) (sym c.self.view_is) few in
+    let handles = c.self.invariant.0 in
+    let sessions = c.self.invariant.1 in
+    let frames = c.self.invariant.2 in
+    record { given = omega (arith, handles, calls); created = omega (arith, sessions, calls); ended = omega (arith, frames, calls) }
+
+pub decide-requires-clause-may : goal.decide-requires-clause-may
+decide-requires-clause-may g c = record { asks = c.requires.may.asks; present = subst (λ (w : WholeCore). IsPresent w.kept c.args.who) (sym c.self.view_is) c.requires.may.present }
 
 pub decide-requires-clause-cells : goal.decide-requires-clause-cells
 decide-requires-clause-cells g c = λ reads given short own.

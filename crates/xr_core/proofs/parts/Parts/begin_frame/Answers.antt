@@ -24,7 +24,7 @@ returns-in_err-code c =
     let is : c.from_residual-in_err-code.result ≡ Err (Refused (c.in_err-code.field-0.0)) = search rules in
     rw is
     (begin_disordered s c.args.session (c.in_err-code.field-0.0) c.begin.new.self (sym c.in_ok-success.ensures ∙ ap Ok both.1)
-    (subst (λ (x : Code). Err (c.in_err-code.field-0.0) ≡ (if s.frames.frame_loop.has_waited then Ok (if s.frames.frame_loop.has_begun then FrameDiscarded else x) else Err CallOrderInvalid)) both.1 c.in_err-code.ensures.code) c.begin.ensures.kept)
+    (subst (λ (x : Code). Err (c.in_err-code.field-0.0) ≡ (if s.frames.frame_loop.has_waited then Ok (if s.frames.frame_loop.has_begun then FrameDiscarded else x) else Err CallOrderInvalid)) both.1 c.in_err-code.ensures.code) c.begin.ensures.state)
 
 pub returns : goal.returns
 returns c =
@@ -32,4 +32,4 @@ returns c =
     let both = ok_none (first_of (ahead (wait_frame_rule s c.args.session))) (code_on (loss_of (life_of s c.args.session)) Success) c.in_ok-success.success (sym c.in_ok-success.ensures) in
     rw c.done.ensures
     (begin_done s c.args.session c.in_ok-code.code c.begin.new.self (sym c.in_ok-success.ensures ∙ ap Ok both.1)
-    (subst (λ (x : Code). Ok c.in_ok-code.code ≡ (if s.frames.frame_loop.has_waited then Ok (if s.frames.frame_loop.has_begun then FrameDiscarded else x) else Err CallOrderInvalid)) both.1 c.in_ok-code.ensures.code) c.begin.ensures.kept)
+    (subst (λ (x : Code). Ok c.in_ok-code.code ≡ (if s.frames.frame_loop.has_waited then Ok (if s.frames.frame_loop.has_begun then FrameDiscarded else x) else Err CallOrderInvalid)) both.1 c.in_ok-code.ensures.code) c.begin.ensures.state)

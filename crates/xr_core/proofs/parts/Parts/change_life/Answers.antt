@@ -33,7 +33,7 @@ returns-then-ne c =
     let live = live_at c.self.inside.handles c.self.inside.sessions.items c.args.session c.in-Some.place c.self.invariant.0 found in
     let here = sym (ap (λ (s : CoreState). is_live s.handles kind.Session c.args.session) c.self.view_is) ∙ live in
     let failed : c.change_life_at-code.result ≡ Success → ⊥ = search rules in
-    rw c.refused-then-ne.ensures (life_refused c.args.self.now c.args.session c.args.call here c.change_life_at-code.new.self c.change_life_at-code.result c.change_life_at-code.ensures.kept c.change_life_at-code.ensures.code failed)
+    rw c.refused-then-ne.ensures (life_refused c.args.self.now c.args.session c.args.call here c.change_life_at-code.new.self c.change_life_at-code.result c.change_life_at-code.ensures.state c.change_life_at-code.ensures.code failed)
 
 pub returns : goal.returns
 returns c =
@@ -42,4 +42,4 @@ returns c =
     let here = sym (ap (λ (s : CoreState). is_live s.handles kind.Session c.args.session) c.self.view_is) ∙ live in
     let good : c.change_life_at-code.result ≡ Success = search rules in
     let code : c.success_of-success.result ≡ code_on (loss_of (life_of c.args.self.now c.args.session)) Success = search rules in
-    rw (c.done.ensures, code, c.end_frames.ensures) (life_done c.args.self.now c.args.session c.args.call here c.change_life_at-code.new.self c.change_life_at-code.result c.change_life_at-code.ensures.kept c.change_life_at-code.ensures.code good)
+    rw (c.done.ensures, code, c.end_frames.ensures) (life_done c.args.self.now c.args.session c.args.call here c.change_life_at-code.new.self c.change_life_at-code.result c.change_life_at-code.ensures.state c.change_life_at-code.ensures.code good)

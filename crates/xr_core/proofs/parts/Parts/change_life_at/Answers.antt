@@ -15,8 +15,8 @@ invariant_of-self c = (
   c.self.invariant.4,
 )
 
-pub returns-clause-kept : goal.returns-clause-kept
-returns-clause-kept c =
+pub returns-clause-state : goal.returns-clause-state
+returns-clause-state c =
     let found : place_at c.self.inside.sessions.items c.args.session ≡ Some c.args.place = ap (λ (s : CoreState). place_at s.sessions c.args.session) c.self.view_is ∙ c.requires.found in
     let x = (found_at c.self.inside.sessions.items c.args.session c.args.place found).0 in
     rw (c.change_life.ensures.events, c.change_life.ensures.sessions, c.wish.ensures, ← c.self.view_is) (changes_one _ c.args.session c.args.place x c.args.call found)

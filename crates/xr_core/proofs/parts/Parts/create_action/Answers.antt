@@ -30,6 +30,6 @@ new_action-handle-requires-clause-room c = action_room c.args.self.now c.args.se
 pub returns : goal.returns
 returns c =
     let both = ok_none (first_of (refusals (create_action_rule c.args.self.now 0 c.args.set c.args.name.now c.args.kind c.args.subs.now c.args.localized.now))) (declared_by c.args.self.now.atoms no_users c.args.subs.now) _ (sym (c.in_ok-declared.ensures c.args.kind)) in
-    rw (c.giving.ensures, c.new_action-handle.ensures.kept, both.1)
+    rw (c.giving.ensures, c.new_action-handle.ensures.state, both.1)
     (effect_decides c.args.self.now (ask.CreateAction c.args.set c.args.name.now c.args.kind c.args.subs.now c.args.localized.now) (λ given. create_action_rule c.args.self.now given c.args.set c.args.name.now c.args.kind c.args.subs.now c.args.localized.now)
     (with_new_action c.args.self.now c.new_action-handle.result (new_action c.args.self.now c.new_action-handle.result c.args.set c.args.name.now c.args.kind c.args.subs.now c.args.localized.now)) Success (Handle c.new_action-handle.result) nothing_done (λ who reads. refl) both.0 refl refl c.new_action-handle.ensures.fresh refl)

@@ -33,6 +33,6 @@ new_set-handle-requires-clause-room c =
 pub returns : goal.returns
 returns c =
     let none = (ok_none (first_of (refusals (create_action_set_rule c.args.self.now 0 c.args.instance c.args.name.now c.args.localized.now c.args.priority))) _ _ (sym (c.in_ok-may_create_action_set.ensures c.args.priority))).0 in
-    rw (c.giving.ensures, c.new_set-handle.ensures.kept)
+    rw (c.giving.ensures, c.new_set-handle.ensures.state)
     (effect_decides c.args.self.now (ask.CreateActionSet c.args.instance c.args.name.now c.args.localized.now c.args.priority) (λ given. create_action_set_rule c.args.self.now given c.args.instance c.args.name.now c.args.localized.now c.args.priority)
     (with_action_set c.args.self.now c.args.instance c.new_set-handle.result c.args.name.now c.args.localized.now c.args.priority) Success (Handle c.new_set-handle.result) nothing_done (λ who reads. refl) none refl refl c.new_set-handle.ensures.fresh refl)

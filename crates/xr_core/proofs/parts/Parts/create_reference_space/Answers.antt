@@ -23,7 +23,7 @@ pub returns : goal.returns
 returns c =
     let loss = loss_of (life_of c.args.self.now c.args.session) in
     let both = ok_none (first_of (refusals (create_reference_space_rule c.args.self.now 0 c.args.session c.args.kind c.args.offset))) (code_on (loss_of (life_of c.args.self.now c.args.session)) Success) c.in_ok-success.success (sym c.in_ok-success.ensures) in
-    rw (c.giving.ensures, c.add_space-handle.ensures.kept, both.1)
+    rw (c.giving.ensures, c.add_space-handle.ensures.state, both.1)
     (effect_decides c.args.self.now (ask.CreateReferenceSpace c.args.session c.args.kind c.args.offset) (λ given. create_reference_space_rule c.args.self.now given c.args.session c.args.kind c.args.offset)
     (with_new_space c.args.self.now c.args.session c.add_space-handle.result (Fixed c.args.kind) c.args.offset) (code_on (loss_of (life_of c.args.self.now c.args.session)) Success) (Handle c.add_space-handle.result) nothing_done
     (λ who reads. refl) both.0 refl refl (rw (success_succeeds loss) c.add_space-handle.ensures.fresh) (success_found loss))

@@ -10,7 +10,7 @@ invariant_of-self c =
       c.self.invariant.1,
       c.self.invariant.2,
       c.self.invariant.3,
-      users_noted c.self.inside.paths c.args.text.now c.intern-answer.result c.intern-answer.new.self c.self.inside.users c.self.invariant.4 c.intern-answer.ensures.kept c.intern-answer.ensures.answer c.note_text.new.users good c.note_text.ensures,
+      users_noted c.self.inside.paths c.args.text.now c.intern-answer.result c.intern-answer.new.self c.self.inside.users c.self.invariant.4 c.intern-answer.ensures.state c.intern-answer.ensures.answer c.note_text.new.users good c.note_text.ensures,
     )
 
 pub invariant_of-self-else-eq : goal.invariant_of-self-else-eq
@@ -20,5 +20,5 @@ invariant_of-self-else-eq c =
       c.self.invariant.1,
       c.self.invariant.2,
       c.self.invariant.3,
-      users_kept c.self.inside.paths c.args.text.now c.intern-answer.result c.intern-answer.new.self c.self.inside.users c.self.invariant.4 c.intern-answer.ensures.kept c.intern-answer.ensures.answer failed,
+      users_kept c.self.inside.paths c.args.text.now c.intern-answer.result c.intern-answer.new.self c.self.inside.users c.self.invariant.4 c.intern-answer.ensures.state c.intern-answer.ensures.answer failed,
     )

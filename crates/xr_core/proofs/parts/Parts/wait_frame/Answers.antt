@@ -25,11 +25,11 @@ returns-in-Some c =
     let s = c.args.self.now in
     let success = code_on (loss_of (life_of s c.args.session)) Success in
     let both = ok_none (first_of (refusals (wait_frame_rule s c.args.session))) success c.in_ok-success.success (sym c.in_ok-success.ensures) in
-    let made = c.in-Some.ensures.waited in
-    let state : c.in-Some.state ≡ frame_state s c.args.session = rw (made.1, c.is_seen-render.ensures) refl in
-    rw (c.giving.ensures, both.1, state, made.2)
+    let made = c.in-Some.ensures in
+    let state : c.in-Some.state ≡ frame_state s c.args.session = rw (made.predicts, c.is_seen-render.ensures) refl in
+    rw (c.giving.ensures, both.1, state, made.waited)
     (effect_decides s (ask.WaitFrame c.args.session) (λ given. wait_frame_rule s c.args.session) (with_loop s (waited_loop s.frames.frame_loop (next_time s))) success (gives.Frame (frame_state s c.args.session)) nothing_done
-    (λ who reads. refl) both.0 made.0 refl refl (success_found (loss_of (life_of s c.args.session))))
+    (λ who reads. refl) both.0 made.free refl refl (success_found (loss_of (life_of s c.args.session))))
 
 pub returns-in-None : goal.returns-in-None
 returns-in-None c =

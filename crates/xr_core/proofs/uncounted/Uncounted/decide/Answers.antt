@@ -20,13 +20,8 @@ decide-requires g c =
     let kept = c.deref_mut.ensures.value ∙ ap (λ (w : WholeCore). w.kept) c.self.view_is in
     let aside = aside_where c.args.call.now c.in_default.not-NextFrame c.in_default.not-ImageDone in
     rw kept (record {
-      given = c.requires.given;
-      created = c.requires.created;
-      ended = c.requires.ended;
-      present = c.requires.present;
-      caller = c.requires.caller;
-      numbers = c.requires.numbers;
-      buffer = c.requires.buffer;
+      counts = c.requires.counts;
+      may = c.requires.may;
       aside = aside;
       cells = may_touch g.C.Cells.may g.C.Cells.does c.args.self.now c.args.cells.now c.args.who c.args.call.now aside c.requires.cells;
     })

@@ -9,8 +9,8 @@ use Rattle.xr_handles.proofs.handles.Handles.destroy.Goals as goal
 pub invariant_of-self : goal.invariant_of-self
 invariant_of-self c = rw c.clear.ensures (alone_kept Action c.args.handle c.self.invariant)
 
-pub returns-then-is_live-clause-kept : goal.returns-then-is_live-clause-kept
-returns-then-is_live-clause-kept c =
+pub returns-then-is_live-clause-state : goal.returns-then-is_live-clause-state
+returns-then-is_live-clause-state c =
     let live : is_live c.args.self.now Action c.args.handle ≡ true = sym c.is_live.ensures ∙ c.if-is_live.true in
     let once : StandOnce c.args.self.now = rw (← c.self.view_is) c.self.invariant.once in
     let whole = action_is_whole c.args.self.now c.args.handle once live in

@@ -7,31 +7,31 @@ use Rattle.xr_model.specs.scenario.ScriptForm.{IsInRange}
 use Rattle.xr_model.specs.runs.Lists.{made_at}
 use Rattle.xr_model.specs.runs.NameValues.{with_name_value}
 use Rattle.xr_types.specs.declared.calls.Call.{Call}
-use Rattle.xr_model.specs.runs.Robin.{with_start}
+use Rattle.xr_types.specs.CallKinds.{with_start}
+use Rattle.xr_model.specs.runs.Robin.{clock_behind}
 use Rattle.xr_model.specs.runs.Scripts.{request_for}
 use Rattle.xr_model.proofs.ScriptForm.{in_range-item}
-use Rattle.xr_serial.specs.inside.Made.{CallTurn, CallMade, CallWaits, made_with, exchange_of}
+use Rattle.xr_serial.specs.inside.Made.{CallTurn, CallMade, CallWaits}
 use Rattle.xr_serial.specs.inside.RunState.{AppState}
-use Rattle.xr_serial.specs.inside.Sides.{listed_op}
 use Rattle.xr_serial.proofs.KeptApplications.{same_app}
-use Rattle.xr_serial.proofs.Ops.{here_at, made_op_at}
 use Rattle.xr_serial.proofs.application.Application.make_op.Goals as goal
+use Rattle.xr_runs.specs.Sides.{exchange_of}
+use Rattle.xr_runs.proofs.OpCalls.{here_at}
 
 pub make_op-requires-clause-ranged : goal.make_op-requires-clause-ranged
 make_op-requires-clause-ranged c = subst IsInRange (sym c.index-ops-self.is) (in_range-item c.args.ops.now c.self.inside.made c.index-ops-self.result c.requires.formed (subst (λ (a : AppState). a.made < length c.args.ops.now) (sym c.self.view_is) c.requires.within))
 
-pub returns-then-not-branch : goal.returns-then-not-branch
-returns-then-not-branch c =
+pub returns-then-not-went : goal.returns-then-not-went
+returns-then-not-went c =
     let within : c.self.inside.made < length c.args.ops.now = subst (λ (a : AppState). a.made < length c.args.ops.now) (sym c.self.view_is) c.requires.within in
     let o = c.index-ops-self.result in
     let names = c.self.inside.names in
     let clock = c.self.inside.clock in
-    let read : to_z w64 (of_z w64 clock) ≡ clock = search rules in
-    let none : c.in_ok-make_op.field-0 ≡ false = search rules in
-    let told = subst (λ (z : ℤ). CallTurn c.args.machine.now c.make_op.new.self (App c.args.number) (with_start z (request_for names o)) (listed_op (c.self.inside.made + 1) z o) c.self.inside.calls.items c.make_op.new.list.items c.in_ok-make_op.field-0) read c.in_ok-make_op.ensures in
+    let none : c.in_ok-went.went ≡ false = search rules in
     let waits : CallWaits c.args.machine.now c.make_op.new.self (App c.args.number) (with_start clock (request_for names o)) c.self.inside.calls.items c.make_op.new.list.items =
-    subst (λ (b : Bool). CallTurn c.args.machine.now c.make_op.new.self (App c.args.number) (with_start clock (request_for names o)) (listed_op (c.self.inside.made + 1) clock o) c.self.inside.calls.items c.make_op.new.list.items b) none told in
-    rw (← c.self.view_is) (record { op = o; here = here_at c.args.ops.now c.self.inside.made o within c.index-ops-self.is; waits = waits.waits; same = waits.same; app = same_app refl refl waits.kept refl refl })
+    subst (λ (b : Bool). CallTurn c.args.machine.now c.make_op.new.self (App c.args.number) (with_start clock (request_for names o)) (c.self.inside.made + 1) c.self.inside.calls.items c.make_op.new.list.items b) none c.in_ok-went.ensures.made in
+    let stays : c.make_op.new.clock ≡ clock = c.in_ok-went.ensures.clock ∙ rw none refl in
+    rw (← c.self.view_is) (record { op = o; here = here_at c.args.ops.now c.self.inside.made o within c.index-ops-self.is; waits = waits.waits; same = waits.same; app = same_app refl refl waits.unlisted stays refl })
 
 pub returns : goal.returns
 returns c =
@@ -41,21 +41,19 @@ returns c =
     let clock = c.self.inside.clock in
     let place = c.self.inside.made + 1 in
     let what : Call = with_start clock (request_for names o) in
-    let read : to_z w64 (of_z w64 clock) ≡ clock = search rules in
-    let went : c.in_ok-make_op.field-0 ≡ true = search rules in
-    let told = subst (λ (z : ℤ). CallTurn c.args.machine.now c.make_op.new.self (App c.args.number) (with_start z (request_for names o)) (listed_op place z o) c.self.inside.calls.items c.make_op.new.list.items c.in_ok-make_op.field-0) read c.in_ok-make_op.ensures in
-    let call : CallMade c.args.machine.now c.make_op.new.self (App c.args.number) what (listed_op place clock o) c.self.inside.calls.items c.make_op.new.list.items =
-    subst (λ (b : Bool). CallTurn c.args.machine.now c.make_op.new.self (App c.args.number) what (listed_op place clock o) c.self.inside.calls.items c.make_op.new.list.items b) went told in
+    let went : c.in_ok-went.went ≡ true = search rules in
+    let call : CallMade c.args.machine.now c.make_op.new.self (App c.args.number) what place c.self.inside.calls.items c.make_op.new.list.items =
+    subst (λ (b : Bool). CallTurn c.args.machine.now c.make_op.new.self (App c.args.number) what place c.self.inside.calls.items c.make_op.new.list.items b) went c.in_ok-went.ensures.made in
     let outcome = call.outcome in
-    let made : Made = made_with (listed_op place clock o) outcome in
+    let made : Made = made_at place (exchange_of what outcome) in
     let counted : c.len-count.result ≡ length c.self.inside.calls.items = search rules in
-    let last : c.index.result.now ≡ made = c.index.ensures ∙ ap (λ (n : ℕ). get_or c.make_op.new.list.items n c.index.result.now) counted ∙ ap (λ (l : List Made). get_or l (length c.self.inside.calls.items) c.index.result.now) call.kept ∙ get_or-append_seam c.self.inside.calls.items made [] c.index.result.now in
-    let shown : to_z w64 (of_z w64 c.clock_behind-self-inside.result) ≡ c.clock_behind-self-inside.result = search rules in
+    let last : c.index.result.now ≡ made = c.index.ensures ∙ ap (λ (n : ℕ). get_or c.make_op.new.list.items n c.index.result.now) counted ∙ ap (λ (l : List Made). get_or l (length c.self.inside.calls.items) c.index.result.now) call.listed ∙ get_or-append_seam c.self.inside.calls.items made [] c.index.result.now in
+    let behind : c.make_op.new.clock ≡ clock_behind clock (request_for names o) c.make_op.new.self = c.in_ok-went.ensures.clock ∙ rw went refl in
     rw (← c.self.view_is) (record {
       op = o;
       outcome = outcome;
       here = here_at c.args.ops.now c.self.inside.made o within c.index-ops-self.is;
       ranged = rw c.index-ops-self.is (in_range-item c.args.ops.now c.self.inside.made o c.requires.formed within);
       call = call.call;
-      app = same_app refl (c.learn.ensures ∙ ap (λ (m : Made). with_name_value names place o m.reply) last) (call.kept ∙ rw (made_op_at clock names o place outcome) refl) (shown ∙ c.clock_behind-self-inside.ensures.clock names) refl;
+      app = same_app refl (c.learn.ensures ∙ ap (λ (m : Made). with_name_value names place o m.reply) last) call.listed behind refl;
     })

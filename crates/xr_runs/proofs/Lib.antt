@@ -1,0 +1,5 @@
+pub mod CallTexts
+pub mod OpCalls
+pub mod Listing
+pub mod DeviceAnswers
+pub mod Failing

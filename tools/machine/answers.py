@@ -1,0 +1,47 @@
+"""What a call is answered, and the two ways in which it isn't carried out: it is refused, or it has to wait."""
+from __future__ import annotations
+
+from typing import Any, NamedTuple
+
+SUCCESS = "XR_SUCCESS"
+LOSS_PENDING = "XR_SESSION_LOSS_PENDING"
+NOT_FOCUSED = "XR_SESSION_NOT_FOCUSED"
+OUT_OF_MEMORY = "XR_ERROR_OUT_OF_MEMORY"
+
+# the values of a call's fields, by their names
+Fields = dict[str, Any]
+
+
+class Answer(NamedTuple):
+    """A call's code, its values as a report prints them, and what a name stands for that the call gives."""
+
+    code: str = SUCCESS
+    words: str = ""
+    given: int = 0
+
+    def told(self) -> str:
+        """The code and the values, as they stand in a report."""
+        return f"{self.code} {self.words}".rstrip(" ")
+
+
+class Refused(Exception):
+    """A refusal holds. It changes nothing."""
+
+    def __init__(self, code: str, words: str = "") -> None:
+        super().__init__(code)
+        self.answer = Answer(code, words)
+
+
+class HeldBack(Exception):
+    """Nothing refuses the call, and it has to wait."""
+
+
+def refuse(holds: bool, code: str) -> None:
+    """Refuses the call by this code, where the condition holds."""
+    if holds:
+        raise Refused(code)
+
+
+def flag(holds: bool) -> str:
+    """A truth value, as a report prints it."""
+    return "1" if holds else "0"

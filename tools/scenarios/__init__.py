@@ -1,0 +1,1 @@
+"""Reads scenarios and devices' texts: what stands in them, or where they are wrong and why."""

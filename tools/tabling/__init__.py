@@ -1,0 +1,1 @@
+"""What tools/rows writes, and where."""

@@ -1,0 +1,162 @@
+"""Runs for the tests: the texts of cases and examples, those made by chance, and what the machine makes of them in any order."""
+from __future__ import annotations
+
+import json
+import random
+from collections.abc import Callable
+from pathlib import Path
+from typing import Any, NamedTuple
+
+from helpers import CASES, EXAMPLES
+
+import by_chance
+from judging.replay import NotLegal, has_places, judge
+from machine.turns import Turns, is_made
+from reports.reading import FIRST_LINE, NoReport, read_lines
+from scenarios.devices import FAILED_DEVICE, FAULT, NO_DEVICE, DeviceText, device_in
+from scenarios.reading import Scripts, scripts_in
+
+Lines = list[str]
+
+
+class Text(NamedTuple):
+    """A scenario with its device, the folder that it is run in, and the words of the run."""
+
+    name: str
+    scripts: Scripts
+    device: DeviceText
+    folder: Path
+    words: list[str]
+
+
+# ---- texts
+
+
+def content(path: Path) -> bytes:
+    return path.read_bytes() if path.is_file() else b""
+
+
+def text_of(name: str, folder: Path, words: list[str]) -> Text:
+    """The texts that a run's words name."""
+    scenario, device, left = "", NO_DEVICE, [it for it in words if it != "--places"]
+    while left:
+        word = left.pop(0)
+        if word.startswith("--device"):
+            file = folder / (word[len("--device=") :] or left.pop(0))
+            device = FAILED_DEVICE if file.is_dir() else device_in(file.read_bytes())
+        else:
+            scenario = left.pop(0) if word == "--" else word
+    return Text(name, scripts_in((folder / scenario).read_bytes()), device, folder, [it for it in words if it != "--places"])
+
+
+def made_text(room: Path, name: str, scripts: list, device: list[str] | None) -> Text:
+    """A text whose files are written."""
+    (room / f"{name}.json").write_text(json.dumps({"version": 1, "scripts": scripts}), encoding="utf-8")
+    if device is not None:
+        (room / f"{name}.device").write_text("".join(f"{it}\n" for it in device), encoding="utf-8")
+    return text_of(name, room, [f"{name}.json", *(["--device", f"{name}.device"] if device is not None else [])])
+
+
+def stored_runs() -> list[tuple[Text, bool, bytes]]:
+    """The cases and the examples whose runs make a report, whether that has places, and the report that is stored."""
+    found = []
+    for case in sorted(it for it in CASES.iterdir() if it.is_dir() and not (it / "rows").exists()):
+        words, stored = content(case / "args").decode().splitlines(), content(case / "stdout")
+        if words[:1] == ["serial"] and stored.startswith(FIRST_LINE + b"\n"):
+            found.append((text_of(case.name, CASES, words[1:]), "--places" in words, stored))
+    for file in sorted(EXAMPLES.glob("*.json")):
+        device = [] if not file.with_suffix(".device").exists() else ["--device", f"{file.stem}.device"]
+        text = text_of(f"examples/{file.name}", EXAMPLES, [file.name, *device])
+        found.append((text, False, content(file.with_suffix(".report"))))
+    return found
+
+
+def marks_by_chance(chance: random.Random, most: int) -> tuple[list, list[str]]:
+    """Up to so many scripts, and a device, that set marks and wait for some."""
+    highest = chance.randint(2, 6)
+
+    def some(longest: int) -> list[tuple[str, int]]:
+        return [(chance.choice(("mark", "await")), chance.randint(1, highest)) for _ in range(chance.randint(0, longest))]
+
+    scripts = [[{"op": op, "mark": mark} for op, mark in some(6)] for _ in range(chance.randint(1, most))]
+    return scripts, [f"{op} {mark}" for op, mark in some(5)]
+
+
+def spoilt_by_chance(number: int) -> tuple[list, list[str] | None]:
+    """The scenario by chance of this number without a few of its ops and lines, so that somebody mostly waits for ever."""
+    chance, (scripts, device) = random.Random(number), by_chance.scenario(number)
+    kept = [[op for op in ops if "as" in op or chance.random() < 0.96] for ops in scripts]
+    more = ("clock 1", "clock 90000000", "wish ready", "wish rest", "wish focused", "mark 40", "await 41")
+    lines = [line for line in device or [] if chance.random() < 0.9]
+    for _ in range(chance.randint(0, 9)):
+        lines.insert(chance.randint(0, len(lines)), chance.choice(more))
+    return kept, None if device is None else lines
+
+
+# ---- runs of the machine
+
+
+class Run(Turns):
+    """A run whose report is kept."""
+
+    def __init__(self, text: Text) -> None:
+        super().__init__(text.scripts, text.device.all)
+        self.blocks: dict[str, Lines] = {f"thread {it.number}": [] for it in self.scripts}
+        self.blocks.update(compositor=[], device=[])
+
+    def note(self, actor: str, line: str) -> None:
+        block = self.blocks[actor]
+        is_numbered = actor != "compositor" and not line.startswith((FAULT, "garbled "))
+        block.append(f"{len(block) + 1} {line}" if is_numbered else line)
+
+    def report(self) -> Lines:
+        """The lines of the report, once nobody can go on."""
+        lines = [line for head, block in self.blocks.items() for line in (head, *block)]
+        stuck = [f"thread {it.number} {it.made + 1} {it.next.name}" for it in self.scripts if not it.is_done]
+        stuck += [f"device {it}" for it in self.events[self.told :][:1]]
+        stuck += [] if self.has_ended else ["compositor next_frame"]
+        last = self.blocks["device"][-1].split(" ")[0] if self.blocks["device"] else ""
+        status = {FAULT: 5, "garbled": 6}.get(last, 7 if stuck else 0)
+        return ["xrsim report 1", *lines, *(["stuck", *stuck] if stuck else []), f"status {status}"]
+
+
+def in_rounds(text: Text) -> Lines:
+    """The report of the round robin."""
+    run = Run(text)
+    turns = run.turns()
+    while any([is_made(turn) for turn in turns]):
+        pass
+    return run.report()
+
+
+def in_any_order(text: Text, chance: random.Random) -> Lines:
+    """The report of a run in which chance says whose turn is next, and how many turns it takes."""
+    run = Run(text)
+    turns = run.turns()
+    waiting: list[Callable[[], bool]] = []
+    most = chance.choice((1, 1, 3, 12))
+    while len(waiting) < len(turns):
+        turn = chance.choice([it for it in turns if it not in waiting])
+        made = sum(is_made(turn) for _ in range(chance.randint(1, most)))
+        waiting = [] if made else [*waiting, turn]
+    return run.report()
+
+
+def lines_of(report: bytes) -> Lines:
+    return report.decode().split("\n")[:-1]
+
+
+def joined(lines: Lines) -> bytes:
+    return "".join(f"{it}\n" for it in lines).encode()
+
+
+def judged(text: Text, lines: Lines) -> Any:
+    """Why a report is refused; nothing where it is legal."""
+    try:
+        report = read_lines(joined(lines))
+        if not has_places(report):
+            return "it has no places"
+        judge(text.scripts, text.device, report)
+    except (NoReport, NotLegal) as e:
+        return str(e)
+    return ""
