@@ -212,3 +212,8 @@ def ops_in_format() -> list[str]:
 def ops_in_reports() -> list[str]:
     """The names that calls of scripts have in reports, in the order that reports list them; the last is `leave`."""
     return [it.name for it in calls().listed if "inner" not in it.marks]
+
+
+def getters() -> list[str]:
+    """The names of the calls that answer from what was published last, in the order of the format."""
+    return [it.name for it in calls().ops if "getter" in it.marks]

@@ -17,7 +17,7 @@ MOST_SESSION_LANES = 6
 AXIS_HEIGHT, CLOCK_HEIGHT = 24, 24
 HEAD_HEIGHT = AXIS_HEIGHT + CLOCK_HEIGHT
 
-GIVEN = {"string_to_path": "atom ", "acquire_image": "image ", "path_to_string": "size "}
+GIVEN = ("atom", "image", "size")
 UNTOLD = ("await", "get_system")
 
 MEANINGS = {
@@ -73,7 +73,8 @@ def label_of(call: Call) -> tuple[str, str]:
     if call.code == "XR_SUCCESS":
         if name == "wait_frame":
             return name, f"for {replay.in_units(int(call.text.split(' ')[1]))}"
-        return name, text.cut(f"{GIVEN.get(call.name, '')}{call.text}", 24) if call.name not in UNTOLD else ""
+        given = "".join(f"{it} " for it in GIVEN if it in (call.values or {}))
+        return name, text.cut(f"{given}{call.text}", 24) if call.name not in UNTOLD else ""
     return name, call.code.removeprefix("XR_").removeprefix("ERROR_")
 
 

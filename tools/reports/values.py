@@ -4,18 +4,14 @@ from __future__ import annotations
 import re
 from typing import Any
 
+from calls import getters, ops_in_reports
+
 Values = dict[str, Any]
 
-OPS = tuple(
-    """create_instance destroy_instance get_system string_to_path path_to_string poll_event create_session
-    destroy_session begin_session end_session request_exit_session create_reference_space create_action_space
-    destroy_space locate_space create_action_set destroy_action_set create_action destroy_action suggest_bindings
-    attach_sets sync_actions get_boolean get_float get_vector get_pose_active create_swapchain destroy_swapchain
-    acquire_image wait_image paint release_image wait_frame begin_frame end_frame mark await leave""".split()
-)
+OPS = tuple(ops_in_reports())
 
 # the calls that aren't counted: each has the place of the call that published what it answers from
-GETTERS = ("get_boolean", "get_float", "get_vector", "get_pose_active")
+GETTERS = tuple(getters())
 
 CODES = tuple(
     """XR_SUCCESS XR_TIMEOUT_EXPIRED XR_SESSION_LOSS_PENDING XR_EVENT_UNAVAILABLE XR_SESSION_NOT_FOCUSED XR_FRAME_DISCARDED
