@@ -2,87 +2,33 @@
 from __future__ import annotations
 
 import re
-from dataclasses import dataclass
 from functools import lru_cache
 from pathlib import Path
+from typing import NamedTuple
 
 TABLE = Path(__file__).resolve().parent / "calls.table"
 COLUMNS = {"groups": 4, "core": 4, "calls": 7}
 FIELD = re.compile(r"(\w+)(?:=(\w+))?(?:>(\w+))?:(\w+)(\?)?$")
+MARKS, OPTIONS = {"getter", "uncounted", "ending", "inner"}, {"lent", "adds", "behind"}
+GIVEN = ("", "handle", "atom", "number", "marked")
+
+# a field of an op: its key in scenarios, what code and the call call it, its sort, and whether it may be left out
+Field = NamedTuple("Field", [("key", str), ("code", str), ("called", str), ("sort", str), ("is_optional", bool)])
+# a row of the calls: `op` is its variant of `CallName`, and of `Op` where scripts have it, and `variant` that of `Call`
+Call = NamedTuple("Call", [
+    ("op", str), ("variant", str), ("is_op", bool), ("name", str), ("code", str), ("fields", "tuple[Field, ...]"), ("gives", str), ("group", str),
+    ("core", str), ("values", str), ("marks", "frozenset[str]"), ("options", "dict[str, str]"),
+])
+# a group of ops, and a function of the core: the columns of their rows
+Group = NamedTuple("Group", [("name", str), ("readers", str), ("order", str), ("what", str)])
+Core = NamedTuple("Core", [("function", str), ("handed", "tuple[str, ...]"), ("group", str), ("what", str)])
 
 
 class NoTable(Exception):
     """The table has no form; the words say where and why."""
 
 
-def camel(name: str) -> str:
-    """A name as types and variants have it."""
-    return "".join(word.capitalize() for word in name.split("_"))
-
-
-@dataclass(frozen=True)
-class Field:
-    """A field of an op: its key in scenarios, what code and the call call it, its sort, and whether it may be left out."""
-
-    key: str
-    code: str
-    called: str
-    sort: str
-    is_optional: bool
-
-
-@dataclass(frozen=True)
-class Call:
-    """A row of the calls."""
-
-    name: str
-    code: str
-    fields: tuple[Field, ...]
-    gives: str
-    group: str
-    core: str
-    values: str
-    marks: frozenset[str]
-    options: dict[str, str]
-
-    @property
-    def op(self) -> str:
-        """The variant of `CallName`, and of `Op` where it is one."""
-        return camel(self.name)
-
-    @property
-    def variant(self) -> str:
-        """The variant of `Call`."""
-        return camel(self.code)
-
-    @property
-    def is_op(self) -> bool:
-        """Whether scripts have it."""
-        return not self.marks & {"inner", "ending"}
-
-
-@dataclass(frozen=True)
-class Group:
-    """A group of ops."""
-
-    name: str
-    readers: str
-    order: str
-    what: str
-
-
-@dataclass(frozen=True)
-class Core:
-    """A function of the core."""
-
-    function: str
-    handed: tuple[str, ...]
-    group: str
-    what: str
-
-
-@dataclass(frozen=True)
-class Table:
+class Table(NamedTuple):
     """The whole table."""
 
     groups: tuple[Group, ...]
@@ -98,9 +44,8 @@ class Table:
     def listed(self) -> list[Call]:
         """All calls in the order of `Call` and of reports."""
         order = [it for it in self.calls if "behind" not in it.options]
-        for late in self.calls:
-            if "behind" in late.options:
-                order.insert([it.name for it in order].index(late.options["behind"]) + 1, late)
+        for late in (it for it in self.calls if "behind" in it.options):
+            order.insert([it.name for it in order].index(late.options["behind"]) + 1, late)
         return order
 
     def of_group(self, group: Group) -> list[Call]:
@@ -112,89 +57,73 @@ class Table:
         return [it for it in self.listed if it.core == core.function]
 
 
+def camel(name: str) -> str:
+    """A name as types and variants have it."""
+    return "".join(word.capitalize() for word in name.split("_"))
+
+
 def rows_of(text: str) -> dict[str, list[tuple[int, list[str]]]]:
     """The rows of each part with their lines, cut into columns."""
-    parts: dict[str, list[tuple[int, list[str]]]] = {name: [] for name in COLUMNS}
-    part = None
+    parts, part = {name: [] for name in COLUMNS}, ""
     for number, line in enumerate(text.split("\n"), 1):
-        if not line.strip() or line.startswith("#"):
-            continue
         if line.startswith("["):
             part = line.strip()[1:-1]
             if part not in COLUMNS:
                 raise NoTable(f"line {number}: there is no part {line.strip()}")
-            continue
-        columns = [it.strip() for it in line.split("|")]
-        if part is None or len(columns) != COLUMNS[part]:
-            raise NoTable(f"line {number}: a row of {part or 'no part'} with {len(columns)} columns")
-        parts[part].append((number, columns))
+        elif line.strip() and not line.startswith("#"):
+            columns = [it.strip() for it in line.split("|")]
+            if len(columns) != COLUMNS.get(part):
+                raise NoTable(f"line {number}: a row of {part or 'no part'} with {len(columns)} columns")
+            parts[part].append((number, columns))
     return parts
-
-
-def field_of(number: int, word: str) -> Field:
-    """The field that a word of the column of fields says."""
-    found = FIELD.match(word)
-    if not found:
-        raise NoTable(f"line {number}: no field: {word}")
-    key, code, called, sort, optional = found.groups()
-    return Field(key, code or key, called or code or key, sort, bool(optional))
 
 
 def call_of(number: int, columns: list[str]) -> Call:
     """The call of a row."""
-    name, fields, gives, group, core, values, rest = columns
+    name, words, gives, group, core, values, rest = columns
     key, _, code = name.partition("=")
     if not re.fullmatch(r"[a-z][a-z_]*", key):
         raise NoTable(f"line {number}: no name of a call: {name}")
-    words = rest.split()
-    options = dict(it.split("=", 1) for it in words if "=" in it)
-    marks = frozenset(it for it in words if "=" not in it)
-    unknown = (marks - {"getter", "uncounted", "ending", "inner"}) | (set(options) - {"lent", "adds", "behind"})
-    if unknown:
+    options = dict(it.split("=", 1) for it in rest.split() if "=" in it)
+    marks = frozenset(it for it in rest.split() if "=" not in it)
+    if unknown := (marks - MARKS) | (set(options) - OPTIONS):
         raise NoTable(f"line {number}: unknown words: {' '.join(sorted(unknown))}")
-    return Call(key, code or key, tuple(field_of(number, it) for it in fields.split()), gives, group, core, values, marks, options)
+    fields, code, is_op = [], code or key, not marks & {"inner", "ending"}
+    for word in words.split():
+        if not (found := FIELD.match(word)):
+            raise NoTable(f"line {number}: no field: {word}")
+        fields.append(Field(found[1], found[2] or found[1], found[3] or found[2] or found[1], found[4], bool(found[5])))
+    return Call(camel(key), camel(code), is_op, key, code, tuple(fields), gives, group, core, values, marks, options)
 
 
-def check_names(table: Table) -> None:
-    """Each name stands once, and what rows name is there."""
-    names = [it.name for it in table.calls]
+def check(table: Table) -> None:
+    """Each name stands once, what rows name is there, and each row says what tables can be written from."""
+    behind = {it.name: it.options["behind"] for it in table.calls if "behind" in it.options}
     for what, known, used in (
-        ("call", names, [it.options["behind"] for it in table.calls if "behind" in it.options]),
+        ("call", [it.name for it in table.calls], behind.values()),
         ("group", [it.name for it in table.groups], [it.group for it in table.ops]),
         ("function", [it.function for it in table.core], [it.core for it in table.calls if it.core]),
     ):
-        for name in known:
-            if known.count(name) > 1:
-                raise NoTable(f"the {what} {name} stands twice")
-        for name in used:
-            if name not in known:
-                raise NoTable(f"there is no {what} {name}")
-
-
-def check_rows(table: Table) -> None:
-    """Each row says what tables can be written from."""
-    moved = {it.name for it in table.calls if "behind" in it.options}
+        for name in [*known, *used]:
+            if known.count(name) != 1:
+                raise NoTable(f"the {what} {name} stands twice" if name in known else f"there is no {what} {name}")
     for call in table.calls:
-        if call.gives not in ("", "handle", "atom", "number", "marked"):
+        if call.gives not in GIVEN:
             raise NoTable(f"{call.name} gives no {call.gives}")
-        if call.options.get("behind") in moved:
-            raise NoTable(f"{call.name} stands behind {call.options['behind']}, which is moved itself")
+        if behind.get(call.name) in behind:
+            raise NoTable(f"{call.name} stands behind {behind[call.name]}, which is moved itself")
     for core in table.core:
-        decided = table.decided_by(core)
-        if not decided or len(decided) > 1 and "call" not in core.handed:
-            raise NoTable(f"the function {core.function} decides {len(decided)} calls")
+        many = len(table.decided_by(core))
+        if not many or many > 1 and "call" not in core.handed:
+            raise NoTable(f"the function {core.function} decides {many} calls")
 
 
 def table_of(text: str) -> Table:
     """The table that a text says."""
     parts = rows_of(text)
-    table = Table(
-        tuple(Group(*it) for _, it in parts["groups"]),
-        tuple(Core(it[0], tuple(word.strip() for word in it[1].split(",")), it[2], it[3]) for _, it in parts["core"]),
-        tuple(call_of(number, it) for number, it in parts["calls"]),
-    )
-    check_names(table)
-    check_rows(table)
+    core = (Core(name, tuple(it.strip() for it in handed.split(",")), *rest) for _, (name, handed, *rest) in parts["core"])
+    table = Table(tuple(Group(*it) for _, it in parts["groups"]), tuple(core), tuple(call_of(*it) for it in parts["calls"]))
+    check(table)
     return table
 
 

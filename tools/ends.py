@@ -1,16 +1,24 @@
-"""How a tool reads its files and ends: whatever goes wrong is one line on standard error, and a status that isn't 0."""
+"""How a tool begins, reads its files and ends: whatever goes wrong is one line on standard error, and a status that isn't 0."""
 from __future__ import annotations
 
-import argparse
-import contextlib
 import os
 import signal
 import sys
-from collections.abc import Callable
-from typing import BinaryIO, NoReturn
 
-from files import put, reason_of
-from shown import clipped, visible
+# Ctrl-C ends a tool silently while its parts are read in
+if signal.getsignal(signal.SIGINT) is signal.default_int_handler:
+    signal.signal(signal.SIGINT, signal.SIG_DFL)
+if sys.version_info < (3, 9):
+    print(f"{os.path.basename(sys.argv[0])}: this needs Python 3.9 or a later one", file=sys.stderr)
+    sys.exit(2)
+
+import argparse  # noqa: E402
+import contextlib  # noqa: E402
+from collections.abc import Callable  # noqa: E402
+from typing import NoReturn  # noqa: E402
+
+from files import put, reason_of  # noqa: E402
+from shown import clipped, visible  # noqa: E402
 
 REFUSED = 2
 INTERRUPTED = 130
@@ -25,9 +33,7 @@ class Words(argparse.ArgumentParser):
     """The words of a tool, whose faults are one line."""
 
     def __init__(self, name: str, about: str) -> None:
-        super().__init__(
-            f"tools/{name}", description=about, formatter_class=argparse.RawDescriptionHelpFormatter, allow_abbrev=False
-        )
+        super().__init__(f"tools/{name}", description=about, formatter_class=argparse.RawDescriptionHelpFormatter, allow_abbrev=False)
 
     def error(self, message: str) -> NoReturn:
         raise Refused(f"{visible(message)}; {self.prog} --help has the words")
@@ -46,19 +52,14 @@ def named(name: str) -> str:
     return "standard input" if name == "-" else shown(name)
 
 
-def read_like(file: BinaryIO, front: bytes, most: int) -> bytes:
-    """The bytes of a file, at most so many. Where it doesn't begin with this front, its first bytes alone."""
-    data = file.read(FRONT)
-    return data + file.read(most - len(data)) if data.startswith(front) and len(data) == FRONT else data
-
-
 def content(name: str, most: int, front: bytes = b"") -> bytes:
-    """The bytes of a file that begins with this front, or of standard input for -. It has at most so many bytes."""
+    """The bytes of a file, or of standard input for -. It has at most so many. Where it doesn't begin with this front, its first bytes alone."""
+    if name == "-" and sys.stdin is None:
+        raise Refused("standard input is closed")
     try:
-        if name == "-" and sys.stdin is None:
-            raise Refused("standard input is closed")
         with open(0 if name == "-" else name, "rb", closefd=name != "-") as file:
-            data = read_like(file, front, most + 1)
+            data = file.read(FRONT)
+            data += file.read(most + 1 - len(data)) if data.startswith(front) and len(data) == FRONT else b""
     except OSError as e:
         raise Refused(f"{named(name)} can't be read: {reason_of(e)}") from None
     except ValueError:
@@ -73,8 +74,7 @@ def write(name: str, data: bytes) -> None:
     try:
         put(name, data)
     except (OSError, ValueError) as e:
-        why = reason_of(e) if isinstance(e, OSError) else str(e)
-        raise Refused(f"{shown(name)} can't be written: {why}") from None
+        raise Refused(f"{shown(name)} can't be written: {reason_of(e)}") from None
 
 
 def is_same_file(one: str, other: str) -> bool:
@@ -83,47 +83,49 @@ def is_same_file(one: str, other: str) -> bool:
     return False
 
 
-def fill_streams() -> None:
-    """Puts nothing in the place of each standard stream that is closed, so that no other file has its number."""
-    for stream in range(3):
-        try:
-            os.fstat(stream)
-        except OSError:
-            os.open(os.devnull, os.O_RDWR)
-
-
 def complain(line: str) -> None:
     """Says a line on standard error. One that is closed or full changes nothing."""
     with contextlib.suppress(OSError):
         os.write(2, f"{line}\n".encode("utf-8", "backslashreplace"))
 
 
-def say(lines: list[str]) -> None:
-    """Writes lines on standard output, in UTF-8."""
+def hand_out(data: bytes) -> None:
+    """Writes to standard output. What can't be written there isn't tried again as the tool ends."""
+    try:
+        sys.stdout.buffer.write(data)
+        sys.stdout.buffer.flush()
+    except (OSError, ValueError, AttributeError):
+        os.dup2(os.open(os.devnull, os.O_WRONLY), 1)
+        raise
+
+
+def say(lines: list[str], encoding: str = "utf-8") -> None:
+    """Writes lines on standard output."""
     if sys.stdout is None:
         raise Refused("standard output is closed")
-    text = "".join(f"{it}\n" for it in lines).encode("utf-8", "backslashreplace")
     try:
-        sys.stdout.buffer.write(text)
-        sys.stdout.buffer.flush()
+        hand_out("".join(f"{it}\n" for it in lines).encode(encoding, "backslashreplace"))
     except OSError as e:
-        os.dup2(os.open(os.devnull, os.O_WRONLY), 1)
-        raise Refused(f"standard output can't be written: {reason_of(e)}") from None
+        raise Refused(f"standard output can't be written: {reason_of(e)}") from e
 
 
 def ended(name: str, main: Callable[[list[str]], int]) -> int:
-    """The status of a tool of this name. Ctrl-C, which ended it silently while its parts were read in, is told from here."""
-    fill_streams()
+    """The status of a tool of this name. Each standard stream that is closed is nothing, so that no other file has its number; and
+    Ctrl-C is told from here."""
+    for stream in range(3):
+        try:
+            os.fstat(stream)
+        except OSError:
+            os.open(os.devnull, os.O_RDWR)
     try:
         if signal.getsignal(signal.SIGINT) is signal.SIG_DFL:
             signal.signal(signal.SIGINT, signal.default_int_handler)
         return main(sys.argv[1:])
     except Refused as e:
         complain(f"{name}: {e}")
-        return REFUSED
     except KeyboardInterrupt:
         complain(f"{name}: interrupted")
         return INTERRUPTED
     except (MemoryError, RecursionError):
         complain(f"{name}: no memory for this")
-        return REFUSED
+    return REFUSED

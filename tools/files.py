@@ -8,7 +8,6 @@ import tempfile
 
 MOST_NAME = 4095
 FIFO = "it is a FIFO: the program waits for its writer and reads it, and its text can be read once only"
-CHUNK = 1 << 20
 REASONS = {
     errno.ENOENT: "there is no such file",
     errno.ENOTDIR: "a part of its path is no folder",
@@ -22,17 +21,23 @@ REASONS = {
 
 
 class FileFault(Exception):
-    """Why a file's text isn't to be had. `part` is the part of the program's way that fails: words, open or read; it is
-    `waits` where the program could read the file and this tool doesn't try to."""
+    """Why a file's text isn't to be had. `part` is the part of the program's way that fails: words, open or read; it is `waits` where the
+    program could read the file and this tool doesn't try to."""
 
     def __init__(self, part: str, why: str) -> None:
         super().__init__(why)
-        self.part = part
-        self.why = why
+        self.part, self.why = part, why
 
 
-def check_name(name: str) -> None:
-    """The program's words have no form with a file of this name, if this fails."""
+def reason_of(e: Exception) -> str:
+    if not isinstance(e, OSError):
+        return str(e)
+    return REASONS.get(e.errno or 0, (os.strerror(e.errno) if e.errno else str(e)).lower())
+
+
+def open_to_read(name: str) -> int:
+    """Opens a file as the program does, whose words have no form with some names. A FIFO is opened only where its text is standard input's or
+    stands behind another open descriptor, since a text that is taken from it here is lost for the program."""
     as_bytes = os.fsencode(name)
     if not as_bytes:
         raise FileFault("words", "the name is empty")
@@ -42,21 +47,11 @@ def check_name(name: str) -> None:
         as_bytes.decode("utf-8")
     except UnicodeDecodeError:
         raise FileFault("words", "the name isn't UTF-8") from None
-
-
-def reason_of(e: OSError) -> str:
-    return REASONS.get(e.errno or 0, (os.strerror(e.errno) if e.errno else str(e)).lower())
-
-
-def open_to_read(name: str) -> int:
-    """Opens a file as the program does. A FIFO is opened only where its text is standard input's or stands behind another
-    open descriptor, since a text that is taken from it here is lost for the program."""
-    check_name(name)
     try:
         about = os.stat(name)
         if not stat.S_ISFIFO(about.st_mode):
             return os.open(name, os.O_RDONLY | os.O_NOCTTY)
-        if is_standard_input(about):
+        if os.path.samestat(os.fstat(0), about):
             return os.dup(0)
         if os.path.exists(os.path.realpath(name)):
             raise FileFault("waits", FIFO)
@@ -67,27 +62,16 @@ def open_to_read(name: str) -> int:
         raise FileFault("open", "its name has a NUL") from None
 
 
-def is_standard_input(about: os.stat_result) -> bool:
+def text_of(name: str, most: int) -> bytes:
+    """The bytes of a file, at most so many, which is opened and read as the program does."""
+    descriptor = open_to_read(name)
     try:
-        mine = os.fstat(0)
-    except OSError:
-        return False
-    return (mine.st_dev, mine.st_ino) == (about.st_dev, about.st_ino)
-
-
-def read_some(descriptor: int, most: int) -> bytes:
-    """The bytes of an opened file, at most so many."""
-    pieces, left = [], most
-    try:
-        while left > 0:
-            piece = os.read(descriptor, min(left, CHUNK))
-            if not piece:
-                break
-            pieces.append(piece)
-            left -= len(piece)
+        with open(descriptor, "rb", closefd=False) as file:
+            return file.read(most)
     except OSError as e:
         raise FileFault("read", reason_of(e)) from None
-    return b"".join(pieces)
+    finally:
+        os.close(descriptor)
 
 
 def put(name: str, data: bytes) -> None:

@@ -22,12 +22,16 @@ def one_line(piece: str) -> str:
     return visible(clipped(re.sub(r" *[\t\n\r][ \t\n\r]*", " ", piece[: 4 * MOST_SHOWN])))
 
 
-def quoted(text: str) -> str:
-    return f'"{visible(clipped(text))}"'
+def quoted(text: str, quote: str = '"') -> str:
+    return f"{quote}{visible(clipped(text))}{quote}"
 
 
 def count(number: int, word: str) -> str:
     return f"{number} {word}{'s' * (number != 1)}"
+
+
+def with_article(word: str) -> str:
+    return f"{'an' if word[0] in 'aeiou' else 'a'} {word}"
 
 
 def listed(words: Iterable[str]) -> str:
@@ -40,7 +44,7 @@ def nearest(word: str, known: Iterable[str]) -> str | None:
     return found[0] if found else None
 
 
-def near_hint(word: str, known: Iterable[str], quote: str = '"') -> str:
-    """Asks whether a known word was meant, if one is like this word."""
-    near = nearest(word.lower(), known)
-    return f"; did you mean {quote}{near}{quote}?" if near else ""
+def near_hint(word: object, known: Iterable[str], quote: str = '"', asks: str = "did you mean", otherwise: str = "") -> str:
+    """Asks whether a known word was meant, if one is like this word, and else says this."""
+    near = nearest(word, known) if isinstance(word, str) else None
+    return f"; {asks} {quoted(near, quote)}?" if near else otherwise

@@ -25,6 +25,11 @@ class Edit:
     def __str__(self):
         return f"{self.crate}/{self.file.stem}"
 
+    @property
+    def stands_apart(self):
+        """Whether it can be tried in a function of its own, beside the one that it changes."""
+        return self.own is not None and self.own.is_free
+
 
 def is_lemma(name):
     """Whether this names no function, but a lemma of a file of proofs: `proofs::FILE::LEMMA`."""
@@ -51,81 +56,59 @@ def pairs_of(text):
     return pairs, named
 
 
-def placed(folder, path, old, new):
-    """What an old text and a new one change: the file, where the old one begins there, and both; or a fault."""
-    file = folder / path
+def placed(folder, crate, path, old, new):
+    """What an old text and a new one change: the file, where the old one begins there, and both; and the function of the source that this lies in,
+    if it lies in one. Or a fault."""
     if not path.startswith(("src/", "specs/", "proofs/")) or ".." in path:
         raise ValueError(f"it names no file below src/, specs/ or proofs/: {path}")
-    if not file.is_file():
+    if not (folder / path).is_file():
         raise ValueError(f"there is no {path}")
-    text = file.read_text(encoding="utf-8")
+    text = (folder / path).read_text(encoding="utf-8")
     if text.count(old) != 1:
         raise ValueError(f"its text stands {text.count(old)} times in {path}: {old.strip()[:60]}")
     if old == new:
         raise ValueError(f"it changes nothing in {path}")
-    return path, text.index(old), old, new
-
-
-def function_of(folder, crate, change):
-    """The function of a crate's source that a change lies in, if it lies in one."""
-    path, at, old, _ = change
-    if not path.startswith("src/"):
-        return None
-    text = (folder / path).read_text(encoding="utf-8")
-    return function_at(text, at + len(old) - len(old.lstrip()), crate, path)
+    at, lead = text.index(old), len(old) - len(old.lstrip())
+    return (path, at, old, new), function_at(text, at + lead, crate, path) if path.startswith("src/") else None
 
 
 def read(file):
     """The edit of a file, with its fault where it has one."""
-    folder, edit = file.parent.parent, Edit(file.parent.parent.name, file, file.read_text(encoding="utf-8"))
+    folder = file.parent.parent
+    edit = Edit(folder.name, file, file.read_text(encoding="utf-8"))
     try:
         pairs, named = pairs_of(edit.text)
-        edit.changes = [placed(folder, *pair) for pair in pairs]
-        found = {function_of(folder, edit.crate, change) for change in edit.changes}
+        found = [placed(folder, edit.crate, *pair) for pair in pairs]
+        edit.changes, own = [change for change, _ in found], {function for _, function in found}
+        names = {it.name for it in own if it}
+        edit.functions, edit.is_named = named or names, bool(named) and named != names or None in own
+        edit.own = next(iter(own)) if len(own) == 1 and not edit.is_named else None
+        if not edit.changes:
+            raise ValueError("it changes nothing")
+        if not edit.functions or not named and None in own:
+            raise ValueError("it changes what lies in no function: name the function that has to refuse it by a line 'fn: NAME'")
     except ValueError as fault:
         edit.fault = str(fault)
-        return edit
-    names = {it.name for it in found if it}
-    edit.functions, edit.is_named = named or names, bool(named) and named != names or None in found
-    edit.own = next(iter(found)) if len(found) == 1 and not edit.is_named else None
-    if not edit.changes:
-        edit.fault = "it changes nothing"
-    elif not edit.functions or not named and None in found:
-        edit.fault = "it changes what lies in no function: name the function that has to refuse it by a line 'fn: NAME'"
     return edit
 
 
-def all_edits(root, folders, names=None):
-    """The edits of these crates, or of all, by their crates."""
-    found = {}
-    for file in sorted(it for folder in folders for it in root.glob(f"crates/*/{folder}/*.edit")):
-        crate = file.parent.parent.name
-        if not names or crate in names:
-            found.setdefault(crate, []).append(read(file))
-    return found
-
-
-def spans_of(edit):
-    """The bytes that an edit replaces: the file, the first, and the one behind the last."""
-    return [(path, at, at + len(old)) for path, at, old, _ in edit.changes]
+def all_edits(root, folders, names=()):
+    """The edits of these crates, or of all, those of a crate together."""
+    files = sorted(it for folder in folders for it in root.glob(f"crates/*/{folder}/*.edit"))
+    return [read(it) for it in files if not names or it.parent.parent.name in names]
 
 
 def overlaps(one, other):
     """Whether two edits replace the same bytes of a file."""
-    return any(path == file and at < end and begin < to for path, at, to in spans_of(one) for file, begin, end in spans_of(other))
-
-
-def stands_apart(edit):
-    """Whether an edit can be tried in a function of its own, beside the one that it changes."""
-    return edit.own is not None and edit.own.is_free
+    return any(path == file and at < begin + len(text) and begin < at + len(old)
+               for path, at, old, _ in one.changes for file, begin, text, _ in other.changes)
 
 
 def fits(edit, taken):
-    """Whether an edit can be tried in one check with these: what it changes is nobody else's to see."""
-    if edit.is_named or any(it.is_named for it in taken):
-        return not taken
-    others = [it for it in taken if not stands_apart(it)]
-    return stands_apart(edit) or not any(edit.functions & it.functions or overlaps(edit, it) for it in others)
+    """Whether an edit can be tried in one check with these of a crate: what it changes is nobody else's to see."""
+    if edit.crate != taken[0].crate or any(it.is_named for it in [edit, *taken]):
+        return False
+    return edit.stands_apart or not any(edit.functions & it.functions or overlaps(edit, it) for it in taken if not it.stands_apart)
 
 
 def rounds(edits):

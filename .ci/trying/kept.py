@@ -5,7 +5,7 @@ from functools import cache
 from pathlib import Path
 
 from .checks import kit
-from .libraries import PARTS, below
+from .libraries import below, files_of
 
 HERE = Path(__file__).resolve().parent
 
@@ -15,42 +15,25 @@ def store():
     return Path(os.environ.get("XDG_CACHE_HOME") or Path.home() / ".cache") / "xrsim-edits"
 
 
-def files_of(folder):
-    return sorted(it for part in PARTS for it in (folder / part).rglob("*") if it.is_file())
+def sum_of(*parts):
+    return hashlib.sha256(repr(parts).encode()).hexdigest()
 
 
-@cache
-def sum_of_tools():
-    """A sum of the toolchain's name and of this script."""
-    found = hashlib.sha256((kit() / "KIT-ID").read_bytes())
-    for file in [HERE.parent / "edits", *sorted(HERE.glob("*.py"))]:
-        found.update(file.read_bytes())
-    return found.digest()
+def sum_of_tools(*more):
+    """A sum of the toolchain's name, of this script and of more files."""
+    return sum_of(*(it.read_bytes() for it in [kit() / "KIT-ID", HERE.parent / "edits", *sorted(HERE.glob("*.py")), *more]))
 
 
 @cache
 def sum_of_crate(folder, line):
     """A sum of a crate's files and of its line of crates.txt."""
-    found = hashlib.sha256(line.encode())
-    for file in files_of(folder):
-        found.update(repr((str(file.relative_to(folder)), file.read_bytes())).encode())
-    return found.digest()
+    return sum_of(line, *((path, file.read_bytes()) for path, file in files_of(folder).items()))
 
 
-def sum_of(root, lines, edit):
-    """A sum of all that the try of an edit stands on."""
-    found = hashlib.sha256(sum_of_tools() + edit.text.encode())
-    for name in [*below(lines, edit.crate), edit.crate]:
-        found.update(sum_of_crate(root / "crates" / name, lines[name][0]))
-    return found.hexdigest()
-
-
-def sum_of_texts(*files):
-    """A sum of the toolchain's name, of this script and of more of its files."""
-    found = hashlib.sha256(sum_of_tools())
-    for file in files:
-        found.update(file.read_bytes())
-    return found.hexdigest()
+def sums_of(root, lines, edits):
+    """Of each edit a sum of all that its try stands on."""
+    tools, its = sum_of_tools(), {it.crate: [*below(lines, it.crate), it.crate] for it in edits}
+    return {it: sum_of(tools, it.text, *(sum_of_crate(root / "crates" / name, lines[name][0]) for name in its[it.crate])) for it in edits}
 
 
 def is_kept(sum):

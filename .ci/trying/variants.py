@@ -2,8 +2,6 @@
 unchanged one and with its clauses, attributes and proof: so edits of one function don't meet, and none breaks what others call."""
 import re
 
-from .edits import stands_apart
-
 
 def renamed(name, number):
     """The name of the function in which an edit stands, by the edit's number in its check."""
@@ -12,7 +10,7 @@ def renamed(name, number):
 
 def tried_by(edit, number):
     """The names of the functions that judge an edit in a check."""
-    return {renamed(it, number) for it in edit.functions} if stands_apart(edit) else edit.functions
+    return {renamed(it, number) for it in edit.functions} if edit.stands_apart else edit.functions
 
 
 def edited(text, changes, begin=0):
@@ -30,18 +28,15 @@ def variant(texts, edit, number):
     return path, own.end, "", re.sub(rf"\bfn {short}\b", f"fn {renamed(short, number)}", item, count=1)
 
 
-def is_proof_of(folder, edit):
-    """Whether a folder has the proof of the function that an edit changes. Of a method only the end of its place is known."""
-    inside = edit.own.name.removeprefix(f"{edit.crate}::").replace("::", "/")
-    return folder == f"proofs/{inside}" or edit.own.name != f"{edit.crate}::{inside.replace('/', '::')}" and folder.endswith(f"/{inside}")
-
-
 def proof_of(texts, edit, number):
-    """The files of the proof of the function that an edit changes, for the function in which it stands."""
-    found = {}
+    """The files of the proof of the function that an edit changes, for the function in which it stands. Of a method only the end of its place is
+    known."""
+    front = f"{edit.crate}::"
+    found, inside = {}, edit.own.name.removeprefix(front).replace("::", "/")
     for path, text in texts.items():
         folder = path.rpartition("/")[0]
-        if path.startswith("proofs/") and is_proof_of(folder, edit):
+        is_its = folder == f"proofs/{inside}" or not edit.own.name.startswith(front) and folder.endswith(f"/{inside}")
+        if path.startswith("proofs/") and is_its:
             module = f"Rattle.{edit.crate}.{folder.replace('/', '.')}"
             found[path.replace(folder, renamed(folder, number), 1)] = text.replace(f"{module}.", f"{renamed(module, number)}.")
     return found
@@ -49,12 +44,13 @@ def proof_of(texts, edit, number):
 
 def applied(texts, edits):
     """The texts of a crate's files, by their paths, with these edits."""
-    changes, more = [], {}
+    changes, found = [], dict(texts)
     for number, edit in enumerate(edits):
-        if stands_apart(edit):
+        if edit.stands_apart:
             changes.append(variant(texts, edit, number))
-            more |= proof_of(texts, edit, number)
+            found.update(proof_of(texts, edit, number))
         else:
             changes += edit.changes
-    paths = {path for path, *_ in changes}
-    return {**texts, **more, **{path: edited(texts[path], [it for it in changes if it[0] == path]) for path in paths}}
+    for path in {path for path, *_ in changes}:
+        found[path] = edited(texts[path], [it for it in changes if it[0] == path])
+    return found

@@ -11,7 +11,7 @@ from scenarios.devices import END, DeviceFound, Told
 from scenarios.findings import Finding, line_and_column
 from scenarios.json_text import Reader
 from scenarios.reading import DEPTH_OF_OPS, MOST_HANDLE_MARK, Op, ScenarioFound
-from shown import count, quoted
+from shown import count, quoted, with_article
 
 MOST_WARNINGS = 100
 
@@ -24,7 +24,9 @@ GIVEN = {
 WANTED = {
     **{it: it for it in ("instance", "session", "space", "action", "system", "time")},
     **{"base": "space", "set": "action set", "chain": "swapchain", "projection": "space", "quad": "space"},
+    **{"sets": "action set", "bindings": "action", "active": "action set", "image": "swapchain", "views": "swapchain"},
 }
+PARTS_OF_LAYERS = ("projection", "quad", "image", "views")
 
 # the field that names what a thing of a kind is made from
 MADE_FROM = {"session": "instance", "action set": "instance", "action": "set", "space": "session", "swapchain": "session"}
@@ -50,32 +52,20 @@ class Thing:
         return self if self.destroyed else self.parent.gone() if self.parent else None
 
 
-def with_article(kind: str) -> str:
-    return f"{'an' if kind[0] in 'aeiou' else 'a'} {kind}"
-
-
 def uses_of(op: Op) -> Iterator[tuple[Path, str, str | None]]:
-    """The names that an op uses for what has a kind: where each stands in the op, and the kind that is wanted there."""
-    for key, value in op.fields.items():
-        if key == "sets":
-            found = [((key, at), it, "action set") for at, it in enumerate(value)]
-        elif key in ("bindings", "active"):
-            kind = "action" if key == "bindings" else "action set"
-            found = [((key, at, 0), it[0], kind) for at, it in enumerate(value)]
-        elif key == "layers":
-            found = [use for at, it in enumerate(value) for use in uses_of_layer((key, at), it)]
-        else:
-            found = [((key,), value, WANTED.get(key))] if key in WANTED or key == "value" else []
-        yield from (it for it in found if isinstance(it[1], str))
-
-
-def uses_of_layer(path: Path, layer: dict[str, Any]) -> Iterator[tuple[Path, Any, str]]:
-    for key in layer.keys() & {"projection", "quad"}:
-        yield (*path, key), layer[key], "space"
-    if "image" in layer:
-        yield (*path, "image", 0), layer["image"][0], "swapchain"
-    for at, view in enumerate(layer.get("views", ())):
-        yield (*path, "views", at, 0), view[0], "swapchain"
+    """The names that an op uses for what has a kind: where each stands in the op, and the kind that is wanted there. Of a list in a list the first
+    item is one."""
+    parts: list[tuple[Path, Any]] = []
+    for key, it in op.fields.items():
+        if key == "layers":
+            parts += [((key, at, part), layer[part]) for at, layer in enumerate(it) for part in PARTS_OF_LAYERS if part in layer]
+        elif key in WANTED or key == "value":
+            parts.append(((key,), it))
+    for path, value in parts:
+        items = [(path, value)]
+        if isinstance(value, list):
+            items = [((*path, at, 0), it[0]) if isinstance(it, list) else ((*path, at), it) for at, it in enumerate(value)]
+        yield from ((place, name, WANTED.get(path[-1])) for place, name in items if isinstance(name, str))
 
 
 def kinds_of_marks(scripts: list[list[Op]]) -> dict[int, set[str | None]]:
@@ -104,13 +94,11 @@ def kind_given(op: Op, marks: dict[int, set[str | None]]) -> str | None:
 
 
 class Lint:
-    """Looks through the scripts. `device` has the first line of the device's text for each mark that is set or awaited; it is
-    None where a text was given that can't be read, so that nobody knows what it sets."""
+    """Looks through the scripts, each with what its names stand for. `device` has the first line of the device's text for each mark that is set or
+    awaited; it is None where a text was given that can't be read, so that nobody knows what it sets."""
 
     def __init__(self, found: ScenarioFound, device: dict[tuple[str, int], Told] | None, has_device: bool) -> None:
-        self.found = found
-        self.device = device
-        self.has_device = has_device
+        self.found, self.device, self.has_device = found, device, has_device
         self.warnings: dict[int, Finding] = {}
         self.more = 0
         self.kinds = kinds_of_marks(found.scripts)
@@ -120,47 +108,29 @@ class Lint:
                 if op.name == "mark":
                     self.setters.setdefault(op.fields["mark"], []).append((number, place))
 
-    def warn(self, op: Op, said: str, words: str, path: Path = ()) -> None:
+    def warn(self, op: Op, place: int, words: str, path: Path) -> None:
         """Keeps a warning of an op, at a value in it."""
         if len(self.warnings) == MOST_WARNINGS:
             self.more += 1
             return
-        node = Reader(self.found.text).value(op.at, DEPTH_OF_OPS) if path else None
-        for part in path:
-            node = node.value[part][1] if isinstance(part, str) else node.value[part]
-        at = node.start if node else op.at
-        line, column = line_and_column(self.found.text, at)
-        self.warnings.setdefault(at, Finding(line, column, f"{said}: {words}", [], True))
-
-    def others_end(self, number: int) -> bool:
-        """Whether a script that isn't this one ends or destroys a session."""
-        scripts = enumerate(self.found.scripts, 1)
-        return any(op.name in ENDING for other, ops in scripts if other != number for op in ops)
+        at = Reader(self.found.text).value(op.at, DEPTH_OF_OPS).inside(path)[1]
+        said = f"script {self.number} op {place} {path[0]}: {words}"
+        self.warnings.setdefault(at, Finding(*line_and_column(self.found.text, at), said, [], True))
 
     def look(self) -> list[Finding]:
         """All warnings, in the order of their places."""
         for number, ops in enumerate(self.found.scripts, 1):
-            ScriptLint(self, number).look(ops)
+            self.look_at_script(number, ops)
         found = [it for _, it in sorted(self.warnings.items())]
         if self.more:
             found[-1].more.append(f"{count(self.more, 'more warning')} can be given.")
         return found
 
-
-class ScriptLint:
-    """Looks through one script, with what its names stand for."""
-
-    def __init__(self, lint: Lint, number: int) -> None:
-        self.lint = lint
+    def look_at_script(self, number: int, ops: list[Op]) -> None:
         self.number = number
         self.names: dict[str, Thing] = {}
-        self.things: list[Thing] = []
         self.said: set[tuple[str, ...]] = set()
-
-    def warn(self, op: Op, place: int, words: str, path: Path) -> None:
-        self.lint.warn(op, f"script {self.number} op {place} {path[0]}", words, path)
-
-    def look(self, ops: list[Op]) -> None:
+        things: list[Thing] = []
         for place, op in enumerate(ops, 1):
             for path, name, kind in uses_of(op):
                 if name in self.names:
@@ -168,10 +138,11 @@ class ScriptLint:
             if op.name == "await":
                 self.look_at_await(op, place)
             self.follow(op, place)
-        for thing in self.things:
-            if thing.begun and not thing.gone() and not (thing.is_handed and self.lint.others_end(self.number)):
-                name = quoted(thing.begun.fields["session"])
-                words = f"{name} is begun here, and nothing behind this op ends or destroys it"
+            things += [self.names[op.fields["as"]]] if "as" in op.fields else []
+        others_end = any(op.name in ENDING for other, ops in enumerate(self.found.scripts, 1) if other != number for op in ops)
+        for thing in things:
+            if thing.begun and not thing.gone() and not (thing.is_handed and others_end):
+                words = f"{quoted(thing.begun.fields['session'])} is begun here, and nothing behind this op ends or destroys it"
                 self.warn(thing.begun, thing.begun_at, words, ("session",))
 
     def look_at_use(self, op: Op, place: int, path: Path, name: str, kind: str | None) -> None:
@@ -188,17 +159,16 @@ class ScriptLint:
 
     def look_at_await(self, op: Op, place: int) -> None:
         """Whether a mark may be set before the script comes to wait for it."""
-        mark, device = op.fields["mark"], self.lint.device
-        setters = self.lint.setters.get(mark, [])
+        mark = op.fields["mark"]
+        setters = self.setters.get(mark, [])
         is_set = any(number != self.number or at < place for number, at in setters)
-        if device is None or is_set or ("mark", mark) in device or ("await", str(mark)) in self.said:
+        if self.device is None or is_set or ("mark", mark) in self.device or ("await", str(mark)) in self.said:
             return
         self.said.add(("await", str(mark)))
+        other = "the device's text has no such line" if self.has_device else "no device's text is given"
+        words = f"nobody sets mark {mark}: no script has such an op, and {other}"
         if setters:
             words = f"mark {mark} is set by op {setters[0][1]} of this script alone, which stands behind this one"
-        else:
-            other = "the device's text has no such line" if self.lint.has_device else "no device's text is given"
-            words = f"nobody sets mark {mark}: no script has such an op, and {other}"
         self.warn(op, place, words, ("mark",))
 
     def thing(self, op: Op, field: str) -> Thing | None:
@@ -207,26 +177,20 @@ class ScriptLint:
         return self.names.get(name) if isinstance(name, str) else None
 
     def follow(self, op: Op, place: int) -> None:
-        """What an op does to what its names stand for."""
+        """What an op does to what its names stand for. A call with a handle of another kind is refused."""
         field = next((it for it in op.fields if it in WANTED or it == "value"), "")
         used = self.thing(op, field)
-        if used and used.kind not in (None, WANTED.get(field, used.kind)):
-            # a call with a handle of another kind is refused
-            used = None
-        if used and op.name.startswith("destroy_"):
-            used.destroyed = used.destroyed or f"op {place} ({op.name})"
-        elif used and op.name == "begin_session":
-            used.begun, used.begun_at = op, place
-        elif used and op.name == "end_session":
-            used.begun = None
-        elif used and op.name == "mark":
-            used.is_handed = True
+        if used and used.kind in (None, WANTED.get(field, used.kind)):
+            if op.name.startswith("destroy_"):
+                used.destroyed = used.destroyed or f"op {place} ({op.name})"
+            elif op.name in ("begin_session", "end_session"):
+                used.begun, used.begun_at = (op, place) if op.name == "begin_session" else (None, 0)
+            elif op.name == "mark":
+                used.is_handed = True
         if "as" in op.fields:
-            kind = kind_given(op, self.lint.kinds)
+            kind = kind_given(op, self.kinds)
             parent = self.thing(op, MADE_FROM.get(kind or "", ""))
-            thing = Thing(kind, parent, is_handed=op.name == "await")
-            self.names[op.fields["as"]] = thing
-            self.things.append(thing)
+            self.names[op.fields["as"]] = Thing(kind, parent, is_handed=op.name == "await")
 
 
 def marks_of(device: DeviceFound) -> dict[tuple[str, int], Told]:
@@ -243,24 +207,17 @@ def marks_of(device: DeviceFound) -> dict[tuple[str, int], Told]:
         at = told.at + 1
 
 
-def lint_device(device: DeviceFound, marks: dict[tuple[str, int], Told], setters: dict[int, Any]) -> list[Finding]:
-    """What is suspicious in a device's text: an `await` of a mark that nobody sets before."""
-    found = []
-    for (name, mark), told in sorted(marks.items(), key=lambda it: it[1].at):
-        setter = marks.get(("mark", mark))
-        if name == "mark" or mark in setters or setter and setter.at < told.at:
-            continue
-        words = f"nobody sets mark {mark}: no script has such an op, and the device's text has no such line"
-        if setter:
-            words = f"mark {mark} is set by line {device.line_of(setter)} alone, which stands behind this one"
-        found.append(Finding(device.line_of(told), len("await ") + 1, words, [], True))
-    return found
-
-
 def lint(scenario: ScenarioFound, device: DeviceFound | None, is_known: bool) -> tuple[list[Finding], list[Finding]]:
-    """The warnings of a scenario, and those of a device's text; `is_known` is false where such a text was given and not
-    read."""
+    """The warnings of a scenario, and those of a device's text, which are of an `await` of a mark that nobody sets before; `is_known` is false where
+    such a text was given and not read."""
     marks = marks_of(device) if device else {}
     looked = Lint(scenario, marks if is_known else None, device is not None)
-    warnings = looked.look()
-    return warnings, lint_device(device, marks, looked.setters) if device else []
+    warnings, found = looked.look(), []
+    for (name, mark), told in sorted(marks.items(), key=lambda it: it[1].at):
+        setter = marks.get(("mark", mark))
+        if device and name == "await" and mark not in looked.setters and not (setter and setter.at < told.at):
+            words = f"nobody sets mark {mark}: no script has such an op, and the device's text has no such line"
+            if setter:
+                words = f"mark {mark} is set by line {device.line_of(setter)} alone, which stands behind this one"
+            found.append(Finding(device.line_of(told), len("await ") + 1, words, [], True))
+    return warnings, found

@@ -1,6 +1,5 @@
-"""How a run of texts ends, which the texts tell: the machine makes it turn by turn. Where all others wait, the device goes on at
-once to its first event that may release somebody.
-"""
+"""How a run of texts ends, which the texts tell: the machine makes it turn by turn. Where all others wait, the device goes on at once to its first
+event that may release somebody."""
 from __future__ import annotations
 
 import re
@@ -9,7 +8,7 @@ from dataclasses import dataclass
 
 from machine.sessions import LAST, Session
 from machine.turns import Turns, is_made
-from scenarios.devices import END, DeviceFound, Told
+from scenarios.devices import END, DeviceFound
 from scenarios.findings import line_and_column
 from scenarios.reading import Op, ScenarioFound, Scripts
 
@@ -50,8 +49,7 @@ def would_be(done: str, does: str, found: list[str]) -> str:
 
 
 class Prediction(Turns):
-    """All actors on their way, until nobody can go on. Behind its events the device has a fault or a garbled line, if it ends
-    early."""
+    """All actors on their way, until nobody can go on. Behind its events the device has a fault or a garbled line, if it ends early."""
 
     def __init__(self, scripts: Scripts, device: DeviceFound, is_failing: bool) -> None:
         super().__init__(scripts, [])
@@ -69,25 +67,19 @@ class Prediction(Turns):
 
     # ---- the device
 
-    @property
-    def is_told(self) -> bool:
-        return self.next is None and not self.ends_early
-
     def tell(self) -> bool:
-        event = self.next
-        if event is None:
-            had_more, self.ends_early = self.ends_early, False
-            if had_more:
-                self.machine.tell_lost()
-            return had_more
-        self.machine.tell_event(f"{event.name} {event.words}".rstrip())
-        self.next = self.device.event(event.at + 1)
-        return True
+        if self.next:
+            self.machine.tell_event(f"{self.next.name} {self.next.words}".rstrip())
+            self.next = self.device.event(self.next.at + 1)
+            return True
+        had_more, self.ends_early = self.ends_early, False
+        if had_more:
+            self.machine.tell_loss(is_pending=False)
+        return had_more
 
     def tell_quiet(self) -> None:
-        """Tells all events up to the first one that may release somebody who waits for a mark or a frame. A mark may, where it
-        isn't set yet, and a loss may. At an `await` of a mark that isn't set the device waits itself. Nobody waits for an
-        image, since no frame uses any."""
+        """Tells all events up to the first one that may release somebody who waits for a mark or a frame. A mark may, where it isn't set yet, and a
+        loss may. At an `await` of a mark that isn't set the device waits itself. Nobody waits for an image, since no frame uses any."""
         if self.next is None:
             return
         session = self.machine.session
@@ -108,7 +100,7 @@ class Prediction(Turns):
         if b"\nclock " in text:
             times = re.findall(rb"\nclock ([0-9]+)", text)
             longest = max(map(len, times))
-            machine.tell_clock(max(it for it in times if len(it) == longest).decode())
+            machine.tell_event(f"clock {max(it for it in times if len(it) == longest).decode()}")
         for name in ("grid", "stage") if machine.session else ("grid", "stage", "wish"):
             last = text.rfind(f"\n{name} ".encode())
             if last >= 0:
@@ -117,8 +109,7 @@ class Prediction(Turns):
             self.tell_states(machine.session, re.findall(rb"\n(?:wish ([a-z]+)|loss)", text))
 
     def tell_states(self, session: Session, wishes: list[bytes]) -> None:
-        """The wishes and losses of a device in their order; a loss is empty here. A step that was made once is made again
-        without following it."""
+        """The wishes and losses of a device in their order; a loss is empty here. A step that was made once is made again without following it."""
         made: dict[tuple[str, bytes], str] = {}
         for wish in wishes:
             if session.state in LAST:
@@ -133,12 +124,6 @@ class Prediction(Turns):
 
     # ---- who is stuck
 
-    def setter(self, mark: int) -> Told | None:
-        """The event that would set a mark, of those that weren't told."""
-        at = self.next.at if self.next else len(self.device.text)
-        found = re.compile(rf"\nmark {mark}{END}".encode()).search(self.device.text, at)
-        return self.device.event(found.start()) if found else None
-
     def left(self, does: Callable[[Op], bool]) -> list[str]:
         """The first op of each script that does something and isn't made."""
         ahead = [(it.number, enumerate(it.ops[it.made :], it.made + 1)) for it in self.scripts]
@@ -146,27 +131,24 @@ class Prediction(Turns):
         return [f"script {number} op {place}" for number, place in places if place]
 
     def setters(self, mark: int) -> str:
-        """Who would set a mark."""
+        """Who would set a mark: ops, and an event of those that weren't told."""
         found = self.left(lambda it: it.name == "mark" and it.fields["mark"] == mark)
-        event = self.setter(mark)
-        found += [f"the device's line {self.device.line_of(event)}"] if event else []
+        at = self.next.at if self.next else len(self.device.text)
+        line = re.compile(rf"\nmark {mark}{END}".encode()).search(self.device.text, at)
+        found += [f"the device's line {self.device.text.count(10, 0, line.start() + 1)}"] if line else []
         return would_be("set", "sets", found)
 
-    def why(self, op: Op) -> str:
-        """What an op waits for, and who would give it. In the end a frame waits only for the one before it, and nobody waits
-        for an image."""
-        if op.name == "await":
-            return f"for mark {op.fields['mark']}: {self.setters(op.fields['mark'])}"
-        found = self.left(lambda it: it.name == "begin_frame" and it.fields["session"] != 0)
-        return f"until the frame before its own is begun: {would_be('begun', 'begins', found)}"
-
     def waiting(self, text: str) -> list[str]:
-        """A line for each script that waits for ever, and one for the device."""
+        """A line for each script that waits for ever, and one for the device: for what, and who would give it. In the end a frame waits only for the
+        one before it, and nobody waits for an image."""
         lines = []
         for script in (it for it in self.scripts if not it.is_done):
+            begins = self.left(lambda it: it.name == "begin_frame" and it.fields["session"] != 0)
+            why, mark = f"until the frame before its own is begun: {would_be('begun', 'begins', begins)}", script.next.fields.get("mark")
+            if script.next.name == "await":
+                why = f"for mark {mark}: {self.setters(mark)}"
             line, column = line_and_column(text, script.next.at)
-            place = f"script {script.number} op {script.made + 1} (line {line}, column {column})"
-            lines.append(f"{place} waits {self.why(script.next)}")
+            lines.append(f"script {script.number} op {script.made + 1} (line {line}, column {column}) waits {why}")
         event = self.next
         if event:
             line = self.device.line_of(event)
@@ -182,7 +164,7 @@ def answer_of(scenario: ScenarioFound, device: DeviceFound, is_failing: bool = F
     waiting = tuple(run.waiting(scenario.text))
     if is_failing:
         return Answer(5, DEVICE_FAILED, waiting)
-    if device.garbled is not None and run.is_told:
+    if device.garbled is not None and run.next is None and not run.ends_early:
         return Answer(6, f"xrsim: device line {device.garbled} garbled", waiting)
     if not waiting:
         return Answer(0)

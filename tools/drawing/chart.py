@@ -6,22 +6,8 @@ from collections import Counter
 from drawing import text
 from drawing.columns import ASIDE, BIN_WIDTH, LEFT, Column, Piece
 from drawing.replay import Arrow, Change, Session, Wait, in_units, is_bad, is_fault
-from drawing.scene import (
-    AXIS_HEIGHT,
-    BOLD,
-    CLOCK_HEIGHT,
-    HEAD_HEIGHT,
-    MORE_SIZE,
-    NAME_SIZE,
-    Lane,
-    Node,
-    Scene,
-    faults_of,
-    label_of,
-    reach,
-    said_of,
-    way_of,
-)
+from drawing.scene import AXIS_HEIGHT, BOLD, CLOCK_HEIGHT, HEAD_HEIGHT, MORE_SIZE, NAME_SIZE, Lane, Node, Scene
+from drawing.scene import faults_of, label_of, reach, said_of, way_of
 from drawing.text import escaped
 from reports.reading import Call
 
@@ -64,8 +50,13 @@ def num(value: float) -> str:
 
 
 def titled(words: str) -> str:
-    lines = "\n".join(escaped(line) for line in words.split("\n"))
+    lines = "\n".join(map(escaped, words.split("\n")))
     return f"<title>{lines}</title>"
+
+
+def group(kind: str, x: float, y: float, inside: str) -> str:
+    """What one can point at, or come to by keys."""
+    return f'<g class="{kind}" tabindex="0" transform="translate({num(x)} {num(y)})">{inside}</g>'
 
 
 def kind_of(call: Call) -> str:
@@ -74,11 +65,8 @@ def kind_of(call: Call) -> str:
         return "fault" if is_fault(call) else "refused"
     if call.code == "XR_SESSION_LOSS_PENDING":
         return "pending"
-    if call.name in ("leave", "ended"):
-        return "end"
-    if call.name == "mark":
-        return "mark"
-    return "met" if call.code in ("", "XR_SUCCESS") else "other"
+    named = {"leave": "end", "ended": "end", "mark": "mark"}.get(call.name)
+    return named or ("met" if call.code in ("", "XR_SUCCESS") else "other")
 
 
 def slanted(lines: tuple[str, str]) -> str:
@@ -92,7 +80,7 @@ def slanted(lines: tuple[str, str]) -> str:
 def summed(calls: list[Call]) -> str:
     """The kinds of calls in a sum, the most frequent first."""
     kinds = Counter(f"{call.name} {call.code}".strip() for call in calls)
-    lines = [f"{text.number(count)} \u00d7 {kind}" for kind, count in kinds.most_common(6)]
+    lines = [f"{count:,} \u00d7 {kind}" for kind, count in kinds.most_common(6)]
     left = len(kinds) - len(lines)
     return "\n".join(lines + ([f"and {text.counted(left, 'other kind')}"] if left > 0 else []))
 
@@ -113,29 +101,22 @@ class Chart:
 
     def __init__(self, scene: Scene, piece: Piece) -> None:
         self.scene, self.piece = scene, piece
-        self.lanes = {lane.name: lane for lane in scene.lanes}
-        self.start = scene.index[piece.first] if piece.columns else 0
-        self.end = self.start + len(piece.columns)
+        self.lines = {lane.name: lane.line for lane in scene.lanes}
+        start = scene.index[piece.first] if piece.columns else 0
+        here = range(start, start + len(piece.columns))
+        self.nodes = [(lane, [node for node in lane.nodes if node.column in here]) for lane in scene.lanes]
         self.right = self._right()
-
-    def _nodes(self, lane: Lane) -> list[Node]:
-        return [node for node in lane.nodes if self.start <= node.column < self.end]
 
     def _right(self) -> float:
         """Where the drawing ends, so that no label is cut."""
-        right = self.piece.right + 12
-        for lane in self.scene.lanes:
-            for node in self._nodes(lane)[-NEAR_EDGE:]:
-                if not self.scene.columns[node.column].is_bin:
-                    right = max(right, self._x(node) + reach(label_of(node.calls[0]))[1])
-            for session in lane.sessions:
-                for change in session.changes[-NEAR_EDGE:]:
-                    if self._is_here(change.place):
-                        right = max(right, self.x_of(change.place) + reach((way_of(change.told), ""))[1])
-        for wait in self.scene.waits:
-            if wait.end is None and self._is_last():
-                right = max(right, self.piece.right + 44 + text.width_of(wait.text, NAME_SIZE) * BOLD)
-        return right
+        ends = [self.piece.right + 12]
+        for lane, nodes in self.nodes:
+            plain = (node for node in nodes[-NEAR_EDGE:] if not self.scene.columns[node.column].is_bin)
+            ends += [self._x(node) + reach(label_of(node.calls[0]))[1] for node in plain]
+            near = (change for session in lane.sessions for change in session.changes[-NEAR_EDGE:])
+            ends += [self.x_of(it.place) + reach((way_of(it.told), ""))[1] for it in near if self._is_here(it.place)]
+        open_waits = [wait for wait in self.scene.waits if wait.end is None and self._is_last()]
+        return max([*ends, *(self.piece.right + 44 + text.width_of(wait.text, NAME_SIZE) * BOLD for wait in open_waits)])
 
     def _is_last(self) -> bool:
         return self.piece.number == len(self.scene.pieces)
@@ -146,27 +127,11 @@ class Chart:
     def x_of(self, place: int) -> float:
         """The x of a place; an edge where the place is in another piece."""
         if place < self.piece.first:
-            return 0 if place else LEFT / 2 if self.piece.number == 1 else 0
-        if place > self.piece.last:
-            return self.right
-        return self.scene.columns[self.scene.index[place]].x
+            return LEFT / 2 if place == 0 and self.piece.number == 1 else 0
+        return self.right if place > self.piece.last else self.scene.columns[self.scene.index[place]].x
 
     def _x(self, node: Node) -> float:
         return self.scene.columns[node.column].x + (ASIDE if node.is_aside else 0)
-
-    def backs(self) -> list[str]:
-        """Lanes' backgrounds, and a fine line at each column."""
-        out = [back_of(lane, i, self.right) for i, lane in enumerate(self.scene.lanes)]
-        lines = "".join(f"M{num(column.x)} {HEAD_HEIGHT}V{num(self.scene.height)}" for column in self.piece.columns)
-        return out + [f'<path class="grid" d="{lines}"/>'] if lines else out
-
-    def axis(self) -> list[str]:
-        """The places, above all."""
-        out = []
-        for column in self.piece.columns:
-            shown = str(column.first) if not column.is_bin else f"{column.first}\u2013{column.last}"
-            out.append(f'<text class="place" x="{num(column.x)}" y="16">{shown}</text>')
-        return out
 
     def clock(self) -> list[str]:
         """What the device's clock shows: a band that is divided where it goes on."""
@@ -176,34 +141,28 @@ class Chart:
         shown = [(0.0, before[-1]), *here.items()]
         out = [f'<rect class="clock" y="{y}" width="{num(self.right)}" height="{height}"/>']
         free = 0.0
-        for i, (x, time) in enumerate(shown):
+        for (x, time), (end, _) in zip(shown, [*shown[1:], (self.right, 0)]):
             words = in_units(time)
             need = x + 8 + text.width_of(words, MORE_SIZE)
             if x:
                 out.append(f'<path class="tick" d="M{num(x)} {y}v{height}"/>')
-            if x >= free and need <= (shown[i + 1][0] if i + 1 < len(shown) else self.right):
+            if x >= free and need <= end:
                 out.append(f'<text class="time" x="{num(x + 6)}" y="{y + 13}">{words}</text>')
                 free = need
         return out
 
     def wait(self, wait: Wait) -> str:
-        lane = self.lanes[wait.actor]
-        x, end = self.x_of(wait.start), self.x_of(wait.end) if wait.end else self.right - 2
-        if wait.end is None:
-            return self._open_wait(wait, lane, x, end)
-        size = f'x="{num(x)}" y="{num(lane.line - 3)}" width="{num(max(end - x, 1))}" height="6"'
-        places = f"from place {wait.start} to {wait.end}" if wait.start else f"from the start to place {wait.end}"
-        return f'<rect class="wait" {size} rx="3">{titled(f"{wait.text}, {places}")}</rect>'
-
-    def _open_wait(self, wait: Wait, lane: Lane, x: float, end: float) -> str:
-        """The bar of who is stuck, which is open to the right."""
-        since = f"since place {wait.start}" if wait.start else "since the start"
+        """A bar; that of who is stuck is open to the right."""
+        x, line = self.x_of(wait.start), self.lines[wait.actor]
+        if wait.end is not None:
+            size = f'x="{num(x)}" y="{num(line - 3)}" width="{num(max(self.x_of(wait.end) - x, 1))}" height="6"'
+            places = f"from place {wait.start} to {wait.end}" if wait.start else f"from the start to place {wait.end}"
+            return f'<rect class="wait" {size} rx="3">{titled(f"{wait.text}, {places}")}</rect>'
         words = f'<text class="stuck-words" x="{num(self.piece.right + 30 - x)}" y="-14">{escaped(wait.text)}</text>'
-        wide = num(end - x)
+        wide = num(self.right - 2 - x)
         bar = f'<path class="stuck-back" d="M0-7H{wide}V7H0Z"/><path class="stuck" d="M{wide}-7H0V7H{wide}"/>'
-        said = titled(f"{wait.actor} {wait.text}\nstuck {since}")
-        at = f'transform="translate({num(x)} {num(lane.line)})"'
-        return f'<g class="open" tabindex="0" {at}>{said}{bar}{words if self._is_last() else ""}</g>'
+        said = titled(f"{wait.actor} {wait.text}\nstuck since {f'place {wait.start}' if wait.start else 'the start'}")
+        return group("open", x, line, f"{said}{bar}{words if self._is_last() else ''}")
 
     def waits(self) -> list[str]:
         """The bars that are in this piece; those of one actor between the same two columns are one."""
@@ -216,17 +175,7 @@ class Chart:
                     drawn[ends] = self.wait(wait)
         return list(drawn.values())
 
-    def _arrow_ends(self, arrow: Arrow) -> tuple[float, float, float, float]:
-        source, target = self.lanes[arrow.source.who], self.lanes[arrow.target.who]
-        return self.x_of(arrow.source.place), source.line, self.x_of(arrow.target.place), target.line
-
-    def _is_far(self, arrow: Arrow) -> bool:
-        """Whether an arrow begins in another piece, or is between sums."""
-        ends = arrow.source.place, arrow.target.place
-        return any(not self._is_here(place) or self.scene.columns[self.scene.index[place]].is_bin for place in ends)
-
-    def arrow(self, arrow: Arrow) -> str:
-        x, y, end_x, end_y = self._arrow_ends(arrow)
+    def arrow(self, arrow: Arrow, x: float, y: float, end_x: float, end_y: float) -> str:
         if y == end_y:
             start, end, low = f"{num(x)} {num(y + 6)}", f"{num(end_x)} {num(y + 8)}", y + 17
             path = f"M{start}C{num(x)} {num(low)} {num(end_x)} {num(low)} {end}"
@@ -236,105 +185,90 @@ class Chart:
             start = f"{num(x)} {num(y + way * 6)} C{num(x)} {middle}" if x else f"0 {num(y)}C{num(end_x)} {num(y)}"
             path = f"M{start} {num(end_x)} {middle} {end}"
         kind, early = "frame" if arrow.is_frame else "mark", " early" if arrow.is_early else ""
-        return (
-            f'<path class="{kind}-arrow{early}" marker-end="url(#{kind}-head)" d="{path}">{titled(arrow.text)}</path>'
-        )
+        return f'<path class="{kind}-arrow{early}" marker-end="url(#{kind}-head)" d="{path}">{titled(arrow.text)}</path>'
 
     def arrows(self) -> list[str]:
-        """The arrows that end in this piece; those between the same two columns and lanes are one."""
+        """The arrows that end in this piece; those between the same two columns and lanes are one. An early one that begins in another piece, or is
+        between sums, isn't drawn."""
         drawn: dict[tuple[float, float, float, float], str] = {}
-        for arrow in self.scene.arrows:
-            if self._is_here(arrow.target.place) and not (arrow.is_early and self._is_far(arrow)):
-                x, y, end_x, end_y = ends = self._arrow_ends(arrow)
-                if (x, y) != (end_x, end_y) and ends not in drawn:
-                    drawn[ends] = self.arrow(arrow)
+        for arrow in (it for it in self.scene.arrows if self._is_here(it.target.place)):
+            calls = arrow.source, arrow.target
+            columns = [self.scene.columns[self.scene.index[it.place]] for it in calls]
+            (x, y), end = ((self.x_of(it.place), self.lines[it.who]) for it in calls)
+            is_left_out = arrow.is_early and (not self._is_here(arrow.source.place) or any(it.is_bin for it in columns))
+            if not is_left_out and (x, y) != end and (x, y, *end) not in drawn:
+                drawn[(x, y, *end)] = self.arrow(arrow, x, y, *end)
         return list(drawn.values())
 
     def node(self, lane: Lane, node: Node) -> str:
-        column = self.scene.columns[node.column]
-        if column.is_bin:
-            return self._sum(lane, node, column)
-        at = f'transform="translate({num(self._x(node))} {num(lane.line)})"'
+        if self.scene.columns[node.column].is_bin:
+            return self._sum(lane, node, self.scene.columns[node.column])
         call = node.calls[0]
-        said, label = said_of(call), label_of(call)
+        kind, said, label = kind_of(call), said_of(call), label_of(call)
         if len(node.calls) > 1:
-            label = f"{len(node.calls)} getters", ""
-            said = f"{text.counted(len(node.calls), 'getter')} of {lane.name}\n" + "\n".join(
-                f"{it.name} {it.code} {it.text}".strip() for it in node.calls[:8]
-            )
-        kind = "refused" if node.refused and len(node.calls) > 1 else kind_of(call)
-        return f'<g class="call {kind}" tabindex="0" {at}>{titled(said)}{SHAPES[kind]}{slanted(label)}</g>'
+            kind, label = "refused" if node.refused else kind, (f"{len(node.calls)} getters", "")
+            told = (f"{it.name} {it.code} {it.text}".strip() for it in node.calls[:8])
+            said = "\n".join((f"{text.counted(len(node.calls), 'getter')} of {lane.name}", *told))
+        return group(f"call {kind}", self._x(node), lane.line, f"{titled(said)}{SHAPES[kind]}{slanted(label)}")
 
     def _sum(self, lane: Lane, node: Node, column: Column) -> str:
         """A block for many calls, with their number and how many were refused."""
-        width, names = BIN_WIDTH - 10, {call.name for call in node.calls}
-        count, faults = len(node.calls), faults_of(node.calls)
-        words = text.counted(count - len(faults), "call" if node.calls[0].code else "event")
+        width, names, faults = BIN_WIDTH - 10, {call.name for call in node.calls}, faults_of(node.calls)
+        words = text.counted(len(node.calls) - len(faults), "call" if node.calls[0].code else "event")
         name = node.calls[0].name if len(names) == 1 else f"{len(names)} kinds"
-        bad = [f"{text.number(node.refused)} refused"] if node.refused else []
-        bad += faults + ([f"{text.number(node.pending)} loss pending"] if node.pending else [])
-        place = f"places {text.number(column.first)} to {text.number(column.last)} \u00b7 {lane.name}"
+        bad = [f"{node.refused:,} refused"] if node.refused else []
+        bad += faults + ([f"{node.pending:,} loss pending"] if node.pending else [])
+        place = f"places {column.first:,} to {column.last:,} \u00b7 {lane.name}"
         said = titled(f"{place}\n{', '.join([words] + bad)}\n{summed(node.calls)}")
         back = f'<rect class="shape" x="{num(-width / 2)}" y="-9" width="{width}" height="18" rx="4"/>'
         above = f'<text class="sum-name" y="-14">{escaped(text.cut(name, 21))}</text>'
         warn = f'<text class="sum-bad" y="-27">\u25b2 {", ".join(bad)}</text>' if bad else ""
         inside = f'{back}<text class="sum-count" y="4">{words}</text>{above}{warn}'
-        at = f'transform="translate({num(column.x)} {num(lane.line)})"'
-        return f'<g class="call sum" tabindex="0" {at}>{said}{inside}</g>'
-
-    def nodes(self) -> list[str]:
-        return [self.node(lane, node) for lane in self.scene.lanes for node in self._nodes(lane)]
+        return group("call sum", column.x, lane.line, f"{said}{inside}")
 
     def session(self, lane: Lane, session: Session) -> list[str]:
         """The bar of a session, divided where its state changes, and a line below it while it runs."""
         groups: dict[int, list[Change]] = {}
         for change in session.changes:
             groups.setdefault(self.scene.index[change.place], []).append(change)
-        starts = [changes[0].place for changes in groups.values()] + [session.ended or len(self.scene.ordered) + 1]
+        ends = [changes[0].place for changes in groups.values()][1:] + [session.ended or len(self.scene.ordered) + 1]
         out: list[str] = []
         state = ""
-        for i, changes in enumerate(groups.values()):
-            passed = [it for change in changes for it in change.states]
-            state = passed[-1] if passed else state
-            start, end = starts[i], starts[i + 1]
-            if end >= self.piece.first and start <= self.piece.last:
-                told = [it for change in changes for it in change.told]
-                label = way_of(told) if self._is_here(start) else "" if out else state
-                front = f"{session.ordinal} " if label and len(lane.sessions) > 1 else ""
-                out.append(self._state(lane, session, changes, (state, start, end, front + label)))
+        for changes, end in zip(groups.values(), ends):
+            state, start, last = next((it.states[-1] for it in reversed(changes) if it.states), state), changes[0].place, changes[-1]
+            if end < self.piece.first or start > self.piece.last:
+                continue
+            label = way_of([it for change in changes for it in change.told]) if self._is_here(start) else "" if out else state
+            front = f"{session.ordinal} " if label and len(lane.sessions) > 1 else ""
+            flags = ["running"] * last.is_running + ["device lost"] * last.is_lost
+            is_open = session.ended is None and end > len(self.scene.ordered)
+            said = f"session {session.ordinal}: {', '.join([state] + flags)}\nfrom place {start} {'on' if is_open else f'to {end}'}"
+            said += "".join(f"\nat place {it.place}: {', then '.join(it.told[:9])}" for it in changes[:6] if it.told)
+            x = self.x_of(start)
+            bar = state_bar(state, max(self.x_of(end) - x, 2), last.is_running, last.is_lost)
+            words = f'<g transform="translate(0 -6)">{slanted((front + label, ""))}</g>' if front + label else ""
+            out.append(group("state", x, lane.line, f"{titled(said)}{bar}{words}"))
         return out
-
-    def _state(self, lane: Lane, session: Session, changes: list[Change], drawn: tuple[str, int, int, str]) -> str:
-        state, start, end, label = drawn
-        change, x = changes[-1], self.x_of(start)
-        width = max(self.x_of(end) - x, 2)
-        flags = [it for it, on in (("running", change.is_running), ("device lost", change.is_lost)) if on]
-        is_open = session.ended is None and end > len(self.scene.ordered)
-        until = "on" if is_open else f"to {end}"
-        said = f"session {session.ordinal}: {', '.join([state] + flags)}\nfrom place {start} {until}"
-        said += "".join(f"\nat place {it.place}: {', then '.join(it.told[:9])}" for it in changes[:6] if it.told)
-        bar = state_bar(state, width, change.is_running, change.is_lost)
-        words = f'<g transform="translate(0 -6)">{slanted((label, ""))}</g>' if label else ""
-        at = f'transform="translate({num(x)} {num(lane.line)})"'
-        return f'<g class="state" tabindex="0" {at}>{titled(said)}{bar}{words}</g>'
-
-    def states(self) -> list[str]:
-        return [it for lane in self.scene.lanes for session in lane.sessions for it in self.session(lane, session)]
 
     def head(self) -> str:
         """The places and the clock."""
-        return "\n".join(self.axis() + self.clock())
+        shown = ((it.x, f"{it.first}\u2013{it.last}" if it.is_bin else it.first) for it in self.piece.columns)
+        places = [f'<text class="place" x="{num(x)}" y="16">{words}</text>' for x, words in shown]
+        return "\n".join(places + self.clock())
 
     def body(self) -> str:
-        """All elements of the lanes, the hindmost first."""
-        parts = (self.backs(), self.waits(), self.states(), self.arrows(), self.nodes())
-        return "\n".join(it for part in parts for it in part)
+        """All elements of the lanes, the hindmost first: their backgrounds, with a fine line at each column."""
+        backs = [back_of(lane, i, self.right) for i, lane in enumerate(self.scene.lanes)]
+        lines = "".join(f"M{num(column.x)} {HEAD_HEIGHT}V{num(self.scene.height)}" for column in self.piece.columns)
+        backs += [f'<path class="grid" d="{lines}"/>'] if lines else []
+        states = [it for lane in self.scene.lanes for session in lane.sessions for it in self.session(lane, session)]
+        nodes = [self.node(lane, node) for lane, nodes in self.nodes for node in nodes]
+        return "\n".join([*backs, *self.waits(), *states, *self.arrows(), *nodes])
 
 
 def back_of(lane: Lane, number: int, width: float) -> str:
-    odd = " odd" if number % 2 else ""
     size = f'width="{num(width)}" height="{num(lane.height)}"'
-    return f'<rect class="lane{odd}" y="{num(lane.top)}" {size}/>'
+    return f'<rect class="lane{" odd" if number % 2 else ""}" y="{num(lane.top)}" {size}/>'
 
 
 def names_of_axis(width: int) -> str:
@@ -350,8 +284,7 @@ def names_of_lanes(scene: Scene, width: int) -> str:
     for i, lane in enumerate(scene.lanes):
         parts = lane.more.split(", ")
         y = lane.line + 5 - 13 * len(parts)
-        out.append(back_of(lane, i, width))
-        out.append(f'<text class="lane-name" x="12" y="{num(y)}">{escaped(lane.name)}</text>')
-        for line, part in enumerate(parts):
-            out.append(f'<text class="lane-more" x="12" y="{num(y + 15 + 13 * line)}">{escaped(part)}</text>')
+        out += [back_of(lane, i, width), f'<text class="lane-name" x="12" y="{num(y)}">{escaped(lane.name)}</text>']
+        shown = ((num(y + 15 + 13 * line), escaped(part)) for line, part in enumerate(parts))
+        out += [f'<text class="lane-more" x="12" y="{at}">{words}</text>' for at, words in shown]
     return "\n".join(out)

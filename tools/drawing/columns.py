@@ -2,7 +2,9 @@
 from __future__ import annotations
 
 from array import array
+from collections.abc import Hashable
 from dataclasses import dataclass
+from itertools import groupby
 
 from reports.reading import COMPOSITOR, DEVICE, Call
 
@@ -18,8 +20,8 @@ NEXT_LINE = 17
 ASIDE = 21
 
 _TELLING = frozenset(
-    """mark await leave create_instance destroy_instance create_session destroy_session begin_session end_session
-    request_exit_session wish loss lost fault garbled grid""".split()
+    """mark await leave create_instance destroy_instance create_session destroy_session begin_session end_session request_exit_session
+    wish loss lost fault garbled grid""".split()
 )
 
 
@@ -38,83 +40,45 @@ class Column:
 
 @dataclass
 class Piece:
-    """Some columns that are drawn side by side, from their places to what is right of the last."""
+    """Some columns that are drawn side by side, from the first place to the last, and what is right of them."""
 
     number: int
     columns: list[Column]
     right: float
 
-    @property
-    def first(self) -> int:
-        return self.columns[0].first if self.columns else 1
-
-    @property
-    def last(self) -> int:
-        return self.columns[-1].last if self.columns else 0
+    def __post_init__(self) -> None:
+        self.first, self.last = (self.columns[0].first, self.columns[-1].last) if self.columns else (1, 0)
 
 
-def _is_dull(call: Call) -> bool:
-    """Whether a call may go into a sum: nothing about it is told by where it stands."""
+def _kind(call: Call) -> Hashable:
+    """What is the same of neighbours that may be one sum. They are dull: nothing about them is told by where they stand. Or they are made once
+    more with the same outcome, as by who tries again and again. A call that tells something is alone."""
     if call.who == COMPOSITOR or call.name in _TELLING:
-        return False
-    return call.who == DEVICE or call.code in ("XR_SUCCESS", "XR_EVENT_UNAVAILABLE")
-
-
-def _repeats(call: Call, earlier: Call) -> bool:
-    """Whether a call is made once more with the same outcome, as by who tries again and again."""
-    is_same = (call.who, call.name, call.code) == (earlier.who, earlier.name, earlier.code)
-    return is_same and call.name not in _TELLING and call.who != COMPOSITOR
-
-
-def _end_of_run(ordered: list[Call], start: int) -> int:
-    """Where the calls end that may be one sum with the call at the start: dull ones, or repetitions of it."""
-    end = start
-    while end < len(ordered) and _is_dull(ordered[end]):
-        end += 1
-    if end == start:
-        end += 1
-        while end < len(ordered) and _repeats(ordered[end], ordered[start]):
-            end += 1
-    return end
-
-
-def _summed(ordered: list[Call]) -> list[Column]:
-    """Runs of dull places as one column each."""
-    columns: list[Column] = []
-    start = 0
-    while start < len(ordered):
-        end = _end_of_run(ordered, start)
-        if end - start >= SHORTEST_BIN:
-            columns.append(Column(start + 1, end))
-        else:
-            columns += [Column(place, place) for place in range(start + 1, end + 1)]
-        start = end
-    return columns
+        return "alone", call.place
+    is_dull = call.who == DEVICE or call.code in ("XR_SUCCESS", "XR_EVENT_UNAVAILABLE")
+    return "dull" if is_dull else (call.who, call.name, call.code)
 
 
 def columns_of(ordered: list[Call]) -> list[Column]:
     """The columns of a run: its places, and of a long run sums."""
     if len(ordered) <= PLAIN_PLACES:
         return [Column(call.place, call.place) for call in ordered]
-    columns = _summed(ordered)
+    columns: list[Column] = []
+    for _, calls in groupby(ordered, _kind):
+        places = [call.place for call in calls]
+        is_sum = len(places) >= SHORTEST_BIN
+        columns += [Column(places[0], places[-1])] if is_sum else [Column(place, place) for place in places]
     if len(columns) > MOST_COLUMNS:
         step = -(-len(columns) // AIM)
-        columns = [
-            Column(columns[i].first, columns[min(i + step, len(columns)) - 1].last)
-            for i in range(0, len(columns), step)
-        ]
+        parts = [columns[i : i + step] for i in range(0, len(columns), step)]
+        columns = [Column(part[0].first, part[-1].last) for part in parts]
     return columns
 
 
 def pieces_of(columns: list[Column], labels: list[list[tuple[int, int]]]) -> list[Piece]:
-    """The columns in pieces, each with its x. Labels are those of each column: a lane and how many lines stand in it,
-    0 where it stands aside."""
-    pieces: list[Piece] = []
-    for start in range(0, max(len(columns), 1), IN_A_PIECE):
-        part = columns[start : start + IN_A_PIECE]
-        right = _spread(part, labels[start : start + IN_A_PIECE])
-        pieces.append(Piece(len(pieces) + 1, part, right))
-    return pieces
+    """The columns in pieces, each with its x. Labels are those of each column: a lane and how many lines stand in it, 0 where it stands aside."""
+    parts = [slice(start, start + IN_A_PIECE) for start in range(0, max(len(columns), 1), IN_A_PIECE)]
+    return [Piece(number, columns[it], _spread(columns[it], labels[it])) for number, it in enumerate(parts, 1)]
 
 
 def _spread(columns: list[Column], labels: list[list[tuple[int, int]]]) -> float:
@@ -128,15 +92,13 @@ def _spread(columns: list[Column], labels: list[list[tuple[int, int]]]) -> float
             needs = (last[lane] + NEXT + NEXT_LINE * (count - 1) for lane, count in lines if lane in last and count)
             column.x = max(column.x, *needs, 0)
         last.update((lane, column.x if count else column.x + ASIDE) for lane, count in lines)
-        has_aside = any(not count for _, count in lines)
-        end = column.x + half + (ASIDE if has_aside else 0)
+        end = column.x + half + (ASIDE if any(not count for _, count in lines) else 0)
     return end
 
 
-def index_of(columns: list[Column], places: int) -> array[int]:
+def index_of(columns: list[Column]) -> array[int]:
     """For each place from 0 on the number of its column; place 0 is in front of all."""
-    index = array("l", bytes(array("l").itemsize * (places + 1)))
+    index = array("l", [0])
     for number, column in enumerate(columns):
-        for place in range(column.first, column.last + 1):
-            index[place] = number
+        index.extend([number] * (column.last - column.first + 1))
     return index

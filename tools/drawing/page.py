@@ -3,15 +3,13 @@ from __future__ import annotations
 
 from pathlib import Path
 
+from drawing.around import facts_of, legend_of, status_of, table_of
 from drawing.chart import DEFS, Chart, names_of_axis, names_of_lanes, num
 from drawing.columns import Piece
-from drawing.legend import legend_of
 from drawing.picture import STYLE
 from drawing.replay import is_fault, is_refused
 from drawing.scene import HEAD_HEIGHT, Scene
-from drawing.status import facts_of, status_of
-from drawing.table import table_of
-from drawing.text import escaped, number
+from drawing.text import escaped
 
 NAMES_WIDTH = 104
 HERE = Path(__file__).parent
@@ -30,7 +28,7 @@ def _steps(scene: Scene, piece: Piece) -> str:
     def step(to: int, words: str) -> str:
         return f'<a href="#piece-{to}">{words}</a>' if 1 <= to <= len(scene.pieces) else f"<span>{words}</span>"
 
-    here = f"piece {piece.number} of {len(scene.pieces)}: places {number(piece.first)} to {number(piece.last)}"
+    here = f"piece {piece.number} of {len(scene.pieces)}: places {piece.first:,} to {piece.last:,}"
     back, on = step(piece.number - 1, "\u2190 previous"), step(piece.number + 1, "next \u2192")
     return f'<nav class="steps" aria-label="Pieces">{back}<b>{here}</b>{on}</nav>'
 
@@ -38,7 +36,7 @@ def _steps(scene: Scene, piece: Piece) -> str:
 def _chart(scene: Scene, piece: Piece) -> str:
     chart = Chart(scene, piece)
     width, height = num(chart.right), num(scene.height - HEAD_HEIGHT)
-    where = f"places {number(piece.first)} to {number(piece.last)}" if piece.columns else "no place"
+    where = f"places {piece.first:,} to {piece.last:,}" if piece.columns else "no place"
     first = " first" if piece.number == 1 else ""
     names = f'<svg {XMLNS} width="{NAMES_WIDTH}"'
     shown = f'height="{height}" viewBox="0 {HEAD_HEIGHT}'
@@ -67,30 +65,23 @@ def _overview(scene: Scene) -> str:
     items = []
     for piece in scene.pieces:
         calls = scene.ordered[piece.first - 1 : piece.last]
-        refused = sum(is_refused(call) for call in calls)
-        is_cut = any(is_fault(call) for call in calls)
-        words = f"places {number(piece.first)} to {number(piece.last)}, {number(refused)} refused"
-        words += ", the end of the device's text" if is_cut else ""
+        refused, is_cut = sum(map(is_refused, calls)), any(map(is_fault, calls))
+        end = ", the end of the device's text" if is_cut else ""
+        words = f"places {piece.first:,} to {piece.last:,}, {refused:,} refused{end}"
         bad = f' class="bad" aria-label="{words}"' if refused or is_cut else ""
-        sign = (f" \u25b2{number(refused)}" if refused else "") + (" \u00d7" if is_cut else "")
-        items.append(
-            f'<li><a href="#piece-{piece.number}"{bad}>{number(piece.first)}\u2013{number(piece.last)}{sign}</a></li>'
-        )
+        sign = (f" \u25b2{refused:,}" if refused else "") + (" \u00d7" if is_cut else "")
+        items.append(f'<li><a href="#piece-{piece.number}"{bad}>{piece.first:,}\u2013{piece.last:,}{sign}</a></li>')
     return f'<nav aria-label="All pieces"><ul class="pieces">{"".join(items)}</ul></nav>'
-
-
-def _footer(scene: Scene) -> str:
-    derived = (
-        "<p>Sessions' states are derived: replayed from the calls and device events by the rules of the machine. "
-        "A report prints only those that were polled.</p>"
-    )
-    return f"<footer>{derived if scene.sessions else ''}</footer>"
 
 
 def page(scene: Scene) -> str:
     """The whole page."""
     title = escaped(f"{scene.title}: timeline of a run")
     without = "" if scene.scripts else " Arguments and the marks of scripts are in the scenario, which wasn't given."
+    derived = (
+        "<p>Sessions' states are derived: replayed from the calls and device events by the rules of the machine. "
+        "A report prints only those that were polled.</p>"
+    )
     charts = "".join(_chart(scene, piece) for piece in scene.pieces)
     return f"""<!DOCTYPE html>
 <html lang="en">
@@ -114,7 +105,7 @@ def page(scene: Scene) -> str:
 {charts}</section>
 {legend_of(scene)}
 {table_of(scene)}
-{_footer(scene)}
+<footer>{derived if scene.sessions else ''}</footer>
 <div id="tip" hidden></div>
 <script>
 {_file("page.js")}

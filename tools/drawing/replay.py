@@ -11,9 +11,7 @@ STATES = ("IDLE", "READY", "SYNCHRONIZED", "VISIBLE", "FOCUSED", "STOPPING", "EX
 
 # the calls that may have to wait; `frame` and `ended` are what `next_frame` told
 MAY_WAIT = frozenset(("await", "wait_frame", "wait_image", "frame", "ended"))
-
-# what isn't an event of the device, but its end: it couldn't be read on, or a line is malformed
-FAULTS = ("fault", "garbled")
+AWAITED = {"next_frame": "a frame, or for all scripts to leave", "wait_frame": "the frames before its own", "wait_image": "an image"}
 
 
 def is_refused(call: Call) -> bool:
@@ -21,7 +19,8 @@ def is_refused(call: Call) -> bool:
 
 
 def is_fault(call: Call) -> bool:
-    return call.what in FAULTS
+    """Whether this is no event of the device, but its end: it couldn't be read on, or a line is malformed."""
+    return call.what in ("fault", "garbled")
 
 
 def is_bad(call: Call) -> bool:
@@ -35,8 +34,8 @@ class Change:
     place: int
     states: list[str]
     told: list[str]
-    is_running: bool
-    is_lost: bool
+    is_running: bool = False
+    is_lost: bool = False
 
 
 class Session(sessions.Session):
@@ -50,27 +49,17 @@ class Session(sessions.Session):
     def note(self, place: int, events: list[str]) -> None:
         """Keeps what these events tell of it, and whether it runs and is lost."""
         passed = [it.rpartition(" ")[2] for it in events]
-        was_running, was_lost = (
-            (self.changes[-1].is_running, self.changes[-1].is_lost) if self.changes else (False, False)
-        )
-        told = passed + (["device lost"] if self.is_lost and not was_lost else [])
-        if told or was_running != self.is_running:
+        was = self.changes[-1] if self.changes else Change(0, [], [])
+        told = passed + (["device lost"] if self.is_lost and not was.is_lost else [])
+        if told or was.is_running != self.is_running:
             self.changes.append(Change(place, passed, told, self.is_running, self.is_lost))
-
-    def hears(self, call: Call, wish: str) -> None:
-        """What an event of the device does, behind which this is its wish."""
-        is_lost = call.name == "lost" or is_fault(call)
-        self.is_lost = self.is_lost or is_lost
-        self.note(call.place, self.lose() if call.name == "loss" else self.settle(wish))
 
     def follows(self, call: Call, wish: str) -> None:
         """What a call that was met does."""
         first = ""
-        if call.name == "begin_session":
-            self.set_running(True)
-        elif call.name == "end_session":
-            self.set_running(False)
-            first = "IDLE" if self.state == "STOPPING" else ""
+        if call.name in ("begin_session", "end_session"):
+            self.set_running(call.name == "begin_session")
+            first = "IDLE" if call.name == "end_session" and self.state == "STOPPING" else ""
         elif call.name == "request_exit_session":
             self.is_asked_to_exit = True
         elif call.name == "end_frame" and self.is_running and self.state == "READY":
@@ -87,15 +76,15 @@ def sessions_of(ordered: Iterable[Call]) -> list[Session]:
         if call.actor == DEVICE:
             wish = call.text if call.name == "wish" else wish
             for session in live:
-                session.hears(call, wish)
-        elif call.name == "create_session" and call.is_met:
+                session.is_lost = session.is_lost or call.name == "lost" or is_fault(call)
+                session.note(call.place, session.lose() if call.name == "loss" else session.settle(wish))
+        elif call.is_met and call.name == "create_session":
             live = [*live, Session(len(found) + 1)]
             found += live[-1:]
             live[-1].note(call.place, live[-1].enter("IDLE", wish))
-        elif call.name in ("destroy_session", "destroy_instance") and call.is_met:
-            for session in live:
-                session.ended = call.place
-            live = []
+        elif call.is_met and call.name in ("destroy_session", "destroy_instance"):
+            while live:
+                live.pop().ended = call.place
         elif call.is_met:
             for session in live:
                 session.follows(call, wish)
@@ -140,21 +129,27 @@ def mark_of(call: Call) -> int | None:
     return call.arguments["mark"] if call.arguments else None
 
 
-def arrows_of(ordered: Iterable[Call], waits: Iterable[Wait]) -> list[Arrow]:
+def setters_of(ordered: Iterable[Call]) -> dict[int, Call]:
+    """The call that set each mark first."""
+    found: dict[int, Call] = {}
+    for call in ordered:
+        mark = mark_of(call) if call.name == "mark" else None
+        if mark:
+            found.setdefault(mark, call)
+    return found
+
+
+def arrows_of(ordered: list[Call], waits: Iterable[Wait]) -> list[Arrow]:
     """An arrow for each await whose mark is known, from the call that set it first, and one for each frame."""
     held_back = {(wait.actor, wait.end) for wait in waits}
-    first: dict[int, Call] = {}
+    setters = setters_of(ordered)
     ends: list[Call] = []
     arrows = []
     for call in ordered:
         mark = mark_of(call)
-        if call.name == "mark" and mark:
-            first.setdefault(mark, call)
-        elif call.name == "await" and mark in first:
-            source = first[mark]
-            text = (
-                f"mark {mark}: set by {source.who} at place {source.place}, awaited by {call.who} at {call.place}"
-            )
+        if call.name == "await" and mark in setters and setters[mark].place < call.place:
+            source = setters[mark]
+            text = f"mark {mark}: set by {source.who} at place {source.place}, awaited by {call.who} at {call.place}"
             arrows.append(Arrow(source, call, text, is_early=(call.who, call.place) not in held_back))
         elif call.name == "end_frame" and call.is_met:
             ends.append(call)
@@ -165,65 +160,41 @@ def arrows_of(ordered: Iterable[Call], waits: Iterable[Wait]) -> list[Arrow]:
     return arrows
 
 
-class _Turns:
-    """Whose turn it was when: turns go round by the scripts in order, the device and the compositor."""
+def _turns_passed(order: dict[str, int], actor: str, start: int, between: list[Call]) -> int:
+    """How many turns of an actor went by at least between its call at a place, where 0 is the start, and its next one; turns go round in this order.
 
-    def __init__(self, report: Report) -> None:
-        self.order = {actor: i for i, actor in enumerate((*scripts_of(report), DEVICE, COMPOSITOR))}
-        self.ordered = report.ordered()
-        self.first_marks: dict[int, int] = {}
-        for call in self.ordered:
-            mark = mark_of(call) if call.name == "mark" else None
-            if mark:
-                self.first_marks.setdefault(mark, call.place)
-
-    def passed(self, actor: str, start: int, end: int) -> int:
-        """How many turns of an actor went by at least between its calls at these places; place 0 is the start.
-
-        Others make at most a call each until its next turn, in the order of turns behind its own.
-        """
-        own, count = self.order[actor], len(self.order)
-        last = 0 if start else count - 1 - own
-        passed = 0
-        for call in self.ordered[start : end - 1]:
-            behind = (self.order[call.who] - own) % count
-            passed += behind <= last
-            last = behind
-        return passed
-
-    def waits(self, actor: str, calls: list[Call]) -> Iterable[Wait]:
-        """The bars of an actor: a call that could have been made at its first turn has none."""
-        last = unseen = 0
-        for call in calls:
-            mark = mark_of(call)
-            is_set = mark is not None and self.first_marks.get(mark, last + 1) <= last
-            if call.name in MAY_WAIT and not is_set and self.passed(actor, last, call.place) > unseen:
-                what = "the next frame" if actor == COMPOSITOR else awaited(call.name, mark)
-                yield Wait(actor, last, call.place, f"{actor} waits for {what}")
-            last, unseen = (call.place, _give_backs(call)) if call.is_counted else (last, unseen + 1)
-
-
-def _give_backs(call: Call) -> int:
-    """In how many turns behind a frame, at most, the compositor gives back an image, which has no place; and one turn more."""
-    return 1 + sum(len(layer["stamps"]) for layer in call.values["layers"]) if call.name == "frame" else 0
+    Others make at most a call each until its next turn, in the order of turns behind its own.
+    """
+    own, count = order[actor], len(order)
+    last = 0 if start else count - 1 - own
+    passed = 0
+    for call in between:
+        behind = (order[call.who] - own) % count
+        passed += behind <= last
+        last = behind
+    return passed
 
 
 def waits_of(report: Report) -> list[Wait]:
-    """The bars of all actors: who was held back until when, and who is stuck."""
-    turns = _Turns(report)
-    waits = [wait for actor, calls in report.actors.items() for wait in turns.waits(actor, calls)]
+    """The bars of all actors: who was held back until when, and who is stuck. A call that could have been made at its first turn has none."""
+    order = {actor: i for i, actor in enumerate((*scripts_of(report), DEVICE, COMPOSITOR))}
+    ordered, waits = report.ordered(), []
+    setters = setters_of(ordered)
+    for actor, calls in report.actors.items():
+        last = unseen = 0
+        for call in calls:
+            mark = mark_of(call)
+            is_set = mark in setters and setters[mark].place <= last
+            if call.name in MAY_WAIT and not is_set and _turns_passed(order, actor, last, ordered[last : call.place - 1]) > unseen:
+                what = "the next frame" if actor == COMPOSITOR else awaited(call.name, mark)
+                waits.append(Wait(actor, last, call.place, f"{actor} waits for {what}"))
+            # behind a frame the compositor gives back each image in a turn, at most, which has no place; and one turn more
+            gives = 1 + sum(len(layer["stamps"]) for layer in call.values["layers"]) if call.name == "frame" else 0
+            last, unseen = (call.place, gives) if call.is_counted else (last, unseen + 1)
     for waiter in report.stuck:
-        places = [call.place for call in report.actors[waiter.who] if call.is_counted]
-        what = awaited(waiter.name, mark_of(waiter))
-        waits.append(Wait(waiter.who, places[-1] if places else 0, None, f"waits for {what}"))
+        last = max((call.place for call in report.actors[waiter.who] if call.is_counted), default=0)
+        waits.append(Wait(waiter.who, last, None, f"waits for {awaited(waiter.name, mark_of(waiter))}"))
     return waits
-
-
-AWAITED = {
-    "next_frame": "a frame, or for all scripts to leave",
-    "wait_frame": "the frames before its own",
-    "wait_image": "an image",
-}
 
 
 def awaited(name: str, mark: int | None) -> str:
@@ -244,7 +215,5 @@ def clock_of(report: Report) -> list[tuple[int, int]]:
 
 def in_units(ns: int) -> str:
     """A time of the device, exact: in ns below a million, else in ms."""
-    if abs(ns) < 1_000_000:
-        return f"{ns:,} ns"
     whole, rest = divmod(abs(ns), 1_000_000)
-    return f"{'-' if ns < 0 else ''}{whole:,}{f'.{rest:06}'.rstrip('0') if rest else ''} ms"
+    return f"{'-' if ns < 0 else ''}{whole:,}{f'.{rest:06}'.rstrip('0') if rest else ''} ms" if whole else f"{ns:,} ns"

@@ -19,6 +19,7 @@ HEAD_HEIGHT = AXIS_HEIGHT + CLOCK_HEIGHT
 
 GIVEN = ("atom", "image", "size")
 UNTOLD = ("await", "get_system")
+WHAT = {DEVICE: "event", COMPOSITOR: "turn"}
 
 MEANINGS = {
     0: "The run ended: every script has left, and all was read.",
@@ -38,7 +39,7 @@ class Node:
 
     @property
     def refused(self) -> int:
-        return sum(is_refused(call) for call in self.calls)
+        return sum(map(is_refused, self.calls))
 
     @property
     def pending(self) -> int:
@@ -60,22 +61,21 @@ class Lane:
 
 def label_of(call: Call) -> tuple[str, str]:
     """The two lines that stand at a call: its name, and what it came to where that tells more."""
-    name = call.name
-    mark = replay.mark_of(call)
-    if name in ("mark", "await") and mark:
+    name, mark = call.name, replay.mark_of(call)
+    if mark:
         name = f"{name} {mark}"
     elif name == "clock":
         return f"clock {replay.in_units(int(call.text))}", ""
     elif name == "frame":
         return f"frame {call.number}", replay.in_units(call.values["time"])
-    elif call.who in (DEVICE, COMPOSITOR):
-        return text.cut(f"{call.name} {call.text}".strip(), 28), ""
-    if call.code == "XR_SUCCESS":
-        if name == "wait_frame":
-            return name, f"for {replay.in_units(int(call.text.split(' ')[1]))}"
-        given = "".join(f"{it} " for it in GIVEN if it in (call.values or {}))
-        return name, text.cut(f"{given}{call.text}", 24) if call.name not in UNTOLD else ""
-    return name, call.code.removeprefix("XR_").removeprefix("ERROR_")
+    elif call.who in WHAT:
+        return text.cut(f"{name} {call.text}".strip(), 28), ""
+    if call.code != "XR_SUCCESS":
+        return name, call.code.removeprefix("XR_").removeprefix("ERROR_")
+    if name == "wait_frame":
+        return name, f"for {replay.in_units(call.values['time'])}"
+    given = "".join(f"{it} " for it in GIVEN if it in call.values)
+    return name, text.cut(f"{given}{call.text}", 24) if call.name not in UNTOLD else ""
 
 
 def reach(lines: tuple[str, str]) -> tuple[float, float]:
@@ -90,35 +90,28 @@ def way_of(states: list[str]) -> str:
 
 
 def words_of(call: Call) -> str:
-    """What a report has of an event or a frame behind its name."""
-    return f"{call.number} {call.text}" if call.what == "frame" else call.text
+    """The arguments of a call, or what a report has of an event or a frame behind its name."""
+    told = f"{call.number} {call.text}" if call.what == "frame" else call.text
+    return text.arguments(call.arguments) if call.arguments else "" if call.code else told
 
 
 def faults_of(calls: list[Call]) -> list[str]:
     """Words for what isn't an event but the end of a device's text."""
-    words = {"fault": "fault", "garbled": "garbled line"}
-    return [f"1 {words[call.name]}" for call in calls if is_fault(call)]
+    return ["1 fault" if call.what == "fault" else "1 garbled line" for call in calls if is_fault(call)]
 
 
 def said_of(call: Call) -> str:
     """What is shown of a call where one points at it: place, actor, name, arguments, code, values."""
-    number = f" {text.number(call.number)}" if call.number else ""
-    what = {DEVICE: "event", COMPOSITOR: "turn"}.get(call.who, "call")
-    place = f"place {text.number(call.place)}" if call.is_counted else f"publication {text.number(call.place)}"
-    front = f"{place} \u00b7 {call.who}" + ("" if is_fault(call) else f", {what}{number}")
+    number = f" {call.number:,}" if call.number else ""
+    front = f"{'place' if call.is_counted else 'publication'} {call.place:,} \u00b7 {call.who}"
     if is_fault(call):
         why = f"line {call.text} of its text is malformed" if call.text else "its text couldn't be read on"
         return f"{front}\n{call.name} {call.text}".strip() + f"\n{why}; the run went on without the device"
+    front += f", {WHAT.get(call.who, 'call')}{number}"
     if call.name == "clock":
         return f"{front}\nclock {call.text}\n{replay.in_units(int(call.text))} of device time"
-    args = text.arguments(call.arguments) if call.arguments else words_of(call) if not call.code else ""
-    lines = [
-        front,
-        f"{call.name} {args}".strip(),
-        f"{call.code} {text.cut(call.text)}".strip() if call.code else "",
-        call.note,
-    ]
-    return "\n".join(line for line in lines if line)
+    came = f"{call.code} {text.cut(call.text)}".strip() if call.code else ""
+    return "\n".join(line for line in (front, f"{call.name} {words_of(call)}".strip(), came, call.note) if line)
 
 
 class Scene:
@@ -132,9 +125,13 @@ class Scene:
         self.arrows = replay.arrows_of(self.ordered, self.waits)
         self.clock = replay.clock_of(report)
         self.columns = cols.columns_of(self.ordered)
-        self.index = cols.index_of(self.columns, len(self.ordered))
+        self.index = cols.index_of(self.columns)
         self._note_calls()
-        self.lanes = [self._lane(actor) for actor in (*scripts_of(report), DEVICE, COMPOSITOR)] + self._session_lanes()
+        self.lanes = [self._lane(actor) for actor in (*scripts_of(report), DEVICE, COMPOSITOR)]
+        if len(self.sessions) > MOST_SESSION_LANES:
+            self.lanes.append(Lane("sessions", f"1 to {len(self.sessions):,}, derived", sessions=self.sessions))
+        else:
+            self.lanes += [Lane(f"session {it.ordinal}", "states, derived", sessions=[it]) for it in self.sessions]
         self.pieces = cols.pieces_of(self.columns, self._lines_of_labels())
         self.height = self._place_lanes()
 
@@ -142,75 +139,49 @@ class Scene:
         """Says of each await how long it waited and what released it, and of each frame where it comes from."""
         starts = {(wait.actor, wait.end): wait.start for wait in self.waits}
         for arrow in self.arrows:
-            source, target = arrow.source, arrow.target
-            if arrow.is_frame:
-                target.note = f"from the end_frame of {source.who} at place {text.number(source.place)}"
-            else:
-                way = "its mark was set already, by" if arrow.is_early else "released by the mark of"
-                target.note = f"{way} {source.who} at place {text.number(source.place)}"
-        for actor, calls in self.report.actors.items():
-            for call in calls:
-                start = starts.get((actor, call.place))
-                if start is not None and not call.note.startswith("its"):
-                    since = f"waited from place {text.number(start)}" if start else "waited from the start"
-                    call.note = f"{since}; {call.note}" if call.note else since
+            way = "its mark was set already, by" if arrow.is_early else "released by the mark of"
+            way = "from the end_frame of" if arrow.is_frame else way
+            arrow.target.note = f"{way} {arrow.source.who} at place {arrow.source.place:,}"
+        for call in self.report.calls:
+            start = starts.get((call.who, call.place))
+            if start is not None and not call.note.startswith("its"):
+                since = f"waited from place {start:,}" if start else "waited from the start"
+                call.note = f"{since}; {call.note}" if call.note else since
 
     def _lane(self, actor: str) -> Lane:
         calls = self.report.actors[actor]
-        refused = sum(is_refused(call) for call in calls)
-        faults = faults_of(calls)
-        what = {DEVICE: "event", COMPOSITOR: "turn"}.get(actor, "call")
-        more = [text.counted(len(calls) - len(faults), what), *([f"{text.number(refused)} refused"] if refused else [])]
-        lane = Lane(actor, ", ".join(more + faults))
+        refused, faults = sum(map(is_refused, calls)), faults_of(calls)
+        more = [text.counted(len(calls) - len(faults), WHAT.get(actor, "call"))]
+        lane = Lane(actor, ", ".join(more + ([f"{refused:,} refused"] if refused else []) + faults))
         last = 0
         for call in calls:
-            column = self.index[call.place if call.is_counted else last] if self.columns else 0
+            last = call.place if call.is_counted else last
+            column = self.index[last] if self.columns else 0
             is_aside = not call.is_counted and not (self.columns and self.columns[column].is_bin)
             node = lane.nodes[-1] if lane.nodes else None
-            if node and node.column == column and (node.is_aside == is_aside):
+            if node and (node.column, node.is_aside) == (column, is_aside):
                 node.calls.append(call)
             else:
                 lane.nodes.append(Node(column, [call], is_aside))
-            last = call.place if call.is_counted else last
         return lane
-
-    def _session_lanes(self) -> list[Lane]:
-        if len(self.sessions) > MOST_SESSION_LANES:
-            return [Lane("sessions", f"1 to {text.number(len(self.sessions))}, derived", sessions=self.sessions)]
-        return [Lane(f"session {session.ordinal}", "states, derived", sessions=[session]) for session in self.sessions]
 
     def _lines_of_labels(self) -> list[list[tuple[int, int]]]:
         """For each column the lanes that have a label there, and how many lines it has."""
         lines: list[list[tuple[int, int]]] = [[] for _ in self.columns]
         for number, lane in enumerate(self.lanes):
             for node in lane.nodes:
-                count = 2 if label_of(node.calls[0])[1] else 1
-                lines[node.column].append((number, 0 if node.is_aside else count))
-            for session in lane.sessions:
-                for change in session.changes:
-                    lines[self.index[change.place]].append((number, 1))
+                lines[node.column].append((number, 0 if node.is_aside else 2 if label_of(node.calls[0])[1] else 1))
+            for change in (it for session in lane.sessions for it in session.changes):
+                lines[self.index[change.place]].append((number, 1))
         return lines
-
-    def _label_height(self, lane: Lane) -> float:
-        if lane.sessions:
-            return max(reach((way_of(change.told), ""))[0] for s in lane.sessions for change in s.changes) + 12
-        heights = [40.0 if self.columns[n.column].is_bin else reach(label_of(n.calls[0]))[0] for n in lane.nodes]
-        return max(heights, default=20.0)
 
     def _place_lanes(self) -> float:
         top: float = HEAD_HEIGHT
         for lane in self.lanes:
+            heights = [40.0 if self.columns[n.column].is_bin else reach(label_of(n.calls[0]))[0] for n in lane.nodes]
+            heights += [reach((way_of(change.told), ""))[0] + 12 for session in lane.sessions for change in session.changes]
             lane.top = top
-            lane.line = round(top + max(self._label_height(lane), 24) + 12)
+            lane.line = round(top + max([24, *heights]) + 12)
             lane.height = lane.line + 20 - top
             top += lane.height
         return top
-
-    def setters_of(self, mark: int) -> list[tuple[str, int]]:
-        """The ops, by script and number, that would set a mark and were not made."""
-        found = []
-        for number, ops in enumerate(self.scripts or [], 1):
-            made = len(self.report.scripts[number - 1])
-            ahead = enumerate(ops[made:], made + 1)
-            found += [(f"script {number}", at) for at, op in ahead if op.name == "mark" and op.fields["mark"] == mark]
-        return found

@@ -3,12 +3,11 @@ from __future__ import annotations
 
 import json
 import re
+from html import escape
 from typing import Any
 
 MOST = 160
-_UNSEEN = re.compile(
-    "[\x00-\x1f\x7f-\x9f\xad\u061c\u200b-\u200f\u2028-\u202e\u2060-\u206f\ud800-\udfff\ufeff\ufff0-\uffff]"
-)
+_UNSEEN = re.compile("[\x00-\x1f\x7f-\x9f\xad\u061c\u200b-\u200f\u2028-\u202e\u2060-\u206f\ud800-\udfff\ufeff\ufff0-\uffff]")
 _NARROW = frozenset("ijltfI.,:;'|!()[]/ \u00b7")
 _WIDE = frozenset("mwMW@%\u2026")
 
@@ -20,8 +19,7 @@ def seen(text: str) -> str:
 
 def escaped(text: str) -> str:
     """The text for XML and HTML, in content and in quoted attributes."""
-    text = seen(text).replace("&", "&amp;").replace("<", "&lt;").replace(">", "&gt;")
-    return text.replace('"', "&quot;").replace("'", "&#39;")
+    return escape(seen(text)).replace("&#x27;", "&#39;")
 
 
 def cut(text: str, most: int = MOST) -> str:
@@ -33,32 +31,21 @@ def width_of(text: str, size: float) -> float:
     """About how wide a text is in a plain sans-serif of this size: rather too much than too little."""
     units = 0.0
     for letter in text:
-        if letter in _NARROW:
-            units += 0.34
-        elif letter in _WIDE or ord(letter) > 0x2000:
-            units += 0.92
-        else:
-            units += 0.7 if letter.isupper() else 0.58
+        is_wide = letter in _WIDE or ord(letter) > 0x2000
+        units += 0.34 if letter in _NARROW else 0.92 if is_wide else 0.7 if letter.isupper() else 0.58
     return units * size
 
 
 def arguments(args: dict[str, Any] | None) -> str:
     """The arguments of an op as words, `as` last."""
-    if not args:
-        return ""
     words = []
-    for key, value in args.items():
+    for key, value in (args or {}).items():
         if key not in ("op", "as"):
             plain = isinstance(value, str) and re.fullmatch(r"[A-Za-z0-9_./-]+", value)
             words.append(f"{key}={value if plain else json.dumps(value, ensure_ascii=False, separators=(',', ':'))}")
-    if isinstance(args.get("as"), str):
+    if args and isinstance(args.get("as"), str):
         words.append(f"as {args['as']}")
     return cut(" ".join(words))
-
-
-def number(count: int) -> str:
-    """A count with its thousands set apart."""
-    return f"{count:,}"
 
 
 def counted(count: int, one: str, many: str = "") -> str:

@@ -1,20 +1,21 @@
-"""Compares what is expected with what came."""
+"""Compares what is expected with what came, and tells it: in plain lines, in TAP, and as a JUnit file."""
 from __future__ import annotations
 
+import xml.etree.ElementTree as xml
 from typing import NamedTuple
 
 from expecting.expectations import Wanted
 from expecting.running import Run
-from expecting.words import Word, differing
-from reports.joining import op_at
-from reports.reading import Call, Report
+from expecting.words import differing
+from reports.reading import DEVICE, Call, Report, op_at
+from shown import listed, visible
 
 NOTHING_RAN = "nothing, since no call was made: the scenario is refused"
 
 
 class Looked(NamedTuple):
-    """One thing that was looked at: its name, the place of the line that expects it, or 0 where none does, whether it holds,
-    what came, what was expected, and an op's own JSON."""
+    """One thing that was looked at: its name, the place of the line that expects it, or 0 where none does, whether it holds, what came, what was
+    expected, and an op's own JSON."""
 
     name: str
     line: int
@@ -36,89 +37,43 @@ def looked_at(name: str, wanted: Wanted, expected: str, came: str | None, missin
     if came is None:
         return Looked(name, wanted.line, wanted.column, False, missing, expected, op)
     word = differing(wanted.words, came) if wanted.words else None
-    column = word.column if word else wanted.column
-    return Looked(name, wanted.line, column, word is None, came, expected, op)
+    return Looked(name, wanted.line, word.column if word else wanted.column, word is None, came, expected, op)
 
 
 def words_of_call(made: Call) -> str:
     return f"{made.code} {made.text}".rstrip()
 
 
-def where_stuck(report: Report, script: int) -> str:
-    """Why a script made no more calls."""
-    waits = next(it for it in report.stuck if it.script == script)
-    return f"script {script} waits for ever at its op {waits.number}, {waits.op}"
-
-
 def look_at_call(wanted: Wanted, script: int, number: int, run: Run) -> Looked:
     """Compares one call. Where only its code is expected, only that is compared."""
     assert run.report and run.scripts
-    calls = run.report.scripts[script - 1]
-    op = op_at(run.scripts, script, number)
-    name = f"script {script} op {number}"
+    calls, op, name = run.report.scripts[script - 1], op_at(run.scripts, script, number), f"script {script} op {number}"
     if number > len(calls):
-        return looked_at(name, wanted, wanted.text, None, f"nothing: {where_stuck(run.report, script)}", op.text)
-    came = words_of_call(calls[number - 1])
-    looked = looked_at(name, wanted, wanted.text, calls[number - 1].code if len(wanted.words) == 1 else came, "", op.text)
-    return looked._replace(came=came)
+        waits = next(it for it in run.report.stuck if it.script == script)
+        stuck = f"nothing: script {script} waits for ever at its op {waits.number}, {waits.op}"
+        return looked_at(name, wanted, wanted.text, None, stuck, op.text)
+    made = calls[number - 1]
+    looked = looked_at(name, wanted, wanted.text, made.code if len(wanted.words) == 1 else words_of_call(made), "", op.text)
+    return looked._replace(came=words_of_call(made))
 
 
-def look_at_calls(calls: dict[tuple[int, int], Wanted], run: Run) -> list[Looked]:
-    return [look_at_call(wanted, *place, run) for place, wanted in calls.items()]
-
-
-def look_at_numbered(wanted: Wanted, made: list[Call], what: str, missing: str) -> Looked:
-    """Compares a frame or an event."""
-    name = f"{what} {wanted.number}"
+def look_at_numbered(wanted: Wanted, report: Report) -> Looked:
+    """Compares a frame or an event, or says why there is none."""
+    is_frame, name = wanted.what == "frame", f"{wanted.what} {wanted.number}"
+    made = report.frames if is_frame else report.events
+    waits = [it for it in report.stuck if it.actor == DEVICE and not is_frame]
+    happened = f"frame{'s were' if len(made) != 1 else ' was'} taken" if is_frame else f"event{'s' * (len(made) != 1)} happened"
+    missing = f"nothing: {len(made)} {happened}" + (f", and the device waits for ever for mark {waits[0].text}" if waits else "")
     came = None
     if wanted.number <= len(made):
         it = made[wanted.number - 1]
-        came = f"{it.op} {it.text}".rstrip() if what == "event" else it.text
-    return looked_at(name, wanted, wanted.text or f"that there is {'an' if what == 'event' else 'a'} {name}", came, missing)
-
-
-def missing_frame(report: Report) -> str:
-    count = len(report.frames)
-    return f"nothing: {count} frame{'s were' if count != 1 else ' was'} taken"
-
-
-def missing_event(report: Report) -> str:
-    """Why an event didn't happen."""
-    count = len(report.events)
-    waits = [it for it in report.stuck if it.actor == "device"]
-    why = f", and the device waits for ever for mark {waits[0].text}" if waits else ""
-    return f"nothing: {count} event{'s' * (count != 1)} happened{why}"
-
-
-def end_of_device(report: Report) -> str:
-    """How the device ended."""
-    last = report.device[-1] if report.device else None
-    if last is None or last.what == "event":
-        return "neither fault nor garbled"
-    return f"{last.what} {last.text}".rstrip()
-
-
-def look_at_count(wanted: Wanted, count: int) -> Looked:
-    column = wanted.front[-1].column
-    return Looked(wanted.what, wanted.line, column, count == wanted.number, str(count), str(wanted.number))
-
-
-def look_at_end(wanted: Wanted, name: str, came: str) -> Looked:
-    """Compares how the device ended."""
-    expected = f"{wanted.what} {wanted.number or ''}".rstrip()
-    return Looked(name, wanted.line, wanted.front[-1].column, came == expected, came, expected)
-
-
-def look_at_stuck(wanted: Wanted, report: Report) -> Looked:
-    """Whether the actor waits for ever, as the line has it."""
-    found = [it.waits for it in report.stuck]
-    came = ", ".join(found) or "nobody"
-    return Looked("stuck", wanted.line, wanted.words[0].column, wanted.text in found, came, wanted.text)
+        came = it.text if is_frame else f"{it.op} {it.text}".rstrip()
+    return looked_at(name, wanted, wanted.text or f"that there is {'a' if is_frame else 'an'} {name}", came, missing)
 
 
 def ended_with(run: Run) -> str:
     """The status and the program's line, and who waits for ever."""
-    waits = ", ".join(it.waits for it in run.report.stuck) if run.report else ""
+    waits = listed(it.waits for it in run.report.stuck) if run.report else ""
     return run.words + (f" ({waits})" if waits else "")
 
 
@@ -127,50 +82,102 @@ def look_at_status(wanted: Wanted | None, run: Run) -> Looked:
     if wanted is None:
         came = "0" if run.status == 0 else f"{ended_with(run)}, which no line expects"
         return Looked("status", 0, 0, run.status == 0, came, "0")
-    expected = f"{wanted.number} {wanted.text}".rstrip()
     is_same = run.status == wanted.number
-    word: Word | None = None
-    if is_same and wanted.words:
-        word = differing(wanted.words, run.words.partition(" ")[2])
+    word = differing(wanted.words, run.words.partition(" ")[2]) if is_same and wanted.words else None
     column = (word or wanted.front[-1]).column
-    return Looked("status", wanted.line, column, is_same and word is None, ended_with(run), expected)
+    return Looked("status", wanted.line, column, is_same and word is None, ended_with(run), f"{wanted.number} {wanted.text}".rstrip())
 
 
-def look_at_rest(wanted: Wanted, run: Run) -> Looked:
-    """Compares what isn't a script's."""
-    assert run.report
-    report = run.report
-    if wanted.what == "frame":
-        return look_at_numbered(wanted, report.frames, "frame", missing_frame(report))
-    if wanted.what == "event":
-        return look_at_numbered(wanted, report.events, "event", missing_event(report))
-    if wanted.what == "frames":
-        return look_at_count(wanted, len(report.frames))
-    if wanted.what == "events":
-        return look_at_count(wanted, len(report.events))
-    if wanted.what == "ended":
+def look_at_rest(wanted: Wanted, report: Report) -> Looked:
+    """Compares what isn't a script's: a frame or an event, how many there were, how the compositor and the device ended, and who is stuck."""
+    what, column = wanted.what, wanted.front[-1].column
+    if what in ("frame", "event"):
+        return look_at_numbered(wanted, report)
+    if what in ("frames", "events"):
+        name, came, expected = what, str(len(report.frames if what == "frames" else report.events)), str(wanted.number)
+    elif what == "ended":
+        name, expected = "compositor", "ended"
         came = "ended" if report.has_ended else "no end: the compositor waits for ever for a frame"
-        return Looked("compositor", wanted.line, wanted.column, report.has_ended, came, "ended")
-    if wanted.what == "stuck":
-        return look_at_stuck(wanted, report)
-    return look_at_end(wanted, "device", end_of_device(report))
+    elif what == "stuck":
+        found = [it.waits for it in report.stuck]
+        return Looked("stuck", wanted.line, wanted.words[0].column, wanted.text in found, listed(found) or "nobody", wanted.text)
+    else:
+        last = report.device[-1] if report.device else None
+        name, expected = "device", f"{what} {wanted.number or ''}".rstrip()
+        came = "neither fault nor garbled" if last is None or last.what == "event" else f"{last.what} {last.text}".rstrip()
+    return Looked(name, wanted.line, column, came == expected, came, expected)
 
 
 def name_of(wanted: Wanted) -> str:
     """What a line is about, where no call was made."""
     if wanted.what != "call":
         return f"{wanted.what} {wanted.number or ''}".rstrip()
-    last = f"-{wanted.last or ''}" if wanted.is_range else ""
-    return f"script {wanted.script} op {wanted.number}{last}"
+    return f"script {wanted.script} op {wanted.number}" + (f"-{wanted.last or ''}" if wanted.is_range else "")
 
 
 def compare(found: list[Wanted], calls: dict[tuple[int, int], Wanted], run: Run) -> list[Looked]:
     """All that is looked at, in the order of the file, and at last the status."""
     status = next((it for it in found if it.what == "status"), None)
-    rest = [it for it in found if it.what not in ("status", "call")]
     if run.report is None:
-        made = [it for it in found if it.what != "status"]
-        looked = [looked_at(name_of(it), it, it.text or "this", None, NOTHING_RAN) for it in made]
+        looked = [looked_at(name_of(it), it, it.text or "this", None, NOTHING_RAN) for it in found if it.what != "status"]
     else:
-        looked = look_at_calls(calls, run) + [look_at_rest(it, run) for it in rest]
+        looked = [look_at_call(wanted, *place, run) for place, wanted in calls.items()]
+        looked += [look_at_rest(it, run.report) for it in found if it.what not in ("status", "call")]
     return sorted(looked, key=lambda it: it.line) + [look_at_status(status, run)]
+
+
+# ---- how it is told
+
+
+class Told(NamedTuple):
+    """What a run came to: the scenario, the file of expectations, what was looked at, how the run ended, a hint where there
+    is one, and why nothing was compared where that is so."""
+
+    scenario: str
+    file: str
+    looked: list[Looked]
+    status: str = ""
+    hint: str = ""
+    refusal: str = ""
+
+    @property
+    def wrong(self) -> list[Looked]:
+        return [it for it in self.looked if not it.holds]
+
+    @property
+    def summary(self) -> str:
+        """A line that counts."""
+        held = len(self.looked) - len(self.wrong)
+        how = f"the run ended with status {self.status}" + (f"; {self.hint}" if self.hint else "")
+        return f"{self.scenario}: {held} of {len(self.looked)} expectations hold; {how}"
+
+
+def tap(told: Told) -> list[str]:
+    """The Test Anything Protocol, version 13: a point for each thing that was looked at."""
+    lines = ["TAP version 13"]
+    if told.refusal:
+        return [*lines, f"Bail out! {told.refusal}"]
+    lines.append(f"1..{len(told.looked)}")
+    for number, it in enumerate(told.looked, 1):
+        lines.append(f"{'ok' if it.holds else 'not ok'} {number} - {it.name}")
+        if not it.holds:
+            parts = {"at": f"{told.file}:{it.line}:{it.column}", "op": it.op, "expected": it.expected, "came": it.came}
+            texts = {name: visible(text).replace("'", "''") for name, text in parts.items() if text}
+            lines += ["  ---", *(f"  {name}: '{text}'" for name, text in texts.items()), "  ..."]
+    return [*lines, f"# {told.summary}"]
+
+
+def junit(told: Told) -> bytes:
+    """A JUnit file of one suite, with a case for each thing that was looked at, or one error where nothing was compared."""
+    shown = {"tests": str(len(told.looked) or 1), "failures": str(len(told.wrong)), "errors": str(int(bool(told.refusal)))}
+    top = xml.Element("testsuites", shown)
+    suite = xml.SubElement(top, "testsuite", {"name": told.scenario, **shown})
+    for it in told.looked:
+        case = xml.SubElement(suite, "testcase", {"classname": told.scenario, "name": it.name})
+        if not it.holds:
+            message = visible(f"expected {it.expected}, came {it.came}")
+            xml.SubElement(case, "failure", {"type": "mismatch", "message": message}).text = visible(it.told(told.file))
+    if told.refusal:
+        case = xml.SubElement(suite, "testcase", {"classname": told.scenario, "name": "run"})
+        xml.SubElement(case, "error", {"type": "refused", "message": visible(told.refusal)})
+    return xml.tostring(top, encoding="utf-8", xml_declaration=True) + b"\n"

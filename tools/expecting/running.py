@@ -9,13 +9,11 @@ from typing import IO, NamedTuple
 
 from ends import Refused, complain, shown
 from files import reason_of
-from reports.joining import join
-from reports.reading import NoReport, Report, read_report
+from reports.reading import NoReport, Report, join, read_report
 from scenarios.reading import NoScenario, Scripts, scripts_in
 from shown import one_line, visible
 
 PROGRAM = "./xrsim"
-FRONT = "xrsim: "
 WITH_REPORT = (0, 5, 6, 7)
 SCENARIO_REFUSED = 4
 
@@ -31,8 +29,7 @@ class Run(NamedTuple):
     @property
     def words(self) -> str:
         """The status, and the program's line without its front."""
-        line = self.line[len(FRONT) :] if self.line.startswith(FRONT) else self.line
-        return f"{self.status} {line}".rstrip()
+        return f"{self.status} {self.line.removeprefix('xrsim: ')}".rstrip()
 
 
 def program() -> str:
@@ -52,9 +49,7 @@ def last_line(errors: IO[bytes]) -> str:
 def ran(words: list[str]) -> tuple[int, str, bytes]:
     """The program's status, its last line on standard error, and what it printed."""
     with tempfile.TemporaryFile() as output:
-        begun = subprocess.Popen(
-            [program(), *words], stdin=subprocess.DEVNULL, stdout=output, stderr=subprocess.PIPE, close_fds=False
-        )
+        begun = subprocess.Popen([program(), *words], stdin=subprocess.DEVNULL, stdout=output, stderr=subprocess.PIPE, close_fds=False)
         try:
             line = last_line(begun.stderr)  # type: ignore[arg-type]
             status = begun.wait()
@@ -67,10 +62,8 @@ def ran(words: list[str]) -> tuple[int, str, bytes]:
 
 def untold(run: Run, scenario: str) -> Refused:
     """Why nothing can be compared where the program printed no whole report of a scenario."""
-    how = f"status {run.status}"
-    if run.status < 0:
-        names = {it.value: it.name for it in signal.Signals}
-        how = f"the signal {names.get(-run.status, -run.status)}"
+    names = {it.value: it.name for it in signal.Signals}
+    how = f"the signal {names.get(-run.status, -run.status)}" if run.status < 0 else f"status {run.status}"
     said = f" and said: {one_line(run.line)}" if run.line else ""
     more = f"; tools/check {shown(scenario)} says why" if run.status == SCENARIO_REFUSED else ""
     return Refused(f"nothing was run: {shown(program())} ended with {how}{said}{more}")
@@ -82,9 +75,8 @@ def run_scenario(name: str, data: bytes, device: str | None) -> Run:
     try:
         status, line, printed = ran(words)
     except (OSError, ValueError) as e:
-        why = reason_of(e) if isinstance(e, OSError) else str(e)
-        name = f"the program {shown(program())}"
-        raise Refused(f"nothing was run: {name} can't be run: {why}; the variable XRSIM may name another") from None
+        why = f"the program {shown(program())} can't be run: {reason_of(e)}"
+        raise Refused(f"nothing was run: {why}; the variable XRSIM may name another") from None
     if status == SCENARIO_REFUSED:
         return Run(status, line)
     if status not in WITH_REPORT:

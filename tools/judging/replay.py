@@ -8,15 +8,17 @@ from __future__ import annotations
 
 import re
 from collections.abc import Callable
-from typing import NamedTuple
+from typing import NamedTuple, TypeVar
 
 from machine.answers import OUT_OF_MEMORY, Answer, Fields, HeldBack
-from machine.frame_calls import ENDED
+from machine.machine import ENDED
 from machine.turns import Script, Turns
 from reports.reading import COMPOSITOR, DEVICE, Call, Report
 from reports.values import MET
 from scenarios.devices import FAULT, DeviceText
 from scenarios.reading import Scripts
+
+MadeT = TypeVar("MadeT")
 
 # the calls that take memory, and may be answered by want of it where nothing else refuses them
 TAKES_MEMORY = ("string_to_path", "suggest_bindings")
@@ -28,8 +30,7 @@ class NotLegal(Exception):
 
     def __init__(self, line: int, words: str, call: Call | None = None, answer: Answer | None = None) -> None:
         super().__init__(f"line {line}: {words}")
-        self.call = call
-        self.answer = answer
+        self.call, self.answer = call, answer
 
 
 def wrong(call: Call, why: str, answer: Answer | None = None) -> NotLegal:
@@ -44,29 +45,22 @@ def told_by(call: Call) -> str:
     return f"{front} {call.text}".rstrip()
 
 
-def check_ascending(calls: list[Call], found: dict[int, Call]) -> None:
-    """The places of an actor's counted calls ascend, and none of them is found already."""
-    before = 0
-    for call in (it for it in calls if it.is_counted):
-        place = call.place or 0
-        if place in found:
-            raise wrong(call, f"its place {place} is that of line {found[place].line} too")
-        if place < before:
-            raise wrong(call, f"its place {place} lies before {before}, that of the call before it")
-        found[place] = call
-        before = place
-
-
 def in_order(report: Report) -> list[Call]:
-    """All counted calls by their places, which are those from 1 on, each once. Getters aren't counted."""
+    """All counted calls by their places, which are those from 1 on, each once, and ascend for each actor. Getters aren't counted."""
     found: dict[int, Call] = {}
     for calls in report.actors.values():
-        check_ascending(calls, found)
-    ordered = [found[place] for place in sorted(found)]
-    for due, call in enumerate(ordered, 1):
-        if call.place != due:
-            raise wrong(call, f"its place is {call.place}, and the next one that is due is {due}")
-    return ordered
+        before = 0
+        for call in (it for it in calls if it.is_counted):
+            place = call.place or 0
+            if place in found:
+                raise wrong(call, f"its place {place} is that of line {found[place].line} too")
+            if place < before:
+                raise wrong(call, f"its place {place} lies before {before}, that of the call before it")
+            found[place], before = call, place
+    for due, place in enumerate(sorted(found), 1):
+        if place != due:
+            raise wrong(found[place], f"its place is {place}, and the next one that is due is {due}")
+    return [found[place] for place in sorted(found)]
 
 
 def stripped(data: bytes) -> list[str]:
@@ -85,13 +79,9 @@ class Replay(Turns):
     """A report on its way through the machine. A script's next line is that of the call which it makes next."""
 
     def __init__(self, scripts: Scripts, device: DeviceText, report: Report) -> None:
-        super().__init__(scripts, device.all)
-        self.device = device
-        self.report = report
-        self.has_faulted = False
-
-    def run(self) -> None:
         """Makes all calls, and looks at how the run ended."""
+        super().__init__(scripts, device.all)
+        self.device, self.report, self.has_faulted = device, report, False
         self.make_getters()
         for call in in_order(self.report):
             if call.script:
@@ -101,8 +91,14 @@ class Replay(Turns):
             else:
                 self.tell_event(call)
             self.make_getters()
-        self.check_scripts()
         self.check_ending()
+
+    def made(self, call: Call, attempt: Callable[[], MadeT]) -> MadeT:
+        """What a call comes to, which mustn't wait."""
+        try:
+            return attempt()
+        except HeldBack:
+            raise wrong(call, f"{told_by(call)}, and the machine has it wait there") from None
 
     # ---- scripts
 
@@ -131,10 +127,7 @@ class Replay(Turns):
         script, told = self.scripts[call.script - 1], told_by(call)
         if script.is_done or script.next.name != call.op:
             raise wrong(call, f"the scenario has {'no op' if script.is_done else script.next.name} there")
-        try:
-            answer = self.machine.make(call.op, self.fields_of(script, call))
-        except HeldBack:
-            raise wrong(call, f"{told}, and the machine has it wait there") from None
+        answer = self.made(call, lambda: self.machine.make(call.op, self.fields_of(script, call)))
         if answer.told() != told:
             raise wrong(call, f"{told}, and the machine answers {answer.told()} there", answer)
         script.keep(answer, self.machine.device.clock)
@@ -156,10 +149,7 @@ class Replay(Turns):
     def ask_for_frame(self, call: Call) -> None:
         """The compositor gives back what it holds, and asks for a frame."""
         self.give_back_all()
-        try:
-            told = self.machine.ask_for_frame()
-        except HeldBack:
-            raise wrong(call, f"{told_by(call)}, and the machine has it wait there") from None
+        told = self.made(call, self.machine.ask_for_frame)
         if told != told_by(call):
             raise wrong(call, f"{told_by(call)}, and the machine tells it {told} there", Answer(words=told))
         self.has_ended = told == ENDED
@@ -175,39 +165,25 @@ class Replay(Turns):
             self.has_faulted = True
         elif [told] != due:
             raise wrong(call, f"{told}, and the device's text has {due[0] if due else 'nothing'} there")
-        try:
-            self.machine.tell_event(told)
-        except HeldBack:
-            raise wrong(call, f"{told}, and the machine has it wait there") from None
+        self.made(call, lambda: self.machine.tell_event(told))
         self.told += 1
 
     # ---- the end
-
-    def check_scripts(self) -> None:
-        """No getter is left."""
-        for script, calls in zip(self.scripts, self.report.scripts):
-            if script.made < len(calls):
-                call = calls[script.made]
-                raise wrong(call, f"its place is {call.place}, and nothing was published there")
 
     def waiting(self) -> list[str]:
         """Who isn't finished, as a report prints them behind `stuck`. Each of them has to wait."""
         found = []
         for script in (it for it in self.scripts if not it.is_done):
             who, what = f"script {script.number}", f"{script.made + 1} {script.next.name}"
-            self.check_waits(who, f"{who} op {what}", lambda: self.try_next(script))
+            self.check_waits(who, f"{who} op {what}", lambda: self.machine.make(script.next.name, script.fields()))
             found.append(f"thread {script.number} {what}")
-        left = [] if self.has_faulted else self.events[self.told :]
-        if left:
-            self.check_waits(DEVICE, f"the device's {left[0]}", lambda: self.machine.tell_event(left[0]))
-            found.append(f"device {left[0]}")
+        for event in [] if self.has_faulted else self.events[self.told :][:1]:
+            self.check_waits(DEVICE, f"the device's {event}", lambda: self.machine.tell_event(event))
+            found.append(f"device {event}")
         if not self.has_ended:
             self.check_waits(COMPOSITOR, "the compositor's next_frame", self.machine.ask_for_frame)
             found.append("compositor next_frame")
         return found
-
-    def try_next(self, script: Script) -> Answer:
-        return self.machine.make(script.next.name, script.fields())
 
     def check_waits(self, who: str, what: str, attempt: Callable[[], object]) -> None:
         """A call for which no line stands has to wait in the end."""
@@ -219,24 +195,23 @@ class Replay(Turns):
         raise NotLegal(self.report.ends[who], f"{what} is missing: nothing holds it back in the end", waits)
 
     def check_ending(self) -> None:
-        """The lines behind `stuck` and the status are what the end makes them."""
+        """No getter is left, and the lines behind `stuck` and the status are what the end makes them."""
+        for script, calls in zip(self.scripts, self.report.scripts):
+            if script.made < len(calls):
+                raise wrong(calls[script.made], f"its place is {calls[script.made].place}, and nothing was published there")
         self.give_back_all()
-        due, stuck = self.waiting(), self.report.stuck
+        due, stuck, end = self.waiting(), self.report.stuck, self.report.ends["stuck"]
         for call, words in zip(stuck, due):
             if call.waits != words:
                 raise NotLegal(call.line, f"{call.waits} is stuck, where {words} is due")
         if len(due) > len(stuck):
-            raise NotLegal(self.report.ends["stuck"], f"{due[len(stuck)]} is stuck, and has no line")
+            raise NotLegal(end, f"{due[len(stuck)]} is stuck, and has no line")
         if len(due) < len(stuck):
             raise NotLegal(stuck[len(due)].line, f"{stuck[len(due)].waits} isn't stuck")
-
-    def status(self) -> int:
-        """The status of the whole run."""
-        if self.has_faulted:
-            return 5
-        if self.device.garbled and self.told == len(self.events):
-            return 6
-        return 7 if self.report.stuck else 0
+        is_garbled = self.device.garbled and self.told == len(self.events)
+        status = 5 if self.has_faulted else 6 if is_garbled else 7 if stuck else 0
+        if self.report.status != status:
+            raise NotLegal(end, f"the status is {self.report.status}, and the run ends with {status}")
 
 
 def has_places(report: Report) -> bool:
@@ -248,9 +223,5 @@ def judge(scripts: Scripts, device: DeviceText, report: Report) -> Judged:
     """Whether a report that has places is that of a legal history of these scripts and this device. NotLegal says where not."""
     if len(report.scripts) != len(scripts):
         raise NotLegal(1, f"the report has {len(report.scripts)} scripts, and the scenario has {len(scripts)}")
-    replay = Replay(scripts, device, report)
-    replay.run()
-    if report.status != replay.status():
-        words = f"the status is {report.status}, and the run ends with {replay.status()}"
-        raise NotLegal(report.ends["stuck"], words)
+    Replay(scripts, device, report)
     return Judged(len(report.calls), len(report.frames))

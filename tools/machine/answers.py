@@ -1,15 +1,14 @@
 """What a call is answered, and the two ways in which it isn't carried out: it is refused, or it has to wait."""
 from __future__ import annotations
 
-from typing import Any, NamedTuple
+from typing import Any, NamedTuple, TypeVar
 
-SUCCESS = "XR_SUCCESS"
-LOSS_PENDING = "XR_SESSION_LOSS_PENDING"
-NOT_FOCUSED = "XR_SESSION_NOT_FOCUSED"
-OUT_OF_MEMORY = "XR_ERROR_OUT_OF_MEMORY"
+SUCCESS, LOSS_PENDING, NOT_FOCUSED = "XR_SUCCESS", "XR_SESSION_LOSS_PENDING", "XR_SESSION_NOT_FOCUSED"
+OUT_OF_MEMORY, NO_HANDLE = "XR_ERROR_OUT_OF_MEMORY", "XR_ERROR_HANDLE_INVALID"
 
 # the values of a call's fields, by their names
 Fields = dict[str, Any]
+FoundT = TypeVar("FoundT")
 
 
 class Answer(NamedTuple):
@@ -42,6 +41,13 @@ def refuse(holds: bool, code: str) -> None:
         raise Refused(code)
 
 
-def flag(holds: bool) -> str:
-    """A truth value, as a report prints it."""
-    return "1" if holds else "0"
+def due(found: FoundT | None, code: str) -> FoundT:
+    """What has to be there; the call is refused by this code where it isn't."""
+    if found is None:
+        raise Refused(code)
+    return found
+
+
+def live(found: dict[int, FoundT], handle: int) -> FoundT:
+    """What a call's handle names, which has to be live."""
+    return due(found.get(handle), NO_HANDLE)

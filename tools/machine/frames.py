@@ -7,9 +7,10 @@ from __future__ import annotations
 
 from collections import deque
 from collections.abc import Container
+from dataclasses import dataclass, field
 from typing import NamedTuple
 
-from machine.answers import Fields, Refused, refuse
+from machine.answers import NO_HANDLE, Fields, due, live, refuse
 
 MOST_CHAINS = 16
 MOST_SIDE = 8192
@@ -27,23 +28,18 @@ MOST_TIME = 2**63 - 1
 Image = tuple[int, int]
 
 
-def predicted_time(last: int, clock: int, base: int, period: int) -> int:
-    """The least time of the grid that is later than the time that was predicted last, and than the clock."""
-    since = max(last, clock)
-    time = base if since < base else since + period - (since - base) % period
-    return min(time, MOST_TIME)
-
-
+@dataclass
 class Chain:
-    """A live swapchain."""
+    """A live swapchain: its images that are acquired, whether the first of them is waited for, the one released last, and the next."""
 
-    def __init__(self, handle: int, width: int, height: int, is_static: bool) -> None:
-        self.handle = handle
-        self.width, self.height, self.is_static = width, height, is_static
-        self.acquired: list[int] = []
-        self.has_waited = False
-        self.last: int | None = None
-        self.next = 0
+    handle: int
+    width: int
+    height: int
+    is_static: bool
+    acquired: list[int] = field(default_factory=list)
+    has_waited: bool = False
+    last: int | None = None
+    next: int = 0
 
     @property
     def may_acquire(self) -> bool:
@@ -57,26 +53,6 @@ class Chain:
     def oldest(self) -> Image:
         """The image that was acquired first, where one is."""
         return self.handle, self.acquired[0]
-
-    def acquire(self) -> None:
-        """The next image. It isn't the one released last any more."""
-        self.acquired.append(self.next)
-        if self.last == self.next:
-            self.last = None
-        self.next = 1 if self.is_static else (self.next + 1) % IMAGES_OF_A_CHAIN
-
-    def release(self) -> None:
-        self.last = self.acquired.pop(0)
-        self.has_waited = False
-
-    def is_within(self, x: int, y: int, width: int, height: int) -> bool:
-        """Whether this is a part of its images, with at least a pixel."""
-        return x >= 0 and y >= 0 and width > 0 and height > 0 and x + width <= self.width and y + height <= self.height
-
-
-def parts_of(layer: Fields) -> list[list[int]]:
-    """The parts of images that a layer shows, each a swapchain's handle with the place and the size."""
-    return layer["views"] if "projection" in layer else [layer["image"]]
 
 
 class Layer(NamedTuple):
@@ -98,23 +74,20 @@ class Frame(NamedTuple):
         return list(dict.fromkeys(image for layer in self.layers for image in layer.images))
 
 
+@dataclass
 class Frames:
     """The frames that are pending, the oldest first; the images of the frame that was taken last, and those of them that the
     compositor holds; how many frames were ended in the run; and the stamps of all images, which are 0 at first."""
 
-    def __init__(self) -> None:
-        self.pending: deque[Frame] = deque()
-        self.taken: list[Image] = []
-        self.held: deque[Image] = deque()
-        self.ended = 0
-        self.stamps: dict[Image, int] = {}
-
-    def is_pending(self, image: Image) -> bool:
-        """Whether a pending frame uses an image."""
-        return any(image in it.images for it in self.pending)
+    pending: deque[Frame] = field(default_factory=deque)
+    taken: list[Image] = field(default_factory=list)
+    held: deque[Image] = field(default_factory=deque)
+    ended: int = 0
+    stamps: dict[Image, int] = field(default_factory=dict)
 
     def is_used(self, image: Image) -> bool:
-        return image in self.held or self.is_pending(image)
+        """Whether the compositor holds an image, or a pending frame uses it."""
+        return image in self.held or any(image in it.images for it in self.pending)
 
     @property
     def are_done(self) -> bool:
@@ -131,44 +104,35 @@ class Frames:
         self.ended += 1
         self.pending.append(Frame(self.ended, time, layers))
 
-    def take(self) -> Frame:
-        """The compositor takes the frame that is pending longest."""
+    def take(self) -> str:
+        """The compositor takes the frame that is pending longest, which is what a report prints."""
         frame = self.pending.popleft()
         self.taken = frame.images
         self.held.extend(self.taken)
-        return frame
-
-    def shown(self, frame: Frame) -> str:
-        """What a report prints of a frame behind its number."""
-        layers = [f"{it.kind}:{','.join(str(self.stamps.get(image, 0)) for image in it.images)}" for it in frame.layers]
-        return " ".join([f"time {frame.time} layers {len(layers)}", *layers])
+        layers = [f" {it.kind}:{','.join(str(self.stamps.get(image, 0)) for image in it.images)}" for it in frame.layers]
+        return f"frame {frame.number} time {frame.time} layers {len(layers)}{''.join(layers)}"
 
 
 def image_shown(part: list[int], chains: dict[int, Chain]) -> Image:
-    """The image that a sub-image is a part of: the one that its swapchain released last."""
-    handle, *rectangle = part
-    chain = chains.get(handle)
-    if chain is None:
-        raise Refused("XR_ERROR_HANDLE_INVALID")
-    refuse(not chain.is_within(*rectangle), "XR_ERROR_SWAPCHAIN_RECT_INVALID")
-    if chain.last is None:
-        raise Refused("XR_ERROR_LAYER_INVALID")
-    return handle, chain.last
-
-
-def layer_of(layer: Fields, spaces: Container[int], chains: dict[int, Chain]) -> Layer:
-    """A layer by its images, where these spaces and swapchains are live."""
-    kind = "projection" if "projection" in layer else "quad"
-    refuse(layer[kind] not in spaces, "XR_ERROR_HANDLE_INVALID")
-    refuse(kind == "projection" and len(layer["views"]) != VIEWS, "XR_ERROR_VALIDATION_FAILURE")
-    images = [image_shown(it, chains) for it in parts_of(layer)]
-    refuse(kind == "quad" and layer["pose"] == 0, "XR_ERROR_POSE_INVALID")
-    return Layer(kind, images)
+    """The image that a sub-image is a part of, with at least a pixel: the one that its swapchain released last."""
+    handle, x, y, width, height = part
+    chain = live(chains, handle)
+    is_within = 0 <= x < x + width <= chain.width and 0 <= y < y + height <= chain.height
+    refuse(not is_within, "XR_ERROR_SWAPCHAIN_RECT_INVALID")
+    return handle, due(chain.last, "XR_ERROR_LAYER_INVALID")
 
 
 def layers_of(time: int, blend: str, layers: list[Fields], spaces: Container[int], chains: dict[int, Chain]) -> list[Layer]:
-    """The layers of a frame with this time and blend mode."""
+    """The layers of a frame with this time and blend mode by their images, where these spaces and swapchains are live."""
     refuse(time <= 0, "XR_ERROR_TIME_INVALID")
     refuse(blend != "opaque", "XR_ERROR_ENVIRONMENT_BLEND_MODE_UNSUPPORTED")
     refuse(len(layers) > MOST_LAYERS, "XR_ERROR_LAYER_LIMIT_EXCEEDED")
-    return [layer_of(it, spaces, chains) for it in layers]
+    found = []
+    for layer in layers:
+        kind = "projection" if "projection" in layer else "quad"
+        parts: list[list[int]] = layer["views"] if kind == "projection" else [layer["image"]]
+        refuse(layer[kind] not in spaces, NO_HANDLE)
+        refuse(kind == "projection" and len(parts) != VIEWS, "XR_ERROR_VALIDATION_FAILURE")
+        found.append(Layer(kind, [image_shown(it, chains) for it in parts]))
+        refuse(kind == "quad" and layer["pose"] == 0, "XR_ERROR_POSE_INVALID")
+    return found

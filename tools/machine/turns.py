@@ -5,17 +5,13 @@ from collections.abc import Callable
 from typing import Any
 
 from machine.answers import Answer, Fields, HeldBack
-from machine.frame_calls import ENDED
 from machine.frames import MOST_TIME
-from machine.machine import Machine
+from machine.machine import ENDED, Machine
 from reports.values import GETTERS
 from scenarios.reading import LEAVE, Op, Scripts
 
 # the fields that may have names, also in lists within them
-USES = frozenset(
-    """instance session space base set action chain system time path sub profile value layers subactions sets bindings
-    active""".split()
-)
+USES = frozenset("instance session space base set action chain system time path sub profile value layers subactions sets bindings active".split())
 
 
 def named(value: Any, values: dict[str, int]) -> Any:
@@ -28,14 +24,12 @@ def named(value: Any, values: dict[str, int]) -> Any:
 
 
 class Script:
-    """A script by its number from 1, which ends in `leave`: how many of its ops were made, the clock after the last locked
-    one, and what its names stand for."""
+    """A script by its number from 1, which ends in `leave`: how many of its ops were made, the clock after the last locked one, and what
+    its names stand for."""
 
     def __init__(self, number: int, ops: list[Op]) -> None:
-        self.number = number
-        self.ops = [*ops, LEAVE]
-        self.made = 0
-        self.clock = 0
+        self.number, self.ops = number, [*ops, LEAVE]
+        self.made = self.clock = 0
         self.values: dict[str, int] = {}
         self.known: Fields | None = None
 
@@ -50,10 +44,9 @@ class Script:
     def fields(self) -> Fields:
         """The fields of the next call by their values, which stay as long as it waits."""
         if self.known is None:
-            op = self.next
-            given = {key: it for key, it in op.fields.items() if key not in ("op", "as")}
+            given = {key: it for key, it in self.next.arguments.items() if key != "as"}
             self.known = {key: named(it, self.values) if key in USES else it for key, it in given.items()}
-            if op.name == "wait_image":
+            if self.next.name == "wait_image":
                 timeout = self.known["timeout"]
                 self.known.update(timeout=MOST_TIME if timeout == "inf" else timeout, since=self.clock)
         return self.known
@@ -70,8 +63,8 @@ class Script:
 
 
 class Turns:
-    """The scripts, the device and the compositor on their way. A turn gives whether a call was made; what waits raises
-    HeldBack. Each call is handed to `note` with its actor: a script's number, `device` or `compositor`."""
+    """The scripts, the device and the compositor on their way. A turn gives whether a call was made; what waits raises HeldBack. Each
+    call is handed to `note` with its actor: a script's number, `device` or `compositor`."""
 
     def __init__(self, scripts: Scripts, events: list[str]) -> None:
         self.machine = Machine(len(scripts))

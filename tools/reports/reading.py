@@ -1,12 +1,13 @@
-"""Reads a report, with places or without, and refuses every other text in one line."""
+"""Reads a report, with places or without, and refuses every other text in one line. Gives its calls the arguments of its scenario, and refuses
+a scenario that can't be the report's."""
 from __future__ import annotations
 
 import re
-from collections.abc import Iterator
 from dataclasses import dataclass, field
 from typing import Any
 
 from reports.values import CODES, GETTERS, MARK, MET, OPS, Values, of_call, of_event, of_frame
+from scenarios.reading import LEAVE, MOST_HANDLE_MARK, Op, Scripts
 
 MOST_SCRIPTS = 8
 MOST_REPORT = 1 << 30
@@ -60,14 +61,9 @@ class NoReport(Exception):
     """Why a text is no report, in one line. A fault of the text has a kind, and what stands in its words."""
 
     def __init__(self, words: str = "", kind: str = "", **given: Any) -> None:
-        super().__init__(words or WORDS[kind].format(**given))
-        self.kind = kind
-        self.given = given
-
-
-def fault(kind: str, **given: Any) -> NoReport:
-    who = given.get("who", "")
-    return NoReport("", kind, the_who=who if who.startswith("script") else f"the {who}", **given)
+        who = given.get("who", "")
+        self.kind, self.given = kind, {**given, "the_who": who if who.startswith("script") else f"the {who}"}
+        super().__init__(words or WORDS[kind].format(**self.given))
 
 
 @dataclass(eq=False)
@@ -148,9 +144,9 @@ class Report:
     def calls(self) -> list[Call]:
         return [it for calls in self.actors.values() for it in calls]
 
-    def lines(self) -> Iterator[Call]:
-        yield from self.calls
-        yield from self.stuck
+    @property
+    def lines(self) -> list[Call]:
+        return [*self.calls, *self.stuck]
 
     def ordered(self) -> list[Call]:
         """The counted calls in the order of their places."""
@@ -159,52 +155,43 @@ class Report:
 
 def text_of(data: bytes) -> str:
     """The text of a report's bytes, as far as they can be some."""
-    if not data:
-        raise fault("empty")
-    if data.startswith(FIRST_LINE + b"\r"):
-        raise fault("returns")
     if not data.startswith(FIRST_LINE + b"\n"):
-        raise fault("first")
+        raise NoReport(kind="returns" if data.startswith(FIRST_LINE + b"\r") else "first" if data else "empty")
     try:
         text = data.decode("utf-8")
     except UnicodeDecodeError as e:
-        raise fault("utf8", line=data.count(10, 0, e.start) + 1) from None
+        raise NoReport(kind="utf8", line=data.count(10, 0, e.start) + 1) from None
     if not text.endswith("\n"):
-        raise fault("cut", line=text.count("\n") + 1)
+        raise NoReport(kind="cut", line=text.count("\n") + 1)
     return text
 
 
 class Reader:
-    """Takes the lines of a report one after another. Whether they have places is known behind the first line of a call, unless
-    all have to: then a line's form is looked at before its place."""
+    """Takes the lines of a report one after another. Whether they have places is known behind the first line of a call, unless all have to:
+    then a line's form is looked at before its place."""
 
     def __init__(self, data: bytes, has_places: bool | None) -> None:
         self.lines = text_of(data).split("\n")[:-1]
         self.at = 1
-        self.has_places = has_places
-        self.is_due = has_places is True
+        self.has_places, self.is_due = has_places, has_places is True
 
     def peek(self) -> str:
         return self.lines[self.at] if self.at < len(self.lines) else ""
 
     def take(self) -> str:
         if self.at == len(self.lines):
-            raise fault("no status", line=self.at)
+            raise NoReport(kind="no status", line=self.at)
         self.at += 1
         return self.lines[self.at - 1]
 
-    def takes(self, line: str) -> bool:
-        is_here = self.peek() == line
-        self.at += is_here
-        return is_here
+    def must(self, holds: object, kind: str, **given: Any) -> None:
+        """What has to hold of the line that was taken last."""
+        if not holds:
+            raise NoReport(kind=kind, line=self.at, **given)
 
-    def wrong(self, kind: str, **given: Any) -> NoReport:
-        """What is wrong of the line that was taken last."""
-        return fault(kind, line=self.at, **given)
-
-    def due(self, words: str) -> NoReport:
-        self.take()
-        return self.wrong("due", due=words)
+    def starts(self, line: str, due: str) -> None:
+        """The next line begins a block."""
+        self.must(self.take() == line, "due", due=due)
 
     def take_call(self) -> tuple[str, int | None]:
         """The next line without its place, and the place."""
@@ -212,13 +199,12 @@ class Reader:
         found = _PLACE.fullmatch(line)
         if self.has_places is None:
             self.has_places = bool(found)
-        if self.has_places != bool(found) and not self.is_due:
-            raise self.wrong("place", has="a" if found else "no", others="theirs" if self.has_places else "none")
+        is_same = self.has_places == bool(found) or self.is_due
+        self.must(is_same, "place", has="a" if found else "no", others="theirs" if self.has_places else "none")
         return (found[1], int(found[2])) if found else (line, None)
 
     def check_place(self, place: int | None) -> None:
-        if self.is_due and place is None:
-            raise self.wrong("place", has="no", others="theirs")
+        self.must(not self.is_due or place is not None, "place", has="no", others="theirs")
 
     def script(self, number: int) -> list[Call]:
         """The calls of a script."""
@@ -226,19 +212,15 @@ class Reader:
         who = f"script {number}"
         while self.peek()[:1].isdigit():
             line, place = self.take_call()
-            found = _CALL.fullmatch(line)
-            if not found or found[2] not in OPS or found[3] not in CODES:
-                raise self.wrong("call", who=who)
+            found, due = _CALL.fullmatch(line), len(calls) + 1
+            counted, op, code, text = found.groups("") if found else ("", "", "", "")
+            self.must(op in OPS and code in CODES, "call", who=who)
             self.check_place(place)
-            op, code, text, due = found[2], found[3], found[4] or "", len(calls) + 1
             values = of_call(op, code, text)
-            if values is None:
-                raise self.wrong("values", op=op, code=code)
-            if int(found[1]) != due:
-                raise self.wrong("number", who=who, number=found[1], due=due)
-            if calls and calls[-1].op == "leave":
-                raise self.wrong("leave", who=who)
-            calls.append(Call("call", "script", op, number, due, code, text, values, place, self.at))
+            self.must(values is not None, "values", op=op, code=code)
+            self.must(int(counted) == due, "number", who=who, number=counted, due=due)
+            self.must(not calls or calls[-1].op != "leave", "leave", who=who)
+            calls.append(Call("call", "script", op, number, due, code, text, values or {}, place, self.at))
         return calls
 
     def compositor(self) -> list[Call]:
@@ -246,21 +228,17 @@ class Reader:
         calls: list[Call] = []
         while self.peek().startswith(("frame ", "ended")):
             line, place = self.take_call()
-            if calls and calls[-1].what == "ended":
-                raise self.wrong("ended")
-            due = len(calls) + 1
+            self.must(not calls or calls[-1].what != "ended", "ended")
             if line == "ended":
                 self.check_place(place)
                 calls.append(Call("ended", COMPOSITOR, "next_frame", place=place, line=self.at))
                 continue
-            number, _, text = line[len("frame ") :].partition(" ")
-            values = of_frame(text)
-            if values is None:
-                raise self.wrong("frame")
+            counted, _, text = line[len("frame ") :].partition(" ")
+            values, due = of_frame(text), len(calls) + 1
+            self.must(values is not None, "frame")
             self.check_place(place)
-            if number != str(due):
-                raise self.wrong("frame's number", number=number, due=due)
-            calls.append(Call("frame", COMPOSITOR, "next_frame", 0, due, "", text, values, place, self.at))
+            self.must(counted == str(due), "frame's number", number=counted, due=due)
+            calls.append(Call("frame", COMPOSITOR, "next_frame", 0, due, "", text, values or {}, place, self.at))
         return calls
 
     def device(self) -> list[Call]:
@@ -268,48 +246,33 @@ class Reader:
         calls: list[Call] = []
         while self.peek()[:1].isdigit() or self.peek().startswith(("fault", "garbled")):
             line, place = self.take_call()
-            if calls and calls[-1].what != "event":
-                raise self.wrong("fault", what=calls[-1].what)
-            number, _, words = line.partition(" ")
+            self.must(not calls or calls[-1].what == "event", "fault", what=calls[-1].what if calls else "")
+            counted, _, words = line.partition(" ")
+            op, _, text = words.partition(" ")
+            what, number = "event", len(calls) + 1
+            values = of_event(op, text) if words == f"{op} {text}".rstrip() else None
             if line == "fault":
-                self.check_place(place)
-                calls.append(Call("fault", DEVICE, place=place, line=self.at))
-            elif number == "garbled":
-                if not re.fullmatch(r"[1-9]\d{0,8}", words):
-                    raise self.wrong("garbled")
-                self.check_place(place)
-                values = {"line": int(words)}
-                calls.append(Call("garbled", DEVICE, text=words, values=values, place=place, line=self.at))
-            else:
-                calls.append(self.event(number, words, len(calls) + 1, place))
+                what, op, number, values = "fault", "", 0, {}
+            elif counted == "garbled":
+                is_line = re.fullmatch(r"[1-9]\d{0,8}", words)
+                what, op, text, number, values = "garbled", "", words, 0, {"line": int(words)} if is_line else None
+            self.must(values is not None, what)
+            self.check_place(place)
+            self.must(not number or counted == str(number), "event's number", number=counted, due=number)
+            calls.append(Call(what, DEVICE, op, 0, number, "", text, values or {}, place, self.at))
         return calls
-
-    def event(self, number: str, words: str, due: int, place: int | None) -> Call:
-        op, _, text = words.partition(" ")
-        values = of_event(op, text) if words == f"{op} {text}".rstrip() else None
-        if values is None:
-            raise self.wrong("event")
-        self.check_place(place)
-        if number != str(due):
-            raise self.wrong("event's number", number=number, due=due)
-        return Call("event", DEVICE, op, 0, due, "", text, values, place, self.at)
 
     def stuck(self) -> list[Call]:
         """The next call of each actor that waits for ever."""
         calls: list[Call] = []
         while not self.peek().startswith("status "):
             found = _STUCK.fullmatch(self.take())
-            if not found:
-                raise self.wrong("stuck")
-            if found[1]:
-                calls.append(Call("stuck", "script", found[3], int(found[1]), int(found[2]), line=self.at))
-            elif found[4]:
-                values = {"mark": int(found[4])}
-                calls.append(Call("stuck", DEVICE, "await", text=found[4], values=values, line=self.at))
-            else:
-                calls.append(Call("stuck", COMPOSITOR, "next_frame", line=self.at))
-        if not calls:
-            raise self.wrong("nobody")
+            self.must(found, "stuck")
+            script, number, op, mark = found.groups()  # type: ignore[union-attr]
+            actor, op = ("script", op) if script else (DEVICE, "await") if mark else (COMPOSITOR, "next_frame")
+            values = {"mark": int(mark)} if mark else {}
+            calls.append(Call("stuck", actor, op, int(script or 0), int(number or 0), "", mark or "", values, None, self.at))
+        self.must(calls, "nobody")
         return calls
 
 
@@ -324,29 +287,26 @@ def read_report(data: bytes) -> Report:
 def read_lines(data: bytes, has_places: bool | None = None) -> Report:
     """The report that these bytes have the form of, with places or without. Whether its lines agree isn't looked at."""
     reader, report = Reader(data, has_places), Report()
-    while len(report.scripts) < MOST_SCRIPTS and reader.takes(f"thread {len(report.scripts) + 1}"):
-        report.scripts.append(reader.script(len(report.scripts) + 1))
-        report.ends[f"script {len(report.scripts)}"] = reader.at + 1
-    if not report.scripts:
-        raise reader.due("`thread 1`")
-    if not reader.takes(COMPOSITOR):
-        raise reader.due("a call, the next thread or `compositor`")
-    report.compositor = reader.compositor()
-    report.ends[COMPOSITOR] = reader.at + 1
-    if not reader.takes(DEVICE):
-        raise reader.due("a frame, `ended` or `device`")
-    report.device = reader.device()
-    report.ends[DEVICE] = reader.at + 1
-    if reader.takes("stuck"):
+    for number in range(1, MOST_SCRIPTS + 1):
+        if number > 1 and reader.peek() != f"thread {number}":
+            break
+        reader.starts(f"thread {number}", "`thread 1`")
+        report.scripts.append(reader.script(number))
+        report.ends[f"script {number}"] = reader.at + 1
+    for actor, due in ((COMPOSITOR, "a call, the next thread or `compositor`"), (DEVICE, "a frame, `ended` or `device`")):
+        reader.starts(actor, due)
+        setattr(report, actor, getattr(reader, actor)())
+        report.ends[actor] = reader.at + 1
+    if reader.peek() == "stuck":
+        reader.take()
         report.stuck = reader.stuck()
     report.ends["stuck"] = reader.at + 1
     status = re.fullmatch("status ([0-9])", reader.take())
-    if not status:
-        raise reader.wrong("end due")
-    report.status = int(status[1])
+    reader.must(status, "end due")
+    report.status = int(status[1])  # type: ignore[index]
     if reader.at < len(reader.lines):
         reader.take()
-        raise reader.wrong("more")
+        reader.must(False, "more")
     return report
 
 
@@ -354,18 +314,18 @@ def check_ends(report: Report) -> None:
     """Who hasn't ended is stuck, and the status is what the lines say."""
     actors, stuck = report.actors, [it.who for it in report.stuck]
     if len(set(stuck)) < len(stuck) or not set(stuck) <= set(actors):
-        raise fault("waiters")
+        raise NoReport(kind="waiters")
     for who, calls in actors.items():
         has_ended = bool(calls) and (calls[-1].op == "leave" or calls[-1].what == "ended")
         if who != DEVICE and has_ended == (who in stuck):
-            raise fault("stuck too" if has_ended else "no end", who=who)
+            raise NoReport(kind="stuck too" if has_ended else "no end", who=who)
     for it in report.stuck:
         if it.script and it.number != len(actors[it.who]) + 1:
-            raise fault("next", who=it.who, number=it.number)
+            raise NoReport(kind="next", who=it.who, number=it.number)
     last = report.device[-1].what if report.device else ""
     due = {"fault": 5, "garbled": 6}.get(last, 7 if report.stuck else 0)
     if report.status != due:
-        raise fault("status", status=report.status, due=due)
+        raise NoReport(kind="status", status=report.status, due=due)
 
 
 def check_places(report: Report) -> None:
@@ -374,8 +334,41 @@ def check_places(report: Report) -> None:
     for who, calls in report.actors.items():
         places = [it.place for it in calls if it.place is not None and it.is_counted]
         if places != sorted(set(places)):
-            raise fault("order", who=who)
+            raise NoReport(kind="order", who=who)
         counted += places
     for due, place in enumerate(sorted(counted), 1):
         if place != due:
-            raise fault("places", place=min(due, place), what="there twice" if place < due else "missing")
+            raise NoReport(kind="places", place=min(due, place), what="there twice" if place < due else "missing")
+
+
+# ---- the scenario
+
+
+def op_at(scripts: Scripts, script: int, number: int) -> Op | None:
+    """The op at a place of a script; behind the last one stands `leave`."""
+    ops = scripts[script - 1]
+    return ops[number - 1] if number <= len(ops) else LEAVE if number == len(ops) + 1 else None
+
+
+def check_call(call: Call, op: Op | None) -> None:
+    """A call is an op's of the scenario, as far as a report tells that."""
+    named = {"who": call.who, "number": call.number, "op": call.op, "came": f"{call.code} {call.text}".rstrip()}
+    if op is None or op.name != call.op:
+        raise NoReport(kind="other op", due=op.name if op else "no op", **named)
+    if call.what == "call" and op.name == "await" and bool(call.values) != (op.fields["mark"] > MOST_HANDLE_MARK):
+        raise NoReport(kind="other mark", due=op.fields["mark"], **named)
+    if "size" in call.values and call.code != "XR_ERROR_SIZE_INSUFFICIENT":
+        if ("text" in call.values) != (op.fields["capacity"] > 0):
+            raise NoReport(kind="other capacity", due=op.fields["capacity"], **named)
+
+
+def join(report: Report, scripts: Scripts) -> None:
+    """The report is this scenario's, as far as it tells that: its ops are, and their arguments where they show. Each call of
+    a script gets its arguments."""
+    if len(report.scripts) != len(scripts):
+        raise NoReport(kind="other scripts", number=len(report.scripts), due=len(scripts))
+    for it in report.lines:
+        if it.script:
+            op = op_at(scripts, it.script, it.number)
+            check_call(it, op)
+            it.arguments = op.arguments if op else {}

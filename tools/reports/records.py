@@ -13,27 +13,21 @@ OUTCOMES = {0: "done", 5: "device_failed", 6: "device_garbled", 7: "stuck"}
 
 def record_of(call: Call) -> Record:
     """The record of a line. A call of a script has arguments where the scenario is known, and a device's event always."""
-    record: Record = {"what": call.what, "actor": call.actor}
-    given = {"script": call.script, "number": call.number, "op": call.op}
-    record.update((key, it) for key, it in given.items() if it)
-    if call.actor == DEVICE and call.op:
-        record["arguments"] = call.values
-    elif call.arguments is not None:
-        record["arguments"] = call.arguments
-    if call.what == "call":
-        record["code"] = call.code
-    if call.what in ("call", "frame"):
-        record["values"] = call.values
-    if call.what == "garbled":
-        record.update(call.values)
-    if call.place is not None:
-        record["place"] = call.place
-    return record
+    is_event, has_values = call.actor == DEVICE and call.op, call.what in ("call", "frame")
+    given = {
+        **{"script": call.script or None, "number": call.number or None, "op": call.op or None},
+        "arguments": call.values if is_event else call.arguments,
+        "code": call.code if call.what == "call" else None,
+        "values": call.values if has_values else None,
+        **(call.values if call.what == "garbled" else {}),
+        "place": call.place,
+    }
+    return {"what": call.what, "actor": call.actor, **{key: it for key, it in given.items() if it is not None}}
 
 
 def records_of(report: Report) -> Iterator[Record]:
     """A record for each call, frame and event, for each actor that is stuck, and for the status."""
-    for call in report.lines():
+    for call in report.lines:
         yield record_of(call)
     yield {"what": "status", "status": report.status, "outcome": OUTCOMES[report.status]}
 

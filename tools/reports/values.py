@@ -5,6 +5,7 @@ import re
 from typing import Any
 
 from calls import getters, ops_in_reports
+from scenarios.devices import ORIGINS, PROFILES, USERS
 
 Values = dict[str, Any]
 
@@ -32,9 +33,7 @@ NUMBER = r"(?:0|[1-9]\d{0,18})"
 SIGNED = rf"-?{NUMBER}"
 MARK = r"(?:[1-9]|[1-5]\d|6[0-4])"
 _STATES = "IDLE|READY|SYNCHRONIZED|VISIBLE|FOCUSED|STOPPING|LOSS_PENDING|EXITING"
-_HANDS = "/user/hand/(?:left|right)"
-_USERS = f"{_HANDS}|/user/head|/user/gamepad|/user/treadmill"
-_PROFILES = "khr/simple_controller|oculus/touch_controller|htc/vive_controller|microsoft/xbox_controller|none"
+_USERS, _PROFILES, _ORIGINS = "|".join(USERS), "|".join((*PROFILES, "none")), "|".join(ORIGINS)
 _READ = rf"changed (?P<changed>[01]) time (?P<time>{SIGNED}) active (?P<active>[01])"
 
 # the values of an op that succeeded, and the words behind the name of an event; each group is a value's name
@@ -62,7 +61,7 @@ OF_EVENT = {
     "stage": "(?P<stage>on|off)",
     "profile": rf"(?P<user>{_USERS}) (?P<profile>{_PROFILES})",
     "input": rf"(?P<path>(?:{_USERS})/input/[a-z_]+/[a-z]+) (?P<value>{SIGNED})",
-    "pose": rf"(?P<origin>view|local|stage|{_HANDS}/input/(?:grip|aim)/pose) (?P<time>{NUMBER}) (?P<pose>{NUMBER})",
+    "pose": rf"(?P<origin>{_ORIGINS}) (?P<time>{NUMBER}) (?P<pose>{NUMBER})",
     "mark": rf"(?P<mark>{MARK})",
     "await": rf"(?P<mark>{MARK})",
 }
@@ -72,18 +71,13 @@ _FRAME = re.compile(rf"time (?P<time>{SIGNED}) layers (?P<layers>\d{{1,2}})(?P<s
 _LAYER = re.compile(rf"projection:({NUMBER}),({NUMBER})|quad:({NUMBER})")
 
 
-def value_of(name: str, text: str) -> Any:
-    if name in _TRUTHS:
-        return text != "0"
-    return text if name in _TEXTS else int(text)
-
-
 def named(pattern: str, text: str) -> Values | None:
     """The values of a text by their names, or nothing where it doesn't have them."""
     found = re.fullmatch(pattern, text)
     if not found:
         return None
-    values = {name: value_of(name, it) for name, it in found.groupdict().items() if it is not None}
+    given = {name: it for name, it in found.groupdict().items() if it is not None}
+    values = {name: it != "0" if name in _TRUTHS else it if name in _TEXTS else int(it) for name, it in given.items()}
     return {"value" if name == "is_true" else name: it for name, it in values.items()}
 
 
@@ -106,7 +100,5 @@ def of_frame(text: str) -> Values | None:
     layers = [_LAYER.fullmatch(it) for it in found["shown"].split()] if found else []
     if not found or int(found["layers"]) != len(layers) or None in layers:
         return None
-    shown = [
-        {"kind": it[0].partition(":")[0], "stamps": [int(stamp) for stamp in it.groups() if stamp]} for it in layers if it
-    ]
+    shown = [{"kind": it[0].partition(":")[0], "stamps": [int(stamp) for stamp in it.groups() if stamp]} for it in layers if it]
     return {"time": int(found["time"]), "layers": shown}

@@ -8,7 +8,7 @@ from dataclasses import dataclass, field
 from typing import NamedTuple
 
 from scenarios.findings import Finding, encoding_of
-from shown import MOST_SHOWN, count, listed, near_hint, nearest
+from shown import MOST_SHOWN, count, listed, near_hint
 
 MOST_TEXT = 16_777_216
 MOST_LINE = 255
@@ -22,15 +22,24 @@ FAULT = "fault"
 HANDS = ("/user/hand/left", "/user/hand/right")
 USERS = (*HANDS, "/user/head", "/user/gamepad", "/user/treadmill")
 PROFILES = ("khr/simple_controller", "oculus/touch_controller", "htc/vive_controller", "microsoft/xbox_controller")
-INPUTS = tuple(
-    """select/click menu/click system/click view/click a/click a/touch b/click b/touch x/click x/touch y/click y/touch
-    squeeze/click squeeze/value trigger/click trigger/value trigger/touch thumbstick/x thumbstick/y thumbstick/click
-    thumbstick/touch thumbrest/touch trackpad/x trackpad/y trackpad/click trackpad/touch dpad_up/click dpad_down/click
-    dpad_left/click dpad_right/click shoulder_left/click shoulder_right/click thumbstick_left/x thumbstick_left/y
-    thumbstick_left/click thumbstick_right/x thumbstick_right/y thumbstick_right/click trigger_left/value
-    trigger_right/value""".split()
-)
-ORIGINS = ("view", "local", "stage", *(f"{hand}/input/{pose}/pose" for hand in HANDS for pose in ("grip", "aim")))
+# the inputs and the outputs of a controller, by its profile and the user path
+_TOUCH = "squeeze/value trigger/value trigger/touch thumbstick/x thumbstick/y thumbstick/click thumbstick/touch thumbrest/touch"
+_VIVE = "system/click squeeze/click menu/click trigger/click trigger/value trackpad/x trackpad/y trackpad/click trackpad/touch"
+_XBOX = """menu/click view/click a/click b/click x/click y/click dpad_up/click dpad_down/click dpad_left/click dpad_right/click
+    shoulder_left/click shoulder_right/click thumbstick_left/click thumbstick_right/click trigger_left/value trigger_right/value
+    thumbstick_left/x thumbstick_left/y thumbstick_right/x thumbstick_right/y"""
+_OF_HANDS = {
+    "khr/simple_controller": ("select/click menu/click", "select/click menu/click"),
+    "oculus/touch_controller": (f"x/click x/touch y/click y/touch menu/click {_TOUCH}", f"a/click a/touch b/click b/touch system/click {_TOUCH}"),
+    "htc/vive_controller": (_VIVE, _VIVE),
+}
+POSES = ("grip/pose", "aim/pose")
+CONTROLLERS = {
+    **{(it, hand): ((*its.split(), *POSES), ("haptic",)) for it, both in _OF_HANDS.items() for hand, its in zip(HANDS, both)},
+    (PROFILES[-1], "/user/gamepad"): ((*_XBOX.split(),), ("haptic_left", "haptic_right", "haptic_left_trigger", "haptic_right_trigger")),
+}
+INPUTS = tuple(dict.fromkeys(it for inputs, _ in CONTROLLERS.values() for it in inputs if it not in POSES))
+ORIGINS = ("view", "local", "stage", *(f"{hand}/input/{pose}" for hand in HANDS for pose in POSES))
 
 # the lines by their first word: the words that may stand at a place behind it, and its numbers, each with its place and range;
 # tools/tests/texts.py compares them with the program
@@ -49,58 +58,46 @@ NUMBERS = {
     "mark": ((1, 1, 64),),
     "await": ((1, 1, 64),),
 }
-FORMS = {
-    it.partition(" ")[0]: it
-    for it in (
-        "clock T",
-        "grid B P",
-        "wish W",
-        "loss",
-        "lost",
-        "stage S",
-        "profile USER NAME",
-        "input USER/input/ENTRY V",
-        "pose O T N",
-        "mark M",
-        "await M",
-    )
-}
+_LINES = "clock T, grid B P, wish W, loss, lost, stage S, profile USER NAME, input USER/input/ENTRY V, pose O T N, mark M, await M"
+FORMS = {it.partition(" ")[0]: it for it in _LINES.split(", ")}
 
 # what begins a comment elsewhere
 COMMENTS = ("//", ";", "--", "/*", "%")
+
+# what of its blanks and strange bytes makes a line none, of which the first that is found is told
+BLANKS = (
+    ("\\A\xef\xbb\xbf", "a byte-order mark (EF BB BF) stands before it"),
+    (r"\r\Z", "a carriage return stands at its end: lines end in a line feed alone, without one before it"),
+    (r"\t", "a tab stands in it: words stand apart by single spaces"),
+    (r"[^ -~]", "the byte 0x{:02X} stands in it, which no line has"),
+    (r"\A +#", "a space stands before its first word: `#` is the first byte of a comment"),
+    (r"\A ", "a space stands before its first word"),
+    (r" +\Z", "a space stands behind its last word"),
+    (r"(?<= ) ", "two spaces stand together: words stand apart by single spaces"),
+)
 
 DIGITS = re.compile(r"0|-?[1-9][0-9]*")
 BEHIND_WORDS = re.compile(r"(\S)[ \t]+(?:#|//|;)")
 ESCAPES = {"\t": "\\t", "\r": "\\r", "\0": "\\0", "\\": "\\\\"}
 
 
-def numbers_up_to(most: int) -> str:
-    """A pattern of the numbers from 1 to this one, without leading zeros."""
+def numbers_between(least: int, most: int) -> str:
+    """A pattern of the numbers of a range whose ends are on either side of zero, or that begins at 0 or 1, without leading zeros."""
     digits = str(most)
     parts = [f"[1-9][0-9]{{0,{len(digits) - 2}}}"] if len(digits) > 1 else []
     for place, digit in enumerate(digits):
-        least = 0 if place else 1
-        if int(digit) > least:
-            parts.append(f"{digits[:place]}[{least}-{int(digit) - 1}][0-9]{{{len(digits) - place - 1}}}")
-    return "|".join([*parts, digits])
-
-
-def numbers_between(least: int, most: int) -> str:
-    """A pattern of the numbers of a range whose ends are on either side of zero, or that begins at 0 or 1."""
-    below = f"|-(?:{numbers_up_to(-least)})" if least < 0 else ""
-    return f"{numbers_up_to(most)}{below}{'' if least > 0 else '|0'}"
+        first = 0 if place else 1
+        if int(digit) > first:
+            parts.append(f"{digits[:place]}[{first}-{int(digit) - 1}][0-9]{{{len(digits) - place - 1}}}")
+    below = [f"-(?:{numbers_between(1, -least)})"] if least < 0 else []
+    return "|".join([*parts, digits, *below, *(["0"] if least <= 0 else [])])
 
 
 def pattern_of(first: str) -> str:
     """A pattern of the lines that begin with this word."""
-    ranges = {place: (least, most) for place, least, most in NUMBERS.get(first, ())}
-    words = [first]
-    for place in range(1, FORMS[first].count(" ") + 1):
-        if place in ranges:
-            words.append(f"(?:{numbers_between(*ranges[place])})")
-        else:
-            words.append(f"(?:{'|'.join(map(re.escape, WORDS[first][place]))})")
-    return " ".join(words)
+    words = {place: "|".join(map(re.escape, known)) for place, known in WORDS.get(first, {}).items()}
+    words.update((place, numbers_between(least, most)) for place, least, most in NUMBERS.get(first, ()))
+    return " ".join([first, *(f"(?:{words[place]})" for place in sorted(words))])
 
 
 # lines are looked for behind a line feed, which stands before the first one too
@@ -157,10 +154,9 @@ def wrong_number(word: str, least: int, most: int) -> str | None:
     if DIGITS.fullmatch(word) is None:
         if word == "-0":
             return "the number `-0` is written `0`"
-        if re.fullmatch(r"-?0[0-9]+", word):
-            return f"the number `{word}` has a leading zero"
-        if re.fullmatch(r"[+][0-9]+", word):
-            return f"the number `{word}` has a plus"
+        for form, why in ((r"-?0[0-9]+", "a leading zero"), (r"[+][0-9]+", "a plus")):
+            if re.fullmatch(form, word):
+                return f"the number `{word}` has {why}"
         return f"`{word}` is no number: a number is decimal digits{', behind a minus where it is below 0' * (least < 0)}"
     if least >= 0 and word.startswith("-"):
         return f"the number `{word}` has a sign"
@@ -169,74 +165,28 @@ def wrong_number(word: str, least: int, most: int) -> str | None:
     return None
 
 
-def wrong_first(first: str) -> str | None:
-    """Why this word begins no line, if it begins none."""
-    if first in FORMS:
-        return None
-    if first.startswith(COMMENTS):
-        return "a comment begins with `#`, the first byte of its line"
-    near = nearest(first.lower(), FORMS)
-    hint = f"; did you mean `{near}`?" if near else f": a line begins with one of {listed(FORMS)}"
-    return f"`{first}` begins no line{hint}"
-
-
-def wrong_word(word: str, known: tuple[str, ...]) -> str:
-    """Why a word is none of these. A long list is told by what is near the word."""
-    near = near_hint(word, known, "`")
-    if len(known) <= MOST_LISTED:
-        return f"`{word}` is none of {listed(known)}{near}"
-    return f"`{word}` is no input: one is a user path, `/input/` and an entry, as `{known[0]}`{near}"
-
-
 def wrong_words(line: str) -> Why | None:
-    """Why the words of a line are none of an event, if they are none."""
+    """Why the words of a line are none of an event, if they are none. A long list of words is told by what is near."""
     words = line.split(" ")
-    places = [0, *(it.end() for it in re.finditer(" ", line))]
-    why = wrong_first(words[0])
-    if why:
-        return 0, why
-    form = FORMS[words[0]]
-    wanted = form.count(" ") + 1
+    first, places = words[0], [0, *(it.end() for it in re.finditer(" ", line))]
+    if first not in FORMS:
+        near = near_hint(first.lower(), FORMS, "`", otherwise=f": a line begins with one of {listed(FORMS)}")
+        is_comment = first.startswith(COMMENTS)
+        return 0, "a comment begins with `#`, the first byte of its line" if is_comment else f"`{first}` begins no line{near}"
+    wanted = FORMS[first].count(" ") + 1
     if len(words) != wanted:
         at = places[wanted] if len(words) > wanted else len(line)
-        return at, f"the line has {count(len(words), 'word')}, and `{form}` has {wanted}"
-    for place, known in WORDS.get(words[0], {}).items():
+        return at, f"the line has {count(len(words), 'word')}, and `{FORMS[first]}` has {wanted}"
+    for place, known in WORDS.get(first, {}).items():
         if words[place] not in known:
-            return places[place], wrong_word(words[place], known)
-    for place, least, most in NUMBERS.get(words[0], ()):
+            none = f"none of {listed(known)}"
+            if len(known) > MOST_LISTED:
+                none = f"no input: one is a user path, `/input/` and an entry, as `{known[0]}`"
+            return places[place], f"`{words[place]}` is {none}{near_hint(words[place].lower(), known, '`')}"
+    for place, least, most in NUMBERS.get(first, ()):
         why = wrong_number(words[place], least, most)
         if why:
             return places[place], why
-    return None
-
-
-def wrong_comment(line: str) -> Why | None:
-    """Where a comment stands behind words, if one does."""
-    found = BEHIND_WORDS.search(line)
-    if found is None or line.startswith("#"):
-        return None
-    why = f"a comment stands behind `{line[: found.end(1)]}`: a comment has a line of its own, which begins with `#`"
-    return len(line[: found.end()].rstrip("#/;")), why
-
-
-def wrong_blanks(line: str) -> Why | None:
-    """Why the blanks of a line make it none, if they do."""
-    if line.startswith("\xef\xbb\xbf"):
-        return 0, "a byte-order mark (EF BB BF) stands before it"
-    if line.endswith("\r"):
-        return len(line) - 1, "a carriage return stands at its end: lines end in a line feed alone, without one before it"
-    if "\t" in line:
-        return line.index("\t"), "a tab stands in it: words stand apart by single spaces"
-    strange = re.search(r"[^ -~]", line)
-    if strange:
-        return strange.start(), f"the byte 0x{ord(strange[0]):02X} stands in it, which no line has"
-    if line.startswith(" "):
-        is_comment = line.strip(" ").startswith("#")
-        return 0, "a space stands before its first word" + (": `#` is the first byte of a comment" if is_comment else "")
-    if line.endswith(" "):
-        return len(line.rstrip(" ")), "a space stands behind its last word"
-    if "  " in line:
-        return line.index("  ") + 1, "two spaces stand together: words stand apart by single spaces"
     return None
 
 
@@ -247,15 +197,15 @@ def why_garbled(line: bytes, left: int) -> Why:
     if len(line) > MOST_LINE:
         return MOST_LINE, f"it has {len(line)} bytes, and {MOST_LINE} are the most, also where it begins with `#`"
     shown = line.decode("latin-1")
-    return wrong_comment(shown) or wrong_blanks(shown) or wrong_words(shown) or (0, "it is no line of the format")
-
-
-def shown_line(line: bytes) -> str:
-    """A line between quotes, in which each byte that can't be seen is written as an escape."""
-    front = line[:MOST_SHOWN].decode("latin-1")
-    shown = "".join(ESCAPES.get(it, it if " " <= it <= "~" else f"\\x{ord(it):02x}") for it in front)
-    shown = re.sub(r"^ +| +$|  +", lambda spaces: "\\x20" * len(spaces.group()), shown)
-    return f'"{shown}{" .." if len(line) > MOST_SHOWN else ""}"'
+    found = BEHIND_WORDS.search(shown)
+    if found and not shown.startswith("#"):
+        why = f"a comment stands behind `{shown[: found.end(1)]}`: a comment has a line of its own, which begins with `#`"
+        return len(shown[: found.end()].rstrip("#/;")), why
+    for pattern, why in BLANKS:
+        blank = re.search(pattern, shown)
+        if blank:
+            return blank.start(), why.format(ord(blank[0][0]))
+    return wrong_words(shown) or (0, "it is no line of the format")
 
 
 def garbled_lines(text: bytes) -> Iterator[int]:
@@ -264,9 +214,7 @@ def garbled_lines(text: bytes) -> Iterator[int]:
     limit = text.rfind(b"\n", 0, MOST_TEXT) + 1 if is_long else len(text)
     whole = b"\n" + text
     places = (map(re.Match.start, it.finditer(whole, 0, limit + 1)) for it in (GARBLED, LONG_COMMENT))
-    yield from heapq.merge(*places)
-    if is_long:
-        yield limit
+    yield from heapq.merge(*places, [limit] * is_long)
 
 
 def read_device(text: bytes) -> DeviceFound:
@@ -297,7 +245,10 @@ def finding_of(text: bytes, at: int, end: int, number: int) -> Finding:
     left = MOST_TEXT - at - (end - at - len(line))
     place, why = (0, f"the text looks like {other}") if other else why_garbled(line, left)
     column = len(line[:place].decode("utf-8", "replace")) + 1
-    return Finding(number, column, f"{shown_line(line)} is garbled: {why}")
+    # each byte that can't be seen is written as an escape
+    seen = (ESCAPES.get(it, it if " " <= it <= "~" else f"\\x{ord(it):02x}") for it in line[:MOST_SHOWN].decode("latin-1"))
+    shown = re.sub(r"^ +| +$|  +", lambda spaces: "\\x20" * len(spaces.group()), "".join(seen))
+    return Finding(number, column, f'"{shown}{" .." if len(line) > MOST_SHOWN else ""}" is garbled: {why}')
 
 
 class DeviceText(NamedTuple):

@@ -6,10 +6,7 @@ import re
 from dataclasses import dataclass, field
 
 MOST_LOOKED = 1024
-UTF16_MARKS = (
-    (b"\xff\xfe", "UTF-16, little end first", "utf-16-le"),
-    (b"\xfe\xff", "UTF-16, big end first", "utf-16-be"),
-)
+UTF16_MARKS = ((b"\xff\xfe", "UTF-16, little end first", "utf-16-le"), (b"\xfe\xff", "UTF-16, big end first", "utf-16-be"))
 
 # bytes that no text has
 CONTROLS = re.compile(rb"[\x00-\x08\x0e-\x1a\x1c-\x1f]")

@@ -1,19 +1,19 @@
 """What a field may be, by docs/scenario.schema.json, which is the one table of ops and fields.
 
-Each part of the schema becomes a test of a value and of the names that were given so far. It is quick where nothing is wrong;
-what is wrong is said by the place of the value in the text, which is read once more for that.
+Each part of the schema becomes a test of a value and of the names that were given so far. It is quick where nothing is wrong; what is wrong is
+said by the place of the value in the text, which is read once more for that.
 """
 from __future__ import annotations
 
 import json
 import re
-from collections.abc import Callable
+from collections.abc import Callable, Iterator
 from functools import cached_property
 from pathlib import Path
 from typing import Any, NamedTuple, Optional
 
-from scenarios.json_text import Node
-from shown import count, listed, near_hint, nearest, one_line, quoted
+from scenarios.json_text import Key, Node
+from shown import count, listed, near_hint, one_line, quoted
 
 SCHEMA = Path(__file__).resolve().parent.parent.parent / "docs/scenario.schema.json"
 Part = dict[str, Any]
@@ -23,15 +23,9 @@ Names = dict[str, Any]
 SORT_OF_PART = {"handle": "handle", "atom": "atom"}
 
 QUOTED_NUMBER = re.compile(r"-?(?:0|[1-9][0-9]{0,18})")
-TYPES = {
-    "null": "null",
-    "boolean": "true or false",
-    "integer": "a whole number",
-    "string": "a string",
-    "array": "an array",
-    "object": "an object",
-}
+TYPES = {"null": "null", "boolean": "true or false", "integer": "a whole number", "string": "a string", "array": "an array", "object": "an object"}
 CLASSES = {"null": type(None), "boolean": bool, "integer": int, "string": str, "array": list, "object": dict}
+ENDLESS = float("inf")
 
 
 class NoSchema(Exception):
@@ -60,13 +54,8 @@ class Place(NamedTuple):
         return "a number with a fraction or an exponent" if set(".eE") & set(token) else "a number of more than 64 bits"
 
 
-class Key(str):
-    """A key of an object, where its own place is meant."""
-
-
 class Fault(NamedTuple):
-    """What isn't as a part of the schema says: the way to the value, what says why by its place, and what the schema says of
-    it."""
+    """What isn't as a part of the schema says: the way to the value, what says why by its place, and what the schema says of it."""
 
     why: Callable[[Place], str]
     path: tuple[Any, ...] = ()
@@ -79,14 +68,6 @@ class Fault(NamedTuple):
 Test = Callable[[Any, Names], Optional[Fault]]
 
 
-class Wrong(NamedTuple):
-    """A value that isn't what a part of the schema says: its place, why, and what the schema says of it."""
-
-    at: int
-    why: str
-    about: str = ""
-
-
 def as_json(value: object) -> str:
     return json.dumps(value, ensure_ascii=False)
 
@@ -95,16 +76,15 @@ def in_quotes(value: object) -> str | None:
     """Says of a string that its quotes should go, where it would be a number or a truth value without them."""
     if isinstance(value, str) and QUOTED_NUMBER.fullmatch(value):
         return f"is a number between quotes; without them it is the number {value}"
-    if value in ("true", "false"):
-        return f"is a truth value between quotes; without them it is {value}"
-    return None
-
-
-def near_of(value: object, words: frozenset[str]) -> str:
-    return near_hint(value, words) if isinstance(value, str) else ""
+    return f"is a truth value between quotes; without them it is {value}" if value in ("true", "false") else None
 
 
 # ---- the tests of a part
+
+
+def test_of(holds: Callable[[Any], bool], why: Callable[[Any, Place], str]) -> Test:
+    """The test that this holds of a value. Why it doesn't is said by the value and its place."""
+    return lambda value, names: None if holds(value) else Fault(lambda place: why(value, place))
 
 
 def all_of(tests: list[Test]) -> Test:
@@ -122,98 +102,56 @@ def name_test(sort: str) -> Test:
     wanted = sort, None
 
     def test(value: Any, names: Names) -> Fault | None:
-        if value in names and names[value].sort in wanted:
-            return None
-        return Fault(lambda place: place.name_wrong(value, sort))
+        is_given = value in names and names[value].sort in wanted
+        return None if is_given else Fault(lambda place: place.name_wrong(value, sort))
 
     return test
 
 
 def type_test(wanted: list[str]) -> Test:
-    classes = frozenset(CLASSES[it] for it in wanted)
-    due = " or ".join(TYPES[it] for it in wanted)
+    classes, due = frozenset(CLASSES[it] for it in wanted), " or ".join(TYPES[it] for it in wanted)
     may_be_quoted = bool({"integer", "boolean"} & set(wanted))
 
-    def test(value: Any, names: Names) -> Fault | None:
-        if type(value) in classes:
-            return None
+    def why(value: Any, place: Place) -> str:
         told = in_quotes(value) if may_be_quoted and isinstance(value, str) else None
-        return Fault(lambda place: f"{place.shown} {told or f'is {place.kind}'}, and {due} is wanted")
+        return f"{place.shown} {told or f'is {place.kind}'}, and {due} is wanted"
 
-    return test
+    return test_of(lambda value: type(value) in classes, why)
 
 
-def word_tests(part: Part) -> list[Test]:
-    """The tests of which words a value may be."""
-    tests: list[Test] = []
+def bytes_of(value: Any) -> int:
+    return len(value.encode("utf-8")) if type(value) is str else 0
+
+
+def plain_tests(part: Part) -> Iterator[Test]:
+    """The tests of which words a value may be, and of how large or long it may be."""
     if "const" in part:
         const = part["const"]
-        tests.append(
-            lambda value, names: None
-            if type(value) is type(const) and value == const
-            else Fault(lambda place: f"{place.shown} {in_quotes(value) or f'stands here, and {as_json(const)} is wanted'}")
-        )
+        wanted = f"stands here, and {as_json(const)} is wanted"
+        is_const: Callable[[Any], bool] = lambda value: type(value) is type(const) and value == const  # noqa: E731
+        yield test_of(is_const, lambda value, place: f"{place.shown} {in_quotes(value) or wanted}")
     if "enum" in part:
-        words, known = frozenset(part["enum"]), listed(as_json(it) for it in part["enum"])
-
-        def enum_test(value: Any, names: Names) -> Fault | None:
-            if type(value) is str and value in words:
-                return None
-            return Fault(lambda place: f"{place.shown} is none of {known}{near_of(value, words)}")
-
-        tests.append(enum_test)
+        words, known = frozenset(part["enum"]), listed(map(as_json, part["enum"]))
+        near: Callable[[Any], str] = lambda value: near_hint(value.lower(), words) if isinstance(value, str) else ""  # noqa: E731
+        is_word: Callable[[Any], bool] = lambda value: type(value) is str and value in words  # noqa: E731
+        yield test_of(is_word, lambda value, place: f"{place.shown} is none of {known}{near(value)}")
     if "pattern" in part:
         fits = re.compile(part["pattern"]).fullmatch
-        tests.append(
-            lambda value, names: None
-            if type(value) is not str or fits(value)
-            else Fault(lambda place: f"{place.shown} isn't made as a name is")
-        )
-    return tests
-
-
-def size_tests(part: Part) -> list[Test]:
-    """The tests of how large or long a value may be."""
-    tests: list[Test] = []
+        is_made: Callable[[Any], bool] = lambda value: type(value) is not str or fits(value) is not None  # noqa: E731
+        yield test_of(is_made, lambda value, place: f"{place.shown} isn't made as a name is")
     if "minimum" in part or "maximum" in part:
-        low, high = part.get("minimum", float("-inf")), part.get("maximum", float("inf"))
-        tests.append(
-            lambda value, names: None
-            if type(value) is not int or low <= value <= high
-            else Fault(lambda place: f"{value} is out of range")
-        )
+        low, high = part.get("minimum", -ENDLESS), part.get("maximum", ENDLESS)
+        yield test_of(lambda value: type(value) is not int or low <= value <= high, lambda value, place: f"{value} is out of range")
     if "maxLength" in part:
         longest = part["maxLength"]
-
-        def length_test(value: Any, names: Names) -> Fault | None:
-            size = len(value.encode("utf-8")) if type(value) is str else 0
-            return Fault(lambda place: f"the string has {size} bytes, and {longest} are the most") if size > longest else None
-
-        tests.append(length_test)
+        said = f"bytes, and {longest} are the most"
+        yield test_of(lambda value: bytes_of(value) <= longest, lambda value, place: f"the string has {bytes_of(value)} {said}")
     if {"minItems", "maxItems", "prefixItems"} & part.keys():
         is_closed = part.get("items") is False
-        least, most = part.get("minItems", 0), len(part["prefixItems"]) if is_closed else part.get("maxItems", float("inf"))
+        least, most = part.get("minItems", 0), len(part["prefixItems"]) if is_closed else part.get("maxItems", ENDLESS)
         due = f"{least} are wanted" if least == most else f"{least} to {most} are wanted"
-        tests.append(
-            lambda value, names: None
-            if type(value) is not list or least <= len(value) <= most
-            else Fault(lambda place: f"the array has {count(len(value), 'item')}, and {due}")
-        )
-    return tests
-
-
-def missing_key(key: str, value: Part, known: Part) -> Fault:
-    def why(place: Place) -> str:
-        near = nearest(key, [it for it in value if it not in known])
-        hint = f"; is it written {quoted(near)}?" if near else ""
-        return f"the key {quoted(key)} is missing in this object{hint}"
-
-    return Fault(why)
-
-
-def extra_key(key: str, known: Part) -> Fault:
-    said = f"{quoted(key)} is no key of this object, which has {listed(known)}"
-    return Fault(lambda place: f"{said}{near_hint(key, known)}", (Key(key),))
+        is_due: Callable[[Any], bool] = lambda value: type(value) is not list or least <= len(value) <= most  # noqa: E731
+        yield test_of(is_due, lambda value, place: f"the array has {count(len(value), 'item')}, and {due}")
 
 
 class Schema:
@@ -243,9 +181,6 @@ class Schema:
         """The fields of an op, in the order of its row."""
         return [name for name in self.row(op)["properties"] if name != "op"]
 
-    def names_of_fields(self, op: str) -> frozenset[str]:
-        return self.fields_by_op[op]
-
     @cached_property
     def fields_by_op(self) -> dict[str, frozenset[str]]:
         return {op: frozenset(self.fields(op)) for op in self.ops}
@@ -255,16 +190,10 @@ class Schema:
 
     def may_be(self, part: Part) -> str:
         """What a value of a part may be, in the schema's own words."""
-        words = []
-        while True:
-            words += [part["description"]] if "description" in part else []
-            if "enum" in part:
-                words.append(f"One of {listed(as_json(it) for it in part['enum'])}.")
-            if part.get("type") == "boolean":
-                words.append("True or false, without quotes.")
-            if words or "$ref" not in part:
-                return " ".join(words)
-            part = self.part_of(part)
+        words = [part["description"]] if "description" in part else []
+        words += [f"One of {listed(map(as_json, part['enum']))}."] if "enum" in part else []
+        words += ["True or false, without quotes."] if part.get("type") == "boolean" else []
+        return " ".join(words) if words or "$ref" not in part else self.may_be(self.part_of(part))
 
     # ---- tests
 
@@ -298,7 +227,7 @@ class Schema:
             tests.append(self.test(self.parts[name], SORT_OF_PART.get(name, sort)))
         if "type" in part:
             tests.append(type_test([part["type"]] if isinstance(part["type"], str) else part["type"]))
-        tests += word_tests(part) + size_tests(part)
+        tests += plain_tests(part)
         if "if" in part:
             holds, one, other = (self.test(part.get(key, {}), sort) for key in ("if", "then", "else"))
             tests.append(lambda value, names: one(value, names) if holds(value, names) is None else other(value, names))
@@ -327,31 +256,26 @@ class Schema:
         tests = {key: self.test(it, sort) for key, it in known.items()}
         is_closed, required = part.get("additionalProperties") is False, part.get("required", ())
 
+        def missing(key: str, value: Part) -> str:
+            near = near_hint(key, [it for it in value if it not in known], asks="is it written")
+            return f"the key {quoted(key)} is missing in this object{near}"
+
+        def extra(key: str) -> str:
+            return f"{quoted(key)} is no key of this object, which has {listed(known)}{near_hint(key.lower(), known)}"
+
         def test(value: Any, names: Names) -> Fault | None:
             if type(value) is not dict:
                 return None
             for key in required:
                 if key not in value:
-                    return missing_key(key, value, known)
+                    return Fault(lambda place: missing(key, value))
             for key, it in value.items():
                 if key in tests:
                     found = tests[key](it, names)
                     if found:
                         return found.inside(key)
                 elif is_closed:
-                    return extra_key(key, known)
+                    return Fault(lambda place: extra(key), (Key(key),))
             return None
 
         return test
-
-
-def wrong_at(fault: Fault, place: Place) -> Wrong:
-    """A fault of the value of a place, by its own place in the text."""
-    node, at = place.node, place.node.start
-    for part in fault.path:
-        if isinstance(part, Key):
-            at = node.value[part][0]
-            break
-        node = node.value[part][1] if isinstance(part, str) else node.value[part]
-        at = node.start
-    return Wrong(at, fault.why(place._replace(node=node)), fault.about)

@@ -1,247 +1,174 @@
-"""The tables of code."""
+"""The tables of code, as their lines, but for those that `rows` makes alone."""
 from __future__ import annotations
 
+from collections.abc import Iterator
+
 from calls import Call, Group, Table
-from tabling.layout import LISTED, WIDTH, array_arm, braced, call_arm, called, fill, lines, plain_arm
+from tabling.layout import LISTED, WIDTH, arm, braced, either, enclosed, fill, last_column
+from tabling.patterns import Text, Which, any_call, any_op, fields_told, kind_of, together, valued
 from tabling.sorts import key_of, sort_of
 
-
-def joined(rows: list[str]) -> str:
-    return "\n".join(rows)
-
-
-def any_of(kind: str, call: Call) -> str:
-    """A variant whatever its fields hold."""
-    name = f"{kind}::{call.variant if kind == 'Call' else call.op}"
-    has_fields = bool(call.fields) or call.name == "device"
-    return f"{name} {{ .. }}" if has_fields else name
-
-
-# ---- xr_types
-
-def call_names(table: Table) -> str:
-    return joined(lines(4, [it.op + "," for it in table.calls]))
-
-
-def names_of_ops(table: Table) -> str:
-    return joined(["        &[", *lines(12, [f"CallName::{it.op}," for it in table.ops]), "        ]"])
-
-
-def names_written(table: Table) -> str:
-    return joined(lines(12, [f'CallName::{it.op} => "{it.name}",' for it in table.calls]))
-
-
-def ops(table: Table) -> str:
-    """The variants of `Op`."""
-    rows = []
-    for it in table.ops:
-        rows += [f"    {it.op} {{", *lines(8, [f"{field.code}: {sort_of(field).type}," for field in it.fields]), "    },"]
-    return joined(rows)
+ARGUMENTS = {"alloc": "Global", "named_ops": "&NamedOps<'_>", "value": "&'v Value"}
+READER = """\
+/// Reads `{call.name}`: {told}.
+#[inline(never)]
+{head}
+    ensures reads {{ {every}ReadsOp result (op_in {names} (view value.now) call.{call.op}) }}
+    ensures formed {{ IfOk result (λ l. {every}IsFormed (IsKnownPlace {names}) l.op) }}
+{only_wrong}{{
+{body}
+}}"""
+MAKER = """\
+/// The call of an op on {group.what}.
+fn {group.name}_call<'a>(op: &'a Op, names: &Names{scratch}) -> Call<'a>
+    requires group {{ {kind} op.now }}
+{ranged}    ensures {{ result ≡ request_for names.now op.now }}
+{{
+    match op {{
+{arms}
+        _ => unreachable!(),
+    }}
+}}"""
+# what prints the values of a success, by their kind: that of all but these is given what the call gave alone
+PUSHED = {
+    "number": "push_number_given(out, gives)",
+    "text": "push_text_given(out, gives, made.text.as_slice())",
+    "mark": "push_mark(out, made.mark, gives)",
+}
 
 
-def names_by_op(table: Table) -> str:
-    return joined(lines(12, [f"{any_of('Op', it)} => CallName::{it.op}," for it in table.ops]))
+def names(calls: list[Call]) -> list[str]:
+    return [f"CallName::{it.op}" for it in calls]
 
 
-def sorts_given(table: Table) -> str:
+def no_ops(table: Table) -> list[str]:
+    return names([it for it in table.calls if not it.is_op])
+
+
+def sorts_given(table: Table) -> Iterator[str]:
     """What the names stand for that ops give, but for that of a mark."""
-    return joined([
-        plain_arm(12, [any_of("Op", it) for it in table.ops if it.gives == gives], f"Some(Sort::{gives.capitalize()})")
-        for gives in ("handle", "atom", "number")
-    ])
+    for gives in ("handle", "atom", "number"):
+        yield f"{either(12, [any_op(it) for it in table.ops if it.gives == gives])} Some(Sort::{gives.capitalize()}),"
 
 
-def matches(indent: int, what: str, patterns: list[str], front: str = "") -> str:
-    """Whether something is one of some variants."""
-    one = " | ".join(patterns)
-    if len(f"{what}, {one}") <= LISTED:
-        return " " * indent + f"{front}matches!({what}, {one})"
-    rows = [one] if indent + 4 + len(one) <= WIDTH else [patterns[0], *(f"    | {it}" for it in patterns[1:])]
-    return joined([*lines(indent, [f"{front}matches!("]), *lines(indent + 4, [what + ",", *rows]), *lines(indent, [")"])])
+def matches(front: str, which: Which) -> Text:
+    """Whether a call is one of some."""
+    def matched(table: Table) -> list[str]:
+        one = " | ".join(map(any_call, which(table)))
+        if len(f"self, {one}") <= LISTED:
+            return [f"        {front}(self, {one})"]
+        one = one if len(one) + 12 <= WIDTH else one.replace(" | ", f"\n{' ' * 16}| ")
+        return [f"        {front}(", "            self,", f"            {one}", "        )"]
+    return matched
 
 
-def getters(table: Table) -> str:
-    return matches(8, "self", [any_of("Call", it) for it in table.calls if "getter" in it.marks])
-
-
-def counted(table: Table) -> str:
-    return matches(8, "self", [any_of("Call", it) for it in table.calls if it.marks & {"getter", "uncounted"}], "!")
-
-
-def names_of_calls(table: Table) -> str:
-    return joined(lines(12, [f"{any_of('Call', it)} => CallName::{it.op}," for it in table.listed]))
-
-
-def lent(table: Table) -> str:
-    return joined(lines(12, [
-        f"Call::{it.variant} {{ {it.options['lent']}, .. }} => *{it.options['lent']}," for it in table.calls if "lent" in it.options
-    ]))
+def pushed(table: Table) -> Iterator[str]:
+    """How the values are printed."""
+    for kind, its in together(valued(table), lambda it: it.values).items():
+        front, body = either(8, names(its)), PUSHED.get(kind, f"push_{kind}(out, gives)")
+        yield f"{front} {body}," if last_column(f"{front} {body},") <= WIDTH else f"{front} {{\n            {body}\n        }}"
 
 
 # ---- reading ops
 
-def by_size(table: Table) -> str:
+
+def by_size(table: Table) -> Iterator[str]:
     """The ops by the sizes of their names."""
-    sizes = sorted({len(it.name) for it in table.ops})
-    return joined([
-        array_arm(8, [str(size)], [f"CallName::{it.op}" for it in table.ops if len(it.name) == size]) for size in sizes
-    ])
+    for size, its in sorted(together(table.ops, lambda it: len(it.name)).items()):
+        yield arm(8, [str(size)], "&[", names(its), "]")
 
 
-def has_memory(call: Call) -> bool:
-    """Whether the reader of an op takes memory."""
-    return any(sort_of(it).takes_memory for it in call.fields)
+def read_by(table: Table, crate: str) -> list[Call]:
+    """The ops that a crate reads."""
+    groups = [it.name for it in table.groups if it.readers == crate]
+    return [it for it in table.ops if it.group in groups]
 
 
-def has_names(call: Call) -> bool:
-    """Whether the reader of an op is given the names of earlier ones."""
-    return any(sort_of(it).takes_names for it in call.fields)
-
-
-def imports_of_readers(table: Table) -> str:
+def imports_of_readers(table: Table) -> Iterator[str]:
     """The imports of all readers, by their crates."""
-    rows = []
     for crate in sorted({it.readers for it in table.groups}):
-        groups = [it.name for it in table.groups if it.readers == crate]
-        rows += [f"use {crate}::{{", *fill(4, sorted(it.code for it in table.ops if it.group in groups), WIDTH - 1), "};"]
-    return joined(rows)
+        yield from [f"use {crate}::{{", *fill(4, sorted(it.code for it in read_by(table, crate)), WIDTH - 1), "};"]
 
 
-def calls_of_readers(table: Table) -> str:
-    rows = []
-    for it in table.ops:
-        args = ["alloc"] * has_memory(it) + ["named_ops"] * has_names(it) + ["value"]
-        rows.append(call_arm(8, [f"CallName::{it.op}"], it.code, args))
-    rows.append(call_arm(8, [f"CallName::{it.op}" for it in table.calls if not it.is_op], "Err", ["Fault::Wrong(What::Op)"]))
-    return joined(rows)
+def arguments(call: Call) -> list[str]:
+    """What the reader of an op is given: memory, and the names of earlier ops, where it takes them."""
+    return [it for it in ARGUMENTS if it == "value" or any(it in sort_of(field).reads for field in call.fields)]
 
 
-def keys(call: Call) -> tuple[str, ...]:
-    """The keys of an op's object."""
-    return ("FieldName::Op", *map(key_of, call.fields), *(["FieldName::As"] if call.gives else []))
+def calls_of_readers(table: Table) -> list[str]:
+    arms = [arm(8, names([it]), f"{it.code}(", arguments(it), ")") for it in table.ops]
+    return [*arms, arm(8, no_ops(table), "Err(", ["Fault::Wrong(What::Op)"], ")")]
 
 
-def keys_of_ops(table: Table) -> str:
+def keys_of_ops(table: Table) -> list[str]:
     """The keys of all ops. Ops with the same keys are put together where the first of them stands."""
-    together: dict[tuple[str, ...], list[str]] = {}
-    for it in table.ops:
-        together.setdefault(keys(it), []).append(f"CallName::{it.op}")
-    arms = [array_arm(8, names, list(its)) for its, names in together.items()]
-    return joined([*arms, plain_arm(8, [f"CallName::{it.op}" for it in table.calls if not it.is_op], "&[]")])
+    keys = together(table.ops, lambda call: ("Op", *map(key_of, call.fields), *["As"] * bool(call.gives)))
+    arms = [arm(8, names(ops), "&[", [f"FieldName::{it}" for it in its], "]") for its, ops in keys.items()]
+    return [*arms, either(8, no_ops(table)) + " &[],"]
 
 
 def reader(call: Call) -> str:
-    """The reader of an op."""
-    args = ["alloc: Global"] * has_memory(call) + ["named_ops: &NamedOps<'_>"] * has_names(call) + ["value: &'v Value"]
-    head, tail = f"pub fn {call.code}<'v>", " -> Result<ReadOp<'v>, Fault>"
-    one = f"{head}({', '.join(args)}){tail}"
-    names = [f"`{it.key}`" + "?" * it.is_optional for it in call.fields] + ["`as`?"] * bool(call.gives)
-    return joined([
-        f"/// Reads `{call.name}`: {', '.join(names)}.",
-        "#[inline(never)]",
-        *([one] if len(one) <= WIDTH else [head + "(", *lines(4, [it + "," for it in args]), ")" + tail]),
-        *lines(4, clauses(call)),
-        "{",
-        *body_of_reader(call),
-        "}",
-    ])
-
-
-def clauses(call: Call) -> list[str]:
-    """The contract of an op's reader."""
-    names, every = ("named_ops.now", "") if has_names(call) else ("names", "(names : List NamedOp) → ")
-    return [
-        f"ensures reads {{ {every}ReadsOp result (op_in {names} (view value.now) call.{call.op}) }}",
-        f"ensures formed {{ IfOk result (λ l. {every}IsFormed (IsKnownPlace {names}) l.op) }}",
-        *([] if has_memory(call) else ["ensures only_wrong { IfErr result IsWrong }"]),
-    ]
-
-
-def body_of_reader(call: Call) -> list[str]:
-    """What an op's reader does. The words `name` and `value` mean something else there."""
-    other = {"name": "called", "value": "marked"}
-    rows, fields = [], []
+    """The reader of an op, with its contract. The words `name` and `value` mean something else there."""
+    given, rows, fields = arguments(call), [], []
+    head = enclosed(0, 0, f"pub fn {call.code}<'v>(", [f"{it}: {ARGUMENTS[it]}" for it in given], ") -> Result<ReadOp<'v>, Fault>", WIDTH)
+    every, known = ("", "named_ops.now") if "named_ops" in given else ("(names : List NamedOp) → ", "names")
     for it in call.fields:
-        local = other.get(it.code, it.code)
-        head, _, args = sort_of(it).reads.format(key_of(it)).removesuffix(")").partition("(")
-        front = f"let {local} = "
-        rows.append(f"    {front}{called(4, head, args.split(', '), 4 + len(front), '?;')}")
+        local = {"name": "called", "value": "marked"}.get(it.code, it.code)
+        read, _, args = sort_of(it).reads.format(f"FieldName::{key_of(it)}").removesuffix(")").partition("(")
+        front = f"    let {local} = "
+        rows.append(front + enclosed(4, len(front), f"{read}(", args.split(", "), ")?;"))
         fields.append(it.code if local == it.code else f"{it.code}: {local}")
     rows += ["    let name = name(value)?;"] * bool(call.gives)
-    rows.append(f"    let op = {braced(4, 'Op::' + call.op, fields)};")
-    return [*rows, f"    Ok(ReadOp {{ op, name{'' if call.gives else ': None'} }})"]
+    rows += [f"    let op = {braced(4, 'Op::' + call.op, fields)};", f"    Ok(ReadOp {{ op, name{'' if call.gives else ': None'} }})"]
+    only_wrong = "" if "alloc" in given else "    ensures only_wrong { IfErr result IsWrong }\n"
+    return READER.format(call=call, told=fields_told(call), head=head, every=every, names=known, only_wrong=only_wrong, body="\n".join(rows))
 
 
-def readers_in(crate: str):
+def readers_in(crate: str) -> Text:
     """The readers of a crate."""
-    def readers(table: Table) -> str:
-        groups = [it.name for it in table.groups if it.readers == crate]
-        return "\n\n".join(reader(it) for it in table.ops if it.group in groups)
-    return readers
+    return lambda table: ["\n\n".join(map(reader, read_by(table, crate)))]
 
 
 # ---- the calls of ops
 
-def made(indent: int, call: Call) -> str:
+
+def made(call: Call) -> str:
     """The arm that makes up the call of an op."""
     given = [f"{it.called}: {sort_of(it).passes.format(it.code)}" for it in call.fields]
-    given += [f"{call.options['adds']}: 0"] if "adds" in call.options else []
-    front = braced(indent, f"Op::{call.op}", [it.code for it in call.fields])
-    return f"{' ' * indent}{front} => {braced(indent, f'Call::{call.variant}', given)},"
+    given += [f"{it}: 0" for name, it in call.options.items() if name == "adds"]
+    front = braced(8, f"Op::{call.op}", [it.code for it in call.fields])
+    return f"        {front} => {braced(8, f'Call::{call.variant}', given)},"
 
 
 def has_lists(table: Table, group: Group) -> bool:
     """Whether a call of the group has a list, which is made up in scratch memory."""
-    return any(sort_of(field).item for it in table.of_group(group) for field in it.fields)
+    return any("scratch" in sort_of(field).passes for it in table.of_group(group) for field in it.fields)
 
 
-def maker(table: Table, group: Group) -> str:
-    """The function that makes up the calls of a group."""
-    scratch = has_lists(table, group)
-    return joined([
-        f"/// The call of an op on {group.what}.",
-        f"fn {group.name}_call<'a>(op: &'a Op, names: &Names{', scratch: &' + chr(39) + 'a mut Scratch' if scratch else ''}) -> Call<'a>",
-        f"    requires group {{ Is{group.name.capitalize()}Op op.now }}",
-        *(["    requires ranged { IsInRange op.now }"] if scratch else []),
-        "    ensures { result ≡ request_for names.now op.now }",
-        "{",
-        "    match op {",
-        *(made(8, it) for it in table.of_group(group)),
-        "        _ => unreachable!(),",
-        "    }",
-        "}",
-    ])
+def makers(table: Table) -> list[str]:
+    """The functions that make up the calls of groups."""
+    texts = []
+    for it in (it for it in table.groups if it.what):
+        more = (", scratch: &'a mut Scratch", "    requires ranged { IsInRange op.now }\n") if has_lists(table, it) else ("", "")
+        arms = "\n".join(map(made, table.of_group(it)))
+        texts.append(MAKER.format(group=it, kind=kind_of(it), scratch=more[0], ranged=more[1], arms=arms))
+    return ["\n\n".join(texts)]
 
 
-def makers(table: Table) -> str:
-    return "\n\n".join(maker(table, it) for it in table.groups if it.what)
-
-
-def import_of_groups(table: Table) -> str:
-    names = ", ".join(f"Is{it.name.capitalize()}Op" for it in table.groups if it.what)
-    return f"ghost use Rattle.xr_scenario_calls.specs.inside.Groups.{{{names}}};"
-
-
-def calls_by_group(table: Table) -> str:
+def calls_by_group(table: Table) -> Iterator[str]:
     """The arms of `call_of`: first the ops that have no function."""
-    rows = [made(8, it) for group in table.groups if not group.what for it in table.of_group(group)]
+    yield from (made(it) for group in table.groups if not group.what for it in table.of_group(group))
     for group in (it for it in table.groups if it.what):
         args = ["op", "names"] + ["scratch"] * has_lists(table, group)
-        rows.append(call_arm(8, [any_of("Op", it) for it in table.of_group(group)], f"{group.name}_call", args))
-    return joined(rows)
+        yield arm(8, list(map(any_op, table.of_group(group))), f"{group.name}_call(", args, ")")
 
 
-# ---- the core
-
-def decided(table: Table) -> str:
+def decided(table: Table) -> Iterator[str]:
     """The arms of `decide`."""
-    rows = []
     for core in table.core:
         its = table.decided_by(core)
-        patterns = [any_of("Call", it) for it in its]
+        patterns, fields = list(map(any_call, its)), [it.called for it in its[0].fields]
         if "call" not in core.handed:
-            fields = [it.called for it in its[0].fields]
             patterns = [braced(12, f"Call::{its[0].variant}", fields) if fields else f"Call::{its[0].variant}(event)"]
-        rows.append(call_arm(12, patterns, f"self.{core.function}", list(core.handed)))
-    rest = [any_of("Call", it) for it in table.calls if not it.core]
-    return joined([*rows, plain_arm(12, rest, "unreachable!()")])
+        yield arm(12, patterns, f"self.{core.function}(", list(core.handed), ")")
+    yield either(12, [any_call(it) for it in table.calls if not it.core]) + " unreachable!(),"

@@ -1,87 +1,69 @@
-"""The tables of the help, the schemas and the documents."""
+"""The tables of the help, the schemas and the documents, as their lines, but for those that `rows` makes alone."""
 from __future__ import annotations
 
 import json
 
 from calls import Call, Table
 from tabling.layout import fill
-from tabling.reports import by_values
+from tabling.patterns import Text, Which, fields_told, together, valued
 
 HELP, SCHEMA = 78, 116
+FORM = '        {{"if": {{"properties": {{"op": {{"const": "{name}"}}}}, "required": ["op"]}}, "then": {{"$ref": "#/$defs/op_{name}"}}}}'
+VALUED = """\
+        {{
+          "if": {{"properties": {{"op": {{"const": "{0}"}}}}}},
+          "then": {{"properties": {{"values": {{"$ref": "#/$defs/values_{0}"}}}}}}
+        }},
+"""
+VALUES = """\
+[
+%s        {
+          "if": {
+            "properties": {
+              "op": {
+                "enum": %s
+              }
+            }
+          },
+          "else": {"properties": {"values": {"maxProperties": 0}}}
+        }
+      ]"""
 
 
-def helped(table: Table) -> str:
+def helped(table: Table) -> list[str]:
     """The sentence of --help on the ops."""
-    *most, last = [it.name for it in table.listed if it.is_op]
-    words = ["These", "ops", "are", "run:", *(f"{it}," for it in most[:-1]), most[-1], "and", f"{last}."]
-    return "\n".join(fill(0, words, HELP, ""))
+    *most, last = (it.name for it in table.listed if it.is_op)
+    return fill(0, f"These ops are run: {', '.join(most)} and {last}.".split(" "), HELP, "")
 
 
-def row_of_format(names: list[str], call: Call) -> str:
-    """The row of ops with the same fields."""
-    fields = [f"`{it.key}`" + "?" * it.is_optional for it in call.fields] + ["`as`?"] * bool(call.gives)
-    return f"| {', '.join(f'`{it}`' for it in names)} | {', '.join(fields)} |"
-
-
-def rows_of_format(table: Table) -> str:
+def rows_of_format(table: Table) -> list[str]:
     """The table of ops; those with the same fields stand together where the first of them stands."""
-    together: dict[tuple, list[Call]] = {}
-    for it in table.ops:
-        together.setdefault((tuple((field.key, field.is_optional) for field in it.fields), bool(it.gives)), []).append(it)
-    rows = [row_of_format([it.name for it in its], its[0]) for its in together.values()]
-    return "\n".join(["| op | fields in order |", "|---|---|", *rows])
+    its = together(table.ops, fields_told)
+    rows = [f"| {', '.join(f'`{it.name}`' for it in ops)} | {fields} |" for fields, ops in its.items()]
+    return ["| op | fields in order |", "|---|---|", *rows]
 
 
 # ---- the schemas, each a value with the indent of its key
 
-def strings(indent: int, words: list[str], width: int) -> str:
-    """A list of words, as many on a line as fit."""
-    rows = fill(indent + 2, [json.dumps(it) for it in words], width)
-    rows[-1] = rows[-1].removesuffix(",")
-    return "\n".join(["[", *rows, " " * indent + "]"])
+
+def strings(indent: int, which: Which, width: int = SCHEMA) -> Text:
+    """A list of names, as many on a line as fit."""
+    def made(table: Table) -> list[str]:
+        *rows, last = fill(indent + 2, [json.dumps(it.name) for it in which(table)], width)
+        return ["[", *rows, last.removesuffix(","), " " * indent + "]"]
+    return made
 
 
-def reported(table: Table) -> str:
-    """The names of a call that was made."""
-    return strings(10, [it.name for it in table.listed if "inner" not in it.marks], SCHEMA)
-
-
-def stuck(table: Table) -> str:
-    """The names of a call that waits."""
-    return strings(14, [it.name for it in table.listed if it.is_op], SCHEMA)
-
-
-def values(table: Table) -> str:
+def values(table: Table) -> list[str]:
     """What values a call has."""
-    names = [it.name for _, its in by_values(table) for it in its]
-    rows = []
-    for it in names:
-        rows += ["        {", f'          "if": {{"properties": {{"op": {{"const": "{it}"}}}}}},',
-                 f'          "then": {{"properties": {{"values": {{"$ref": "#/$defs/values_{it}"}}}}}}', "        },"]
-    rest = ["        {", '          "if": {', '            "properties": {', '              "op": {',
-            f'                "enum": {strings(16, names, SCHEMA)}', "              }", "            }", "          },",
-            '          "else": {"properties": {"values": {"maxProperties": 0}}}', "        }"]
-    return "\n".join(["[", *rows, *rest, "      ]"])
-
-
-def ops(table: Table) -> str:
-    return strings(10, [it.name for it in table.ops], 0)
-
-
-def branches(table: Table) -> str:
-    """Which form an op has."""
-    rows = [f'        {{"if": {{"properties": {{"op": {{"const": "{it.name}"}}}}, "required": ["op"]}}, "then": {{"$ref": "#/$defs/op_{it.name}"}}}}'
-            for it in table.ops]
-    return "\n".join(["[", ",\n".join(rows), "      ]"])
+    return [VALUES % ("".join(VALUED.format(it.name) for it in valued(table)), "\n".join(strings(16, valued)(table)))]
 
 
 def fields_of(call: Call) -> str:
     """The fields of an op's object: up to two on one line."""
     keys = [it.key for it in call.fields] + ["as"] * bool(call.gives)
     fields = [f'"op": {{"const": "{call.name}"}}', *(f'"{it}": {{"$ref": "#/$defs/field_{it}"}}' for it in keys)]
-    if len(keys) <= 2:
-        return f"{{{', '.join(fields)}}}"
-    return "\n".join(["{", ",\n".join(f"        {it}" for it in fields), "      }"])
+    return f"{{{', '.join(fields)}}}" if len(keys) <= 2 else "{\n        " + ",\n        ".join(fields) + "\n      }"
 
 
 def needed(call: Call) -> str:

@@ -1,44 +1,27 @@
 """The sorts of an op's fields: how code has, reads and passes on each, and what definitions say of it."""
 from __future__ import annotations
 
-from dataclasses import dataclass
+from typing import NamedTuple
 
-from calls import Call, Field, NoTable, camel
-
-
-@dataclass(frozen=True)
-class Sort:
-    """A sort. `{}` stands for a field: in `reads` for its key in code, else for what it is called there.
-
-    `type` is its type in `Op`, and `item` that of a list's items; `reads` how its reader takes it from an object, and `row` how the row of the
-    op in the definitions does; `passes` and `asks` are its value in the call, in code and in definitions; `holds` says its range, and
-    `weaker` proves that anew where less is asked of places, from `h`.
-    """
-
-    type: str
-    reads: str
-    row: str
-    passes: str = "*{}"
-    asks: str = "{}"
-    holds: str = ""
-    weaker: str = "h"
-    item: str = ""
-
-    @property
-    def takes_names(self) -> bool:
-        """Whether its reader is given the names of earlier ops."""
-        return "named_ops" in self.reads
-
-    @property
-    def takes_memory(self) -> bool:
-        """Whether its reader is given the allocator."""
-        return "alloc" in self.reads
+from calls import Field, NoTable, camel
 
 
-def _use(reader: str, range_name: str, value: str = "value_of") -> Sort:
+class Sort(NamedTuple):
+    """A sort. `{}` stands for a field: in `reads` for its key in code, else for what it is called there."""
+
+    type: str  # its type in `Op`
+    reads: str  # how its reader takes it from an object
+    row: str  # how the row of the op in the definitions does
+    passes: str = "*{}"  # its value in the call, in code
+    asks: str = "{}"  # and in definitions
+    holds: str = ""  # its range
+    weaker: str = "h"  # the proof of that anew where less is asked of places, from `h`
+
+
+def _use(reader: str, value: str = "value_of") -> Sort:
     """A name, or a number in its place."""
     return Sort("Use", f"{reader}(named_ops, value, {{}})", f"{reader}_in", f"names.{value}(*{{}})", f"({value} values {{}})",
-                f"{range_name} P {{}}", "use-weaker _ _ _ {} h")
+                f"Is{camel(reader)} P {{}}", "use-weaker _ _ _ {} h")
 
 
 def _number(type_name: str, reads: str, limit: str) -> Sort:
@@ -46,9 +29,9 @@ def _number(type_name: str, reads: str, limit: str) -> Sort:
     return Sort(type_name, reads, f"plain (number_in {limit})", holds=f"({{}} ≤ {limit})")
 
 
-def _word(type_name: str, names: str, words: str) -> Sort:
+def _word(type_name: str, word: str) -> Sort:
     """A word of a list of words."""
-    return Sort(type_name, "word(value, {})", f"plain (word_in {names} {words})")
+    return Sort(type_name, "word(value, {})", f"plain (word_in {word}_name all_{word}s)")
 
 
 def _list(item: str, limit: str, count: int, part: str, asks: str, scratch: str) -> Sort:
@@ -57,14 +40,12 @@ def _list(item: str, limit: str, count: int, part: str, asks: str, scratch: str)
     each = f"Is{camel(part)}" + ("Part" if part in ("handle", "atom") else "")
     return Sort(f"Several<{item}>", f"list(alloc, named_ops, value, {{}}, {limit})", f"list_by {part}_part {limit}",
                 f"Items::new({filler}(&mut scratch.{scratch}, names, {{}}.as_slice()))", f"(map {asks} {{}})",
-                f"AreAtMost {limit} ({each} P) {{}}", f"list-weaker {count} ({each} P) ({each} Q) {part}-weaker {{}} h", item)
+                f"AreAtMost {limit} ({each} P) {{}}", f"list-weaker {count} ({each} P) ({each} Q) {part}-weaker {{}} h")
 
 
 SORTS = {
-    "handle": _use("handle", "IsHandle"),
-    "atom": _use("atom", "IsAtom"),
-    "system": _use("system", "IsSystem"),
-    "time": _use("time", "IsTime", "time_of"),
+    **{it: _use(it) for it in ("handle", "atom", "system")},
+    "time": _use("time", "time_of"),
     "value": Sort("Use", "mark_value(named_ops, value, {}, mark)", "value_in", "names.value_of(*{})", "(value_of values {})",
                   "IsValue P mark {}", "value-weaker (nat_le mark 32) {} h"),
     "mark": Sort("u8", "mark_number(value, {})", "plain mark_in", holds="IsMark {}"),
@@ -74,11 +55,11 @@ SORTS = {
     "text": Sort("Bytes", "text(alloc, value, {})", "plain text_in", "Items::new({}.as_slice())", holds="IsText {}"),
     "truth": Sort("bool", "truth(value, {})", "plain as_bool"),
     "timeout": Sort("i64", "timeout(value, {})", "plain timeout_in", holds="IsTimeout {}"),
-    "form": _word("Form", "form_name", "all_forms"),
-    "view": _word("ViewConfig", "view_name", "all_views"),
-    "kind": _word("RefKind", "kind_name", "all_kinds"),
-    "type": _word("ActionType", "action_type_name", "all_action_types"),
-    "blend": _word("Blend", "blend_name", "all_blends"),
+    "form": _word("Form", "form"),
+    "view": _word("ViewConfig", "view"),
+    "kind": _word("RefKind", "kind"),
+    "type": _word("ActionType", "action_type"),
+    "blend": _word("Blend", "blend"),
     "subactions": _list("AtomUse", "MOST_SUBACTIONS", 8, "atom", "(λ u. value_of values u.atom)", "numbers"),
     "sets": _list("HandleUse", "MOST_ATTACHED", 32, "handle", "(λ u. value_of values u.handle)", "numbers"),
     "bindings": _list("BindingUse", "MOST_BINDINGS", 600, "binding", "(binding_for values)", "bindings"),
@@ -96,21 +77,4 @@ def sort_of(field: Field) -> Sort:
 
 def key_of(field: Field) -> str:
     """A field's name in code, which has no `Type`."""
-    return "FieldName::" + ("ActionType" if field.key == "type" else camel(field.key))
-
-
-def pattern(call: Call, space: str, names: dict[str, str] | None = None) -> str:
-    """An op, `op.X field ..`, as definitions match it. Where a field's name means something else there, `names` has another."""
-    fields = [(names or {}).get(it.code, it.code) for it in call.fields]
-    return bound(f"{space}.{call.op}", fields)
-
-
-def asked(call: Call, names: dict[str, str] | None = None) -> str:
-    """A call, `ask.X field ..`, as definitions match it."""
-    fields = ["what"] if call.name == "device" else [(names or {}).get(it.called, it.called) for it in call.fields]
-    return bound(f"ask.{call.variant}", fields + ([call.options["adds"]] if "adds" in call.options else []))
-
-
-def bound(variant: str, fields: list[str]) -> str:
-    """A variant with its fields, in parentheses where it has some."""
-    return f"({' '.join([variant, *fields])})" if fields else variant
+    return "ActionType" if field.key == "type" else camel(field.key)

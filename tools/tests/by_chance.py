@@ -12,50 +12,20 @@ import random
 from collections.abc import Callable
 from typing import Any, NamedTuple
 
-from helpers import rows_of
+from helpers import Ops, rows_of, value_of
 
-Fields = dict[str, Any]
-
-# the fields of each op by the sorts of their values
-ROW_OF = {op: fields for op, *fields in (row.split(" ") for (row,) in rows_of("ops"))}
-HANDLES = ("instance", "session", "space", "set", "boolean", "float", "vector", "pose", "chain")
+# a call as tables/ops.txt has it: its op, and the sorts or the values of its fields
+WEIGHTS, CALLS = zip(*(row.split(" ", 1) for (row,) in rows_of("ops")))
+FOUNDED = [row for (row,) in rows_of("founds")]
+OF_SHORT = 10
+WITH_FRAME = ("poll_event instance", "locate_space space base:space time", "get_float session action:float sub", "get_system instance form as:system")
+EXITS = ("request_exit_session session", "end_session session", "poll_event instance", "destroy_session session", "destroy_instance instance")
 ACTIONS = ("boolean", "float", "vector", "pose")
-LEFT, RIGHT = "/user/hand/left", "/user/hand/right"
-TEXTS = {
-    "user": (LEFT, RIGHT),
-    "profile": ("/interaction_profiles/oculus/touch_controller", "/interaction_profiles/khr/simple_controller"),
-    "to_boolean": (f"{LEFT}/input/x/click", f"{RIGHT}/input/a/click"),
-    "to_float": (f"{LEFT}/input/trigger/value", f"{RIGHT}/input/squeeze/value"),
-    "to_vector": (f"{LEFT}/input/thumbstick", f"{RIGHT}/input/thumbstick"),
-    "to_pose": (f"{LEFT}/input/grip/pose", f"{RIGHT}/input/aim/pose"),
-    "text": ("/a", "/a/b", "/menu", "a//b", "/", ""),
-}
-# what stands in a field of a sort that has no names; what stands there oftener is chosen oftener
-VALUES: dict[str, tuple] = {
-    "form": ("head", "head", "head", "hand"),
-    "capacity": (0, 64, 64, 3, 1024),
-    "view": ("stereo", "stereo", "mono"),
-    "kind": ("local", "view", "stage"),
-    "offset": (1, 2, 3, 9, 0),
-    "priority": (0, 1, 7),
-    "format": (1, 1, 2, 3, 9),
-    "side": (64, 64, 64, 8, 8, 0),
-    "static": (False, False, True),
-    "timeout": ("inf", "inf", 0, 5_000_000),
-    "stamp": (1, 22, 333, 4444),
-    "blend": ("opaque", "opaque", "opaque", "alpha"),
-    "time": (1, 7_000_000, 0, -5),
-    "system": (1, 1, 2),
-}
-# how often an op is chosen, where it isn't as often as most are
-SELDOM = {
-    **dict.fromkeys(("create_instance", "destroy_instance", "create_session", "destroy_session"), 1),
-    **dict.fromkeys(("end_session", "request_exit_session", "destroy_action_set", "destroy_swapchain", "mark"), 4),
-    **dict.fromkeys(("sync_actions", "get_float", "get_boolean", "locate_space", "wait_image", "acquire_image"), 40),
-}
-PLAIN = [*ROW_OF]
-WEIGHTS = [SELDOM.get(op, 20) for op in PLAIN]
-LINES_OF_DEVICE = [line for (line,) in rows_of("device_lines")]
+HANDLES = ("instance", "session", "space", "set", *ACTIONS, "chain")
+TEXTS = ("user", "profile", *(f"to_{it}" for it in ACTIONS), "text")
+GROUPS = {"action": ACTIONS, "handle": HANDLES, "atom": TEXTS}
+VALUES = {sort: [value_of(it) for it in its] for sort, *its in rows_of("values")}
+LINES_OF_DEVICE = [line for row in rows_of("device_lines") for line in row]
 ENDS_OF_DEVICE = ("loss", "lost", "no line", "wish rest")
 
 
@@ -69,13 +39,14 @@ class Mark(NamedTuple):
 
 
 class Writer:
-    """A script that is written, and the names that it has given, by their sorts."""
+    """A script that is written, and the names that it has given, by their sorts. While it is sure it uses the last of them."""
 
     def __init__(self, chance: random.Random, number: int) -> None:
         self.chance, self.number = chance, number
-        self.ops: list[Fields] = []
+        self.ops: Ops = []
         self.names: dict[str, list[str]] = {}
         self.count = 0
+        self.is_sure = False
 
     def known(self, *sorts: str) -> list[str]:
         return [name for sort in sorts for name in self.names.get(sort, [])]
@@ -83,143 +54,86 @@ class Writer:
     def give(self, sort: str) -> str:
         """A new name."""
         self.count += 1
-        name = f"n{self.count}"
-        self.names.setdefault(sort, []).append(name)
-        return name
+        self.names.setdefault(sort, []).append(f"n{self.count}")
+        return f"n{self.count}"
 
-    def handle(self, *sorts: str) -> str | int:
-        """A handle of one of these sorts, mostly; else another one, or none."""
-        found = self.known(*sorts) if self.chance.random() < 0.95 else [*self.known(*HANDLES), 0]
-        return self.chance.choice(found) if found else 0
+    def some(self, least: int, most: int, value: Callable[[], Any]) -> list:
+        return [value() for _ in range(self.chance.randint(least, most))]
 
-    def atom(self, sort: str) -> str | int:
-        found = self.known(sort) if self.chance.random() < 0.95 else self.known(*TEXTS)
-        return self.chance.choice(found) if found else self.chance.choice((0, 1, 500))
-
-    def add(self, op: str, **fields: Any) -> None:
-        self.ops.append({"op": op, **fields})
-
-    def path(self, sort: str, text: str) -> None:
-        """Asks for a path, whose name is of a sort."""
-        self.add("string_to_path", instance=self.handle("instance"), text=text, **{"as": self.give(sort)})
-
-    def action(self, sort: str) -> None:
-        """A new action of a type."""
-        users = self.known("user")[:2] if self.chance.random() < 0.7 else []
-        name = self.new_text()
-        given: Fields = {"set": self.handle("set"), "name": name, "type": sort, "subactions": users, "localized": name}
-        self.add("create_action", **given, **{"as": self.give(sort)})
-
-    def new_text(self) -> str:
-        return self.chance.choice((f"x{self.number}_{self.count}",) * 9 + ("x", "X y"))
+    def named(self, sort: str) -> str | int:
+        """A handle or an atom of a sort, mostly; else another one, or none."""
+        others, nothing = (HANDLES, [0]) if sort in (*HANDLES, "action", "handle") else (TEXTS, [0, 1, 500])
+        found = self.known(*GROUPS.get(sort, (sort,)))
+        if self.is_sure:
+            return found[-1]
+        return self.chance.choice((found if self.chance.random() < 0.95 else [*self.known(*others), *nothing]) or nothing)
 
     def bindings(self) -> list[list]:
-        sorts = [it for it in ACTIONS if self.known(it)] or ["boolean"]
-        chosen = [self.chance.choice(sorts) for _ in range(self.chance.randint(0, 4))]
-        return [[self.handle(it), self.atom(f"to_{it}")] for it in chosen]
+        kinds = ACTIONS if self.is_sure else self.some(0, 4, lambda: self.chance.choice([it for it in ACTIONS if self.known(it)] or ["boolean"]))
+        return [[self.named(it), self.named(f"to_{it}")] for it in kinds]
 
-    def layers(self) -> list[Fields]:
-        chains = self.known("chain")
-        if not chains or self.chance.random() < 0.3:
+    def layers(self) -> list[dict]:
+        if not self.known("chain") or self.chance.random() < 0.3:
             return []
-        image = [self.chance.choice(chains), 0, 0, 8, 8]
-        if self.chance.random() < 0.4:
-            return [{"projection": self.handle("space"), "views": [image, image]}]
-        return [{"quad": self.handle("space"), "image": image, "pose": 1}]
+        image, space = [self.chance.choice(self.known("chain")), 0, 0, 8, 8], self.named("space")
+        return [self.chance.choice(({"projection": space, "views": [image, image]}, {"quad": space, "image": image, "pose": 1}))]
 
     def value(self, sort: str) -> Any:
         """A value of a field."""
-        if sort in HANDLES:
-            return self.handle(sort)
-        if sort == "action":
-            return self.handle(*ACTIONS)
-        if sort in ("atom", "sub"):
-            return self.atom(self.chance.choice([*TEXTS])) if sort == "atom" else self.chance.choice([0, 0, *self.known("user")])
-        if sort in ("time", "system") and self.known(sort) and self.chance.random() < 0.8:
-            return self.known(sort)[-1]
-        if sort == "sets":
-            return [self.handle("set") for _ in range(self.chance.randint(1, 2))]
-        if sort == "active":
-            users = [0, 0, *self.known("user")]
-            return [[self.handle("set"), self.chance.choice(users)] for _ in range(self.chance.randint(0, 2))]
-        made: dict[str, Callable[[], Any]] = {"name": self.new_text, "bindings": self.bindings, "layers": self.layers}
-        return made[sort]() if sort in made else self.atom(sort) if sort in TEXTS else self.chance.choice(VALUES[sort])
+        chance, users = self.chance, self.known("user")
+        made: dict[str, Callable[[], Any]] = {
+            "low": lambda: chance.randint(1, 32),
+            "high": lambda: chance.randint(33, 64),
+            "name": lambda: chance.choice((f"x{self.number}_{self.count}",) * 9 + ("x", "X y")),
+            "sub": lambda: chance.choice([0, 0, *users]),
+            "users": lambda: users[:2] if chance.random() < 0.7 else [],
+            "sets": lambda: self.some(1, 2, lambda: self.named("set")),
+            "active": lambda: self.some(0, 2, lambda: [self.named("set"), chance.choice([0, 0, *users])]),
+            "bindings": self.bindings,
+            "layers": self.layers,
+        }
+        if sort in made:
+            return made[sort]()
+        if sort in VALUES:
+            return self.known(sort)[-1] if self.known(sort) and chance.random() < 0.8 else chance.choice(VALUES[sort])
+        return self.named(sort)
 
-    def call(self, op: str) -> None:
-        """A call with fields by chance."""
-        if op == "string_to_path":
-            sort = self.chance.choice([*TEXTS])
-            return self.path(sort, self.chance.choice(TEXTS[sort]))
-        if op == "create_action":
-            return self.action(self.chance.choice(ACTIONS))
-        if op == "mark":
-            # one more who sets a mark keeps nobody waiting
-            number, handles = self.chance.randint(1, 64), self.known(*HANDLES)
-            value = {"value": self.chance.choice(handles)} if handles and number <= 32 else {}
-            return self.add("mark", mark=number, **value)
-        fields: Fields = {}
-        for it in ROW_OF[op]:
-            key, _, fixed = it.partition("=")
+    def call(self, row: str) -> None:
+        """A call whose fields have these values, or values of these sorts by chance."""
+        op, *fields = row.split(" ")
+        made: dict[str, Any] = {"op": op}
+        for it in fields:
+            key, is_fixed, fixed = it.partition("=")
             key, _, sort = key.partition(":")
-            fields[key] = int(fixed) if fixed else self.give(sort) if key == "as" else self.value(sort or key)
-        return self.add(op, **fields)
+            made[key] = value_of(fixed) if is_fixed else self.give(sort) if key == "as" else self.value(sort or key)
+        self.ops.append(made)
 
     def calls(self, most: int) -> None:
         """Some calls by chance, and frames where there may be a session."""
-        for op in self.chance.choices(PLAIN, WEIGHTS, k=self.chance.randint(0, most)):
-            self.call(op)
+        for row in self.chance.choices(CALLS, list(map(int, WEIGHTS)), k=self.chance.randint(0, most)):
+            self.call(row)
         if self.known("session") and self.chance.random() < 0.5:
             self.frame()
 
     def frame(self) -> None:
         """A frame in one piece, so that nothing but an image holds it up before its begin."""
-        session, time = self.chance.choice(self.known("session")), self.give("time")
-        self.add("wait_frame", session=session, **{"as": time})
-        for op in self.chance.choices(("poll_event", "locate_space", "get_float", "get_system"), k=self.chance.randint(0, 2)):
-            self.call(op)
-        self.add("begin_frame", session=session)
-        chains = self.known("chain")
-        if chains and self.chance.random() < 0.7:
-            chain = self.chance.choice(chains)
-            self.add("acquire_image", chain=chain)
-            self.add("wait_image", chain=chain, timeout=self.value("timeout"))
-            self.add("paint", chain=chain, stamp=self.value("stamp"))
-            self.add("release_image", chain=chain)
-        self.add("end_frame", session=session, time=time, blend="opaque", layers=self.layers())
+        session = f"session={self.chance.choice(self.known('session'))}"
+        self.call(f"wait_frame {session} as:time")
+        for row in self.chance.choices(WITH_FRAME, k=self.chance.randint(0, 2)):
+            self.call(row)
+        self.call(f"begin_frame {session}")
+        if self.known("chain") and self.chance.random() < 0.7:
+            chain = f"chain={self.chance.choice(self.known('chain'))}"
+            for row in ("acquire_image", "wait_image timeout", "paint stamp", "release_image"):
+                self.call(f"{row} {chain}")
+        self.call(f"end_frame {session} time={self.known('time')[-1]} blend=opaque layers")
 
-    def sets(self, mark: Mark) -> None:
-        names = self.known(mark.sort)
-        self.add("mark", mark=mark.number, **({"value": names[0]} if names else {}))
-
-    def awaits(self, mark: Mark) -> None:
-        self.add("await", mark=mark.number, **({"as": self.give(mark.sort)} if mark.sort else {}))
-
-    def founds(self, is_short: bool) -> None:
+    def founds(self) -> None:
         """Makes what the others are handed."""
-        self.call("create_instance")
-        self.add("get_system", instance=self.known("instance")[-1], form="head", **{"as": self.give("system")})
-        self.call("create_session")
-        for sort, texts in TEXTS.items():
-            self.path(sort, texts[0])
-        if is_short:
-            return
-        instance, session = self.known("instance")[-1], self.known("session")[-1]
-        self.add("create_action_set", instance=instance, name="x", localized="X", priority=1, **{"as": self.give("set")})
-        self.add("create_reference_space", session=session, kind="local", offset=1, **{"as": self.give("space")})
-        size = {"format": 1, "width": 64, "height": 64, "static": False}
-        self.add("create_swapchain", session=session, **size, **{"as": self.give("chain")})
-        for sort in ACTIONS:
-            self.action(sort)
-        bindings = [[self.known(it)[-1], self.known(f"to_{it}")[0]] for it in ACTIONS]
-        self.add("suggest_bindings", instance=instance, profile=self.known("profile")[0], bindings=bindings)
-        self.call("suggest_bindings")
-        self.add("attach_sets", session=session, sets=self.known("set"))
-        self.call("create_action_space")
-
-    def exits(self) -> None:
-        """Ends the session."""
-        for op in ("request_exit_session", "end_session", "poll_event", "destroy_session", "destroy_instance"):
-            self.call(op)
+        self.is_sure = True
+        for row in FOUNDED[:OF_SHORT] if self.chance.random() < 0.2 else FOUNDED:
+            self.call(row)
+        self.is_sure = False
 
 
 def marks_by_chance(chance: random.Random, scripts: int, founder: int, has_device: bool) -> list[Mark]:
@@ -238,25 +152,25 @@ def marks_by_chance(chance: random.Random, scripts: int, founder: int, has_devic
     return marks + [Mark(others.pop(), 5, it, "") for it in everyone]
 
 
-def script_by_chance(chance: random.Random, number: int, founder: int, marks: list[Mark]) -> list[Fields]:
+def script_by_chance(chance: random.Random, number: int, founder: int, marks: list[Mark]) -> Ops:
     """A script that sets its marks and waits for others', rank by rank."""
     writer, is_founder = Writer(chance, number), number == founder
     for rank in range(6):
         if is_founder and rank == 2:
-            writer.founds(chance.random() < 0.2)
-        if is_founder and rank == 3 and writer.known("session"):
-            writer.add("begin_session", session=writer.known("session")[0], view="stereo")
+            writer.founds()
+        if is_founder and rank == 3:
+            writer.call(f"begin_session session={writer.known('session')[0]} view=stereo")
             writer.frame()
         writer.calls(4 if rank > 2 else 1)
-        for mark in (it for it in marks if it.rank == rank and it.owner == number):
-            writer.sets(mark)
-        for mark in (it for it in marks if it.rank == rank and it.owner != number):
-            sure = 0.9 if rank in (0, 2, 3) else is_founder if rank in (1, 5) else 0.4
-            if chance.random() < sure:
-                writer.awaits(mark)
+        for mark in sorted((it for it in marks if it.rank == rank), key=lambda it: it.owner != number):
+            if mark.owner == number:
+                writer.call(" ".join([f"mark mark={mark.number}", *(f"value={it}" for it in writer.known(mark.sort)[:1])]))
+            elif chance.random() < (0.9 if rank in (0, 2, 3) else is_founder if rank in (1, 5) else 0.4):
+                writer.call(f"await mark={mark.number}" + (f" as:{mark.sort}" if mark.sort else ""))
         writer.calls(4 if rank > 1 else 1)
     if is_founder and chance.random() < 0.7:
-        writer.exits()
+        for row in EXITS:
+            writer.call(row)
     return writer.ops
 
 
@@ -270,7 +184,7 @@ def device_by_chance(chance: random.Random, marks: list[Mark]) -> list[str]:
     return [*lines, *([chance.choice(ENDS_OF_DEVICE)] if chance.random() < 0.3 else [])]
 
 
-def scenario(number: int) -> tuple[list[list[Fields]], list[str] | None]:
+def scenario(number: int) -> tuple[list[Ops], list[str] | None]:
     """The scripts and the device of this number."""
     chance = random.Random(number)
     scripts, has_device = chance.choice((1, 2, 2, 3, 3, 4, 5, 6, 7, 8)), chance.random() < 0.85

@@ -14,9 +14,10 @@ import random
 import re
 from collections import Counter
 from collections.abc import Callable
+from itertools import combinations
 
 from helpers import Tally
-from runs import Lines, Text, judged
+from runs import Lines, Text, joined, judged
 
 from machine.answers import OUT_OF_MEMORY
 from reports.values import CODES, GETTERS, MET
@@ -24,182 +25,116 @@ from reports.values import CODES, GETTERS, MET
 MOST_LINES = 400
 MOST_TRIES = 20000
 MAY_BE_LEGAL = ("places", "near", "publication")
-PLACE = re.compile(r"(.*) @(\d+)")
+# lines by what they tell
 CALL = re.compile(r"(\d+) ([a-z_]+) (XR_[A-Z_]+)(.*) @(\d+)")
-EVENT = re.compile(r"\d+ [a-z]+(?! XR_).* @\d+")
-NUMBER = re.compile(r"(?<![@\w])-?\d+(?![\w@])")
+GETTER = rf"\d+ (?:{'|'.join(GETTERS)}) .* @\d+"
+PLACED, COUNTED = r".* @\d+", rf"(?!{GETTER}).* @\d+"
+# what is left out as if it had never been
+LEFT_OUT = {
+    "no_call": r"\d+ (?!leave )[a-z_]+ XR_.* @\d+",
+    "no_leave": r"\d+ leave XR_SUCCESS @\d+",
+    "no_frame": r"frame .*",
+    "no_event": r"\d+ [a-z]+(?! XR_).* @\d+",
+}
+# numbers that become others: the lines, which numbers, and by how much
+NUMBERS = {
+    "value": (PLACED, r"(?<=[^@\w])-?\d+(?![\w@])", (1, -1)),
+    "stamp": (r"frame .*[:,].*", r"(?<=[:,])\d+", (1, 2, 7)),
+    "one_off": (COUNTED, r"(?<= @)\d+$", (1, -1)),
+}
+Found = dict[int, "re.Match[str]"]
+# what two lines swap, which is the middle one of three pieces, and which two may. The replies to two calls of one op may be swapped,
+# since what a call is answered follows from the calls before it, but where memory is short and where an image may be given back
+# already; and what a getter answers, from its place.
+SWAPPED: dict[str, tuple[str, Callable[[Found, int, int], bool]]] = {
+    "order": (r"(\d+)( [a-z].*)( @\d+)", lambda found, one, other: one + 1 == other),
+    "frames": (r"(frame \d+)( time .*)( @\d+)", lambda found, one, other: one + 1 == other),
+    "exchange": (r"(\d+ (?!wait_image )[a-z_]+ )(XR_.*)( @\d+)", lambda found, one, other: op_of(found[one]) == op_of(found[other])),
+    "places": (rf"((?!{GETTER}).* @)(\d+)()", lambda found, one, other: True),
+    "near": (rf"((?!{GETTER}).* @)(\d+)()", lambda found, one, other: abs(int(found[one][2]) - int(found[other][2])) == 1),
+}
 
 
-def place_at(lines: Lines, at: int) -> int:
-    return int(lines[at].rpartition(" @")[2])
+def op_of(found: re.Match[str]) -> str:
+    return found[1].split(" ")[1]
 
 
-def with_place(lines: Lines, at: int, place: int) -> None:
-    lines[at] = f"{lines[at].rpartition(' @')[0]} @{place}"
-
-
-def is_getter(line: str) -> bool:
-    return line.split(" ")[1:2] != [] and line.split(" ")[1] in GETTERS
-
-
-def pick(chance: random.Random, lines: Lines, fits: Callable[[str], object]) -> int:
-    """A line that fits; the report has none where this raises IndexError."""
-    return chance.choice([at for at, line in enumerate(lines) if fits(line)])
-
-
-def is_counted(line: str) -> bool:
-    return PLACE.fullmatch(line) is not None and not is_getter(line)
+def fitting(lines: Lines, pattern: str) -> Found:
+    return {at: found for at, found in enumerate(re.fullmatch(pattern, line) for line in lines) if found}
 
 
 def close_ranks(lines: Lines, gone: int) -> None:
     """Each place behind one that is gone is one less."""
-    for at, line in enumerate(lines):
-        if PLACE.fullmatch(line) and place_at(lines, at) > gone:
-            with_place(lines, at, place_at(lines, at) - 1)
+    for at in fitting(lines, PLACED):
+        front, _, place = lines[at].rpartition(" @")
+        lines[at] = f"{front} @{int(place) - (int(place) > gone)}"
 
 
-def leave_out(lines: Lines, at: int) -> None:
+# ---- the changes: each raises IndexError or ValueError where a report has no line for it
+
+
+def leave_out(chance: random.Random, lines: Lines, pattern: str) -> None:
     """A line is left out as if its call had never been made: those behind it in its block are counted on."""
-    gone, line = place_at(lines, at), lines.pop(at)
-    numbered = re.compile(r"(frame )?(\d+)( .*)")
+    at = chance.choice([*fitting(lines, pattern)])
+    line, numbered = lines.pop(at), re.compile(r"(frame )?(\d+)( .*)")
     while found := numbered.fullmatch(lines[at]):
         lines[at] = f"{found[1] or ''}{int(found[2]) - 1}{found[3]}"
         at += 1
-    if not is_getter(line):
-        close_ranks(lines, gone)
+    if re.fullmatch(COUNTED, line):
+        close_ranks(lines, int(line.rpartition(" @")[2]))
 
 
-# ---- the changes
+def swap(chance: random.Random, lines: Lines, pattern: str, fits: Callable[[Found, int, int], bool]) -> None:
+    """What two lines have between their fronts and their ends is swapped."""
+    found = fitting(lines, pattern)
+    one, other = chance.choice([it for it in combinations(found, 2) if fits(found, *it) and found[it[0]][2] != found[it[1]][2]])
+    for at, by in ((one, other), (other, one)):
+        lines[at] = found[at][1] + found[by][2] + found[at][3]
 
 
-def change_code(chance: random.Random, lines: Lines) -> None:
-    """Another code, with the values that it may have."""
-    at = pick(chance, lines, CALL.fullmatch)
-    number, op, code, values, place = CALL.fullmatch(lines[at]).groups()
-    near = [*MET, OUT_OF_MEMORY, "XR_TIMEOUT_EXPIRED", "XR_ERROR_CALL_ORDER_INVALID", "XR_SESSION_NOT_FOCUSED"]
-    other = chance.choice([it for it in (*CODES, *near * 4) if it != code])
-    lines[at] = f"{number} {op} {other}{values if other in MET else ''} @{place}"
-
-
-def change_memory(chance: random.Random, lines: Lines) -> None:
-    """A call that takes memory tells a want of it."""
-    at = pick(chance, lines, lambda it: re.match(r"\d+ (string_to_path|suggest_bindings) XR_SUCCESS", it))
-    number, op, _, _, place = CALL.fullmatch(lines[at]).groups()
-    lines[at] = f"{number} {op} {OUT_OF_MEMORY} @{place}"
-
-
-def change_exchange(chance: random.Random, lines: Lines) -> None:
-    """The replies to two calls of one op are exchanged. What a call is answered follows from the calls before it, but where
-    memory is short and where an image may be given back already; and what a getter answers, from its place."""
-    calls = [(at, found) for at, found in enumerate(map(CALL.fullmatch, lines)) if found and found[2] != "wait_image"]
-    pairs = [(one, other) for one in calls for other in calls if one < other and one[1][2] == other[1][2]]
-    (first, one), (second, other) = chance.choice([it for it in pairs if it[0][1].group(3, 4) != it[1][1].group(3, 4)])
-    for at, found, by in ((first, one, other), (second, other, one)):
-        lines[at] = f"{found[1]} {found[2]} {by[3]}{by[4]} @{found[5]}"
-
-
-def change_number(chance: random.Random, lines: Lines, at: int, by: tuple[int, ...]) -> None:
-    """A number behind the first word of a line becomes another one."""
-    it = chance.choice(list(NUMBER.finditer(lines[at].rpartition(" @")[0], lines[at].find(" ") + 1)))
+def change_number(chance: random.Random, lines: Lines, pattern: str, number: str, by: tuple[int, ...]) -> None:
+    """A number of a line becomes another one."""
+    at = chance.choice([*fitting(lines, pattern)])
+    it = chance.choice(list(re.finditer(number, lines[at])))
     lines[at] = f"{lines[at][: it.start()]}{int(it[0]) + chance.choice(by)}{lines[at][it.end() :]}"
 
 
-def change_value(chance: random.Random, lines: Lines) -> None:
-    """A number that is printed behind a code, in a frame or in an event is one more or less."""
-    change_number(chance, lines, pick(chance, lines, PLACE.fullmatch), (1, -1))
+def code(chance: random.Random, lines: Lines) -> None:
+    """Another code, with the values that it may have."""
+    at, found = chance.choice([*fitting(lines, CALL.pattern).items()])
+    near = [*MET, OUT_OF_MEMORY, "XR_TIMEOUT_EXPIRED", "XR_ERROR_CALL_ORDER_INVALID", "XR_SESSION_NOT_FOCUSED"]
+    other = chance.choice([it for it in (*CODES, *near * 4) if it != found[3]])
+    lines[at] = f"{found[1]} {found[2]} {other}{found[4] if other in MET else ''} @{found[5]}"
 
 
-def change_stamp(chance: random.Random, lines: Lines) -> None:
-    """A layer shows another stamp."""
-    at = pick(chance, lines, lambda it: re.match("frame .*[:,]", it))
-    lines[at] = re.sub(r"(?<=[:,])\d+", lambda it: str(int(it[0]) + chance.choice((1, 2, 7))), lines[at], count=1)
+def memory(chance: random.Random, lines: Lines) -> None:
+    """A call that takes memory tells a want of it."""
+    at = chance.choice([*fitting(lines, r"\d+ (?:string_to_path|suggest_bindings) XR_SUCCESS.*")])
+    lines[at] = re.sub("XR_SUCCESS.* @", f"{OUT_OF_MEMORY} @", lines[at])
 
 
-def change_places(chance: random.Random, lines: Lines) -> None:
-    """Two places are swapped."""
-    one, other = (pick(chance, lines, is_counted) for _ in range(2))
-    place = place_at(lines, one)
-    with_place(lines, one, place_at(lines, other))
-    with_place(lines, other, place)
-
-
-def change_near(chance: random.Random, lines: Lines) -> None:
-    """Two places that stand side by side are swapped."""
-    counted = {place_at(lines, at): at for at, line in enumerate(lines) if is_counted(line)}
-    place = chance.choice([it for it in counted if it + 1 in counted])
-    with_place(lines, counted[place], place + 1)
-    with_place(lines, counted[place + 1], place)
-
-
-def change_one_off(chance: random.Random, lines: Lines) -> None:
-    """The place of a counted call is one off."""
-    at = pick(chance, lines, is_counted)
-    with_place(lines, at, place_at(lines, at) + chance.choice((1, -1)))
-
-
-def change_publication(chance: random.Random, lines: Lines) -> None:
+def publication(chance: random.Random, lines: Lines) -> None:
     """A getter has another place."""
-    at = pick(chance, lines, is_getter)
-    with_place(lines, at, chance.randrange(sum(map(is_counted, lines)) + 1))
+    at = chance.choice([*fitting(lines, GETTER)])
+    lines[at] = f"{lines[at].rpartition(' @')[0]} @{chance.randrange(len(fitting(lines, COUNTED)) + 1)}"
 
 
-def change_drop(chance: random.Random, lines: Lines) -> None:
-    """A line is dropped."""
+def drop(chance: random.Random, lines: Lines) -> None:
     lines.pop(chance.randrange(len(lines)))
 
 
-def change_double(chance: random.Random, lines: Lines) -> None:
-    """A line stands there twice."""
+def double(chance: random.Random, lines: Lines) -> None:
     at = chance.randrange(len(lines))
     lines.insert(at, lines[at])
 
 
-def change_no_call(chance: random.Random, lines: Lines) -> None:
-    """A script's call is left out."""
-    leave_out(lines, pick(chance, lines, lambda it: CALL.fullmatch(it) and " leave " not in it))
-
-
-def change_no_leave(chance: random.Random, lines: Lines) -> None:
-    """A script doesn't leave."""
-    leave_out(lines, pick(chance, lines, lambda it: " leave XR_SUCCESS @" in it))
-
-
-def change_no_frame(chance: random.Random, lines: Lines) -> None:
-    """A frame is left out."""
-    leave_out(lines, pick(chance, lines, lambda it: it.startswith("frame ")))
-
-
-def change_no_event(chance: random.Random, lines: Lines) -> None:
-    """An event is left out."""
-    leave_out(lines, pick(chance, lines, EVENT.fullmatch))
-
-
-def swap_words(chance: random.Random, lines: Lines, pattern: str) -> None:
-    """What two lines side by side have between their numbers and their places is swapped."""
-    fits = [bool(re.fullmatch(pattern, it)) for it in lines]
-    at = chance.choice([it for it in range(len(lines) - 1) if fits[it] and fits[it + 1]])
-    one, other = (re.fullmatch(pattern, lines[it]).groups() for it in (at, at + 1))
-    lines[at], lines[at + 1] = one[0] + other[1] + one[2], other[0] + one[1] + other[2]
-
-
-def change_order(chance: random.Random, lines: Lines) -> None:
-    """Two calls of a script, or two events, come in the other order."""
-    swap_words(chance, lines, r"(\d+)( [a-z].*)( @\d+)")
-
-
-def change_frames(chance: random.Random, lines: Lines) -> None:
-    """Two frames come in the other order."""
-    swap_words(chance, lines, r"(frame \d+)( time .*)( @\d+)")
-
-
-def change_status(chance: random.Random, lines: Lines) -> None:
-    """Another status."""
+def status(chance: random.Random, lines: Lines) -> None:
     lines[-1] = f"status {chance.choice([it for it in range(10) if lines[-1] != f'status {it}'])}"
 
 
-def change_stuck(chance: random.Random, lines: Lines) -> None:
+def stuck(chance: random.Random, lines: Lines) -> None:
     """A line behind `stuck` is dropped, is another, or stands elsewhere."""
-    first, way = lines.index("stuck") + 1 if "stuck" in lines else len(lines), chance.randrange(3)
+    first, way = lines.index("stuck") + 1, chance.randrange(3)
     at = chance.choice(range(first, len(lines) - 1))
     if way == 0:
         del lines[at]
@@ -209,8 +144,12 @@ def change_stuck(chance: random.Random, lines: Lines) -> None:
         lines[first:-1] = reversed(lines[first:-1])
 
 
-CHANGE_OF = {name[len("change_") :]: it for name, it in list(globals().items()) if name.startswith("change_")}
-del CHANGE_OF["number"]
+CHANGES: dict[str, Callable[[random.Random, Lines], None]] = {
+    **{it.__name__: it for it in (code, memory, publication, drop, double, status, stuck)},
+    **{name: lambda chance, lines, its=its: change_number(chance, lines, *its) for name, its in NUMBERS.items()},
+    **{name: lambda chance, lines, its=its: swap(chance, lines, *its) for name, its in SWAPPED.items()},
+    **{name: lambda chance, lines, it=it: leave_out(chance, lines, it) for name, it in LEFT_OUT.items()},
+}
 
 
 # ---- whether they are refused
@@ -218,42 +157,33 @@ del CHANGE_OF["number"]
 
 def is_reasoned(kind: str, before: Lines, after: Lines) -> bool:
     """Whether a changed report may be that of another history."""
-    if kind in MAY_BE_LEGAL:
-        return True
     added = [it for it in after if it not in before]
-    return kind in ("code", "memory") and all(f" {OUT_OF_MEMORY} " in it for it in added)
+    return kind in MAY_BE_LEGAL or kind in ("code", "memory") and all(f" {OUT_OF_MEMORY} " in it for it in added)
 
 
-def changed(chance: random.Random, reports: list[tuple[Text, Lines]], kind: str) -> tuple[Text, Lines, Lines] | None:
-    """A report before and behind a change of a kind; None where no report is found that can be changed so."""
+def changed(chance: random.Random, reports: list[tuple[Text, Lines]], kind: str) -> tuple[Text, Lines, Lines]:
+    """A report before and behind a change of a kind."""
     for _ in range(MOST_TRIES):
         text, before = chance.choice(reports)
         after = [*before]
         with contextlib.suppress(IndexError, ValueError):
-            CHANGE_OF[kind](chance, after)
+            CHANGES[kind](chance, after)
             if after != before:
                 return text, before, after
-    return None
+    raise AssertionError(f"{kind}: no report can be changed so")
 
 
 def changed_reports(tally: Tally, name: str, reports: list[tuple[Text, Lines]], most: int) -> None:
     """Each of so many changed reports is refused, but for those that another history makes, which are counted by name."""
-    chance, refused, legal = random.Random(12), 0, Counter()
-    kinds = [it for it in CHANGE_OF if it != "stuck" or any("stuck" in lines for _, lines in reports)]
+    chance, legal = random.Random(12), Counter()
+    kinds = [it for it in CHANGES if it != "stuck" or any("stuck" in lines for _, lines in reports)]
     short = [it for it in reports if len(it[1]) <= MOST_LINES]
-    for number in range(most):
-        kind = kinds[number % len(kinds)]
-        found = changed(chance, short, kind)
-        if found is None:
-            tally.check(False, f"{kind}: no report can be changed so")
-            continue
-        text, before, after = found
-        is_refused = judged(text, after) != ""
-        refused += is_refused
+    for kind in (kinds * most)[:most]:
+        text, before, after = changed(chance, short, kind)
+        is_refused = judged(text, joined(after)) != ""
         legal[kind] += not is_refused
-        at = next((at for at, (one, other) in enumerate(zip(before, after)) if one != other), -1)
-        is_due = is_refused or is_reasoned(kind, before, after)
-        tally.check(is_due, f"{text.name}: {kind} is taken: {before[at]!r}, {after[at]!r}")
+        differ = next((it for it in zip(before, after) if it[0] != it[1]), "")
+        tally.check(is_refused or is_reasoned(kind, before, after), f"{text.name}: {kind} is taken: {differ}")
     taken = ", ".join(f"{times} {kind}" for kind, times in sorted(legal.items()) if times)
-    print(f"{name}: {refused} changed reports refused, {sum(legal.values())} legal all the same: {taken}")
+    print(f"{name}: {most - sum(legal.values())} changed reports refused, {sum(legal.values())} legal all the same: {taken}")
     tally.check(sum(legal.values()) * 10 < most, "too many changed reports are taken")

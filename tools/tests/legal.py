@@ -11,51 +11,25 @@ What differs is told, and the last line counts.
 """
 from __future__ import annotations
 
-import inspect
 import random
 import re
 from pathlib import Path
 
-from helpers import TABLES, Tally, main, rows_of, run, tool
-from runs import (
-    Lines,
-    Text,
-    content,
-    in_any_order,
-    in_rounds,
-    joined,
-    judged,
-    lines_of,
-    made_text,
-    spoilt_by_chance,
-    stored_runs,
-    text_of,
-)
+from helpers import TABLES, Tally, main, replaced, rows_of, run, tool
+from runs import Lines, Text, content, in_any_order, in_rounds, joined, judged, lines_of, made_text, spoilt_by_chance, stored_runs, text_of
 
 from changes import changed_reports, close_ranks
 from judging.replay import stripped
-from machine.machine import Machine
-from scenarios.schema import Schema
 
 ORDERS = 300
 CHANGES = 2200
 BY_CHANCE = 120
 
 
-def rows(tally: Tally) -> None:
-    """The machine has a method for each op, which takes the fields of the op's row, and beside them what a run knows."""
-    schema = Schema.of_file()
-    for op in schema.ops:
-        method = getattr(Machine, "await_mark" if op == "await" else op)
-        known = [it for it in inspect.signature(method).parameters if it not in ("self", "since", "is_short")]
-        tally.check(known == [it for it in schema.fields(op) if it != "as"], f"{op} has the fields {known}")
-
-
 def looked_at(tally: Tally, program: str, text: Text) -> tuple[Text, Lines]:
     """What the program prints of a text is legal, and is what the machine prints."""
     printed = run([program, "serial", "--places", *text.words], cwd=text.folder).stdout
-    lines = lines_of(printed)
-    why = judged(text, lines)
+    lines, why = lines_of(printed), judged(text, printed)
     tally.check(not why, f"{text.name}: its report is refused: {why}")
     tally.check(in_rounds(text) == lines, f"{text.name}: the machine prints another report")
     return text, lines
@@ -66,12 +40,10 @@ def program_runs(tally: Tally, program: str, room: Path) -> list[tuple[Text, Lin
     found = []
     for text, has_places, stored in stored_runs():
         found.append(looked_at(tally, program, text))
-        bare = stripped(stored) if has_places else lines_of(stored)
-        is_stored = stripped(joined(found[-1][1])) == bare
+        is_stored = stripped(joined(found[-1][1])) == (stripped(stored) if has_places else lines_of(stored))
         tally.check(is_stored, f"{text.name}: without places it is another report than the stored one")
-    for number in range(BY_CHANCE):
-        found.append(looked_at(tally, program, made_text(room, f"chance{number}", *spoilt_by_chance(number))))
-    return found
+    texts = [made_text(room, f"chance{number}", *spoilt_by_chance(number)) for number in range(BY_CHANCE)]
+    return found + [looked_at(tally, program, text) for text in texts]
 
 
 def other_orders(tally: Tally, texts: list[Text]) -> list[tuple[Text, Lines]]:
@@ -81,50 +53,38 @@ def other_orders(tally: Tally, texts: list[Text]) -> list[tuple[Text, Lines]]:
     others = [it for it in texts if len(it.scripts) == 1 and it.device.events]
     for number in range(ORDERS):
         text = several[number % len(several)] if number < 2 * ORDERS // 3 else chance.choice(several + others)
-        lines = in_any_order(text, chance)
-        why = judged(text, lines)
+        found.append((text, in_any_order(text, chance)))
+        why = judged(text, joined(found[-1][1]))
         tally.check(not why, f"{text.name}, order {number}: its report is refused: {why}")
-        found.append((text, lines))
     tally.check(len({"\n".join(lines) for _, lines in found}) > ORDERS // 2, "the orders are mostly the same")
     return found
 
 
 def reports(tally: Tally, program: str, room: Path) -> None:
     """Reports of the program and of other orders are legal, and changed ones are not."""
-    rows(tally)
     runs = program_runs(tally, program, room)
     orders = other_orders(tally, [text for text, _ in runs])
     print(f"legal: {len(runs)} runs and {len(orders)} other orders judged")
     changed_reports(tally, "legal", runs + orders, CHANGES)
 
 
-# ---- what is said
-
-
-def with_piece(report: str, old: str, new: str) -> Lines:
-    """The lines of a report with another piece. Where one is left out, the places behind its own are one less."""
-    assert report.count(old) == 1 or not old, old
-    lines = report.replace(old, new).split("\n")[:-1] if old else report.split("\n")[:-1]
-    for gone in [int(it) for it in re.findall(r" @(\d+)$", old, re.MULTILINE) if not new]:
-        close_ranks(lines, gone)
-    return lines
-
-
 def faults(tally: Tally, program: str, room: Path) -> None:
-    """The line that is said of each fault, where the report is as it should be but for that."""
+    """The line that is said of each fault, where the report is as it should be but for that. Where a piece is left out, the places
+    behind its own are one less."""
     words = ["by_hand.json", "--device", "by_hand.device"]
-    text, report = text_of("by hand", TABLES, words), content(TABLES / "by_hand.report").decode()
-    tally.check(in_rounds(text) != report.split("\n")[:-1], "the report by hand is the round robin's")
+    text, report = text_of("by hand", TABLES, words), content(TABLES / "by_hand.report")
+    tally.check(in_rounds(text) != lines_of(report), "the report by hand is the round robin's")
     for number, (old, new, due) in enumerate(rows_of("faults")):
-        lines = with_piece(report, old, new)
-        why = judged(text, lines)
+        lines = lines_of(replaced(report, old, new) if old else report)
+        for gone in [int(it) for it in re.findall(r" @(\d+)$", old, re.MULTILINE) if not new]:
+            close_ranks(lines, gone)
+        why = judged(text, joined(lines))
         tally.check(why == due or not why and due.startswith("legal"), f"{why!r} is said for {due!r}")
         if number % 5 == 0:
-            (room / "r.txt").write_bytes(joined(lines))
-            ran = tool("legal", [*words, room / "r.txt"], cwd=TABLES)
-            said = f"report: {due}\n" if due.startswith("line") else f"{due}\n"
-            is_due = (ran.returncode, ran.stdout.decode(), ran.stderr) == (int(due.startswith("line")), said, b"")
-            tally.check(is_due, f"{due}: status {ran.returncode}, {ran.stdout + ran.stderr!r}")
+            ran = tool("legal", [*words, "-"], joined(lines), cwd=TABLES)
+            is_fault = due.startswith("line")
+            said = f"report: {due}\n" if is_fault else f"{due}\n"
+            tally.same((ran.returncode, ran.stdout.decode(), ran.stderr), (int(is_fault), said, b""), due)
 
 
 if __name__ == "__main__":

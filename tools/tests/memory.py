@@ -11,15 +11,13 @@ import json
 import os
 import subprocess
 import sys
-import tempfile
 from collections import namedtuple
 from concurrent.futures import ThreadPoolExecutor
 from functools import lru_cache
 
 from allocations import counted_in, make_shim, outside
-from helpers import TABLES
+from helpers import NAMED, TABLES, calls_of, filled, main, ops_of, run, scenario_of
 
-USAGE = "memory PROGRAM [WORD]"
 REPEATS, ATOMS, LONGEST = 400, 1024, 600
 # What a run takes by itself: its lists double, and so do the bytes of the report. They are the calls of two scripts, the
 # device's events and calls, and the compositor's frames, replies and give-backs. A list of 8,192 has doubled 14 times at
@@ -37,50 +35,33 @@ def quads(chains, **wrong):
     return [{"quad": "o", "image": [chain, 0, 0, 1, 1], "pose": 1, **wrong} for chain in chains]
 
 
-SET, ACTION = "create_action_set instance=i priority=0", "create_action set=d type=boolean"
-A_SET, AN_ACTION = f"{SET} name=d localized=d as=d", f"{ACTION} name=b subactions=[] localized=b as=b"
-SPACE, CHAIN = "create_reference_space session=s kind=view", "create_swapchain session=s static=false height=1"
-A_SPACE, A_CHAIN = f"{SPACE} offset=1", f"{CHAIN} format=1 width=1"
-INSTANCE = "create_instance major=1 minor=0 as=i; create_session instance=i system=1 as=s"
-SESSION, RUN = "destroy_session session=s; create_session instance=i system=1 as=s", "begin_session session=s view=stereo"
-IMAGE = "acquire_image chain=c0; wait_image chain=c0 timeout=inf; paint chain=c0 stamp=@; release_image chain=c0"
-BEGIN, END = "wait_frame session=s as=t; begin_frame session=s", "end_frame session=s blend=opaque"
-FRAME, WISHES = f"{BEGIN}; {END} time=t layers=[]", "wish visible; wish focused"
-EXIT, POLL, LOCATE = "request_exit_session session=s", "poll_event instance=i", "locate_space space=x base=o time=500"
-SUGGEST, ATTACH = "suggest_bindings instance=i profile=simple", "attach_sets session=s sets="
-SYNC, GET = "sync_actions session=s active=", "get_boolean session=s action="
-HAND = "create_action_space session=s action=p sub="
-A_POSE = "create_action set=d type=pose name=p subactions=[] localized=p as=p"
-ALL_SETS = compact([f"e{number}" for number in range(15)] * 2 + ["d", "d"])
 VIEWS = {"projection": "o", "views": [["c1", 0, 0, 1, 1], ["c2", 0, 0, 1, 1]]}
-# the compositor gives back an image a turn, and that of c0 last: it is still used when it is waited for
-LATE = f"{BEGIN}; {END} time=t layers={compact(quads(CHAINS[1:] + CHAINS[:1]))}; {IMAGE}; {IMAGE}; acquire_image chain=c0; "
-LATE += "wait_image chain=c0 timeout=0 +TIMEOUT_EXPIRED; wait_image chain=c0 timeout=inf; release_image chain=c0"
-WRONG_LAYERS = [
+WRONG_LAYERS = (
     (quads([0]), "HANDLE_INVALID"), (quads(["c1"], quad=0), "HANDLE_INVALID"), (quads(["c0"]), "LAYER_INVALID"),
     ([{**VIEWS, "views": []}], "VALIDATION_FAILURE"), (quads(["c1"], image=["c1", 0, 0, 2, 1]), "SWAPCHAIN_RECT_INVALID"),
-    (quads(["c1"], pose=0), "POSE_INVALID"), (quads(["c0"] * 17), "LAYER_LIMIT_EXCEEDED")]
+    (quads(["c1"], pose=0), "POSE_INVALID"), (quads(["c0"] * 17), "LAYER_LIMIT_EXCEEDED"))
+NAMED["ALL_SETS"] = compact([f"e{number}" for number in range(15)] * 2 + ["d", "d"])
+NAMED["ALL_QUADS"], NAMED["PAIRS_97"], NAMED["PAIRS_513"] = (compact(it) for it in (quads(CHAINS), [[0, 0]] * 97, [[0, 0]] * 513))
+NAMED["WRONG_FRAMES"] = "".join(filled(f"{{END}} time=1 layers={compact(layers)} !{code}; ") for layers, code in WRONG_LAYERS)
+# the compositor gives back an image a turn, and that of c0 last: it is still used when it is waited for
+LATE = f"{{BEGIN}}; {{END}} time=t layers={compact(quads(CHAINS[1:] + CHAINS[:1]))}; {{IMAGE}}; {{IMAGE}}; acquire_image chain=c0; "
+LATE += "wait_image chain=c0 timeout=0 +TIMEOUT_EXPIRED; wait_image chain=c0 timeout=inf; release_image chain=c0"
+NAMED["LATE"] = filled(LATE)
 
-WRONG_FRAMES = "".join(f"{END} time=1 layers={compact(layers)} !{code}; " for layers, code in WRONG_LAYERS)
-ALL_QUADS, PAIRS_97, PAIRS_513 = (compact(it) for it in (quads(CHAINS), [[0, 0]] * 97, [[0, 0]] * 513))
-POLLS = "; ".join([POLL] * 34)
 
-
-# What is repeated: ops of the first script and lines of the device, in which @ is the number of the repetition. A result
-# behind ! is XR_ERROR_.., one behind + is XR_.., and `result` stands where none does. Behind | stand ends of an op, each an
-# op of its own. A repetition takes memory `takes` times, and is seen to. The full machine is first brought into another
+# What is repeated: ops of the first script (as calls_of in helpers.py reads them) and lines of the device, in which @ is the
+# number of the repetition. A repetition takes memory `takes` times, and is seen to. The full machine is first brought into another
 # state, by the device's lines `earlier` and then by the ops `before`; beside what is repeated so many `frames` are made. For
 # path_to_string the core takes none: the run keeps the bytes that were written to the one buffer that it lends.
 Row = namedtuple("Row", "name ops lines result takes earlier before frames atoms repeats",
                  defaults=("", "", "+SUCCESS", 0, "", "", 30, ATOMS, REPEATS))
-NAMED = {name: it for name, it in list(globals().items()) if isinstance(it, str) and name.isupper()}
 
 
 def rows_in(file):
-    """The rows of a table, in whose texts names in capitals stand for those above. A list has the ops of a text."""
+    """The rows of a table. A list has the ops of a text."""
     for row in json.loads(file.read_text(encoding="utf-8")):
         texts = {key: "; ".join(it) if isinstance(it, list) else it for key, it in row.items()}
-        yield Row(**{key: it.format_map(NAMED) if isinstance(it, str) else it for key, it in texts.items()})
+        yield Row(**{key: filled(it) if isinstance(it, str) else it for key, it in texts.items()})
 
 
 ROWS = list(rows_in(TABLES / "memory.json"))
@@ -89,51 +70,28 @@ PATHS = dict(left="/user/hand/left", right="/user/hand/right", head="/user/head"
              menu="/user/hand/left/input/menu/click", touched="/user/hand/left/input/x/click")
 PROFILES = {"simple": ("khr/simple_controller", "select"), "touch": ("oculus/touch_controller", "touched"),
             "vive": ("htc/vive_controller", "menu"), "xbox": ("microsoft/xbox_controller", "pressed")}
-ORIGINS = ["view", "local", "stage"] + [f"/user/hand/{it}/pose" for it in ("left/input/grip", "left/input/aim",
-                                                                           "right/input/grip", "right/input/aim")]
-
-
-def value_of(text):
-    try:
-        return json.loads(text)
-    except ValueError:
-        return text
-
-
-def calls_of(text, result="+SUCCESS"):
-    """The ops of a text, each with the line's words that it has to have."""
-    for op in filter(None, text.split("; ")):
-        first, *ends = op.split(" | ")
-        for words in [f"{first} {end}".split(" ") for end in ends] or [first.split(" ")]:
-            fields = [word.split("=", 1) for word in words if "=" in word]
-            said = " ".join(words[len(fields) + 1:]) or result
-            yield ({"op": words[0], **{key: value_of(value) for key, value in fields}},
-                   f"{words[0]} {said.replace('!', 'XR_ERROR_').replace('+', 'XR_')}")
-
-
-def ops_of(text):
-    return [op for op, _ in calls_of(text)]
+ORIGINS = ["view", "local", "stage", *(f"/user/hand/{hand}/input/{pose}/pose" for hand in ("left", "right") for pose in ("grip", "aim"))]
 
 
 @lru_cache(None)
 def filling(atoms):
     """The ops that fill a machine: names are as long as they may be, and each swapchain has an image that was released.
     Of those but the first and the last, which is static, another image is waited for and the third acquired."""
-    texts = [INSTANCE, RUN, FRAME]
+    texts = ["{INSTANCE}; {SESSION}; {RUN}; {FRAME}"]
     named = {**PATHS, **{name: f"/interaction_profiles/{path}" for name, (path, _) in PROFILES.items()}}
     texts += [f"string_to_path instance=i text={text} as={name}" for name, text in named.items()]
     texts += [f"string_to_path instance=i text=/fill/{number}" for number in range(atoms - len(named))]
-    texts += [f"{A_SPACE} as=o", f"{A_SPACE} as=x", *[A_SPACE] * 62]
+    texts.append("{A_SPACE} as=o; {A_SPACE} as=x; 62 {A_SPACE}")
     for name in CHAINS:
-        texts.append(f"create_swapchain session=s format=1 width=1 height=1 static={compact(name == CHAINS[-1])} as={name}")
-        texts.append(IMAGE.replace("c0", name).replace("@", "1"))
+        image = NAMED["IMAGE"].replace("c0", name).replace("@", "1")
+        texts.append(f"create_swapchain session=s format=1 width=1 height=1 static={compact(name == CHAINS[-1])} as={name}; {image}")
         if name in CHAINS[1:-1]:
-            texts += [IMAGE.replace("c0", name).partition("; paint")[0], f"acquire_image chain={name}"]
-    texts += [f"{SET} name={number:0>63} localized={number:0>127} as=e{number}" for number in range(15)]
+            texts += [image.partition("; paint")[0], f"acquire_image chain={name}"]
+    texts += [f"{{SET}} name={number:0>63} localized={number:0>127} as=e{number}" for number in range(15)]
     kinds, users = ("boolean", "float", "vector", "pose", "vibration"), compact(list(PATHS)[:5])
     texts += [f"create_action set=e{number % 15} name={number:0>63} localized={number:0>127} as=q{number} subactions={users} "
               f"type={kinds[number % 5]}" for number in range(63)]
-    texts += [A_SET, AN_ACTION]
+    texts.append("{A_SET}; {AN_ACTION}")
     for name, (_, path) in PROFILES.items():
         bindings = compact([["b" if number % 8 else f"q{number % 60 // 5 * 5}", path] for number in range(512)])
         texts.append(f"suggest_bindings instance=i profile={name} bindings={bindings}")
@@ -146,7 +104,7 @@ def scripts_of(row, gate):
     ops, the second makes frames beside it, so that three are pending and one is held, and six wait for ever."""
     first = [*filling(row.atoms), *ops_of(f"await mark={TOLD}; mark mark={FILLED}; await mark={READY}; {row.before}; "
                                           f"mark mark={OPEN}; await mark={gate}")]
-    frame = f"{BEGIN}; {END} time=t layers={compact(quads(CHAINS[1:]) + [VIEWS])}"
+    frame = f"{{BEGIN}}; {{END}} time=t layers={compact(quads(CHAINS[1:]) + [VIEWS])}"
     shared = "; ".join(f"await mark={mark} as={name}" for mark, name in enumerate(["s", "o", *CHAINS], 1))
     second = ops_of(f"{shared}; await mark={gate}") + ops_of(frame) * row.frames
     repeated = [op for number in range(row.repeats) for op in ops_of(row.ops.replace("@", str(1000 + number)))]
@@ -156,26 +114,24 @@ def scripts_of(row, gate):
 def device_of(row, gate):
     """The lines of the device: those that fill a machine, and those that are repeated."""
     told = ["stage on", "wish focused", *(f"pose {origin} {101 + time} 7" for origin in ORIGINS for time in range(16))]
-    told += ["await 1", *WISHES.split("; ") * 20, f"mark {TOLD}", f"await {FILLED}", row.earlier, f"mark {READY}"]
+    told += ["await 1", *NAMED["WISHES"].split("; ") * 20, f"mark {TOLD}", f"await {FILLED}", row.earlier, f"mark {READY}"]
     repeated = [line.replace("@", str(1000 + number)) for number in range(row.repeats) for line in row.lines.split("; ")]
     return list(filter(None, [*told, f"await {gate}", *repeated]))
 
 
 def count_of(program, room, row, gate):
     """How often memory was taken in a run of a row as far as its gate, or through it, and what was printed."""
-    name = f"{room}/{ROWS.index(row)}-{gate}"
-    with open(f"{name}.json", "w") as scenario, open(f"{name}.device", "w") as device:
-        scenario.write(compact({"version": 1, "scripts": scripts_of(row, gate)[0]}))
-        device.write("\n".join(device_of(row, gate)))
-    words = [program, "serial", f"{name}.json", "--device", f"{name}.device"]
-    child = {"env": outside(f"{room}/shim.so", count=f"{name}.count"), "stdin": subprocess.DEVNULL, "capture_output": True}
-    ran = subprocess.run(words, timeout=LONGEST, **child)
+    scenario, device, count = (room / f"{ROWS.index(row)}-{gate}.{kind}" for kind in ("json", "device", "count"))
+    scenario.write_text(scenario_of(scripts_of(row, gate)[0]), encoding="utf-8")
+    device.write_text("\n".join(device_of(row, gate)), encoding="utf-8")
+    environment = outside(f"{room}/shim.so", count=str(count))
+    ran = run([program, "serial", scenario, "--device", device], env=environment, timeout=LONGEST)
     if ran.returncode != 7:
         raise RuntimeError(f"the run ends with {ran.returncode} and not stuck: {ran.stderr.decode(errors='replace')}")
-    count = counted_in(f"{name}.count")
-    if count == 0:
+    found = counted_in(str(count))
+    if found == 0:
         raise RuntimeError("no malloc, calloc or realloc was counted, so nothing is known of the memory that it takes")
-    return count, ran.stdout.decode()
+    return found, ran.stdout.decode()
 
 
 def unlike(row, report):
@@ -204,18 +160,14 @@ def wrong_in(program, room, row):
     return other and f"{row.name}: {other}"
 
 
-def main(words):
-    if len(words) not in (1, 2):
-        sys.exit(USAGE)
-    program, rows = os.path.realpath(words[0]), [row for row in ROWS if "".join(words[1:]) in row.name]
-    if not os.path.isfile(program) or not os.access(program, os.X_OK):
-        sys.exit(f"memory: no program at {program}")
-    with tempfile.TemporaryDirectory() as room, ThreadPoolExecutor(os.cpu_count()) as pool:
-        make_shim("memory", room)
-        wrong = list(filter(None, pool.map(lambda row: wrong_in(program, room, row), rows)))
-    print(*wrong, f"memory: {len(rows)} rows, {len(wrong)} wrong", sep="\n")
-    sys.exit(1 if wrong or not rows else 0)
+def rows(tally, program, room):
+    """Each row takes memory as often as it says."""
+    make_shim("memory", str(room))
+    chosen = [row for row in ROWS if "".join(sys.argv[2:]) in row.name]
+    with ThreadPoolExecutor(os.cpu_count()) as pool:
+        for wrong in pool.map(lambda row: wrong_in(program, room, row), chosen):
+            tally.check(not wrong, wrong)
 
 
 if __name__ == "__main__":
-    main(sys.argv[1:])
+    main("memory", rows, more="[WORD]")

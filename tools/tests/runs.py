@@ -1,13 +1,12 @@
 """Runs for the tests: the texts of cases and examples, those made by chance, and what the machine makes of them in any order."""
 from __future__ import annotations
 
-import json
 import random
 from collections.abc import Callable
 from pathlib import Path
-from typing import Any, NamedTuple
+from typing import NamedTuple
 
-from helpers import CASES, EXAMPLES
+from helpers import CASES, EXAMPLES, Ops, scenario_of, with_device
 
 import by_chance
 from judging.replay import NotLegal, has_places, judge
@@ -38,7 +37,8 @@ def content(path: Path) -> bytes:
 
 def text_of(name: str, folder: Path, words: list[str]) -> Text:
     """The texts that a run's words name."""
-    scenario, device, left = "", NO_DEVICE, [it for it in words if it != "--places"]
+    words = [it for it in words if it != "--places"]
+    scenario, device, left = "", NO_DEVICE, [*words]
     while left:
         word = left.pop(0)
         if word.startswith("--device"):
@@ -46,12 +46,12 @@ def text_of(name: str, folder: Path, words: list[str]) -> Text:
             device = FAILED_DEVICE if file.is_dir() else device_in(file.read_bytes())
         else:
             scenario = left.pop(0) if word == "--" else word
-    return Text(name, scripts_in((folder / scenario).read_bytes()), device, folder, [it for it in words if it != "--places"])
+    return Text(name, scripts_in((folder / scenario).read_bytes()), device, folder, words)
 
 
-def made_text(room: Path, name: str, scripts: list, device: list[str] | None) -> Text:
+def made_text(room: Path, name: str, scripts: str | list[Ops], device: list[str] | None) -> Text:
     """A text whose files are written."""
-    (room / f"{name}.json").write_text(json.dumps({"version": 1, "scripts": scripts}), encoding="utf-8")
+    (room / f"{name}.json").write_text(scenario_of(scripts), encoding="utf-8")
     if device is not None:
         (room / f"{name}.device").write_text("".join(f"{it}\n" for it in device), encoding="utf-8")
     return text_of(name, room, [f"{name}.json", *(["--device", f"{name}.device"] if device is not None else [])])
@@ -60,29 +60,27 @@ def made_text(room: Path, name: str, scripts: list, device: list[str] | None) ->
 def stored_runs() -> list[tuple[Text, bool, bytes]]:
     """The cases and the examples whose runs make a report, whether that has places, and the report that is stored."""
     found = []
-    for case in sorted(it for it in CASES.iterdir() if it.is_dir() and not (it / "rows").exists()):
-        words, stored = content(case / "args").decode().splitlines(), content(case / "stdout")
+    for file in sorted(CASES.glob("*/stdout")):
+        words, stored = content(file.parent / "args").decode().splitlines(), content(file)
         if words[:1] == ["serial"] and stored.startswith(FIRST_LINE + b"\n"):
-            found.append((text_of(case.name, CASES, words[1:]), "--places" in words, stored))
+            found.append((text_of(file.parent.name, CASES, words[1:]), "--places" in words, stored))
     for file in sorted(EXAMPLES.glob("*.json")):
-        device = [] if not file.with_suffix(".device").exists() else ["--device", f"{file.stem}.device"]
-        text = text_of(f"examples/{file.name}", EXAMPLES, [file.name, *device])
-        found.append((text, False, content(file.with_suffix(".report"))))
+        found.append((text_of(f"examples/{file.name}", EXAMPLES, with_device(file)), False, content(file.with_suffix(".report"))))
     return found
 
 
-def marks_by_chance(chance: random.Random, most: int) -> tuple[list, list[str]]:
+def marks_by_chance(chance: random.Random, most: int) -> tuple[list[Ops], list[str]]:
     """Up to so many scripts, and a device, that set marks and wait for some."""
     highest = chance.randint(2, 6)
 
     def some(longest: int) -> list[tuple[str, int]]:
         return [(chance.choice(("mark", "await")), chance.randint(1, highest)) for _ in range(chance.randint(0, longest))]
 
-    scripts = [[{"op": op, "mark": mark} for op, mark in some(6)] for _ in range(chance.randint(1, most))]
+    scripts: list[Ops] = [[{"op": op, "mark": mark} for op, mark in some(6)] for _ in range(chance.randint(1, most))]
     return scripts, [f"{op} {mark}" for op, mark in some(5)]
 
 
-def spoilt_by_chance(number: int) -> tuple[list, list[str] | None]:
+def spoilt_by_chance(number: int) -> tuple[list[Ops], list[str] | None]:
     """The scenario by chance of this number without a few of its ops and lines, so that somebody mostly waits for ever."""
     chance, (scripts, device) = random.Random(number), by_chance.scenario(number)
     kept = [[op for op in ops if "as" in op or chance.random() < 0.96] for ops in scripts]
@@ -150,10 +148,10 @@ def joined(lines: Lines) -> bytes:
     return "".join(f"{it}\n" for it in lines).encode()
 
 
-def judged(text: Text, lines: Lines) -> Any:
+def judged(text: Text, printed: bytes) -> str:
     """Why a report is refused; nothing where it is legal."""
     try:
-        report = read_lines(joined(lines))
+        report = read_lines(printed)
         if not has_places(report):
             return "it has no places"
         judge(text.scripts, text.device, report)

@@ -204,20 +204,8 @@ impl Chain {
         }
     }
 
-    /// The next index is acquired.
-    #[tactic(auto, unfolding(xr_model::specs::machine::Chains::is_acquire_wrong))]
-    fn take_next(&mut self)
-        requires { is_acquire_wrong (Some self.old) ≡ false }
-        ensures { self.new ≡ acquiring self.old }
-    {
-        let index = self.next;
-        self.is_clear = false;
-        self.acquired.push(index);
-        self.next = index_behind(self.is_static, index);
-        self.last = unless_acquired(index, self.last);
-    }
-
     /// Acquires the next image, and gives its index. Refused is a call where none may be acquired (`CallOrderInvalid`).
+    #[tactic(auto, unfolding(xr_model::specs::machine::Chains::is_acquire_wrong))]
     pub(crate) fn acquire(&mut self) -> Answer
         ensures answer { result ≡ answer_by (first_of (when (is_acquire_wrong (Some self.old)) Code.CallOrderInvalid ∷ [])) self.old.next }
         ensures chain { self.new ≡ unless (first_of (when (is_acquire_wrong (Some self.old)) Code.CallOrderInvalid ∷ [])) self.old (acquiring self.old) }
@@ -225,11 +213,14 @@ impl Chain {
         if self.is_acquire_wrong() {
             return OUT_OF_ORDER;
         }
-        let number = u64::from(self.next);
-        self.take_next();
+        let index = self.next;
+        self.is_clear = false;
+        self.acquired.push(index);
+        self.next = index_behind(self.is_static, index);
+        self.last = unless_acquired(index, self.last);
         Answer {
             code: Code::Success,
-            number,
+            number: u64::from(index),
         }
     }
 

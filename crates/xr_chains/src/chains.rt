@@ -10,8 +10,8 @@ ghost use Rattle.xr_chains.specs.Waited.{waited_images};
 
 use crate::chain::{Chain, OUT_OF_ORDER};
 use crate::places::{
-    acquire_at, free_each, free_place, front_at, held_at, info_at, place_of, put, release_at,
-    sweep_each, wait_at,
+    free_each, free_place, front_at, held_at, info_at, place_of, put, release_at, sweep_each,
+    wait_at,
 };
 use crate::standing::Standing;
 use std::marker::Model;
@@ -123,13 +123,13 @@ impl Chains {
     /// where all three images are acquired, where the one image of a static swapchain was acquired before, or where no
     /// swapchain has the handle (`CallOrderInvalid`); it leaves all as it was. OpenXR 1.0 chapter 10,
     /// xrAcquireSwapchainImage.
-    #[tactic(auto, using(crate::proofs::ChainPlaces::no_chain), unfolding(xr_model::specs::machine::Chains::is_acquire_wrong))]
+    #[tactic(auto, using(crate::proofs::ChainPlaces::no_chain, crate::proofs::ChainPlaces::found_at), unfolding(xr_model::specs::machine::Chains::is_acquire_wrong))]
     pub fn acquire(&mut self, handle: u64) -> Answer
         ensures answer { result ≡ answer_by (first_of (when (is_acquire_wrong (chain_at self.old handle)) Code.CallOrderInvalid ∷ [])) (next_index (chain_at self.old handle)) }
         ensures chains { self.new ≡ unless (first_of (when (is_acquire_wrong (chain_at self.old handle)) Code.CallOrderInvalid ∷ [])) self.old (with_chain_at handle acquiring self.old) }
     {
         match place_of(&self.places, handle) {
-            Some(place) => acquire_at(&mut self.places, handle, place),
+            Some(place) => self.places[place].acquire(),
             None => OUT_OF_ORDER,
         }
     }

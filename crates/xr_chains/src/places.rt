@@ -2,15 +2,13 @@
 ghost use Rattle.std.specs.Prelude.{◌≡◌, ◌≤◌, ◌<◌, ◌==◌, [], ◌∷◌, length, IfSome, None, Some, option_map, if◌then◌else◌};
 ghost use Rattle.std.specs.List.{position_from};
 ghost use Rattle.xr_model.specs.machine.CellCalls.{MayCall, Leads, free_calls};
-ghost use Rattle.xr_model.specs.machine.Chains.{is_chain, chain_at, with_chain, with_chain_at, is_acquire_wrong, is_wait_wrong, is_paint_wrong, next_index, oldest_index, acquiring, waiting, releasing, info_of};
-ghost use Rattle.xr_model.specs.machine.PartAnswers.{answer_by};
-ghost use Rattle.xr_model.specs.machine.Refusals.{when, first_of, unless};
+ghost use Rattle.xr_model.specs.machine.Chains.{is_chain, chain_at, with_chain, with_chain_at, is_wait_wrong, is_paint_wrong, oldest_index, waiting, releasing, info_of};
 ghost use Rattle.xr_chains.specs.ChainsLeft.{left_where, freed_where};
 
 use crate::chain::Chain;
 use crate::standing::Standing;
 use xr_model::Cells;
-use xr_types::{Answer, ChainInfo, Code, Image};
+use xr_types::{ChainInfo, Image};
 
 /// The first free place.
 pub(crate) fn free_place(places: &[Chain]) -> Option<usize>
@@ -36,17 +34,6 @@ pub(crate) fn put(places: &mut [Chain], place: usize, chain: Chain)
     ensures { places.new ≡ with_chain places.old chain }
 {
     places[place] = chain;
-}
-
-/// Acquires the next image of the swapchain in a place.
-#[tactic(auto, using(crate::proofs::ChainPlaces::found_at))]
-pub(crate) fn acquire_at(places: &mut [Chain], handle: u64, place: usize) -> Answer
-    requires found { position_from (is_chain handle) 0 places.old ≡ Some place }
-    requires within { place < length places.old }
-    ensures answer { result ≡ answer_by (first_of (when (is_acquire_wrong (chain_at places.old handle)) Code.CallOrderInvalid ∷ [])) (next_index (chain_at places.old handle)) }
-    ensures places { places.new ≡ unless (first_of (when (is_acquire_wrong (chain_at places.old handle)) Code.CallOrderInvalid ∷ [])) places.old (with_chain_at handle acquiring places.old) }
-{
-    places[place].acquire()
 }
 
 /// The image of the swapchain in a place that may be waited for.

@@ -170,8 +170,8 @@ module _ (s : CoreState) (wanted : ActionType) (session action sub : ℕ) where
   abbrev u : Bool
   u = is_none (column_read p found sub)
 
-  published : found ≡ option_map (published_action (first_seen s.sessions) s.handles s.columns) (action_at s.sets action)
-  published = find_map (published_action (first_seen s.sessions) s.handles s.columns) (λ (x : PublishedAction). x.handle == action) (λ (x : sets.Action). x.handle == action) (λ x. refl) s.sets.actions
+  published : found ≡ option_map (published_action (first_seen s.sessions) s.handles s.columns) (action_at s.inputs action)
+  published = find_map (published_action (first_seen s.sessions) s.handles s.columns) (λ (x : PublishedAction). x.handle == action) (λ (x : sets.Action). x.handle == action) (λ x. refl) s.inputs.actions
 
   module _ (x : Session) (named : named_first s.sessions session ≡ Some x) where
     first : first_seen s.sessions ≡ Some (seen x)
@@ -183,10 +183,10 @@ module _ (s : CoreState) (wanted : ActionType) (session action sub : ℕ) where
     loss : p.loss ≡ loss_of x.life
     loss = rw first refl
 
-    pub no_action : action_at s.sets action ≡ None → answer ≡ Err HandleInvalid
+    pub no_action : action_at s.inputs action ≡ None → answer ≡ Err HandleInvalid
     no_action none = by_action a b p.loss.lost d t u told is_it (rw (published, none) refl)
 
-    module _ (y : sets.Action) (there : action_at s.sets action ≡ Some y) where
+    module _ (y : sets.Action) (there : action_at s.inputs action ≡ Some y) where
       one_published : found ≡ Some (published_action (first_seen s.sessions) s.handles s.columns y)
       one_published = published ∙ rw there refl
 
@@ -236,7 +236,7 @@ module _ (s : CoreState) (wanted : ActionType) (session action sub : ℕ) where
             has_type = rw (of_type, typed) refl
 
             column_so : column_read p found sub ≡ (if sub == 0 then Some 0 else column_from 1 users y.declared sub)
-            column_so = rw (one_published, known) (ap (λ (o : Option ℕ). if sub == 0 then Some 0 else o) (column_same s.atoms s.sets.actions action sub y there))
+            column_so = rw (one_published, known) (ap (λ (o : Option ℕ). if sub == 0 then Some 0 else o) (column_same s.atoms s.inputs.actions action sub y there))
 
             pub refused_by_path : (if sub == 0 then Some 0 else column_from 1 users y.declared sub) ≡ None → answer ≡ Err PathUnsupported
             refused_by_path none = by_path a b p.loss.lost d t u told is_it has_action isnt_lost has_set has_type (rw (column_so, none) refl)
@@ -250,7 +250,7 @@ module _ (s : CoreState) (wanted : ActionType) (session action sub : ℕ) where
               gives_so =
                   let it : PublishedAction = published_action (first_seen s.sessions) s.handles s.columns y in
                   let read : column_by p it sub ≡ Some column = rw one_published at (column_so ∙ has) in
-                  let own : y.handle ≡ action = key_of (λ (x : sets.Action). x.handle) s.sets.actions action y there in
+                  let own : y.handle ≡ action = key_of (λ (x : sets.Action). x.handle) s.inputs.actions action y there in
                   let shows : unwrap_or (option_map (shown_by wanted) (option_and_then (λ k. slice_get it.columns k) (column_by p it sub))) Nothing ≡ shown = rw (read, own) (shown_same wanted s.columns column (place_among s.handles kind.Action action)) in
                   rw one_published shows
 

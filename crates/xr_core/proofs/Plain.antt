@@ -113,7 +113,7 @@ plain_rule s reads who given = by
     by : (r : Call) → gives_size r ≡ false → are_plain (refusals (rule_of s reads who given r)) ≡ true
     by (ask.PathToString instance path capacity) sized = absurd (true≢false sized)
     by (ask.CreateAction set name type subs localized) sized =
-        plain_more (sub_checks s.atoms no_users subs) (action_label_checks s.sets set localized ++ no_room s.handles Action ∷ []) (plain_subs s.atoms no_users subs) refl
+        plain_more (sub_checks s.atoms no_users subs) (action_label_checks s.inputs set localized ++ no_room s.handles Action ∷ []) (plain_subs s.atoms no_users subs) refl
     by (ask.SuggestBindings instance profile list) sized = plain_bindings s (profile_at s.atoms profile) list
     by (ask.AttachSets session handles) sized = plain_handles s.handles ActionSet handles
     by (ask.SyncActions session active) sized = plain_items s session active

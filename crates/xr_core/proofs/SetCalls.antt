@@ -38,47 +38,47 @@ some_dead h kind (handle ∷ handles) dead = by (is_live h kind handle) dead (so
 
 module _ (s : CoreState) (set : ℕ) (name : List ℕ) (type : ActionType) (subs localized : List ℕ) (declared : List Bool) (live : or_refused {T = Unit {0}} (first_of (no_handle s.handles kind.ActionSet set ∷ [])) tt ≡ Ok tt) where
   behind_handle : or_refused (first_of (refusals (create_action_rule s 0 set name type subs localized))) declared
-      ≡ or_refused (first_of (action_checks s.sets set name ++ (sub_checks s.atoms no_users subs ++ (action_label_checks s.sets set localized ++ no_room s.handles kind.Action ∷ [])))) declared
+      ≡ or_refused (first_of (action_checks s.inputs set name ++ (sub_checks s.atoms no_users subs ++ (action_label_checks s.inputs set localized ++ no_room s.handles kind.Action ∷ [])))) declared
   behind_handle =
-      then_ok (no_handle s.handles kind.ActionSet set ∷ []) (when false CallOrderInvalid ∷ (action_checks s.sets set name ++ (sub_checks s.atoms no_users subs ++ (action_label_checks s.sets set localized ++ no_room s.handles kind.Action ∷ [])))) tt tt declared live
+      then_ok (no_handle s.handles kind.ActionSet set ∷ []) (when false CallOrderInvalid ∷ (action_checks s.inputs set name ++ (sub_checks s.atoms no_users subs ++ (action_label_checks s.inputs set localized ++ no_room s.handles kind.Action ∷ [])))) tt tt declared live
 
-  pub refused_by_name : (code : Code) → or_refused {T = Unit {0}} (first_of (action_checks s.sets set name)) tt ≡ Err code → or_refused (first_of (refusals (create_action_rule s 0 set name type subs localized))) declared ≡ Err code
+  pub refused_by_name : (code : Code) → or_refused {T = Unit {0}} (first_of (action_checks s.inputs set name)) tt ≡ Err code → or_refused (first_of (refusals (create_action_rule s 0 set name type subs localized))) declared ≡ Err code
   refused_by_name code told =
-      behind_handle ∙ then_err (action_checks s.sets set name) (sub_checks s.atoms no_users subs ++ (action_label_checks s.sets set localized ++ no_room s.handles kind.Action ∷ [])) tt declared code told
+      behind_handle ∙ then_err (action_checks s.inputs set name) (sub_checks s.atoms no_users subs ++ (action_label_checks s.inputs set localized ++ no_room s.handles kind.Action ∷ [])) tt declared code told
 
-  module _ (named : or_refused {T = Unit {0}} (first_of (action_checks s.sets set name)) tt ≡ Ok tt) where
+  module _ (named : or_refused {T = Unit {0}} (first_of (action_checks s.inputs set name)) tt ≡ Ok tt) where
     behind_name : or_refused (first_of (refusals (create_action_rule s 0 set name type subs localized))) declared
-        ≡ or_refused (first_of (sub_checks s.atoms no_users subs ++ (action_label_checks s.sets set localized ++ no_room s.handles kind.Action ∷ []))) declared
-    behind_name = behind_handle ∙ then_ok (action_checks s.sets set name) (sub_checks s.atoms no_users subs ++ (action_label_checks s.sets set localized ++ no_room s.handles kind.Action ∷ [])) tt tt declared named
+        ≡ or_refused (first_of (sub_checks s.atoms no_users subs ++ (action_label_checks s.inputs set localized ++ no_room s.handles kind.Action ∷ []))) declared
+    behind_name = behind_handle ∙ then_ok (action_checks s.inputs set name) (sub_checks s.atoms no_users subs ++ (action_label_checks s.inputs set localized ++ no_room s.handles kind.Action ∷ [])) tt tt declared named
 
     pub refused_by_subs : (d : List Bool) (code : Code) → or_refused (first_of (sub_checks s.atoms no_users subs)) d ≡ Err code → or_refused (first_of (refusals (create_action_rule s 0 set name type subs localized))) declared ≡ Err code
-    refused_by_subs d code told = behind_name ∙ then_err (sub_checks s.atoms no_users subs) (action_label_checks s.sets set localized ++ no_room s.handles kind.Action ∷ []) d declared code told
+    refused_by_subs d code told = behind_name ∙ then_err (sub_checks s.atoms no_users subs) (action_label_checks s.inputs set localized ++ no_room s.handles kind.Action ∷ []) d declared code told
 
     module _ (d found : List Bool) (known : or_refused (first_of (sub_checks s.atoms no_users subs)) d ≡ Ok found) where
-      behind_subs : or_refused (first_of (refusals (create_action_rule s 0 set name type subs localized))) declared ≡ or_refused (first_of (action_label_checks s.sets set localized ++ no_room s.handles kind.Action ∷ [])) declared
-      behind_subs = behind_name ∙ then_ok (sub_checks s.atoms no_users subs) (action_label_checks s.sets set localized ++ no_room s.handles kind.Action ∷ []) d found declared known
+      behind_subs : or_refused (first_of (refusals (create_action_rule s 0 set name type subs localized))) declared ≡ or_refused (first_of (action_label_checks s.inputs set localized ++ no_room s.handles kind.Action ∷ [])) declared
+      behind_subs = behind_name ∙ then_ok (sub_checks s.atoms no_users subs) (action_label_checks s.inputs set localized ++ no_room s.handles kind.Action ∷ []) d found declared known
 
-      pub refused_by_label : (code : Code) → or_refused {T = Unit {0}} (first_of (action_label_checks s.sets set localized)) tt ≡ Err code → or_refused (first_of (refusals (create_action_rule s 0 set name type subs localized))) declared ≡ Err code
-      refused_by_label code told = behind_subs ∙ then_err (action_label_checks s.sets set localized) (no_room s.handles kind.Action ∷ []) tt declared code told
+      pub refused_by_label : (code : Code) → or_refused {T = Unit {0}} (first_of (action_label_checks s.inputs set localized)) tt ≡ Err code → or_refused (first_of (refusals (create_action_rule s 0 set name type subs localized))) declared ≡ Err code
+      refused_by_label code told = behind_subs ∙ then_err (action_label_checks s.inputs set localized) (no_room s.handles kind.Action ∷ []) tt declared code told
 
-      pub behind_label : or_refused {T = Unit {0}} (first_of (action_label_checks s.sets set localized)) tt ≡ Ok tt → or_refused (first_of (refusals (create_action_rule s 0 set name type subs localized))) declared ≡ or_refused (first_of (no_room s.handles kind.Action ∷ [])) declared
-      behind_label labelled = behind_subs ∙ then_ok (action_label_checks s.sets set localized) (no_room s.handles kind.Action ∷ []) tt tt declared labelled
+      pub behind_label : or_refused {T = Unit {0}} (first_of (action_label_checks s.inputs set localized)) tt ≡ Ok tt → or_refused (first_of (refusals (create_action_rule s 0 set name type subs localized))) declared ≡ or_refused (first_of (no_room s.handles kind.Action ∷ [])) declared
+      behind_label labelled = behind_subs ∙ then_ok (action_label_checks s.inputs set localized) (no_room s.handles kind.Action ∷ []) tt tt declared labelled
 
 -- where nothing refuses it
 module _ (s : CoreState) (set : ℕ) (name : List ℕ) (type : ActionType) (subs localized : List ℕ) (none : first_of (refusals (create_action_rule s 0 set name type subs localized)) ≡ None) where
-  from_name : first_of (action_checks s.sets set name ++ (sub_checks s.atoms no_users subs ++ (action_label_checks s.sets set localized ++ no_room s.handles kind.Action ∷ []))) ≡ None
-  from_name = none_second (no_handle s.handles kind.ActionSet set ∷ when false CallOrderInvalid ∷ []) (action_checks s.sets set name ++ (sub_checks s.atoms no_users subs ++ (action_label_checks s.sets set localized ++ no_room s.handles kind.Action ∷ []))) none
+  from_name : first_of (action_checks s.inputs set name ++ (sub_checks s.atoms no_users subs ++ (action_label_checks s.inputs set localized ++ no_room s.handles kind.Action ∷ []))) ≡ None
+  from_name = none_second (no_handle s.handles kind.ActionSet set ∷ when false CallOrderInvalid ∷ []) (action_checks s.inputs set name ++ (sub_checks s.atoms no_users subs ++ (action_label_checks s.inputs set localized ++ no_room s.handles kind.Action ∷ []))) none
 
-  from_label : first_of (action_label_checks s.sets set localized ++ no_room s.handles kind.Action ∷ []) ≡ None
+  from_label : first_of (action_label_checks s.inputs set localized ++ no_room s.handles kind.Action ∷ []) ≡ None
   from_label =
-      none_second (sub_checks s.atoms no_users subs) (action_label_checks s.sets set localized ++ no_room s.handles kind.Action ∷ [])
-      (none_second (action_checks s.sets set name) (sub_checks s.atoms no_users subs ++ (action_label_checks s.sets set localized ++ no_room s.handles kind.Action ∷ [])) from_name)
+      none_second (sub_checks s.atoms no_users subs) (action_label_checks s.inputs set localized ++ no_room s.handles kind.Action ∷ [])
+      (none_second (action_checks s.inputs set name) (sub_checks s.atoms no_users subs ++ (action_label_checks s.inputs set localized ++ no_room s.handles kind.Action ∷ [])) from_name)
 
-  pub name_none : first_of (action_checks s.sets set name) ≡ None
-  name_none = none_first (action_checks s.sets set name) (sub_checks s.atoms no_users subs ++ (action_label_checks s.sets set localized ++ no_room s.handles kind.Action ∷ [])) from_name
+  pub name_none : first_of (action_checks s.inputs set name) ≡ None
+  name_none = none_first (action_checks s.inputs set name) (sub_checks s.atoms no_users subs ++ (action_label_checks s.inputs set localized ++ no_room s.handles kind.Action ∷ [])) from_name
 
-  pub label_none : first_of (action_label_checks s.sets set localized) ≡ None
-  label_none = none_first (action_label_checks s.sets set localized) (no_room s.handles kind.Action ∷ []) from_label
+  pub label_none : first_of (action_label_checks s.inputs set localized) ≡ None
+  label_none = none_first (action_label_checks s.inputs set localized) (no_room s.handles kind.Action ∷ []) from_label
 
   pub action_room : has_room s.handles kind.Action ≡ true
-  action_room = room_last (action_label_checks s.sets set localized) s.handles kind.Action from_label
+  action_room = room_last (action_label_checks s.inputs set localized) s.handles kind.Action from_label

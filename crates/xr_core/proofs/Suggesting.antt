@@ -71,7 +71,7 @@ module _ (s : CoreState) (which : Profile) (b : Binding) (bs : List Binding) whe
       by : (o : Option Refusal) → first_of (binding_checks s which b) ≡ o → (p : Option Pick) → pick_of s which b ≡ p → Err code ≡ some_or_refused o p
           → or_refused (first_of (flat_map (binding_checks s which) (b ∷ bs))) (front ++ filter_map (bound_of s which) (b ∷ bs)) ≡ Err code
       by None eo (Some p) ep told = cc
-      by None eo None ep told = absurd (missing (no_handle s.handles Action b.action) (when (is_in_sealed_set s.sets b.action) ActionsetsAlreadyAttached) (when (is_none (text_at s.atoms b.path)) PathInvalid) (pick_of s which b) ep eo)
+      by None eo None ep told = absurd (missing (no_handle s.handles Action b.action) (when (is_in_sealed_set s.inputs b.action) ActionsetsAlreadyAttached) (when (is_none (text_at s.atoms b.path)) PathInvalid) (pick_of s which b) ep eo)
       by (Some r) eo p ep told = let is : code ≡ r.code = cc in rw (first_stays (binding_checks s which b) (flat_map (binding_checks s which) bs) r eo, is) refl
 
 module _ (s : CoreState) (which : Profile) (list : List Binding) (i : ℕ) (d : Binding) (within : i < length list) where
@@ -88,7 +88,7 @@ module _ (s : CoreState) (which : Profile) (list : List Binding) (i : ℕ) (d : 
 -- what a path picks has one of the thirty identifiers
 pub sources_bound : (s : CoreState) (which : Profile) (list : List Binding) → list_all is_source (filter_map (bound_of s which) list) ≡ true
 sources_bound s which [] = refl
-sources_bound s which (b ∷ list) = by (type_of_action s.sets b.action) (text_at s.atoms b.path) (sources_bound s which list)
+sources_bound s which (b ∷ list) = by (type_of_action s.inputs b.action) (text_at s.atoms b.path) (sources_bound s which list)
   where
     one : (wanted : ActionType) (path : List ℕ) (o : Option Pick) → component which wanted path ≡ o → list_all is_source (filter_map (bound_of s which) list) ≡ true → list_all is_source (cons_option (option_map (λ pick. record { action = b.action; pick = pick }) o) (filter_map (bound_of s which) list)) ≡ true
     one wanted path None e rest = rest

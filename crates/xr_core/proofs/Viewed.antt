@@ -69,4 +69,4 @@ each_length session h columns (x ∷ xs) = ap suc (each_length session h columns
 
 -- the number, and then what a core writes
 pub words_of_core : (s : CoreState) → words (publication_of s) ≡ s.published ∷ contents_words s
-words_of_core s = rw (each_words (first_seen s.sessions) s.handles s.columns s.sets.actions, each_length (first_seen s.sessions) s.handles s.columns s.sets.actions) refl
+words_of_core s = rw (each_words (first_seen s.sessions) s.handles s.columns s.inputs.actions, each_length (first_seen s.sessions) s.handles s.columns s.inputs.actions) refl

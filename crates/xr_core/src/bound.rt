@@ -84,13 +84,13 @@ impl Parts {
         if !self.handles.is_live(Kind::Action, binding.action) {
             return Err(Code::HandleInvalid);
         }
-        if self.sets.is_in_sealed_set(binding.action) {
+        if self.inputs.is_in_sealed_set(binding.action) {
             return Err(Code::ActionsetsAlreadyAttached);
         }
         let Some(path) = self.paths.text_at(binding.path) else {
             return Err(Code::PathInvalid);
         };
-        match self.sets.kind_of(binding.action) {
+        match self.inputs.kind_of(binding.action) {
             Some(kind) => component(profile, kind, path).ok_or(Code::PathUnsupported),
             None => Err(Code::PathUnsupported),
         }

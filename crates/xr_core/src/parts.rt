@@ -10,7 +10,6 @@ ghost use Rattle.xr_model.specs.machine.LiveSessions.{still_live};
 ghost use Rattle.xr_model.specs.machine.Refusals.{first_of};
 ghost use Rattle.xr_model.specs.machine.Sets.{without_inputs};
 ghost use Rattle.xr_model.specs.machine.SessionLife.{is_lost};
-ghost use Rattle.xr_model.specs.machine.SessionRule.{loss_of, code_on};
 ghost use Rattle.xr_model.specs.machine.Spaces.{without_spaces};
 ghost use Rattle.xr_model.specs.machine.Rules.Device.{with_changes};
 ghost use Rattle.xr_model.specs.machine.Rules.Session.{life_of};
@@ -19,6 +18,7 @@ ghost use Rattle.xr_model.specs.machine.State.{with_apps, opening_core};
 ghost use Rattle.xr_model.specs.machine.Machine.{IsPresent};
 ghost use Rattle.xr_core.specs.inside.Changes.{change_by, with_places_left};
 ghost use Rattle.xr_model.specs.machine.PartAnswers.{or_refused};
+ghost use Rattle.xr_core.specs.inside.Refusing.{success_on};
 
 use crate::device_values::DeviceValues;
 use crate::ranking::Ranking;
@@ -59,11 +59,11 @@ pub(crate) struct Parts {
     /// How many sessions were created.
     pub(crate) created: u64,
     /// The live action sets and actions, in the order of their creation.
-    pub(crate) sets: Sets,
+    pub(crate) inputs: Sets,
     /// What is suggested for each profile.
     pub(crate) bindings: Bindings,
     /// The live spaces, in the order of their creation, and the samples of their origins.
-    pub(crate) spaces: Spaces,
+    pub(crate) room: Spaces,
     /// The frame loop of the live session, and the frames that are pending.
     pub(crate) frames: Frames,
     /// How many frames were ended.
@@ -101,10 +101,10 @@ impl Model for Parts {
       events = c.events;
       sessions = c.sessions.items;
       created = c.created;
-      sets = c.sets;
+      inputs = c.inputs;
       suggestions = c.bindings;
       columns = c.columns;
-      spaces = c.spaces;
+      room = c.room;
       frames = c.frames;
       ended = c.ended;
       chains = c.chains;
@@ -117,7 +117,7 @@ impl Model for Parts {
       published = 0;
     } };
 
-    ghost invariant = { λ c. AreListed c.handles c.sessions.items × (c.apps ≤ MOST_SCRIPTS) × KeepsLive c.spaces c.sets c.handles × (length c.chains ≡ SWAPCHAINS) × KnowsUsers c.users c.paths };
+    ghost invariant = { λ c. AreListed c.handles c.sessions.items × (c.apps ≤ MOST_SCRIPTS) × KeepsLive c.room c.inputs c.handles × (length c.chains ≡ SWAPCHAINS) × KnowsUsers c.users c.paths };
 }
 
 /// Only the sessions whose handles are live are kept.
@@ -194,9 +194,9 @@ impl Parts {
             events,
             sessions: ArrayVec::new(),
             created: 0,
-            sets,
+            inputs: sets,
             bindings: Bindings::start(),
-            spaces,
+            room: spaces,
             frames: Frames::start(),
             ended: 0,
             chains: Chains::start(),
@@ -263,7 +263,7 @@ impl Parts {
 
     /// What a plain success on a session is answered as, where the session isn't lost. One that isn't listed isn't.
     pub(crate) fn on_session(&self, session: u64) -> Result<Code, Code>
-        ensures { result ≡ or_refused (first_of (is_lost (life_of self.now session) ∷ [])) (code_on (loss_of (life_of self.now session)) Code.Success) }
+        ensures { result ≡ or_refused (first_of (is_lost (life_of self.now session) ∷ [])) (success_on self.now session) }
     {
         match session_at(self.sessions.as_slice(), session) {
             Some(session) => session.success(),
@@ -280,8 +280,8 @@ impl Parts {
         self.handles.destroy(handle, &mut destroyed);
         keep_live(&self.handles, &mut self.sessions);
         forget_attached(&mut self.sessions, destroyed.as_slice());
-        forget_spaces(&mut self.spaces, destroyed.as_slice());
-        forget_sets(&mut self.sets, destroyed.as_slice());
+        forget_spaces(&mut self.room, destroyed.as_slice());
+        forget_sets(&mut self.inputs, destroyed.as_slice());
         forget_suggestions(&mut self.bindings, destroyed.as_slice());
         self.leave_places(shows);
     }
@@ -293,7 +293,7 @@ impl Parts {
         ensures { self.new ≡ with_places_left all self.old }
     {
         let there = self.handles.actions();
-        self.spaces.leave(&there);
+        self.room.leave(&there);
         if all {
             self.columns.clear();
         } else {

@@ -1,9 +1,10 @@
 // A core whose calls aren't counted: what its parts keep and the images that are held, and how each call is decided.
 ghost use Rattle.std.specs.Prelude.{◌≡◌, ◌≤◌, [], take, drop, length, slice_get, IfOk, ℕ, List};
 ghost use Rattle.xr_types.specs.declared.calls.Actor.{Actor};
+ghost use Rattle.xr_types.specs.declared.frames.Shown.{Shown};
 ghost use Rattle.xr_types.specs.declared.limits.TheConstants.{MOST_SCRIPTS};
 ghost use Rattle.xr_model.specs.machine.CellCalls.{MayCall, Leads, peek_calls, return_calls};
-ghost use Rattle.xr_model.specs.machine.CoreCalls.{Lent, MayMake};
+ghost use Rattle.xr_model.specs.machine.CoreCalls.{MayMake};
 ghost use Rattle.std.specs.List.{list_all};
 ghost use Rattle.xr_model.specs.machine.Frames.{is_empty};
 ghost use Rattle.xr_model.specs.machine.Images.{first_images};
@@ -138,7 +139,7 @@ impl Uncounted {
     #[inline(never)]
     fn image_done<C: Cells>(&mut self, cells: &mut C) -> Result<Reply, Halt>
         requires may { MayCall C.may C.does cells.old (return_calls (take 1 self.old.held)) }
-        ensures { (who : Actor) (lent : Lent) → DecidesAlong C.does (record { core = self.old; cells = cells.old; lent = lent }) (record { core = self.new; cells = cells.new; lent = lent }) who ask.ImageDone result }
+        ensures { (who : Actor) (text : List ℕ) (frame : Shown) → DecidesAlong C.does (world self.old cells.old text frame) (world self.new cells.new text frame) who ask.ImageDone result }
     {
         let Some(image) = self.pop_held() else {
             return refused(Code::CallOrderInvalid);

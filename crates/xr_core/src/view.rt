@@ -119,18 +119,18 @@ impl Parts {
     #[tactic(auto, using(crate::proofs::Viewed::words_more))]
     fn push_actions(&self, out: &mut View)
         requires room { length out.old + 14 * 64 ≤ MOST_WORDS }
-        ensures { out.new ≡ out.old ++ flat_map (words_of_action (first_seen self.now.sessions) self.now.handles self.now.columns) self.now.sets.actions }
+        ensures { out.new ≡ out.old ++ flat_map (words_of_action (first_seen self.now.sessions) self.now.handles self.now.columns) self.now.inputs.actions }
     {
-        for action in self.sets.actions() {
+        for action in self.inputs.actions() {
             self.push_action(out, action);
         }
     }
 
     /// The atom of a user path, where some action declares it.
     fn shown_atom(&self, user: User) -> u64
-        ensures { result ≡ atom_of_user self.now.atoms self.now.sets.actions user }
+        ensures { result ≡ atom_of_user self.now.atoms self.now.inputs.actions user }
     {
-        if self.sets.some_declares(user) {
+        if self.inputs.some_declares(user) {
             self.users[user_place(user)]
         } else {
             0
@@ -140,9 +140,9 @@ impl Parts {
     /// The words of the live session, with the count of actions.
     fn push_session(&self, out: &mut View)
         requires room { length out.old + 2 ≤ MOST_WORDS }
-        ensures { out.new ≡ out.old ++ session_words (first_seen self.now.sessions) (length self.now.sets.actions) }
+        ensures { out.new ≡ out.old ++ session_words (first_seen self.now.sessions) (length self.now.inputs.actions) }
     {
-        let actions = self.sets.actions().len() as u64;
+        let actions = self.inputs.actions().len() as u64;
         let (handle, lost, pending) = match self.sessions.as_slice().first() {
             Some(session) => (
                 session.handle(),
@@ -159,7 +159,7 @@ impl Parts {
     #[tactic(auto, using(crate::proofs::Viewed::five_more))]
     fn push_atoms(&self, out: &mut View)
         requires room { length out.old + 5 ≤ MOST_WORDS }
-        ensures { out.new ≡ out.old ++ map (atom_of_user self.now.atoms self.now.sets.actions) all_users }
+        ensures { out.new ≡ out.old ++ map (atom_of_user self.now.atoms self.now.inputs.actions) all_users }
     {
         out.words.push(self.shown_atom(User::Left));
         out.words.push(self.shown_atom(User::Right));

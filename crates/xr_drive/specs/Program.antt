@@ -1,6 +1,8 @@
 -- What a program does with the status of a top call: the number that it ends with, and the line that it says.
 use Rattle.std.specs.Prelude.{◌≡◌, ◌⊎◌, ℕ, List, [], ◌∷◌, ◌++◌, take}
 use Rattle.std.specs.Io.KnownBytes.{Appends}
+use Rattle.std.specs.Process.{exit_status}
+use Rattle.std.specs.declared.process.ExitCode.{ExitCode}
 use Rattle.xr_io.specs.Outside.{Rose, Output}
 use Rattle.xr_types.specs.declared.status.Status.{Status}
 use Rattle.xr_types.specs.declared.status.Status.TheVariants.{Done, WriteFault}
@@ -31,8 +33,8 @@ said_of Done = []
 said_of status = status_line status ++ 10 ∷ []
 
 -- Some status is answered, and a program ends with its number and says its line.
-pub record EndsWith (Answers : Status → Type 0) (old new : Output) (number : ℕ) : Type 0 where
+pub record Ends (Answers : Status → Type 0) (old new : Output) (exit : ExitCode) : Type 0 where
   pub status : Status
   pub answer : Answers status
-  pub exits : number ≡ exit_of status
+  pub exits : exit_status exit ≡ exit_of status
   pub says : Says old new (said_of status)

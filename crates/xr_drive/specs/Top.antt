@@ -1,5 +1,5 @@
 -- What a top call means, and why each of its answers comes.
-use Rattle.std.specs.Prelude.{◌≡◌, ◌≤◌, ◌⊎◌, ℕ, ◌+◌, Bool, true, false, List, take, Option, Some, None, option_map, option_and_then, is_some, Ok, Err, IfSome, ⊤}
+use Rattle.std.specs.Prelude.{◌≡◌, ◌≤◌, ◌⊎◌, ℕ, ◌+◌, Bool, true, false, List, take, Option, Some, None, option_map, option_and_then, is_some, map, String, string_bytes, Ok, Err, IfSome, ⊤}
 use Rattle.std.specs.Io.KnownBytes.{Keeps, Appends}
 use Rattle.xr_io.specs.Outside.{Rose, Files, Output}
 use Rattle.xr_io.specs.declared.Taken.{Taken}
@@ -9,7 +9,7 @@ use Rattle.xr_types.specs.declared.limits.TheConstants.{MOST_SCENARIO, MOST_DEVI
 use Rattle.xr_types.specs.declared.made.Lists.{Lists}
 use Rattle.xr_types.specs.declared.status.Status.{Status}
 use Rattle.xr_types.specs.declared.status.Status.TheVariants.{Done, Usage, OpenFault, ReadFault, ScenarioRefused, DeviceFailed, DeviceGarbled, Stuck, WriteFault, NoMemory}
-use Rattle.xr_model.specs.command_line.Words.{RunOptions, WordsForm, run, load}
+use Rattle.xr_model.specs.command_line.Words.{RunOptions, WordsForm, run, load, form_of}
 use Rattle.xr_model.specs.scenario.Scenario.{scenario_of}
 use Rattle.xr_model.specs.device_text.DeviceText.{DeviceStream, nothing_more, told_in}
 use Rattle.xr_model.specs.report.RunEnding.{ending_of}
@@ -38,6 +38,10 @@ abbrev pub Writes : Outside → Outside → List ℕ → Type 0
 Writes old new bytes = Appends old.output.bytes new.output.bytes bytes
 
 -- ---- what was run
+
+-- What the words ask for, if they have a form.
+abbrev pub form_by : {Z : Type 0} → List (String Z) → Option WordsForm
+form_by words = form_of (map string_bytes words)
 
 -- The words ask for a run of files, and this is so of its options.
 abbrev pub OfRun : Option WordsForm → (RunOptions → Type 0) → Type 0

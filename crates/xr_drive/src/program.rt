@@ -1,12 +1,11 @@
 // A program over the top call: one line on an output for errors where not all is done, and the exit status.
-ghost use Rattle.std.specs.Prelude.{◌≡◌, map, string_bytes};
+ghost use Rattle.std.specs.Prelude.{◌≡◌};
 ghost use Rattle.std.specs.Process.{exit_status};
 ghost use Rattle.xr_io.specs.Outside.{AreUnasked};
 ghost use Rattle.xr_model.specs.report.RunEnding.{exit_of};
-ghost use Rattle.xr_drive.specs.Program.{EndsWith, Says, said_of, Prints};
-ghost use Rattle.xr_model.specs.command_line.Words.{form_of};
+ghost use Rattle.xr_drive.specs.Program.{Ends, Says, said_of, Prints};
 ghost use Rattle.xr_drive.specs.Run.{RunOf};
-ghost use Rattle.xr_drive.specs.Top.{outside, IsAnswer};
+ghost use Rattle.xr_drive.specs.Top.{form_by, outside, IsAnswer};
 
 use crate::explanation::explain;
 use crate::output::write_all;
@@ -48,7 +47,7 @@ pub fn run_program<'n, O: Opener<'n>, K: Sink, E: Sink>(
     errors: &mut E,
 ) -> ExitCode
     requires fresh { AreUnasked (O.files opener.old) }
-    ensures { EndsWith (IsAnswer RunOf (form_of (map string_bytes words.now)) (outside (O.files opener.old) (K.output sink.old)) (outside (O.files opener.new) (K.output sink.new))) (E.output errors.old) (E.output errors.new) (exit_status result) }
+    ensures { Ends (IsAnswer RunOf (form_by words.now) (outside (O.files opener.old) (K.output sink.old)) (outside (O.files opener.new) (K.output sink.new))) (E.output errors.old) (E.output errors.new) result }
 {
     let status = run_serial(alloc, words, opener, sink);
     end_with(errors, status)

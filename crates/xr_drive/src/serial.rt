@@ -1,13 +1,13 @@
 // The top call of one thread.
-ghost use Rattle.std.specs.Prelude.{◌≡◌, ◌≤◌, map, IfOk, Some, None, string_bytes};
+ghost use Rattle.std.specs.Prelude.{◌≡◌, ◌≤◌, IfOk, Some, None};
 ghost use Rattle.xr_types.specs.declared.limits.TheConstants.{MOST_LOAD};
 ghost use Rattle.xr_io.specs.Outside.{Files, AreUnasked};
-ghost use Rattle.xr_model.specs.command_line.Words.{run, load, form_of};
+ghost use Rattle.xr_model.specs.command_line.Words.{run, load};
 ghost use Rattle.xr_model.specs.scenario.LoadScenario.{load_device};
 ghost use Rattle.xr_command.specs.Reads.{shown, shown_form, FitsLimits};
 ghost use Rattle.xr_serial.specs.Ran.{Ran};
 ghost use Rattle.xr_drive.specs.Run.{RunOf};
-ghost use Rattle.xr_drive.specs.Top.{outside, IsAnswer};
+ghost use Rattle.xr_drive.specs.Top.{form_by, outside, IsAnswer};
 ghost use Rattle.xr_drive.specs.Files.{FilesAnswer, FilesEnded};
 ghost use Rattle.xr_drive.specs.inside.CallParts.{RunLoad};
 
@@ -163,7 +163,7 @@ pub fn run_serial<'n, O: Opener<'n>, K: Sink>(
     sink: &mut K,
 ) -> Status
     requires fresh { AreUnasked (O.files opener.old) }
-    ensures { IsAnswer RunOf (form_of (map string_bytes words.now)) (outside (O.files opener.old) (K.output sink.old)) (outside (O.files opener.new) (K.output sink.new)) result }
+    ensures { IsAnswer RunOf (form_by words.now) (outside (O.files opener.old) (K.output sink.old)) (outside (O.files opener.new) (K.output sink.new)) result }
 {
     match form_of(alloc, words) {
         Ok(form) => answer(alloc, &form, opener, sink),

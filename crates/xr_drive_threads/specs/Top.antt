@@ -1,5 +1,5 @@
 -- What the top call on threads means.
-use Rattle.std.specs.Prelude.{◌≡◌, ℕ, List, Option, Some, None, option_map, codes, ⊤}
+use Rattle.std.specs.Prelude.{◌≡◌, ℕ, List, Option, Some, None, option_map, codes, map, String, string_bytes, ⊤}
 use Rattle.xr_types.specs.declared.made.Lists.{Lists}
 use Rattle.xr_types.specs.declared.scenario.Scenario.{Scenario}
 use Rattle.xr_types.specs.declared.status.Status.{Status}
@@ -13,8 +13,8 @@ use Rattle.xr_drive.specs.Run.{RunBy}
 use Rattle.xr_drive.specs.Top.{Outside, IsAnswer}
 
 -- The form of the words on threads, if they have one: `threads FILE` with its options.
-abbrev pub threads_form : List (List ℕ) → Option WordsForm
-threads_form words = option_map run (run_under (codes "threads") words)
+abbrev pub threads_form : {Z : Type 0} → List (String Z) → Option WordsForm
+threads_form words = option_map run (run_under (codes "threads") (map string_bytes words))
 
 -- The lists are those of a run on threads, of the one history for which this closed runtime stands.
 abbrev pub RanClosed : Option Closed → Scenario → Option DeviceStream → ℕ → Lists → Type 0
@@ -34,5 +34,5 @@ IsClosedFor (DeviceGarbled line) closed = (c : Closed) × (closed ≡ Some c)
 IsClosedFor WriteFault closed = (c : Closed) × (closed ≡ Some c)
 
 -- What a status says under some closed runtime, all of it.
-abbrev pub AnswersOnThreads : Option WordsForm → Outside → Outside → Status → Type 0
-AnswersOnThreads form old new status = (closed : Option Closed) × IsAnswer (RunBy (RanClosed closed)) form old new status × IsClosedFor status closed
+abbrev pub ThreadsAnswer : Option WordsForm → Outside → Outside → Status → Type 0
+ThreadsAnswer form old new status = (closed : Option Closed) × IsAnswer (RunBy (RanClosed closed)) form old new status × IsClosedFor status closed

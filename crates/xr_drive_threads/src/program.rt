@@ -1,10 +1,8 @@
 // A program over the top call on threads.
-ghost use Rattle.std.specs.Prelude.{map, string_bytes};
-ghost use Rattle.std.specs.Process.{exit_status};
 ghost use Rattle.xr_io.specs.Outside.{AreUnasked};
-ghost use Rattle.xr_drive.specs.Program.{EndsWith};
+ghost use Rattle.xr_drive.specs.Program.{Ends};
 ghost use Rattle.xr_drive.specs.Top.{outside};
-ghost use Rattle.xr_drive_threads.specs.Top.{threads_form, AnswersOnThreads};
+ghost use Rattle.xr_drive_threads.specs.Top.{threads_form, ThreadsAnswer};
 
 use crate::threads::run_threads;
 use std::alloc::Global;
@@ -27,7 +25,7 @@ pub fn run_threads_program<'n, R: Threads + Wait + Sync, O: Opener<'n>, K: Sink,
     errors: &mut E,
 ) -> ExitCode
     requires fresh { AreUnasked (O.files opener.old) }
-    ensures { EndsWith (AnswersOnThreads (threads_form (map string_bytes words.now)) (outside (O.files opener.old) (K.output sink.old)) (outside (O.files opener.new) (K.output sink.new))) (E.output errors.old) (E.output errors.new) (exit_status result) }
+    ensures { Ends (ThreadsAnswer (threads_form words.now) (outside (O.files opener.old) (K.output sink.old)) (outside (O.files opener.new) (K.output sink.new))) (E.output errors.old) (E.output errors.new) result }
 {
     let ran = run_threads(rt, alloc, words, opener, sink, &OpenGate);
     end_with(errors, ran.status)

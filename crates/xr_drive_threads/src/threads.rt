@@ -1,5 +1,5 @@
 // The top call on threads.
-ghost use Rattle.std.specs.Prelude.{◌≡◌, ◌+◌, map, string_bytes};
+ghost use Rattle.std.specs.Prelude.{◌≡◌, ◌+◌};
 ghost use Rattle.xr_io.specs.Outside.{AreUnasked};
 ghost use Rattle.xr_drive.specs.Run.{RunBy};
 ghost use Rattle.xr_drive.specs.Top.{outside, IsAnswer};
@@ -41,7 +41,7 @@ pub fn run_threads<'n, R: Threads + Wait + Sync, O: Opener<'n>, K: Sink, G: Gate
     gate: &G,
 ) -> Ran
     requires fresh { AreUnasked (O.files opener.old) }
-    ensures answer { IsAnswer (RunBy (RanClosed result.closed)) (threads_form (map string_bytes words.now)) (outside (O.files opener.old) (K.output sink.old)) (outside (O.files opener.new) (K.output sink.new)) result.status }
+    ensures answer { IsAnswer (RunBy (RanClosed result.closed)) (threads_form words.now) (outside (O.files opener.old) (K.output sink.old)) (outside (O.files opener.new) (K.output sink.new)) result.status }
     ensures closed { IsClosedFor result.status result.closed }
 {
     let options = match threads_options(alloc, words) {

@@ -132,7 +132,7 @@ abbrev pub fails_to_open : Holding → Which → List ℕ → Bool
 fails_to_open opener which name =
     (failing_of opener which).opening || is_none (bytes_under opener.files name)
 
--- the opener with other asked
+-- the opener, asked for other files
 abbrev pub with_asked : Holding → Asked → Holding
 with_asked opener asked = record {
   files = opener.files;

@@ -88,38 +88,38 @@ record Stays (old : Sets) (set : ℕ) (new : Sets) : Type 0 where
 
 pub sealed_stays : SealedStays
 sealed_stays s e set is =
-    let stays = kept_by_step (λ h sp st su. Stays s.core.sets set st) s.core (reads_of s e.call) e (record {
+    let stays = kept_by_step (λ h sp st su. Stays s.core.inputs set st) s.core (reads_of s e.call) e (record {
       same = same;
       instance = λ gives. same;
       session = λ gives instance. same;
-      set = λ gives room instance name localized priority. record { found = λ x found. sealed_there (set_at s.core.sets set) is x (front_first (λ (y : Set). y.handle) s.core.sets.sets _ set x (there_is (set_at s.core.sets set) is) found); joins = λ handle x found of. found };
-      action = λ gives room x named live free. record { found = sealed_there (set_at s.core.sets set) is; joins = λ handle y found of. joined x free y of (which_more (λ (z : Action). z.handle) s.core.sets.actions x handle y found) };
+      set = λ gives room instance name localized priority. record { found = λ x found. sealed_there (set_at s.core.inputs set) is x (front_first (λ (y : Set). y.handle) s.core.inputs.sets _ set x (there_is (set_at s.core.inputs set) is) found); joins = λ handle x found of. found };
+      action = λ gives room x named live free. record { found = sealed_there (set_at s.core.inputs set) is; joins = λ handle y found of. joined x free y of (which_more (λ (z : Action). z.handle) s.core.inputs.actions x handle y found) };
       space = λ gives room session root offset. same;
       chain = λ gives session. same;
       gone = λ handle. left (destroyed_by s.core.handles handle);
       alone = λ space. same;
       chain_alone = λ chain. same;
       suggest = λ o list none. same;
-      attach = λ handles. record { found = λ x found. let one = which_map (λ (y : Set). y.handle) (sealed_by handles) (sealed_named handles) s.core.sets.sets set x found in ap (λ (y : Set). y.sealed) one.2 ∙ seals handles one.0 (sealed_there (set_at s.core.sets set) is one.0 one.1); joins = λ handle x found of. found };
+      attach = λ handles. record { found = λ x found. let one = which_map (λ (y : Set). y.handle) (sealed_by handles) (sealed_named handles) s.core.inputs.sets set x found in ap (λ (y : Set). y.sealed) one.2 ∙ seals handles one.0 (sealed_there (set_at s.core.inputs set) is one.0 one.1); joins = λ handle x found of. found };
       sample = λ what time pose. same;
     }) in
-    record { sealed = λ there. found_sealed (set_at (step s e).0.core.sets set) stays.found there; joins = stays.joins }
+    record { sealed = λ there. found_sealed (set_at (step s e).0.core.inputs set) stays.found there; joins = stays.joins }
   where
-    same : Stays s.core.sets set s.core.sets
-    same = record { found = sealed_there (set_at s.core.sets set) is; joins = λ handle x found of. found }
+    same : Stays s.core.inputs set s.core.inputs
+    same = record { found = sealed_there (set_at s.core.inputs set) is; joins = λ handle x found of. found }
 
     there_is : (o : Option Set) → sealed_in o ≡ true → is_some o ≡ true
     there_is None is = absurd (true≢false (sym is))
     there_is (Some x) is = refl
 
-    joined : (x : Action) → first_of (action_checks s.core.sets x.set x.name) ≡ None → (y : Action) → y.set ≡ set → {handle : ℕ} → (action_at s.core.sets handle ≡ Some y) ⊎ ((x.handle ≡ handle) × (y ≡ x)) → action_at s.core.sets handle ≡ Some y
+    joined : (x : Action) → first_of (action_checks s.core.inputs x.set x.name) ≡ None → (y : Action) → y.set ≡ set → {handle : ℕ} → (action_at s.core.inputs handle ≡ Some y) ⊎ ((x.handle ≡ handle) × (y ≡ x)) → action_at s.core.inputs handle ≡ Some y
     joined x free y of (inl there) = there
-    joined x free y of (inr new) = absurd (true≢false (sym (subst (λ (n : ℕ). is_sealed s.core.sets n ≡ true) (sym (ap (λ (z : Action). z.set) (sym new.1) ∙ of)) is) ∙ first_doesnt (is_sealed s.core.sets x.set) (name_checks x.name (list_any (λ z. z.set == x.set && same_text z.name x.name) s.core.sets.actions)) free))
+    joined x free y of (inr new) = absurd (true≢false (sym (subst (λ (n : ℕ). is_sealed s.core.inputs n ≡ true) (sym (ap (λ (z : Action). z.set) (sym new.1) ∙ of)) is) ∙ first_doesnt (is_sealed s.core.inputs x.set) (name_checks x.name (list_any (λ z. z.set == x.set && same_text z.name x.name) s.core.inputs.actions)) free))
 
-    left : (gone : List ℕ) → Stays s.core.sets set (without_inputs s.core.sets gone)
+    left : (gone : List ℕ) → Stays s.core.inputs set (without_inputs s.core.inputs gone)
     left gone = record {
-      found = λ x found. sealed_there (set_at s.core.sets set) is x (which_left (λ (y : Set). y.handle) (λ k. not (is_among gone k)) s.core.sets.sets set x found).0;
-      joins = λ handle x found of. (which_left (λ (y : Action). y.handle) (λ k. not (is_among gone k)) s.core.sets.actions handle x found).0;
+      found = λ x found. sealed_there (set_at s.core.inputs set) is x (which_left (λ (y : Set). y.handle) (λ k. not (is_among gone k)) s.core.inputs.sets set x found).0;
+      joins = λ handle x found of. (which_left (λ (y : Action). y.handle) (λ k. not (is_among gone k)) s.core.inputs.actions handle x found).0;
     }
 
     seals : (handles : List ℕ) (x : Set) → x.sealed ≡ true → (sealed_by handles x).sealed ≡ true

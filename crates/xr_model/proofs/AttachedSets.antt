@@ -81,7 +81,7 @@ attached_step s e once kept each = kept_by_step AttachLive s.core (reads_of s e.
   alone = λ d c space. each;
   chain_alone = λ d c chain. each;
   lives = λ d c session f named same keeps. all_lives (attaches_live s.core.handles) session f (λ x live. ap (λ o. list_all (is_live s.core.handles kind.ActionSet) (unwrap_or o [])) (keeps x) ∙ live) s.core.sessions each;
-  attach = λ d c session sets. all_lives (attaches_live s.core.handles) session (with_attached (sets_named s.core.sets sets)) (λ x live. named_live s.core.handles s.core.sets sets kept.sets) s.core.sessions each;
+  attach = λ d c session sets. all_lives (attaches_live s.core.handles) session (with_attached (sets_named s.core.inputs sets)) (λ x live. named_live s.core.handles s.core.inputs sets kept.sets) s.core.sessions each;
   each = λ d c f keeps. changed f;
   lost = λ d c. changed (λ life. unchanged (lost_session life));
 })

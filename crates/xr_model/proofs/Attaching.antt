@@ -97,7 +97,7 @@ module _ (s : State) (e : Entry) (allowed : IsAllowed s e) (session : ℕ) (has_
     lives = λ d c handle f named same keeps. record { given = has_some.given; attached = λ x found. changed f (λ y has. ap (λ o. is_some o) (keeps y) ∙ has) x (which_lives s.core.sessions handle f named session x found) };
     attach = λ d c handle sets. record {
       given = has_some.given;
-      attached = λ x found. changed (with_attached (sets_named s.core.sets sets)) (λ y has. refl) x (which_lives s.core.sessions handle (with_attached (sets_named s.core.sets sets)) (λ y. refl) session x found);
+      attached = λ x found. changed (with_attached (sets_named s.core.inputs sets)) (λ y has. refl) x (which_lives s.core.sessions handle (with_attached (sets_named s.core.inputs sets)) (λ y. refl) session x found);
     };
     each = λ d c f same. each f;
     lost = λ d c. each (λ life. unchanged (lost_session life));
@@ -165,7 +165,7 @@ module _ (s : State) (e : Entry) (session : ℕ) (handles : List ℕ) where
   attached_so known good =
       let none = unrefused good in
       let live = first_fails (is_live s.core.handles kind.Session session) HandleInvalid (is_lost (life_of s.core session) ∷ when f.disorder CallOrderInvalid ∷ f.behind) none in
-      rw none (record { given = live_given s e known session live; attached = found_at s.core.sessions session (sets_named s.core.sets handles) })
+      rw none (record { given = live_given s e known session live; attached = found_at s.core.sessions session (sets_named s.core.inputs handles) })
 
   fails_again : AreListed s.core.handles s.core.sessions → Has session s.core.handles s.core.sessions → is_success (step s (record e { call = ask.AttachSets session handles })).1.reply.code ≡ false
   unfolding f
@@ -201,10 +201,10 @@ pub attaching_seals : AttachingSeals
 unfolding f
 attaching_seals s e set names good = by e.call names good
   where
-    by : (r : Call) → seals r set ≡ true → is_success (step s (record e { call = r })).1.reply.code ≡ true → is_some (set_at (step s (record e { call = r })).0.core.sets set) ≡ true → is_sealed (step s (record e { call = r })).0.core.sets set ≡ true
+    by : (r : Call) → seals r set ≡ true → is_success (step s (record e { call = r })).1.reply.code ≡ true → is_some (set_at (step s (record e { call = r })).0.core.inputs set) ≡ true → is_sealed (step s (record e { call = r })).0.core.inputs set ≡ true
     by (ask.AttachSets session handles) names good =
         let f = rule s.core (reads_of s (ask.AttachSets session handles)) (record e { call = ask.AttachSets session handles }) in
-        carried (λ t. is_some (set_at t.sets set) ≡ true → is_sealed t.sets set ≡ true) s.core (first_of (refusals f)) (told_on f.on f.effect) (unrefused s e session handles good) (sealed_all handles s.core.sets.sets set names)
+        carried (λ t. is_some (set_at t.inputs set) ≡ true → is_sealed t.inputs set ≡ true) s.core (first_of (refusals f)) (told_on f.on f.effect) (unrefused s e session handles good) (sealed_all handles s.core.inputs.sets set names)
     by _ names good = absurd (true≢false (sym names))
 
 -- ---- a new session

@@ -110,13 +110,13 @@ module _ (s : CoreState) (listed : AreListed s.handles s.sessions) (kept : Has K
         ∙ ap (map (without_attached (λ k. is_within 2 s.handles k top)))
         (agree (λ (x : sessions.Session). x.handle) (λ k. is_live s.handles Session k) (λ k. is_live (without s.handles top) Session k) (λ k. not (is_within 2 s.handles k top)) s.sessions listed
         (λ k live. without_takes s.handles top some once under roots Session k ∙ ap (λ b. b && not (is_within 2 s.handles k top)) live));
-    sets = agree (λ (x : Set). x.handle) (λ k. is_live s.handles ActionSet k) (λ k. not (is_among (destroyed_by s.handles top) k)) (λ k. not (is_within 2 s.handles k top)) s.sets.sets kept.sets set_agrees;
-    actions = agree (λ (x : inputs.Action). x.handle) (λ k. is_live s.handles Action k) (λ k. not (is_among (destroyed_by s.handles top) k)) (λ k. not (is_within 2 s.handles k top)) s.sets.actions kept.actions
+    sets = agree (λ (x : Set). x.handle) (λ k. is_live s.handles ActionSet k) (λ k. not (is_among (destroyed_by s.handles top) k)) (λ k. not (is_within 2 s.handles k top)) s.inputs.sets kept.sets set_agrees;
+    actions = agree (λ (x : inputs.Action). x.handle) (λ k. is_live s.handles Action k) (λ k. not (is_among (destroyed_by s.handles top) k)) (λ k. not (is_within 2 s.handles k top)) s.inputs.actions kept.actions
         (λ k live. let two = both_of (not (k == 0)) (has s.handles.actions k) live in outside Action k _ live (ap (λ b. not (k == 0) && b) (action_gone s.handles top once k (not_true (k == 0) two.0) two.1)));
     spaces =
-        standing_still (has_action (without s.handles top).actions) (without_spaces s.spaces (destroyed_by s.handles top)).spaces
+        standing_still (has_action (without s.handles top).actions) (without_spaces s.room (destroyed_by s.handles top)).spaces
         ∙ ap (map standing)
-        (agree (λ (x : spaces.Space). x.handle) (λ k. is_live s.handles Space k) (λ k. not (is_among (destroyed_by s.handles top) k)) (λ k. not (is_within 2 s.handles k top)) s.spaces.spaces kept.spaces
+        (agree (λ (x : spaces.Space). x.handle) (λ k. is_live s.handles Space k) (λ k. not (is_among (destroyed_by s.handles top) k)) (λ k. not (is_within 2 s.handles k top)) s.room.spaces kept.spaces
         (λ k live. let two = both_of (not (k == 0)) (has s.handles.spaces k) live in outside Space k _ live (ap (λ b. not (k == 0) && b) (space_gone s.handles top once k (not_true (k == 0) two.0) two.1))));
     suggestions = maps_agree (λ k. is_live s.handles Action k) (λ k. not (is_among (destroyed_by s.handles top) k)) (λ k. not (is_within 2 s.handles k top)) s.suggestions kept.suggested
         (λ k live. let two = both_of (not (k == 0)) (has s.handles.actions k) live in outside Action k _ live (ap (λ b. not (k == 0) && b) (action_gone s.handles top once k (not_true (k == 0) two.0) two.1)));
@@ -135,24 +135,24 @@ module _ (s : CoreState) (listed : AreListed s.handles s.sessions) (kept : Has K
 
     -- no list but that of the spaces changes
     alone : Stay Session → Stay ActionSet → Stay Action → (sp : Spaces) (chains : List Chain)
-        → map standing sp.spaces ≡ map standing (filter (λ x. not (is_within 2 s.handles x.handle top)) s.spaces.spaces)
-        → AreFiltered s (record s { handles = without_alone s.handles own top; spaces = sp; chains = chains }) (λ k. is_within 2 s.handles k top)
+        → map standing sp.spaces ≡ map standing (filter (λ x. not (is_within 2 s.handles x.handle top)) s.room.spaces)
+        → AreFiltered s (record s { handles = without_alone s.handles own top; room = sp; chains = chains }) (λ k. is_within 2 s.handles k top)
     alone of_sessions of_sets of_actions sp chains of_spaces = record {
       sessions =
           let same = filter_all s.sessions ∙ agree (λ (x : sessions.Session). x.handle) (λ k. is_live s.handles Session k) (λ k. true) (λ k. not (is_within 2 s.handles k top)) s.sessions listed (others Session of_sessions) in
           map_itself (without_attached (λ k. is_within 2 s.handles k top)) (attaches_live s.handles) s.sessions attached
           (λ x live. ap (λ (o : Option (List ℕ)). record x { attached = o }) (option_itself (is_live s.handles ActionSet) (λ k. not (is_within 2 s.handles k top)) x.attached live (others ActionSet of_sets)))
           ∙ ap (map (without_attached (λ k. is_within 2 s.handles k top))) same;
-      sets = filter_all s.sets.sets ∙ agree (λ (x : Set). x.handle) (λ k. is_live s.handles ActionSet k) (λ k. true) (λ k. not (is_within 2 s.handles k top)) s.sets.sets kept.sets (others ActionSet of_sets);
-      actions = filter_all s.sets.actions ∙ agree (λ (x : inputs.Action). x.handle) (λ k. is_live s.handles Action k) (λ k. true) (λ k. not (is_within 2 s.handles k top)) s.sets.actions kept.actions (others Action of_actions);
+      sets = filter_all s.inputs.sets ∙ agree (λ (x : Set). x.handle) (λ k. is_live s.handles ActionSet k) (λ k. true) (λ k. not (is_within 2 s.handles k top)) s.inputs.sets kept.sets (others ActionSet of_sets);
+      actions = filter_all s.inputs.actions ∙ agree (λ (x : inputs.Action). x.handle) (λ k. is_live s.handles Action k) (λ k. true) (λ k. not (is_within 2 s.handles k top)) s.inputs.actions kept.actions (others Action of_actions);
       spaces = of_spaces;
       suggestions = map_all s.suggestions ∙ maps_agree (λ k. is_live s.handles Action k) (λ k. true) (λ k. not (is_within 2 s.handles k top)) s.suggestions kept.suggested (others Action of_actions);
     }
 
   space_alone : is_live s.handles Space top ≡ true → AreFiltered s (with_space_gone s top) (λ k. is_within 2 s.handles k top)
   space_alone live_space =
-      alone Space (alone_is_whole s.handles top once live_space) (λ k. refl) (λ k. refl) (λ k. refl) (without_space s.spaces top) s.chains
-      (ap (map standing) (agree (λ (x : spaces.Space). x.handle) (λ k. is_live s.handles Space k) (λ k. not (k == top)) (λ k. not (is_within 2 s.handles k top)) s.spaces.spaces kept.spaces space_left))
+      alone Space (alone_is_whole s.handles top once live_space) (λ k. refl) (λ k. refl) (λ k. refl) (without_space s.room top) s.chains
+      (ap (map standing) (agree (λ (x : spaces.Space). x.handle) (λ k. is_live s.handles Space k) (λ k. not (k == top)) (λ k. not (is_within 2 s.handles k top)) s.room.spaces kept.spaces space_left))
     where
       or_no : (b : Bool) → b || false ≡ b
       or_no true = refl
@@ -170,10 +170,10 @@ module _ (s : CoreState) (listed : AreListed s.handles s.sessions) (kept : Has K
   chain_alone : is_live s.handles Swapchain top ≡ true → AreFiltered s (with_chain_gone s top) (λ k. is_within 2 s.handles k top)
   chain_alone live_chain =
       let whole = chain_is_whole s.handles top once live_chain in
-      alone Swapchain whole (λ k. refl) (λ k. refl) (λ k. refl) s.spaces (with_chain_gone s top).chains
+      alone Swapchain whole (λ k. refl) (λ k. refl) (λ k. refl) s.room (with_chain_gone s top).chains
       (ap (map standing)
-      (filter_all s.spaces.spaces
-      ∙ agree (λ (x : spaces.Space). x.handle) (λ k. is_live s.handles Space k) (λ k. true) (λ k. not (is_within 2 s.handles k top)) s.spaces.spaces kept.spaces (others Swapchain whole Space (λ k. refl))))
+      (filter_all s.room.spaces
+      ∙ agree (λ (x : spaces.Space). x.handle) (λ k. is_live s.handles Space k) (λ k. true) (λ k. not (is_within 2 s.handles k top)) s.room.spaces kept.spaces (others Swapchain whole Space (λ k. refl))))
 
 -- ---- the law
 

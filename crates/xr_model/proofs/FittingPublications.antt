@@ -67,7 +67,7 @@ pub record IsFitting (s : CoreState) : Type 0 where
   pub columns : ColumnsFit s.columns
   pub values : AreSmall s.device.inputs
   pub clock : is_time s.device.clock ≡ true
-  pub declared : list_all has_five s.sets.actions ≡ true
+  pub declared : list_all has_five s.inputs.actions ≡ true
   pub places : length s.handles.actions ≡ 64
 
 later_time : (a b : ℤ) → is_time a ≡ true → is_time b ≡ true → is_time (later_of a b) ≡ true
@@ -79,7 +79,7 @@ later_time a b one two = by (int_le a b)
 
 -- what an entry keeps beside the rows of handles
 abbrev Fits : CoreState → Type 0
-Fits s = ColumnsFit s.columns × AreSmall s.device.inputs × (is_time s.device.clock ≡ true) × (list_all has_five s.sets.actions ≡ true)
+Fits s = ColumnsFit s.columns × AreSmall s.device.inputs × (is_time s.device.clock ≡ true) × (list_all has_five s.inputs.actions ≡ true)
 
 kept : (s : CoreState) (o : Option Refusal) (x : Effect) → Fits s → (o ≡ None → Fits x.state) → Fits (unless_refused s o x).state
 kept s None x same done = done refl
@@ -96,8 +96,8 @@ gone_fit h handle columns fits = by (is_live h kind.Session handle || is_live h 
     by false = left_fit (has_action (without h handle).actions) columns fits
 
 module _ (s : CoreState) (reads : CellReads) (e : Entry) (fits : Fits s) where
-  gone : (handle : ℕ) → ColumnsFit (columns_left s.handles handle s.columns) × AreSmall s.device.inputs × (is_time s.device.clock ≡ true) × (list_all has_five (filter (λ x. not (is_among (destroyed_by s.handles handle) x.handle)) s.sets.actions) ≡ true)
-  gone handle = (gone_fit s.handles handle s.columns fits.0, fits.1, fits.2, all_left has_five has_five (λ x. not (is_among (destroyed_by s.handles handle) x.handle)) (λ x five stays. five) s.sets.actions fits.3)
+  gone : (handle : ℕ) → ColumnsFit (columns_left s.handles handle s.columns) × AreSmall s.device.inputs × (is_time s.device.clock ≡ true) × (list_all has_five (filter (λ x. not (is_among (destroyed_by s.handles handle) x.handle)) s.inputs.actions) ≡ true)
+  gone handle = (gone_fit s.handles handle s.columns fits.0, fits.1, fits.2, all_left has_five has_five (λ x. not (is_among (destroyed_by s.handles handle) x.handle)) (λ x five stays. five) s.inputs.actions fits.3)
 
   events : (what : DeviceEvent) → checks what ≡ true → Fits (behind_event s what)
   events (event.Clock time) good = (fits.0, fits.1, later_time s.device.clock time fits.2 good, fits.3)
@@ -118,7 +118,7 @@ module _ (s : CoreState) (reads : CellReads) (e : Entry) (fits : Fits s) where
           kept s (refusal e.short f) (told_on f.on f.effect) fits (λ none. (synced (is_state (life_of s session).state Focused) active, fits.1, fits.2, fits.3))
       by (ask.CreateAction set name type subs localized) good =
           let f = rule s reads (record e { call = ask.CreateAction set name type subs localized }) in
-          kept s (refusal e.short f) (told_on f.on f.effect) fits (λ none. (fits.0, fits.1, fits.2, all_more has_five s.sets.actions _ fits.3 (rw (declared_length s.atoms subs no_users) refl)))
+          kept s (refusal e.short f) (told_on f.on f.effect) fits (λ none. (fits.0, fits.1, fits.2, all_more has_five s.inputs.actions _ fits.3 (rw (declared_length s.atoms subs no_users) refl)))
       by (ask.DestroyInstance instance) good =
           let f = rule s reads (record e { call = ask.DestroyInstance instance }) in
           kept s (refusal e.short f) (told_on f.on f.effect) fits (λ none. gone instance)
@@ -235,12 +235,12 @@ module _ (s : CoreState) (fits : IsFitting s) where
       cons_all ActionFits _ _ (action_has_room session x here.0 fives.0) (actions_have_room session xs here.1 fives.1)
 
 -- each listed action is live
-listed_live : (s : CoreState) → IsSound s → list_all (λ x. is_live s.handles kind.Action x.handle) s.sets.actions ≡ true
-listed_live s sound = all_weaker (λ x. is_some (find (λ y. y.handle == x.handle) s.sets.actions)) (λ x. is_live s.handles kind.Action x.handle) (λ x found. sym (sound.kept.actions x.handle) ∙ found)
-    s.sets.actions (all_found (λ (x : Action). x.handle) s.sets.actions s.sets.actions (λ k found. found))
+listed_live : (s : CoreState) → IsSound s → list_all (λ x. is_live s.handles kind.Action x.handle) s.inputs.actions ≡ true
+listed_live s sound = all_weaker (λ x. is_some (find (λ y. y.handle == x.handle) s.inputs.actions)) (λ x. is_live s.handles kind.Action x.handle) (λ x found. sym (sound.kept.actions x.handle) ∙ found)
+    s.inputs.actions (all_found (λ (x : Action). x.handle) s.inputs.actions s.inputs.actions (λ k found. found))
 
 fit_from : (s : State) (clocks : List ℤ) (es : List Entry) → IsLegalFrom s clocks es → list_all (λ e. has_good_numbers e.call) es ≡ true → IsSound s.core → IsFitting s.core → PublicationFits (publication_of (after s es).core)
-fit_from s clocks [] legal good sound fits = record { atoms = refl; each = actions_have_room s.core fits (first_seen s.core.sessions) s.core.sets.actions (listed_live s.core sound) fits.declared }
+fit_from s clocks [] legal good sound fits = record { atoms = refl; each = actions_have_room s.core fits (first_seen s.core.sessions) s.core.inputs.actions (listed_live s.core sound) fits.declared }
 fit_from s clocks (e ∷ es) legal good sound fits =
     let two = both_of (has_good_numbers e.call) (list_all (λ e. has_good_numbers e.call) es) good in
     fit_from (step s e).0 (clocks_after clocks e (step s e).0) es legal.3 two.1 (sound_step s e legal.0 sound) (fitting_step s e two.0 fits)

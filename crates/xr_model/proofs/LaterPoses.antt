@@ -21,7 +21,7 @@ set_length [] i a = refl
 set_length (x ∷ xs) zero a = refl
 set_length (x ∷ xs) (suc i) a = let more = set_length xs i a in omega (arith, more)
 
-rows_step : (s : State) (e : Entry) → length s.core.spaces.samples ≡ ORIGINS → length (step s e).0.core.spaces.samples ≡ ORIGINS
+rows_step : (s : State) (e : Entry) → length s.core.room.samples ≡ ORIGINS → length (step s e).0.core.room.samples ≡ ORIGINS
 rows_step s e rows = kept_by_step (λ h sp st su. length sp.samples ≡ ORIGINS) s.core (reads_of s e.call) e (record {
   same = rows;
   instance = λ gives. rows;
@@ -35,10 +35,10 @@ rows_step s e rows = kept_by_step (λ h sp st su. length sp.samples ≡ ORIGINS)
   chain_alone = λ chain. rows;
   suggest = λ o list none. rows;
   attach = λ handles. rows;
-  sample = λ what time pose. set_length s.core.spaces.samples (origin_place what) _ ∙ rows;
+  sample = λ what time pose. set_length s.core.room.samples (origin_place what) _ ∙ rows;
 })
 
-rows_after : (s : State) (es : List Entry) → length s.core.spaces.samples ≡ ORIGINS → length (after s es).core.spaces.samples ≡ ORIGINS
+rows_after : (s : State) (es : List Entry) → length s.core.room.samples ≡ ORIGINS → length (after s es).core.room.samples ≡ ORIGINS
 rows_after s [] rows = rows
 rows_after s (e ∷ es) rows = rows_after (step s e).0 es (rows_step s e rows)
 
@@ -94,7 +94,7 @@ taken_where time pose (newest ∷ older) fall = by (int_lt newest.time time) ref
 pub later_poses_are_taken : LaterPosesAreTaken
 later_poses_are_taken settings es e origin time pose asks inside =
     subst
-    (λ (r : Call). TakenWhere (is_after_all time old) old (samples_of (step s (record e { call = r })).0.core.spaces.samples origin) time pose)
+    (λ (r : Call). TakenWhere (is_after_all time old) old (samples_of (step s (record e { call = r })).0.core.room.samples origin) time pose)
     (sym asks)
     (subst (λ (new : List Sample). TakenWhere (is_after_all time old) old new time pose) (sym own) (taken_where time pose old fall))
   where
@@ -102,13 +102,13 @@ later_poses_are_taken settings es e origin time pose asks inside =
     s = after (opening settings) es
 
     old : List Sample
-    old = samples_of (after (opening settings) es).core.spaces.samples origin
+    old = samples_of (after (opening settings) es).core.room.samples origin
 
     fall : times_fall old ≡ true
-    fall = found_falls (after (opening settings) es).core.spaces.samples (origin_place origin) (sample_times_fall settings es)
+    fall = found_falls (after (opening settings) es).core.room.samples (origin_place origin) (sample_times_fall settings es)
 
-    here : nat_lt (origin_place origin) (length (after (opening settings) es).core.spaces.samples) ≡ true
+    here : nat_lt (origin_place origin) (length (after (opening settings) es).core.room.samples) ≡ true
     here = subst (λ (n : ℕ). nat_lt (origin_place origin) n ≡ true) (sym (rows_after (opening settings) es refl)) inside
 
-    own : samples_of (with_sample_of (after (opening settings) es).core.spaces.samples origin time pose) origin ≡ with_sample time pose old
-    own = its_own (after (opening settings) es).core.spaces.samples (origin_place origin) (with_sample time pose old) [] here
+    own : samples_of (with_sample_of (after (opening settings) es).core.room.samples origin time pose) origin ≡ with_sample time pose old
+    own = its_own (after (opening settings) es).core.room.samples (origin_place origin) (with_sample time pose old) [] here

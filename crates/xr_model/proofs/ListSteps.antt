@@ -67,25 +67,25 @@ unshort true (Some r) none = cc
 
 -- a property that the handles and the lists have before an entry, and that each thing that it may do keeps
 pub record Keeps (P : Handles → Spaces → Sets → List (List Bound) → Type 0) (s : CoreState) (reads : CellReads) (e : Entry) : Type 0 where
-  pub same : P s.handles s.spaces s.sets s.suggestions
-  pub instance : gives_handle s reads e ≡ true → P (with_handle s.handles kind.Instance 0 e.given) s.spaces s.sets s.suggestions
-  pub session : gives_handle s reads e ≡ true → (instance : ℕ) → P (with_handle s.handles kind.Session instance e.given) s.spaces s.sets s.suggestions
+  pub same : P s.handles s.room s.inputs s.suggestions
+  pub instance : gives_handle s reads e ≡ true → P (with_handle s.handles kind.Instance 0 e.given) s.room s.inputs s.suggestions
+  pub session : gives_handle s reads e ≡ true → (instance : ℕ) → P (with_handle s.handles kind.Session instance e.given) s.room s.inputs s.suggestions
   pub set : gives_handle s reads e ≡ true → has_room s.handles kind.ActionSet ≡ true → (instance : ℕ) (name localized : List ℕ) (priority : ℕ)
-      → P (with_handle s.handles kind.ActionSet instance e.given) s.spaces (with_set s.sets e.given name localized priority) s.suggestions
-  pub action : gives_handle s reads e ≡ true → has_room s.handles kind.Action ≡ true → (x : Action) → x.handle ≡ e.given → is_live s.handles kind.ActionSet x.set ≡ true → first_of (action_checks s.sets x.set x.name) ≡ None
-      → P (with_handle s.handles kind.Action x.set e.given) s.spaces (with_action s.sets x) s.suggestions
+      → P (with_handle s.handles kind.ActionSet instance e.given) s.room (with_set s.inputs e.given name localized priority) s.suggestions
+  pub action : gives_handle s reads e ≡ true → has_room s.handles kind.Action ≡ true → (x : Action) → x.handle ≡ e.given → is_live s.handles kind.ActionSet x.set ≡ true → first_of (action_checks s.inputs x.set x.name) ≡ None
+      → P (with_handle s.handles kind.Action x.set e.given) s.room (with_action s.inputs x) s.suggestions
   pub space : gives_handle s reads e ≡ true → has_room s.handles kind.Space ≡ true → (session : ℕ) (root : Root) (offset : ℕ)
-      → P (with_handle s.handles kind.Space session e.given) (with_space s.spaces e.given root offset) s.sets s.suggestions
-  pub chain : gives_handle s reads e ≡ true → (session : ℕ) → P (with_handle s.handles kind.Swapchain session e.given) s.spaces s.sets s.suggestions
-  pub gone : (handle : ℕ) → P (without s.handles handle) (spaces_left s.handles handle s.spaces) (without_inputs s.sets (destroyed_by s.handles handle)) (without_suggestions s.suggestions (destroyed_by s.handles handle))
-  pub alone : (space : ℕ) → P (without_alone s.handles kind.Space space) (without_space s.spaces space) s.sets s.suggestions
-  pub chain_alone : (chain : ℕ) → P (without_alone s.handles kind.Swapchain chain) s.spaces s.sets s.suggestions
-  pub suggest : (o : Option Profile) (list : List Binding) → first_of (bindings_checks s o list) ≡ None → P s.handles s.spaces s.sets (suggested s o list)
-  pub attach : (handles : List ℕ) → P s.handles s.spaces (with_sealed s.sets handles) s.suggestions
-  pub sample : (what : Origin) (time : ℤ) (pose : ℕ) → P s.handles (sampled s.spaces what time pose) s.sets s.suggestions
+      → P (with_handle s.handles kind.Space session e.given) (with_space s.room e.given root offset) s.inputs s.suggestions
+  pub chain : gives_handle s reads e ≡ true → (session : ℕ) → P (with_handle s.handles kind.Swapchain session e.given) s.room s.inputs s.suggestions
+  pub gone : (handle : ℕ) → P (without s.handles handle) (spaces_left s.handles handle s.room) (without_inputs s.inputs (destroyed_by s.handles handle)) (without_suggestions s.suggestions (destroyed_by s.handles handle))
+  pub alone : (space : ℕ) → P (without_alone s.handles kind.Space space) (without_space s.room space) s.inputs s.suggestions
+  pub chain_alone : (chain : ℕ) → P (without_alone s.handles kind.Swapchain chain) s.room s.inputs s.suggestions
+  pub suggest : (o : Option Profile) (list : List Binding) → first_of (bindings_checks s o list) ≡ None → P s.handles s.room s.inputs (suggested s o list)
+  pub attach : (handles : List ℕ) → P s.handles s.room (with_sealed s.inputs handles) s.suggestions
+  pub sample : (what : Origin) (time : ℤ) (pose : ℕ) → P s.handles (sampled s.room what time pose) s.inputs s.suggestions
 
 abbrev pub Has : (Handles → Spaces → Sets → List (List Bound) → Type 0) → CoreState → Type 0
-Has P s = P s.handles s.spaces s.sets s.suggestions
+Has P s = P s.handles s.room s.inputs s.suggestions
 
 kept : (P : Handles → Spaces → Sets → List (List Bound) → Type 0) (s : CoreState) (o : Option Refusal) (x : Effect) → Has P s → (o ≡ None → Has P x.state) → Has P (unless_refused s o x).state
 kept P s None x same done = done refl
@@ -112,13 +112,13 @@ kept_by_step P s reads e = by e.call
         let f = rule s reads (record e { call = ask.CreateActionSet instance name localized priority }) in
         let front = no_handle s.handles kind.Instance instance ∷ when false CallOrderInvalid ∷ [] in
         kept P s (refusal e.short f) (told_on f.on f.effect) k.same
-        (λ none. k.set (succeeds s (refusal e.short f) (told_on f.on f.effect) refl none) (has_place s.handles kind.ActionSet (none_behind (front ++ set_checks s.sets name localized) (no_room s.handles kind.ActionSet ∷ []) none)) instance name localized priority)
+        (λ none. k.set (succeeds s (refusal e.short f) (told_on f.on f.effect) refl none) (has_place s.handles kind.ActionSet (none_behind (front ++ set_checks s.inputs name localized) (no_room s.handles kind.ActionSet ∷ []) none)) instance name localized priority)
     by (ask.CreateAction set name type subs localized) k =
         let f = rule s reads (record e { call = ask.CreateAction set name type subs localized }) in
         let last = no_room s.handles kind.Action ∷ [] in
-        let labels = action_label_checks s.sets set localized in
+        let labels = action_label_checks s.inputs set localized in
         let subs_ = sub_checks s.atoms no_users subs in
-        let names = action_checks s.sets set name in
+        let names = action_checks s.inputs set name in
         kept P s (refusal e.short f) (told_on f.on f.effect) k.same
         (λ none.
         let behind : first_of (names ++ (subs_ ++ (labels ++ last))) ≡ None = none_behind (no_handle s.handles kind.ActionSet set ∷ when false CallOrderInvalid ∷ []) (names ++ (subs_ ++ (labels ++ last))) none in

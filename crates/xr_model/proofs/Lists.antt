@@ -168,7 +168,7 @@ bound_for s which (b ∷ list) none = by (pick_of s which b) (bound_for s which 
   where
     live : is_live s.handles Action b.action ≡ true
     live = first_fails (is_live s.handles Action b.action) HandleInvalid
-        (when (is_in_sealed_set s.sets b.action) ActionsetsAlreadyAttached ∷ when (is_none (text_at s.atoms b.path)) PathInvalid ∷ when (is_none (pick_of s which b)) PathUnsupported ∷ [])
+        (when (is_in_sealed_set s.inputs b.action) ActionsetsAlreadyAttached ∷ when (is_none (text_at s.atoms b.path)) PathInvalid ∷ when (is_none (pick_of s which b)) PathUnsupported ∷ [])
         (none_front (binding_checks s which b) (bindings_checks s (Some which) list) none)
 
     by : (o : Option Pick) → list_all (λ x. is_live s.handles Action x.action) (filter_map (bound_of s which) list) ≡ true
@@ -277,27 +277,27 @@ kept_step s e allowed known once kept = kept_by_step Kept s.core (reads_of s e.c
   session = λ gives instance. record { spaces = kept.spaces; sets = kept.sets; actions = kept.actions; above = kept.above; suggested = kept.suggested };
   set = λ gives room instance name localized priority. record {
     spaces = kept.spaces;
-    sets = row_more (λ (x : Set). x.handle) s.core.sets.sets _ s.core.handles.sets (record { handle = e.given; parent = instance }) kept.sets refl (some gives) room;
+    sets = row_more (λ (x : Set). x.handle) s.core.inputs.sets _ s.core.handles.sets (record { handle = e.given; parent = instance }) kept.sets refl (some gives) room;
     actions = kept.actions;
     above = kept.above;
     suggested = kept.suggested;
   };
-  action = λ gives room x named live free. kept_action s.core.handles s.core.spaces s.core.sets s.core.suggestions kept e.given (some gives) (known e.given (some gives) (fresh gives).1).actions x named room;
+  action = λ gives room x named live free. kept_action s.core.handles s.core.room s.core.inputs s.core.suggestions kept e.given (some gives) (known e.given (some gives) (fresh gives).1).actions x named room;
   space = λ gives room session root offset. record {
-    spaces = row_more (λ (x : spaces.Space). x.handle) s.core.spaces.spaces _ s.core.handles.spaces (record { handle = e.given; parent = session }) kept.spaces refl (some gives) room;
+    spaces = row_more (λ (x : spaces.Space). x.handle) s.core.room.spaces _ s.core.handles.spaces (record { handle = e.given; parent = session }) kept.spaces refl (some gives) room;
     sets = kept.sets;
     actions = kept.actions;
     above = kept.above;
     suggested = kept.suggested;
   };
   chain = λ gives session. record { spaces = kept.spaces; sets = kept.sets; actions = kept.actions; above = kept.above; suggested = kept.suggested };
-  gone = λ handle. kept_gone s.core.handles s.core.spaces s.core.sets s.core.suggestions kept handle once;
-  alone = λ space. kept_alone s.core.handles s.core.spaces s.core.sets s.core.suggestions kept space once;
+  gone = λ handle. kept_gone s.core.handles s.core.room s.core.inputs s.core.suggestions kept handle once;
+  alone = λ space. kept_alone s.core.handles s.core.room s.core.inputs s.core.suggestions kept space once;
   chain_alone = λ chain. record { spaces = kept.spaces; sets = kept.sets; actions = kept.actions; above = kept.above; suggested = kept.suggested };
   suggest = λ o list none. record { spaces = kept.spaces; sets = kept.sets; actions = kept.actions; above = kept.above; suggested = suggested_for s.core o list none kept.suggested };
   attach = λ handles. record {
     spaces = kept.spaces;
-    sets = λ k. found_map (λ (x : Set). x.handle) (sealed_by handles) (sealed_named handles) s.core.sets.sets k ∙ kept.sets k;
+    sets = λ k. found_map (λ (x : Set). x.handle) (sealed_by handles) (sealed_named handles) s.core.inputs.sets k ∙ kept.sets k;
     actions = kept.actions;
     above = kept.above;
     suggested = kept.suggested;

@@ -67,7 +67,7 @@ listed_step s e allowed listed = kept_by_step (λ h xs. AreListed h xs) s.core (
   alone = λ d c space. listed;
   chain_alone = λ d c chain. listed;
   lives = λ d c session f named same keeps. listed_lives s.core.handles s.core.sessions session f named listed;
-  attach = λ d c session sets. listed_lives s.core.handles s.core.sessions session (with_attached (sets_named s.core.sets sets)) (λ x. refl) listed;
+  attach = λ d c session sets. listed_lives s.core.handles s.core.sessions session (with_attached (sets_named s.core.inputs sets)) (λ x. refl) listed;
   each = λ d c f keeps. listed_each s.core.handles f s.core.sessions listed;
   lost = λ d c. listed_each s.core.handles (λ life. unchanged (lost_session life)) s.core.sessions listed;
 })
@@ -225,7 +225,7 @@ module _ (s : State) (e : Entry) (allowed : IsAllowed s e) (known : AreKnown s.c
     chain_alone = λ d c chain session x found. lost_before session x found ∙ as_before session d (uncreated session c);
     lives = λ d c handle f named same keeps session x found. let one = found_lives s.core.sessions handle f named same session x found in one.2 ∙ lost_before session one.0 one.1 ∙ as_before session d (uncreated session c);
     attach = λ d c handle sets session x found.
-        let one = found_lives s.core.sessions handle (with_attached (sets_named s.core.sets sets)) (λ y. refl) (λ y there. refl) session x found in
+        let one = found_lives s.core.sessions handle (with_attached (sets_named s.core.inputs sets)) (λ y. refl) (λ y there. refl) session x found in
         one.2 ∙ lost_before session one.0 one.1 ∙ as_before session d (uncreated session c);
     each = λ d c f keeps session x found. let one = found_each f s.core.sessions session x found in ap (λ (l : Life). l.lost) one.2 ∙ keeps one.0.life ∙ lost_before session one.0 one.1 ∙ as_before session d (uncreated session c);
     lost = λ d c session x found. let one = found_each (λ life. unchanged (lost_session life)) s.core.sessions session x found in ap (λ (l : Life). l.lost) one.2 ∙ rw (uncreated session c, d) (sym (or_true (before session)));

@@ -45,13 +45,13 @@ nothing_listed (x ∷ xs) none = let first = none x.handle in absurd (true≢fal
 
 -- no action is left once an instance went
 pub none_left : (s : CoreState) (instance : ℕ) → length s.handles.instances ≡ 1 → is_live s.handles kind.Instance instance ≡ true → AreUnder s.handles → StandOnce s.handles → Has Kept s
-    → (without_inputs s.sets (destroyed_by s.handles instance)).actions ≡ []
+    → (without_inputs s.inputs (destroyed_by s.handles instance)).actions ≡ []
 none_left s instance one live under once kept =
     let two = both_of (not (instance == 0)) (has s.handles.instances instance) live in
     let below = without_under s.handles instance under in
     let sets = empty_below (without s.handles instance).instances (without s.handles instance).sets (only_cleared s.handles.instances instance one (not_true (instance == 0) two.0) two.1) below.sets in
     let none = empty_below (without s.handles instance).sets (without s.handles instance).actions sets below.actions in
-    nothing_listed (without_inputs s.sets (destroyed_by s.handles instance)).actions (λ k. (kept_gone s.handles s.spaces s.sets s.suggestions kept instance once).actions k ∙ by none k (k == 0) refl)
+    nothing_listed (without_inputs s.inputs (destroyed_by s.handles instance)).actions (λ k. (kept_gone s.handles s.room s.inputs s.suggestions kept instance once).actions k ∙ by none k (k == 0) refl)
   where
     by : IsEmpty (without s.handles instance).actions → (k : ℕ) (b : Bool) → (k == 0) ≡ b → not b && has (without s.handles instance).actions k ≡ false
     by none k true eb = refl

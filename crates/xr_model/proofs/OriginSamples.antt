@@ -30,15 +30,15 @@ other_stays (x ∷ xs) (suc p) zero a other = refl
 other_stays (x ∷ xs) (suc p) (suc q) a other = other_stays xs p q a (one_less p q other)
 
 same_samples : (s : CoreState) (o : Option Refusal) (x : Effect)
-    → x.state.spaces.samples ≡ s.spaces.samples → (unless_refused s o x).state.spaces.samples ≡ s.spaces.samples
+    → x.state.room.samples ≡ s.room.samples → (unless_refused s o x).state.room.samples ≡ s.room.samples
 same_samples s None x same = same
 same_samples s (Some r) x same = refl
 
 events : (s : CoreState) (told : DeviceEvent) (what : Origin) → is_told_at (origin_told (ask.Device told)) (origin_place what) ≡ false
-    → samples_of (behind_event s told).spaces.samples what ≡ samples_of s.spaces.samples what
+    → samples_of (behind_event s told).room.samples what ≡ samples_of s.room.samples what
 events s (event.Pose origin time pose) what other =
-    let new = with_sample time pose (samples_of s.spaces.samples origin) in
-    ap (λ (o : Option (List Sample)). unwrap_or o []) (other_stays s.spaces.samples (origin_place origin) (origin_place what) new other)
+    let new = with_sample time pose (samples_of s.room.samples origin) in
+    ap (λ (o : Option (List Sample)). unwrap_or o []) (other_stays s.room.samples (origin_place origin) (origin_place what) new other)
 events s (event.Clock time) what other = refl
 events s _ what other = refl
 
@@ -46,7 +46,7 @@ pub samples_are_their_origins : SamplesAreTheirOrigins
 samples_are_their_origins s e what other = by e.call other
   where
     by : (r : Call) → is_told_at (origin_told r) (origin_place what) ≡ false
-        → samples_of (step s (record e { call = r })).0.core.spaces.samples what ≡ samples_of s.core.spaces.samples what
+        → samples_of (step s (record e { call = r })).0.core.room.samples what ≡ samples_of s.core.room.samples what
     by (ask.Device told) other = events s.core told what other
     by r other =
         let f = rule s.core (reads_of s r) (record e { call = r }) in

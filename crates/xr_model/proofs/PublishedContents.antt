@@ -67,14 +67,14 @@ module _ (s : CoreState) where
   sessions_alike xs same = rw same refl
 
   -- one text more
-  atom_alike : (text : List ℕ) → KnowsDeclared s.atoms s.sets.actions → (who : User) → atom_of_user (with_text s.atoms text) s.sets.actions who ≡ atom_of_user s.atoms s.sets.actions who
-  atom_alike text known who = by (list_any (λ x. is_declared x.declared who) s.sets.actions) (known who)
+  atom_alike : (text : List ℕ) → KnowsDeclared s.atoms s.inputs.actions → (who : User) → atom_of_user (with_text s.atoms text) s.inputs.actions who ≡ atom_of_user s.atoms s.inputs.actions who
+  atom_alike text known who = by (list_any (λ x. is_declared x.declared who) s.inputs.actions) (known who)
     where
       by : (b : Bool) → (b ≡ true → (user_atom s.atoms who == 0) ≡ false) → (if b then user_atom (with_text s.atoms text) who else 0) ≡ (if b then user_atom s.atoms who else 0)
       by true has = known_user s.atoms text who (has refl)
       by false has = refl
 
-  atoms_alike : (text : List ℕ) → KnowsDeclared s.atoms s.sets.actions → publication_of (record s { atoms = with_text s.atoms text }) ≡ publication_of s
+  atoms_alike : (text : List ℕ) → KnowsDeclared s.atoms s.inputs.actions → publication_of (record s { atoms = with_text s.atoms text }) ≡ publication_of s
   atoms_alike text known = rw (atom_alike text known user.Left, atom_alike text known user.Right, atom_alike text known user.Head, atom_alike text known user.Gamepad, atom_alike text known user.Treadmill) refl
 
   changed : (session : ℕ) (f : Life → Changed) → ((x : Session) → session_at s.sessions session ≡ Some x → loss_of (f x.life).life ≡ loss_of x.life)
@@ -105,7 +105,7 @@ device_quiet (event.Garbled line) code quiet = quiet
 device_quiet _ code quiet = refl
 
 -- what a state publishes behind a call that doesn't publish
-pub contents_stay : (s : CoreState) (reads : CellReads) (e : Entry) → KnowsDeclared s.atoms s.sets.actions → publishes e.call (effect s reads e).code ≡ false → Alike s (effect s reads e).state
+pub contents_stay : (s : CoreState) (reads : CellReads) (e : Entry) → KnowsDeclared s.atoms s.inputs.actions → publishes e.call (effect s reads e).code ≡ false → Alike s (effect s reads e).state
 contents_stay s reads e known quiet = by e.call quiet
   where
     by : (r : Call) → publishes r (effect s reads (record e { call = r })).code ≡ false → Alike s (effect s reads (record e { call = r })).state

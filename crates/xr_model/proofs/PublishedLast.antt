@@ -65,7 +65,7 @@ kept P s None x same done = done refl
 kept P s (Some r) x same done = same
 
 abbrev Knows : CoreState → Type 0
-Knows s = KnowsDeclared s.atoms s.sets.actions
+Knows s = KnowsDeclared s.atoms s.inputs.actions
 
 events_know : (s : CoreState) (what : DeviceEvent) → Knows s → Knows (behind_event s what)
 events_know s (event.Clock time) known = known
@@ -92,11 +92,11 @@ undeclared _ bad = true≢false (sym bad)
 
 -- a destroyed handle
 module _ (s : CoreState) (reads : CellReads) (e : Entry) (sound : IsSound s) where
-  left : (handle : ℕ) → Knows (record s { sets = without_inputs s.sets (destroyed_by s.handles handle) })
-  left handle who is = sound.declared who (any_left (λ x. is_declared x.declared who) (λ x. not (is_among (destroyed_by s.handles handle) x.handle)) s.sets.actions is)
+  left : (handle : ℕ) → Knows (record s { inputs = without_inputs s.inputs (destroyed_by s.handles handle) })
+  left handle who is = sound.declared who (any_left (λ x. is_declared x.declared who) (λ x. not (is_among (destroyed_by s.handles handle) x.handle)) s.inputs.actions is)
 
-  instance_gone : (instance : ℕ) → is_live s.handles kind.Instance instance ≡ true → KnowsDeclared [] (without_inputs s.sets (destroyed_by s.handles instance)).actions
-  instance_gone instance live = none_declared [] (without_inputs s.sets (destroyed_by s.handles instance)).actions (none_left s instance sound.one live sound.under sound.once sound.kept)
+  instance_gone : (instance : ℕ) → is_live s.handles kind.Instance instance ≡ true → KnowsDeclared [] (without_inputs s.inputs (destroyed_by s.handles instance)).actions
+  instance_gone instance live = none_declared [] (without_inputs s.inputs (destroyed_by s.handles instance)).actions (none_left s instance sound.one live sound.under sound.once sound.kept)
 
   declared_step : Knows (core_step s reads e).0
   declared_step = by e.call
@@ -108,7 +108,7 @@ module _ (s : CoreState) (reads : CellReads) (e : Entry) (sound : IsSound s) whe
       by (ask.CreateAction set name type subs localized) =
           let f = rule s reads (record e { call = ask.CreateAction set name type subs localized }) in
           kept Knows s (refusal e.short f) (told_on f.on f.effect) sound.declared (λ none who is.
-          elim (any_more (λ x. is_declared x.declared who) s.sets.actions _ is) [
+          elim (any_more (λ x. is_declared x.declared who) s.inputs.actions _ is) [
             | inl before ↦ sound.declared who before
             | inr new ↦ declared_known s.atoms subs no_users who (λ bad. absurd (undeclared who bad)) new
           ])

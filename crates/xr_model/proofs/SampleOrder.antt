@@ -80,7 +80,7 @@ sampled_falls samples what time pose fall =
     by true later = front_falls SAMPLES (new ∷ samples_of samples what) (new_falls new (samples_of samples what) later before)
     by false later = before
 
-falls_step : (s : State) (e : Entry) → list_all times_fall s.core.spaces.samples ≡ true → list_all times_fall (step s e).0.core.spaces.samples ≡ true
+falls_step : (s : State) (e : Entry) → list_all times_fall s.core.room.samples ≡ true → list_all times_fall (step s e).0.core.room.samples ≡ true
 falls_step s e fall = kept_by_step (λ h sp st su. list_all times_fall sp.samples ≡ true) s.core (reads_of s e.call) e (record {
   same = fall;
   instance = λ gives. fall;
@@ -94,11 +94,11 @@ falls_step s e fall = kept_by_step (λ h sp st su. list_all times_fall sp.sample
   chain_alone = λ chain. fall;
   suggest = λ o list none. fall;
   attach = λ handles. fall;
-  sample = λ what time pose. sampled_falls s.core.spaces.samples what time pose fall;
+  sample = λ what time pose. sampled_falls s.core.room.samples what time pose fall;
 })
 
-falls_after : (s : State) (es : List Entry) → list_all times_fall s.core.spaces.samples ≡ true
-    → list_all times_fall (after s es).core.spaces.samples ≡ true
+falls_after : (s : State) (es : List Entry) → list_all times_fall s.core.room.samples ≡ true
+    → list_all times_fall (after s es).core.room.samples ≡ true
 falls_after s [] fall = fall
 falls_after s (e ∷ es) fall = falls_after (step s e).0 es (falls_step s e fall)
 

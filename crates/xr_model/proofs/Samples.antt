@@ -37,7 +37,7 @@ sampled_few samples what time pose few =
     by true = front_few SAMPLES (record { time = time; pose = pose } ∷ samples_of samples what)
     by false = found_few samples (origin_place what) few
 
-few_step : (s : State) (e : Entry) → are_few s.core.spaces.samples ≡ true → are_few (step s e).0.core.spaces.samples ≡ true
+few_step : (s : State) (e : Entry) → are_few s.core.room.samples ≡ true → are_few (step s e).0.core.room.samples ≡ true
 few_step s e few = kept_by_step (λ h sp st su. are_few sp.samples ≡ true) s.core (reads_of s e.call) e (record {
   same = few;
   instance = λ gives. few;
@@ -51,10 +51,10 @@ few_step s e few = kept_by_step (λ h sp st su. are_few sp.samples ≡ true) s.c
   chain_alone = λ chain. few;
   suggest = λ o list none. few;
   attach = λ handles. few;
-  sample = λ what time pose. sampled_few s.core.spaces.samples what time pose few;
+  sample = λ what time pose. sampled_few s.core.room.samples what time pose few;
 })
 
-few_after : (s : State) (es : List Entry) → are_few s.core.spaces.samples ≡ true → are_few (after s es).core.spaces.samples ≡ true
+few_after : (s : State) (es : List Entry) → are_few s.core.room.samples ≡ true → are_few (after s es).core.room.samples ≡ true
 few_after s [] few = few
 few_after s (e ∷ es) few = few_after (step s e).0 es (few_step s e few)
 

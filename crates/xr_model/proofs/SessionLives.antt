@@ -297,8 +297,8 @@ module _ (s : CoreState) (reads : CellReads) (e : Entry) (handle : ℕ) where
       by (ask.AttachSets session sets) =
           let f = rule s reads (record e { call = ask.AttachSets session sets }) in
           kept (λ xs. Lives (ask.AttachSets session sets) xs true) s (refusal e.short f) (told_on f.on f.effect) all_same
-          (rw (found_at session handle (with_attached (sets_named s.sets sets)) (λ x. refl) s.sessions)
-          (follows_attached false fresh (sets_named s.sets sets) (session == handle) (session_at s.sessions handle)))
+          (rw (found_at session handle (with_attached (sets_named s.inputs sets)) (λ x. refl) s.sessions)
+          (follows_attached false fresh (sets_named s.inputs sets) (session == handle) (session_at s.sessions handle)))
       by (ask.DestroyInstance instance) =
           let f = rule s reads (record e { call = ask.DestroyInstance instance }) in
           kept (λ xs. Lives (ask.DestroyInstance instance) xs true) s (refusal e.short f) (told_on f.on f.effect) all_same

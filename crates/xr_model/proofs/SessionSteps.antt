@@ -38,7 +38,7 @@ pub record Keeps (P : Handles → List Session → Type 0) (s : CoreState) (read
   pub alone : is_device_lost e.call ≡ false → is_session_creation e.call ≡ false → (space : ℕ) → P (without_alone s.handles kind.Space space) s.sessions
   pub chain_alone : is_device_lost e.call ≡ false → is_session_creation e.call ≡ false → (chain : ℕ) → P (without_alone s.handles kind.Swapchain chain) s.sessions
   pub lives : is_device_lost e.call ≡ false → is_session_creation e.call ≡ false → (session : ℕ) (f : Session → Session) → ((x : Session) → (f x).handle ≡ x.handle) → ((x : Session) → session_at s.sessions session ≡ Some x → (f x).life.lost ≡ x.life.lost) → ((x : Session) → (f x).attached ≡ x.attached) → P s.handles (with_session_at session f s.sessions)
-  pub attach : is_device_lost e.call ≡ false → is_session_creation e.call ≡ false → (session : ℕ) (sets : List ℕ) → P s.handles (with_session_at session (with_attached (sets_named s.sets sets)) s.sessions)
+  pub attach : is_device_lost e.call ≡ false → is_session_creation e.call ≡ false → (session : ℕ) (sets : List ℕ) → P s.handles (with_session_at session (with_attached (sets_named s.inputs sets)) s.sessions)
   pub each : is_device_lost e.call ≡ false → is_session_creation e.call ≡ false → (f : Life → Changed) → ((life : Life) → (f life).life.lost ≡ life.lost) → P s.handles (each_changed f s.sessions)
   pub lost : is_device_lost e.call ≡ true → is_session_creation e.call ≡ false → P s.handles (each_changed (λ life. unchanged (lost_session life)) s.sessions)
 

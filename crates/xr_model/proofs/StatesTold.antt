@@ -56,7 +56,7 @@ apart_step s e allowed known listed apart = kept_by_step (λ h xs. AreApart xs) 
   alone = λ d c space. apart;
   chain_alone = λ d c chain. apart;
   lives = λ d c session f named same keeps. apart_lives session f named s.core.sessions apart;
-  attach = λ d c session sets. apart_lives session (with_attached (sets_named s.core.sets sets)) (λ x. refl) s.core.sessions apart;
+  attach = λ d c session sets. apart_lives session (with_attached (sets_named s.core.inputs sets)) (λ x. refl) s.core.sessions apart;
   each = λ d c f keeps. apart_each f s.core.sessions apart;
   lost = λ d c. apart_each (λ life. unchanged (lost_session life)) s.core.sessions apart;
 })
@@ -211,7 +211,7 @@ told_step s e allowed known listed apart = by e.call allowed
     by (ask.AttachSets session handles) allowed no_poll no_end =
         let f = rule s.core (reads_of s (ask.AttachSets session handles)) (record e { call = ask.AttachSets session handles }) in
         unless (λ q ys. Tells s.core.events q s.core.sessions ys) s.core (refusal e.short f) (told_on f.on f.effect) (as_before s apart)
-        (λ none. nothing s.core.events s.core.sessions (with_session_at session (with_attached (sets_named s.core.sets handles)) s.core.sessions) (λ k there. sym (state_attached session (sets_named s.core.sets handles) s.core.sessions k)))
+        (λ none. nothing s.core.events s.core.sessions (with_session_at session (with_attached (sets_named s.core.inputs handles)) s.core.sessions) (λ k there. sym (state_attached session (sets_named s.core.inputs handles) s.core.sessions k)))
     by (ask.DestroySession handle) allowed no_poll no_end =
         let f = rule s.core (reads_of s (ask.DestroySession handle)) (record e { call = ask.DestroySession handle }) in
         unless (λ q ys. Tells s.core.events q s.core.sessions ys) s.core (refusal e.short f) (told_on f.on f.effect) (as_before s apart) (λ none. gone s apart handle)

@@ -2,7 +2,6 @@
 use Rattle.std.proofs.Common.{◌≡◌, ◌+◌, ℕ, suc, List, [], ◌∷◌, ◌++◌, length, refl, ap, arith}
 use Rattle.xr_types.specs.declared.made.Made.{Made}
 use Rattle.xr_model.specs.machine.Calls.{Exchange}
-use Rattle.xr_types.specs.declared.calls.Call.TheVariants as ask
 use Rattle.xr_model.specs.runs.Lists.{made_at, made_from}
 
 pub made_snoc : (place : ℕ) (calls : List Exchange) (t : Exchange) → made_from place (calls ++ t ∷ []) ≡ made_from place calls ++ made_at (place + length calls) t ∷ []

@@ -10,7 +10,6 @@ use Rattle.xr_model.specs.scenario.ScriptForm.{IsInRange}
 use Rattle.xr_model.specs.machine.CoreCalls.{MayAsk}
 use Rattle.xr_model.specs.runs.Scripts.{request_for, unstarted}
 use Rattle.xr_types.specs.CallKinds.{lent_size, with_start}
-use Rattle.xr_types.specs.declared.calls.Call.TheVariants as ask
 use Rattle.xr_types.specs.declared.calls.Actor.TheVariants.{App}
 
 pub here_at : (ops : List Op) (i : ℕ) (o : Op) → i < length ops → o ≡ get_or ops i o → drop i ops ≡ o ∷ drop (i + 1) ops

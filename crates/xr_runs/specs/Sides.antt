@@ -3,10 +3,8 @@ use Rattle.std.specs.Prelude.{ℕ, Bool, List, Option, ◌≡◌, ◌≤◌, ◌
 use Rattle.xr_types.specs.declared.device.DeviceEvent.{DeviceEvent}
 use Rattle.xr_types.specs.declared.made.Made.{Made}
 use Rattle.std.specs.List.{list_any}
-use Rattle.xr_types.specs.declared.names.CallName.TheVariants as call
 use Rattle.xr_io.specs.Outside.{Rose}
 use Rattle.xr_model.specs.machine.Calls.{Outcome, Exchange}
-use Rattle.xr_types.specs.declared.calls.Call.TheVariants as ask
 use Rattle.xr_model.specs.device_text.DeviceText.{DeviceStream, Ending}
 use Rattle.xr_model.specs.runs.Robin.{last_event}
 use Rattle.xr_model.specs.report.RunEnding.{is_fault}

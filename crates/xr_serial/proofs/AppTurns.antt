@@ -313,6 +313,3 @@ op_turn_counts s after run place ops old app went within is m = all_count s afte
 pub leave_turn_counts : (s after : State) (run : RunState) (place : ℕ) (old app : AppState) → place < length run.apps → old ≡ get_or run.apps place old → Leaves (place + 1) old app s after
     → calls_made after (record run { apps = set run.apps place app }) ≡ calls_made s run + 1
 leave_turn_counts s after run place old app within is m = all_count s after run place 1 old app within is (leave_counts (place + 1) old app s after m)
-
-pub no_turn_counts : (s : State) (run : RunState) (place : ℕ) (old : AppState) → place < length run.apps → old ≡ get_or run.apps place old → calls_made s (record run { apps = set run.apps place old }) ≡ calls_made s run + 0
-no_turn_counts s run place old within is = all_count s s run place 0 old old within is (omega arith)

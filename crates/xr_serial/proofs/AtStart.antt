@@ -12,7 +12,7 @@ use Rattle.xr_model.specs.machine.History.{IsLegalFrom}
 use Rattle.xr_model.specs.device_text.DeviceText.{DeviceStream}
 use Rattle.xr_model.specs.runs.NameValues.{no_values}
 use Rattle.xr_model.specs.runs.Robin.{Agenda, script, script_agendas, device_agendas, compositor, first_agendas}
-use Rattle.xr_serial.specs.inside.RunState.{AppState, RunState}
+use Rattle.xr_serial.specs.inside.RunState.{AppState}
 use Rattle.xr_device.specs.Prospect.{Prospect}
 use Rattle.xr_serial.specs.inside.Sides.{new_app, first_run}
 use Rattle.xr_serial.specs.inside.Turns.{script_parts, joined, parts_of}

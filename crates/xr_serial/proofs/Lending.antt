@@ -8,7 +8,6 @@ use Rattle.xr_types.specs.declared.calls.Call.{Call}
 use Rattle.xr_types.specs.declared.calls.Call.TheVariants as ask
 use Rattle.xr_types.specs.declared.frames.Image.{Image}
 use Rattle.xr_model.specs.machine.CoreCalls.{entry_of, Lent, AnswersBy, written_over, shown_over}
-use Rattle.xr_types.specs.declared.handles.Kind.TheVariants as kind
 use Rattle.xr_model.specs.machine.State.{CoreState, State}
 use Rattle.xr_model.specs.machine.Rule.{carried_out}
 use Rattle.xr_types.specs.Frames.{PendingFrame}

@@ -1,11 +1,10 @@
 -- A run of a scenario beside a device: the one history that its lists are of.
-use Rattle.std.specs.Prelude.{◌≡◌, ◌+◌, ℕ, List, [], ◌++◌, Option}
+use Rattle.std.specs.Prelude.{◌≡◌, ℕ, List, [], ◌++◌, Option}
 use Rattle.xr_types.specs.declared.calls.Actor.TheVariants.{Device}
 use Rattle.xr_types.specs.declared.device.DeviceEvent.{DeviceEvent}
 use Rattle.xr_types.specs.declared.made.Lists.{Lists}
 use Rattle.xr_types.specs.declared.scenario.Scenario.{Scenario}
 use Rattle.xr_model.specs.machine.Calls.{Entry}
-use Rattle.xr_types.specs.declared.calls.Call.TheVariants as ask
 use Rattle.xr_model.specs.machine.State.{opening}
 use Rattle.xr_model.specs.machine.History.{IsLegal, calls_of}
 use Rattle.xr_model.specs.runs.Scripts.{FollowsSoFar}

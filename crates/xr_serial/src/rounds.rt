@@ -66,34 +66,6 @@ fn behind(turn: usize, actors: usize) -> usize
     if turn + 1 < actors { turn + 1 } else { 0 }
 }
 
-/// An application's turn; whether it made a call.
-fn app_turn(
-    alloc: Global,
-    machine: &mut Machine,
-    scenario: &Scenario,
-    place: usize,
-    run: &mut Run,
-) -> Result<bool, NoMemory>
-    requires runs { CanBeRun scenario.now }
-    requires within { place < length scenario.now.scripts }
-    requires run { (now : Prospect) × StandsAt scenario.now place machine.old run.old now }
-    ensures run { IfOk result (λ went. (now : Prospect) → KeepsTurn scenario.now place went machine.old run.old now machine.new run.new now) }
-    ensures counts { IfOk result (λ went. calls_made machine.new run.new ≡ calls_made machine.old run.old + (if went then 1 else 0)) }
-{
-    let ops = scenario.scripts.as_slice()[place].as_slice();
-    let number = place as u8 + 1;
-    let app = &mut run.apps[place];
-    if app.has_left {
-        return Ok(false);
-    }
-    if app.made < ops.len() {
-        let went = app.make_op(alloc, machine, number, ops)?;
-        return Ok(went);
-    }
-    app.leave(alloc, machine, number)?;
-    Ok(true)
-}
-
 /// The device's turn; whether it made a call.
 fn device_turn<D: Device>(
     alloc: Global,
@@ -158,7 +130,18 @@ fn one_turn<D: Device>(
 {
     let apps = scenario.scripts.as_slice().len();
     if turn < apps {
-        return app_turn(alloc, machine, scenario, turn, run);
+        let ops = scenario.scripts.as_slice()[turn].as_slice();
+        let number = turn as u8 + 1;
+        let app = &mut run.apps[turn];
+        if app.has_left {
+            return Ok(false);
+        }
+        if app.made < ops.len() {
+            let went = app.make_op(alloc, machine, number, ops)?;
+            return Ok(went);
+        }
+        app.leave(alloc, machine, number)?;
+        return Ok(true);
     }
     if turn == apps {
         return device_turn(alloc, machine, scenario, device, run);

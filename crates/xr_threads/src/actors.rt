@@ -1,9 +1,8 @@
 // All actors of a run on their threads.
-ghost use Rattle.std.specs.Prelude.{◌≡◌, List, length};
-ghost use Rattle.xr_types.specs.declared.calls.Actor.TheVariants.{Compositor, Device as Devices};
-ghost use Rattle.xr_model.specs.machine.Calls.{Exchange};
+ghost use Rattle.std.specs.Prelude.{◌≡◌, length};
+ghost use Rattle.xr_types.specs.declared.calls.Actor.TheVariants.{Device as Devices};
 ghost use Rattle.xr_runtime.specs.Passes.{table_of, IsDevice};
-ghost use Rattle.xr_workers.specs.Workers.{Adds, IsGated, turns_in, RanDevice, RanCompositor};
+ghost use Rattle.xr_workers.specs.Workers.{IsGated, ComposesGated, RanDevice, RanCompositor};
 ghost use Rattle.xr_threads.specs.inside.Working.{MayWorkAll, MayRun, HaveWorked};
 ghost use Rattle.xr_runs.specs.Runs.{CanBeRun};
 
@@ -65,7 +64,7 @@ pub(crate) fn run_actors<R: Threads + Wait + Sync, G: Gate + Sync, D: Device>(
     ensures count { length workers.new.items ≡ length workers.old.items }
     ensures composed { RanCompositor (table_of context.now.runtime.now) compositor.old compositor.new result.composed }
     ensures told { RanDevice (table_of context.now.runtime.now) (D.prospect device.old) (D.prospect device.new) pass.old pass.new result.told }
-    ensures composed_gated { (calls : List Exchange) × Adds compositor.old.seat.me.0.know compositor.new.seat.me.0.know calls × IsGated (G.came context.now.gate.now) (G.went context.now.gate.now) Compositor 0 (turns_in calls) }
+    ensures composed_gated { ComposesGated (G.came context.now.gate.now) (G.went context.now.gate.now) compositor.old.seat.me.0.know compositor.new.seat.me.0.know }
     ensures told_gated { IsGated (G.came context.now.gate.now) (G.went context.now.gate.now) Devices pass.old.calls pass.new.calls }
 {
     let (composed, told) = join_mut(

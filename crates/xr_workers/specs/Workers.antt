@@ -3,6 +3,7 @@ use Rattle.std.specs.Prelude.{◌≡◌, ◌<◌, ◌≤◌, ◌+◌, ℕ, true,
 use Rattle.std.specs.List.{list_any}
 use Rattle.atomic_table.specs.Seated.{TableId}
 use Rattle.xr_types.specs.declared.calls.Actor.{Actor}
+use Rattle.xr_types.specs.declared.calls.Actor.TheVariants.{Compositor}
 use Rattle.xr_types.specs.declared.calls.NoMemory.{NoMemory}
 use Rattle.xr_types.specs.declared.device.DeviceEvent.{DeviceEvent}
 use Rattle.xr_types.specs.declared.made.Made.{Made}
@@ -109,3 +110,7 @@ pub record RanCompositor (table : TableId) (old new : CompositorPass) (list : Re
 -- how many turns it had: one for each frame that it asked for
 abbrev pub turns_in : List Exchange → ℕ
 turns_in calls = how_many (λ t. is_next_frame t.call) calls
+
+-- The gate was called round each turn of a compositor's pass that came from knowing this to knowing that.
+abbrev pub ComposesGated : (Actor → ℕ → Type 0) → (Actor → ℕ → Type 0) → Know → Know → Type 0  -- came, went
+ComposesGated came went old new = (calls : List Exchange) × Adds old new calls × IsGated came went Compositor 0 (turns_in calls)

@@ -1,9 +1,7 @@
 // The compositor's worker.
-ghost use Rattle.std.specs.Prelude.{◌≡◌, List, false};
-ghost use Rattle.xr_model.specs.machine.Calls.{Exchange};
-ghost use Rattle.xr_types.specs.declared.calls.Actor.TheVariants.{Compositor};
+ghost use Rattle.std.specs.Prelude.{◌≡◌, false};
 ghost use Rattle.xr_runtime.specs.Passes.{table_of, IsCompositor};
-ghost use Rattle.xr_workers.specs.Workers.{IsGated, Adds, turns_in, RanCompositor};
+ghost use Rattle.xr_workers.specs.Workers.{ComposesGated, RanCompositor};
 ghost use Rattle.xr_workers.specs.inside.Composing.{KeepsFrame, ListsAll};
 
 use crate::context::Context;
@@ -67,7 +65,7 @@ pub fn run_compositor<R: Wait, G: Gate>(
     requires first { (pass.old.ended ≡ false) × (pass.old.calls ≡ 0) }
     requires none_held { pass.old.held ≡ 0 }
     ensures ran { RanCompositor (table_of context.now.runtime.now) pass.old pass.new result }
-    ensures gated { (calls : List Exchange) × Adds pass.old.seat.me.0.know pass.new.seat.me.0.know calls × IsGated (G.came context.now.gate.now) (G.went context.now.gate.now) Compositor 0 (turns_in calls) }
+    ensures gated { ComposesGated (G.came context.now.gate.now) (G.went context.now.gate.now) pass.old.seat.me.0.know pass.new.seat.me.0.know }
 {
     let mut kept = Some(Frames {
         frames: Vec::new(context.alloc),

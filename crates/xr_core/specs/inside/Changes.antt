@@ -77,7 +77,7 @@ ordinal_in (Some x) = x.ordinal
 abbrev pub with_places_left : Bool → CoreState → CoreState
 with_places_left all s = record s {
   columns = if all then no_columns else left_columns (has_action s.handles.actions) s.columns;
-  spaces = left_spaces (has_action s.handles.actions) s.spaces;
+  room = left_spaces (has_action s.handles.actions) s.room;
 }
 
 -- where a session stands, from 0

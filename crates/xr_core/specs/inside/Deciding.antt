@@ -22,7 +22,8 @@ use Rattle.xr_types.specs.declared.calls.Reply.{Reply}
 use Rattle.xr_core.specs.declared.halt.Halt.{Halt}
 use Rattle.xr_core.specs.declared.halt.Halt.TheVariants.{Refused, NotReady}
 
--- No count has come to its end: how many handles were given, how many sessions were created, and how many frames were ended.
+-- No count has come to its end: how many handles were given, how many sessions were created, and how many frames were ended. Each is
+-- raised at most once by a call, and a core decides at most 2^44 locked calls.
 pub record CountsFit (s : CoreState) : Type 0 where
   pub given : length s.handles.given < 2 ^ 44
   pub created : s.created < 2 ^ 44

@@ -29,5 +29,5 @@ session_words session actions =
 -- all words but the first, which is the number
 abbrev pub contents_words : CoreState → List ℕ
 contents_words s =
-    session_words (first_seen s.sessions) (length s.sets.actions)
-    ++ (map (atom_of_user s.atoms s.sets.actions) all_users ++ flat_map (words_of_action (first_seen s.sessions) s.handles s.columns) s.sets.actions)
+    session_words (first_seen s.sessions) (length s.inputs.actions)
+    ++ (map (atom_of_user s.atoms s.inputs.actions) all_users ++ flat_map (words_of_action (first_seen s.sessions) s.handles s.columns) s.inputs.actions)

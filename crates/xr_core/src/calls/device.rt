@@ -30,7 +30,7 @@ impl Parts {
             DeviceEvent::Stage(stage) => self.device.set_stage(stage),
             DeviceEvent::Profile { user, profile } => self.device.connect(user, profile),
             DeviceEvent::Input { user, row, value } => self.device.set_input(user, row, value),
-            DeviceEvent::Pose { origin, time, pose } => self.spaces.sample(origin, time, pose),
+            DeviceEvent::Pose { origin, time, pose } => self.room.sample(origin, time, pose),
             DeviceEvent::Mark(mark) => self.set_mark(mark, 0),
             DeviceEvent::Await(_) => {}
         }

@@ -9,12 +9,12 @@ ghost use Rattle.xr_model.specs.machine.Refusals.{first_of, when};
 ghost use Rattle.xr_types.specs.declared.calls.Call.TheVariants as ask;
 ghost use Rattle.xr_model.specs.machine.Rule.{ahead, refusals};
 ghost use Rattle.xr_model.specs.machine.SessionLife.{is_state, synced_session};
-ghost use Rattle.xr_model.specs.machine.SessionRule.{loss_of, code_on};
 ghost use Rattle.xr_model.specs.machine.Rules.Frames.{not_running, next_time, wait_frame_rule, look_of, new_frame, end_frame_rule, is_frame_awaited, with_frame_taken};
 ghost use Rattle.xr_model.specs.machine.Rules.Session.{life_of, with_change, with_loop};
 ghost use Rattle.xr_core.specs.inside.Deciding.{Decides, DecidesCells, MayTouch};
 ghost use Rattle.xr_core.specs.inside.Groups.{IsFrameCall};
 ghost use Rattle.xr_model.specs.machine.PartAnswers.{or_refused};
+ghost use Rattle.xr_core.specs.inside.Refusing.{success_on, unless_refused};
 
 use crate::halt::{Halt, done, giving};
 use crate::parts::Parts;
@@ -83,7 +83,7 @@ impl Parts {
 
     /// What refuses a call on the frames of a session ahead of the call order, or what its plain success is answered as.
     fn may_frame(&self, session: u64) -> Result<Code, Code>
-        ensures { result ≡ or_refused (first_of (ahead (wait_frame_rule self.now session))) (code_on (loss_of (life_of self.now session)) Code.Success) }
+        ensures { result ≡ or_refused (first_of (ahead (wait_frame_rule self.now session))) (success_on self.now session) }
     {
         self.live(Kind::Session, session)?;
         let success = self.on_session(session)?;
@@ -187,7 +187,7 @@ impl Parts {
         frame: &mut Frame,
     ) -> Result<Code, Code>
         requires number { frame.old.number ≡ self.now.ended + 1 }
-        ensures checks { result ≡ or_refused (first_of (refusals (end_frame_rule self.now session time.now blend layers.now))) (code_on (loss_of (life_of self.now session)) Code.Success) }
+        ensures checks { result ≡ unless_refused (end_frame_rule self.now session time.now blend layers.now) (success_on self.now session) }
         ensures frame { first_of (refusals (end_frame_rule self.now session time.now blend layers.now)) ≡ None → frame.new ≡ new_frame self.now time.now layers.now }
     {
         let success = self.may_frame(session)?;

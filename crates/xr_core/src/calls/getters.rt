@@ -144,7 +144,7 @@ impl Parts {
         let Some(live) = self.published_session(session) else {
             return Err(Code::HandleInvalid);
         };
-        let Some(entry) = self.sets.action_at(action) else {
+        let Some(entry) = self.inputs.action_at(action) else {
             return Err(Code::HandleInvalid);
         };
         let success = live.success()?;

@@ -3,13 +3,11 @@ ghost use Rattle.std.specs.Prelude.{◌≡◌, ◌≢◌, [], ◌<◌, ◌^◌, 
 ghost use Rattle.xr_types.specs.declared.handles.Kind.TheVariants as kind;
 ghost use Rattle.xr_model.specs.machine.Events.{no_events};
 ghost use Rattle.xr_model.specs.machine.Handles.{has_room, was_given, with_handle};
-ghost use Rattle.xr_model.specs.machine.Refusals.{first_of};
 ghost use Rattle.xr_types.specs.declared.calls.Call.TheVariants as ask;
-ghost use Rattle.xr_model.specs.machine.Rule.{refusals};
 ghost use Rattle.xr_model.specs.machine.Rules.Instance.{create_instance_rule};
 ghost use Rattle.xr_core.specs.inside.Deciding.{Decides, DecidesCells, MayTouch};
 ghost use Rattle.xr_core.specs.inside.Groups.{IsInstanceCall};
-ghost use Rattle.xr_model.specs.machine.PartAnswers.{or_refused};
+ghost use Rattle.xr_core.specs.inside.Refusing.{unless_refused};
 
 use crate::halt::{Halt, done, giving, refused};
 use crate::parts::{Parts, give};
@@ -35,7 +33,7 @@ impl Parts {
 
     /// What refuses an instance: any version but 1.0, and one too many.
     fn may_create_instance(&self, major: u32, minor: u32) -> Result<(), Code>
-        ensures { result ≡ or_refused (first_of (refusals (create_instance_rule self.now 0 major minor))) tt }
+        ensures { result ≡ unless_refused (create_instance_rule self.now 0 major minor) tt }
     {
         if major != 1 || minor != 0 {
             return Err(Code::ApiVersionUnsupported);

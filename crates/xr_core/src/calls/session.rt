@@ -2,15 +2,13 @@
 ghost use Rattle.std.specs.Prelude.{◌≡◌, ◌≢◌, ◌<◌, ◌^◌, length, true, false, Some};
 ghost use Rattle.xr_types.specs.declared.handles.Kind.TheVariants as kind;
 ghost use Rattle.xr_model.specs.machine.Handles.{has_room, was_given};
-ghost use Rattle.xr_model.specs.machine.Refusals.{first_of};
 ghost use Rattle.xr_types.specs.declared.calls.Call.TheVariants as ask;
-ghost use Rattle.xr_model.specs.machine.Rule.{refusals};
 ghost use Rattle.xr_model.specs.machine.SessionLife.{started_session};
 ghost use Rattle.xr_model.specs.machine.Rules.Session.{life_of, with_session, create_session_rule};
 ghost use Rattle.xr_core.specs.inside.Changes.{place_at, life_request, changed_life, with_period, answer_to};
 ghost use Rattle.xr_core.specs.inside.Deciding.{Decides, DecidesCells, MayTouch};
 ghost use Rattle.xr_core.specs.inside.Groups.{IsSessionCall};
-ghost use Rattle.xr_model.specs.machine.PartAnswers.{or_refused};
+ghost use Rattle.xr_core.specs.inside.Refusing.{unless_refused};
 
 use crate::calls::instance::SYSTEM;
 use crate::halt::{Halt, done, giving, refused};
@@ -44,7 +42,7 @@ impl Parts {
 
     /// What refuses a session: a handle of no instance, another system, and one too many.
     fn may_create_session(&self, instance: u64, system: u64) -> Result<(), Code>
-        ensures { result ≡ or_refused (first_of (refusals (create_session_rule self.now 0 instance system))) tt }
+        ensures { result ≡ unless_refused (create_session_rule self.now 0 instance system) tt }
     {
         self.live(Kind::Instance, instance)?;
         if system != SYSTEM {

@@ -7,15 +7,13 @@ ghost use Rattle.xr_model.specs.machine.LiveSessions.{session_at, attached_in};
 ghost use Rattle.xr_model.specs.machine.Refusals.{first_of};
 ghost use Rattle.xr_model.specs.machine.Sets.{no_users, set_checks, action_checks, action_label_checks, attach_checks};
 ghost use Rattle.xr_types.specs.declared.calls.Call.TheVariants as ask;
-ghost use Rattle.xr_model.specs.machine.Rule.{refusals};
-ghost use Rattle.xr_model.specs.machine.SessionRule.{loss_of, code_on};
-ghost use Rattle.xr_model.specs.machine.Rules.Session.{life_of};
 ghost use Rattle.xr_model.specs.machine.Rules.Sets.{with_action_set, with_new_action, with_attached_sets, declared_by, create_action_set_rule, create_action_rule, attach_sets_rule};
 ghost use Rattle.xr_sets.specs.NewActions.{new_action};
 ghost use Rattle.xr_core.specs.inside.Changes.{place_at};
 ghost use Rattle.xr_core.specs.inside.Deciding.{Decides};
 ghost use Rattle.xr_core.specs.inside.Groups.{IsSetCall};
 ghost use Rattle.xr_model.specs.machine.PartAnswers.{or_refused};
+ghost use Rattle.xr_core.specs.inside.Refusing.{success_on, unless_refused};
 
 use crate::halt::{Halt, done, giving};
 use crate::parts::{Parts, give};
@@ -74,9 +72,9 @@ impl Parts {
 
     /// What refuses a set by its names.
     fn check_set(&self, name: &[u8], localized: &[u8]) -> Result<(), Code>
-        ensures { result ≡ or_refused (first_of (set_checks self.now.sets name.now localized.now)) tt }
+        ensures { result ≡ or_refused (first_of (set_checks self.now.inputs name.now localized.now)) tt }
     {
-        match self.sets.check_set(name, localized) {
+        match self.inputs.check_set(name, localized) {
             Code::Success => Ok(()),
             code => Err(code),
         }
@@ -89,7 +87,7 @@ impl Parts {
         name: &[u8],
         localized: &[u8],
     ) -> Result<(), Code>
-        ensures { (priority : ℕ) → result ≡ or_refused (first_of (refusals (create_action_set_rule self.now 0 instance name.now localized.now priority))) tt }
+        ensures { (priority : ℕ) → result ≡ unless_refused (create_action_set_rule self.now 0 instance name.now localized.now priority) tt }
     {
         self.live(Kind::Instance, instance)?;
         self.check_set(name, localized)?;
@@ -114,13 +112,13 @@ impl Parts {
     /// Gives the handle of a new action set, where nothing refuses it.
     fn new_set(&mut self, instance: u64, name: &[u8], localized: &[u8], priority: u32) -> u64
         requires given { length self.old.handles.given < 2 ^ 44 }
-        requires checked { first_of (set_checks self.old.sets name.now localized.now) ≡ None }
+        requires checked { first_of (set_checks self.old.inputs name.now localized.now) ≡ None }
         requires room { has_room self.old.handles kind.ActionSet ≡ true }
         ensures state { self.new ≡ with_action_set self.old instance result name.now localized.now priority }
         ensures fresh { (result ≢ 0) × (was_given self.old.handles result ≡ false) }
     {
         let handle = give(&mut self.handles, Kind::ActionSet, instance);
-        self.sets.add_set(handle, name, localized, priority);
+        self.inputs.add_set(handle, name, localized, priority);
         handle
     }
 
@@ -134,9 +132,9 @@ impl Parts {
 
     /// What refuses an action by its set and its name.
     fn check_action(&self, set: u64, name: &[u8]) -> Result<(), Code>
-        ensures { result ≡ or_refused (first_of (action_checks self.now.sets set name.now)) tt }
+        ensures { result ≡ or_refused (first_of (action_checks self.now.inputs set name.now)) tt }
     {
-        match self.sets.check_action(set, name) {
+        match self.inputs.check_action(set, name) {
             Code::Success => Ok(()),
             code => Err(code),
         }
@@ -144,9 +142,9 @@ impl Parts {
 
     /// What refuses an action by its localized name.
     fn check_label(&self, set: u64, localized: &[u8]) -> Result<(), Code>
-        ensures { result ≡ or_refused (first_of (action_label_checks self.now.sets set localized.now)) tt }
+        ensures { result ≡ or_refused (first_of (action_label_checks self.now.inputs set localized.now)) tt }
     {
-        match self.sets.check_label(set, localized) {
+        match self.inputs.check_label(set, localized) {
             Code::Success => Ok(()),
             code => Err(code),
         }
@@ -160,7 +158,7 @@ impl Parts {
         subs: &[u64],
         localized: &[u8],
     ) -> Result<[bool; USERS], Code>
-        ensures { (type : ActionType) → result ≡ or_refused (first_of (refusals (create_action_rule self.now 0 set name.now type subs.now localized.now))) (declared_by self.now.atoms no_users subs.now) }
+        ensures { (type : ActionType) → result ≡ unless_refused (create_action_rule self.now 0 set name.now type subs.now localized.now) (declared_by self.now.atoms no_users subs.now) }
     {
         self.live(Kind::ActionSet, set)?;
         self.check_action(set, name)?;
@@ -197,14 +195,14 @@ impl Parts {
     /// with.
     fn new_action(&mut self, action: NewAction) -> u64
         requires given { length self.old.handles.given < 2 ^ 44 }
-        requires name { first_of (action_checks self.old.sets action.set action.name.now) ≡ None }
-        requires label { first_of (action_label_checks self.old.sets action.set action.localized.now) ≡ None }
+        requires name { first_of (action_checks self.old.inputs action.set action.name.now) ≡ None }
+        requires label { first_of (action_label_checks self.old.inputs action.set action.localized.now) ≡ None }
         requires room { has_room self.old.handles kind.Action ≡ true }
         ensures state { self.new ≡ with_new_action self.old result (new_action result action.entry.set action.entry.name.now action.entry.localized.now action.entry.kind action.entry.declared) }
         ensures fresh { (result ≢ 0) × (was_given self.old.handles result ≡ false) }
     {
         let handle = give(&mut self.handles, Kind::Action, action.set);
-        self.sets.add_action(NewAction { handle, ..action });
+        self.inputs.add_action(NewAction { handle, ..action });
         handle
     }
 
@@ -243,7 +241,7 @@ impl Parts {
 
     /// What refuses attaching these sets, or what its success is answered as.
     fn may_attach_sets(&self, session: u64, sets: &[u64]) -> Result<Code, Code>
-        ensures { result ≡ or_refused (first_of (refusals (attach_sets_rule self.now session sets.now))) (code_on (loss_of (life_of self.now session)) Code.Success) }
+        ensures { result ≡ unless_refused (attach_sets_rule self.now session sets.now) (success_on self.now session) }
     {
         self.live(Kind::Session, session)?;
         let success = self.on_session(session)?;
@@ -258,9 +256,9 @@ impl Parts {
         requires within { place < length self.old.sessions }
         ensures { self.new ≡ with_attached_sets self.old session sets.now }
     {
-        let named = self.sets.named(sets);
+        let named = self.inputs.named(sets);
         attach_at(&mut self.sessions, session, place, named);
-        self.sets.seal(sets);
+        self.inputs.seal(sets);
     }
 
     fn attach_sets(&mut self, session: u64, sets: &[u64]) -> Result<Reply, Halt>

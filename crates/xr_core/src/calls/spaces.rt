@@ -3,15 +3,13 @@ ghost use Rattle.std.specs.Prelude.{◌≡◌, ◌≢◌, ◌<◌, ◌^◌, [], 
 ghost use Rattle.xr_model.specs.machine.Handles.{has_room, was_given};
 ghost use Rattle.xr_model.specs.machine.Refusals.{first_of};
 ghost use Rattle.xr_types.specs.declared.calls.Call.TheVariants as ask;
-ghost use Rattle.xr_model.specs.machine.Rule.{refusals};
-ghost use Rattle.xr_model.specs.machine.SessionRule.{loss_of, code_on};
 ghost use Rattle.xr_model.specs.machine.Spaces.{reference_checks};
-ghost use Rattle.xr_model.specs.machine.Rules.Session.{life_of};
 ghost use Rattle.xr_model.specs.machine.Rules.Spaces.{with_new_space, with_space_gone, session_above, create_reference_space_rule, locate_space_rule};
 ghost use Rattle.xr_model.specs.machine.Rules.Sync.{column_named, action_space_checks, action_root, create_action_space_rule};
 ghost use Rattle.xr_core.specs.inside.Deciding.{Decides};
 ghost use Rattle.xr_core.specs.inside.Groups.{IsSpaceCall};
 ghost use Rattle.xr_model.specs.machine.PartAnswers.{or_refused};
+ghost use Rattle.xr_core.specs.inside.Refusing.{success_on, unless_refused};
 
 use crate::halt::{Halt, done, giving};
 use crate::parts::{Parts, give};
@@ -61,7 +59,7 @@ impl Parts {
         kind: RefKind,
         offset: u64,
     ) -> Result<Code, Code>
-        ensures { result ≡ or_refused (first_of (refusals (create_reference_space_rule self.now 0 session kind offset))) (code_on (loss_of (life_of self.now session)) Code.Success) }
+        ensures { result ≡ unless_refused (create_reference_space_rule self.now 0 session kind offset) (success_on self.now session) }
     {
         self.live(Kind::Session, session)?;
         let success = self.on_session(session)?;
@@ -92,7 +90,7 @@ impl Parts {
         ensures fresh { (result ≢ 0) × (was_given self.old.handles result ≡ false) }
     {
         let handle = give(&mut self.handles, Kind::Space, session);
-        self.spaces.add(handle, root, offset);
+        self.room.add(handle, root, offset);
         handle
     }
 
@@ -105,7 +103,7 @@ impl Parts {
             return Some(0);
         }
         let user = user_of(self.paths.text_at(sub)?)?;
-        if !self.sets.declares(action, user) {
+        if !self.inputs.declares(action, user) {
             return None;
         }
         Some(user_place(user) + 1)
@@ -115,7 +113,7 @@ impl Parts {
     fn check_action_space(&self, action: u64, sub: u64, offset: u64) -> Result<(), Code>
         ensures { result ≡ or_refused (first_of (action_space_checks self.now action sub offset)) tt }
     {
-        if !matches!(self.sets.kind_of(action), Some(ActionType::Pose)) {
+        if !matches!(self.inputs.kind_of(action), Some(ActionType::Pose)) {
             return Err(Code::ActionTypeMismatch);
         }
         if self.column_named(action, sub).is_none() {
@@ -135,7 +133,7 @@ impl Parts {
         sub: u64,
         offset: u64,
     ) -> Result<Code, Code>
-        ensures { result ≡ or_refused (first_of (refusals (create_action_space_rule self.now 0 session action sub offset))) (code_on (loss_of (life_of self.now session)) Code.Success) }
+        ensures { result ≡ unless_refused (create_action_space_rule self.now 0 session action sub offset) (success_on self.now session) }
     {
         self.live(Kind::Session, session)?;
         self.live(Kind::Action, action)?;
@@ -177,7 +175,7 @@ impl Parts {
         ensures { self.new ≡ with_space_gone self.old space }
     {
         self.handles.remove(Kind::Space, space);
-        self.spaces.remove(space);
+        self.room.remove(space);
     }
 
     fn destroy_space(&mut self, space: u64) -> Result<Reply, Halt>
@@ -190,7 +188,7 @@ impl Parts {
 
     /// What refuses locating a space in a base, or what its success is answered as.
     fn may_locate_space(&self, space: u64, base: u64, time: &i64) -> Result<Code, Code>
-        ensures { result ≡ or_refused (first_of (refusals (locate_space_rule self.now space base time.now))) (code_on (loss_of (life_of self.now (session_above self.now.handles space))) Code.Success) }
+        ensures { result ≡ unless_refused (locate_space_rule self.now space base time.now) (success_on self.now (session_above self.now.handles space)) }
     {
         let session = self.session_of(Kind::Space, space)?;
         self.live(Kind::Space, base)?;
@@ -205,9 +203,7 @@ impl Parts {
         ensures { Decides self.old (ask.LocateSpace space base time.now) self.new result }
     {
         let success = self.may_locate_space(space, base, time)?;
-        let found = self
-            .spaces
-            .locate(space, base, *time, self.columns.states());
+        let found = self.room.locate(space, base, *time, self.columns.states());
         giving(success, Gives::Location(found.unwrap_or(Location::Missing)))
     }
 }

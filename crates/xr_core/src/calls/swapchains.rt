@@ -2,26 +2,25 @@
 ghost use Rattle.std.specs.Prelude.{◌≡◌, ◌≢◌, ◌<◌, ◌^◌, [], ◌∷◌, Bool, true, false, length};
 ghost use Rattle.xr_types.specs.declared.handles.Kind.TheVariants as kind;
 ghost use Rattle.xr_model.specs.machine.CellCalls.{MayCall, Leads, free_calls, stamp_calls};
-ghost use Rattle.xr_model.specs.machine.Chains.{chain_at, chain_checks, no_place, is_acquire_wrong, is_wait_wrong, is_paint_wrong, next_index, oldest_image, acquiring, waiting, releasing, new_chain, first_place, has_free_place};
+ghost use Rattle.xr_model.specs.machine.Chains.{chain_at, chain_checks, no_place, is_wait_wrong, is_paint_wrong, oldest_image, waiting, releasing, new_chain, first_place, has_free_place};
 ghost use Rattle.xr_model.specs.machine.Handles.{has_room, was_given};
 ghost use Rattle.xr_model.specs.machine.Images.{unstamped};
 ghost use Rattle.xr_model.specs.machine.Refusals.{when, first_of, unless};
 ghost use Rattle.xr_types.specs.declared.calls.Call.TheVariants as ask;
-ghost use Rattle.xr_model.specs.machine.Rule.{ahead, refusals};
-ghost use Rattle.xr_model.specs.machine.SessionRule.{loss_of, code_on};
-ghost use Rattle.xr_model.specs.machine.Rules.Session.{life_of};
+ghost use Rattle.xr_model.specs.machine.Rule.{ahead};
 ghost use Rattle.xr_model.specs.machine.Rules.Spaces.{session_above};
 ghost use Rattle.xr_model.specs.machine.Rules.Swapchains.{with_swapchain, with_chain_gone, freed_with_chain, with_changed_chain, create_swapchain_rule, acquire_image_rule, is_up};
 ghost use Rattle.xr_chains.specs.Waited.{waited_images};
 ghost use Rattle.xr_core.specs.inside.Deciding.{Decides, DecidesCells, MayTouch};
 ghost use Rattle.xr_core.specs.inside.Groups.{IsChainCall};
-ghost use Rattle.xr_model.specs.machine.PartAnswers.{or_refused, answer_by};
+ghost use Rattle.xr_model.specs.machine.PartAnswers.{or_refused};
+ghost use Rattle.xr_core.specs.inside.Refusing.{success_on, unless_refused};
 
 use crate::halt::{Halt, done, giving, refused};
 use crate::parts::{Parts, give};
 use xr_chains::Chains;
 use xr_model::Cells;
-use xr_types::{Answer, Call, Code, Gives, Image, Kind, Reply};
+use xr_types::{Call, Code, Gives, Image, Kind, Reply};
 
 /// The longest timeout, in ns, which never ends.
 const FOREVER: i64 = i64::MAX;
@@ -73,7 +72,7 @@ impl Parts {
 
     /// What refuses a call on the images of a swapchain ahead of the call order, or what its plain success is answered as.
     fn may_use_images(&self, chain: u64) -> Result<Code, Code>
-        ensures { result ≡ or_refused (first_of (ahead (acquire_image_rule self.now chain))) (code_on (loss_of (life_of self.now (session_above self.now.handles chain))) Code.Success) }
+        ensures { result ≡ or_refused (first_of (ahead (acquire_image_rule self.now chain))) (success_on self.now (session_above self.now.handles chain)) }
     {
         let session = self.session_of(Kind::Swapchain, chain)?;
         self.on_session(session)
@@ -81,23 +80,16 @@ impl Parts {
 
     /// Acquires the next image, and gives its index.
     #[tactic(auto, using(crate::proofs::Swept::length_unless))]
-    fn acquire(&mut self, chain: u64) -> Answer
-        ensures answer { result ≡ answer_by (first_of (when (is_acquire_wrong (chain_at self.old.chains chain)) Code.CallOrderInvalid ∷ [])) (next_index (chain_at self.old.chains chain)) }
-        ensures state { self.new ≡ unless (first_of (when (is_acquire_wrong (chain_at self.old.chains chain)) Code.CallOrderInvalid ∷ [])) self.old (with_changed_chain self.old chain acquiring) }
-    {
-        self.chains.acquire(chain)
-    }
-
     #[inline(never)]
     pub(crate) fn acquire_image(&mut self, chain: u64) -> Result<Reply, Halt>
         ensures { Decides self.old (ask.AcquireImage chain) self.new result }
     {
         let success = self.may_use_images(chain)?;
-        let answer = self.acquire(chain);
-        match answer.code {
-            Code::Success => giving(success, Gives::Number(answer.number)),
-            code => refused(code),
-        }
+        let answer = self.chains.acquire(chain);
+        let Code::Success = answer.code else {
+            return refused(answer.code);
+        };
+        giving(success, Gives::Number(answer.number))
     }
 
     /// The image that may be waited for, where one may.
@@ -218,7 +210,7 @@ impl Parts {
         width: u32,
         height: u32,
     ) -> Result<Code, Code>
-        ensures { (fixed : Bool) → result ≡ or_refused (first_of (refusals (create_swapchain_rule self.now 0 session format width height fixed))) (code_on (loss_of (life_of self.now session)) Code.Success) }
+        ensures { (fixed : Bool) → result ≡ unless_refused (create_swapchain_rule self.now 0 session format width height fixed) (success_on self.now session) }
     {
         self.live(Kind::Session, session)?;
         let success = self.on_session(session)?;

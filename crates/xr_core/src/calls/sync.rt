@@ -7,12 +7,12 @@ ghost use Rattle.xr_model.specs.machine.PartAnswers.{or_refused};
 ghost use Rattle.xr_model.specs.machine.Publication.{is_attached};
 ghost use Rattle.xr_model.specs.machine.Refusals.{first_of};
 ghost use Rattle.xr_types.specs.declared.calls.Call.TheVariants as ask;
-ghost use Rattle.xr_model.specs.machine.Rule.{refusals};
 ghost use Rattle.xr_model.specs.machine.Rules.Session.{life_of};
 ghost use Rattle.xr_model.specs.machine.Rules.Sync.{item_checks, heard_by, bindings_of, sync_actions_rule};
 ghost use Rattle.xr_model.specs.machine.SessionLife.{is_state};
 ghost use Rattle.xr_model.specs.machine.Sync.{no_columns, columns_after};
 ghost use Rattle.xr_core.specs.inside.Deciding.{Decides};
+ghost use Rattle.xr_core.specs.inside.Refusing.{unless_refused};
 
 use crate::halt::{Halt, done};
 use crate::parts::Parts;
@@ -59,7 +59,7 @@ impl Parts {
         let Some(user) = user_of(text) else {
             return Err(Code::PathUnsupported);
         };
-        if !self.sets.set_declares(item.set, user) {
+        if !self.inputs.set_declares(item.set, user) {
             return Err(Code::PathUnsupported);
         }
         Ok(Heard {
@@ -97,7 +97,7 @@ impl Parts {
         heard: &mut ArrayVec<Heard, MOST_SYNCED>,
     ) -> Result<(), Code>
         requires none { heard.old.items ≡ [] }
-        ensures { result_map_both (λ done. heard.new.items) (λ code. code) result ≡ or_refused (first_of (refusals (sync_actions_rule self.now session active.now))) (map (heard_by self.now) active.now) }
+        ensures { result_map_both (λ done. heard.new.items) (λ code. code) result ≡ unless_refused (sync_actions_rule self.now session active.now) (map (heard_by self.now) active.now) }
     {
         self.live(Kind::Session, session)?;
         self.on_session(session)?;
@@ -120,7 +120,7 @@ impl Parts {
     {
         rank_all(
             &mut self.ranking,
-            &self.sets,
+            &self.inputs,
             &self.handles,
             &self.bindings,
             self.device.profiles(),

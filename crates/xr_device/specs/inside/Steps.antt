@@ -70,7 +70,8 @@ StaysInLines before after step = UsedLines before → OnMore step (UsedLines aft
 abbrev pub FailsBehindLines : Reading → Reading → Step → Type 0
 FailsBehindLines before after step = UsedLines before → OnStepFailed step (GaveWholeLines (text_of after) (after.used + length after.held) after.given)
 
--- Both of them.
+-- What is said of lines holds behind a step: the used bytes stay whole lines, and where a read fails, the events of all whole lines were
+-- given.
 pub record KeepsLines (before after : Reading) (step : Step) : Type 0 where
   pub stays : StaysInLines before after step
   pub fails : FailsBehindLines before after step

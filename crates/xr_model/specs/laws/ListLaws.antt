@@ -29,10 +29,10 @@ attaches_live h x = list_all (is_live h ActionSet) (unwrap_or x.attached [])
 -- Spaces, action sets and actions are listed exactly where they are live; the set of an action is its parent; what is
 -- suggested is suggested for live actions; and what is attached are live sets.
 pub record AreKept (s : CoreState) : Type 0 where
-  pub spaces : (handle : ℕ) → is_some (space_at s.spaces.spaces handle) ≡ is_live s.handles Space handle
-  pub sets : (handle : ℕ) → is_some (set_at s.sets handle) ≡ is_live s.handles ActionSet handle
-  pub actions : (handle : ℕ) → is_some (action_at s.sets handle) ≡ is_live s.handles Action handle
-  pub above : (handle : ℕ) (x : inputs.Action) → action_at s.sets handle ≡ Some x → parent_of s.handles handle ≡ Some x.set
+  pub spaces : (handle : ℕ) → is_some (space_at s.room.spaces handle) ≡ is_live s.handles Space handle
+  pub sets : (handle : ℕ) → is_some (set_at s.inputs handle) ≡ is_live s.handles ActionSet handle
+  pub actions : (handle : ℕ) → is_some (action_at s.inputs handle) ≡ is_live s.handles Action handle
+  pub above : (handle : ℕ) (x : inputs.Action) → action_at s.inputs handle ≡ Some x → parent_of s.handles handle ≡ Some x.set
   pub suggested : list_all (list_all (λ b. is_live s.handles Action b.action)) s.suggestions ≡ true
   pub attached : list_all (attaches_live s.handles) s.sessions ≡ true
 
@@ -52,9 +52,9 @@ standing x = (x.handle, x.offset)
 -- each list without what is below a handle, in its order, and nothing else is gone
 pub record AreFiltered (s new : CoreState) (gone : ℕ → Bool) : Type 0 where
   pub sessions : new.sessions ≡ map (without_attached gone) (filter (λ x. not (gone x.handle)) s.sessions)
-  pub sets : new.sets.sets ≡ filter (λ x. not (gone x.handle)) s.sets.sets
-  pub actions : new.sets.actions ≡ filter (λ x. not (gone x.handle)) s.sets.actions
-  pub spaces : map standing new.spaces.spaces ≡ map standing (filter (λ x. not (gone x.handle)) s.spaces.spaces)
+  pub sets : new.inputs.sets ≡ filter (λ x. not (gone x.handle)) s.inputs.sets
+  pub actions : new.inputs.actions ≡ filter (λ x. not (gone x.handle)) s.inputs.actions
+  pub spaces : map standing new.room.spaces ≡ map standing (filter (λ x. not (gone x.handle)) s.room.spaces)
   pub suggestions : new.suggestions ≡ map (λ bindings. filter (λ b. not (gone b.action)) bindings) s.suggestions
 
 -- A call that destroys a handle takes exactly what is within it out of the lists.
@@ -82,11 +82,11 @@ AtomsGo = (s : State) (e : Entry) → is_instance_end e.call ≡ true → is_suc
 
 -- no action joins a sealed set, and a set that is sealed stays so as long as it is listed
 pub record StaysSealed (s new : CoreState) (set : ℕ) : Type 0 where
-  pub sealed : is_some (set_at new.sets set) ≡ true → is_sealed new.sets set ≡ true
-  pub joins : (handle : ℕ) (x : inputs.Action) → action_at new.sets handle ≡ Some x → x.set ≡ set → action_at s.sets handle ≡ Some x
+  pub sealed : is_some (set_at new.inputs set) ≡ true → is_sealed new.inputs set ≡ true
+  pub joins : (handle : ℕ) (x : inputs.Action) → action_at new.inputs handle ≡ Some x → x.set ≡ set → action_at s.inputs handle ≡ Some x
 
 abbrev pub SealedStays : Type 0
-SealedStays = (s : State) (e : Entry) (set : ℕ) → is_sealed s.core.sets set ≡ true → StaysSealed s.core (step s e).0.core set
+SealedStays = (s : State) (e : Entry) (set : ℕ) → is_sealed s.core.inputs set ≡ true → StaysSealed s.core (step s e).0.core set
 
 -- ---- attaching
 
@@ -102,7 +102,7 @@ seals _ set = false
 -- a set that is attached is sealed
 abbrev pub AttachingSeals : Type 0
 AttachingSeals =
-    (s : State) (e : Entry) (set : ℕ) → seals e.call set ≡ true → is_success (step s e).1.reply.code ≡ true → is_some (set_at (step s e).0.core.sets set) ≡ true → is_sealed (step s e).0.core.sets set ≡ true
+    (s : State) (e : Entry) (set : ℕ) → seals e.call set ≡ true → is_success (step s e).1.reply.code ≡ true → is_some (set_at (step s e).0.core.inputs set) ≡ true → is_sealed (step s e).0.core.inputs set ≡ true
 
 -- a new session has attached nothing
 abbrev pub NewSessionsAreBare : Type 0
@@ -142,4 +142,4 @@ abbrev pub are_few : List (List Sample) → Bool
 are_few samples = list_all (λ kept. nat_le (length kept) SAMPLES) samples
 
 abbrev pub SamplesAreFew : Type 0
-SamplesAreFew = (settings : Settings) (es : List Entry) → are_few (after (opening settings) es).core.spaces.samples ≡ true
+SamplesAreFew = (settings : Settings) (es : List Entry) → are_few (after (opening settings) es).core.room.samples ≡ true

@@ -23,6 +23,7 @@ use Rattle.xr_model.specs.machine.PlainImages.{PlainImages, count_at}
 abbrev pub IsBelow : Image → Type 0
 IsBelow i = i.index < 3
 
+-- each of these images meets this, and none is there twice
 pub record AreOnce (P : Image → Type 0) (images : List Image) : Type 0 where
   pub each : Each P images
   pub once : (k : ℕ) → times_in images k ≤ 1
@@ -144,12 +145,13 @@ pub record IsAbsent (h : Handles) (handle : ℕ) : Type 0 where
   pub spaces : has h.spaces handle ≡ false
   pub chains : has h.chains handle ≡ false
 
+-- a handle that was never given is live in no row
 abbrev pub AreKnown : Handles → Type 0
 AreKnown h = (handle : ℕ) → (handle == 0) ≡ false → was_given h handle ≡ false → IsAbsent h handle
 
 -- ---- calls
 
--- the compositor's calls
+-- the calls that are none of the compositor's
 abbrev pub IsAside : Call → Type 0
 IsAside ask.NextFrame = ⊥
 IsAside ask.ImageDone = ⊥

@@ -21,7 +21,7 @@ times_fall (newest ∷ older) = list_all (λ s. int_lt s.time newest.time) older
 
 -- After every history, the times of each origin's samples fall, so the newest stands first.
 abbrev pub SampleTimesFall : Type 0
-SampleTimesFall = (settings : Settings) (es : List Entry) → list_all times_fall (after (opening settings) es).core.spaces.samples ≡ true
+SampleTimesFall = (settings : Settings) (es : List Entry) → list_all times_fall (after (opening settings) es).core.room.samples ≡ true
 
 -- ---- the pose at a time
 
@@ -56,7 +56,7 @@ is_told_at (Some origin) place = origin_place origin == place
 abbrev pub SamplesAreTheirOrigins : Type 0
 SamplesAreTheirOrigins =
     (s : State) (e : Entry) (what : Origin) → is_told_at (origin_told e.call) (origin_place what) ≡ false
-    → samples_of (step s e).0.core.spaces.samples what ≡ samples_of s.core.spaces.samples what
+    → samples_of (step s e).0.core.room.samples what ≡ samples_of s.core.room.samples what
 
 -- no two origins that have samples share a place
 abbrev pub OriginsHaveTheirPlaces : Type 0
@@ -82,6 +82,6 @@ abbrev pub LaterPosesAreTaken : Type 0
 LaterPosesAreTaken =
     (settings : Settings) (es : List Entry) (e : Entry) (origin : Origin) (time : ℤ) (pose : ℕ)
     → e.call ≡ ask.Device (event.Pose origin time pose) → nat_lt (origin_place origin) ORIGINS ≡ true
-    → TakenWhere (is_after_all time (samples_of (after (opening settings) es).core.spaces.samples origin))
-    (samples_of (after (opening settings) es).core.spaces.samples origin)
-    (samples_of (step (after (opening settings) es) e).0.core.spaces.samples origin) time pose
+    → TakenWhere (is_after_all time (samples_of (after (opening settings) es).core.room.samples origin))
+    (samples_of (after (opening settings) es).core.room.samples origin)
+    (samples_of (step (after (opening settings) es) e).0.core.room.samples origin) time pose

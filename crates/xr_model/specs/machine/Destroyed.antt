@@ -32,10 +32,10 @@ abbrev pub without_handle : CoreState → ℕ → CoreState
 without_handle s handle = record s {
   handles = without s.handles handle;
   sessions = sessions_left (without s.handles handle) (destroyed_by s.handles handle) s.sessions;
-  sets = without_inputs s.sets (destroyed_by s.handles handle);
+  inputs = without_inputs s.inputs (destroyed_by s.handles handle);
   suggestions = without_suggestions s.suggestions (destroyed_by s.handles handle);
   columns = columns_left s.handles handle s.columns;
-  spaces = spaces_left s.handles handle s.spaces;
+  room = spaces_left s.handles handle s.room;
   chains = left_in_places (without s.handles handle) (is_place_used s.frames.pending s.shown_images) 0 s.chains;
 }
 

@@ -99,8 +99,8 @@ publication_of s = record {
   number = s.published;
   session = unwrap_or (option_map (λ x. x.handle) (first_seen s.sessions)) 0;
   loss = unwrap_or (option_map (λ x. x.loss) (first_seen s.sessions)) (record { lost = false; pending = false });
-  atoms = map (atom_of_user s.atoms s.sets.actions) all_users;
-  actions = map (published_action (first_seen s.sessions) s.handles s.columns) s.sets.actions;
+  atoms = map (atom_of_user s.atoms s.inputs.actions) all_users;
+  actions = map (published_action (first_seen s.sessions) s.handles s.columns) s.inputs.actions;
 }
 
 -- ---- what a getter reads

@@ -28,10 +28,10 @@ pub record CoreState : Type 0 where
   pub events : Queue
   pub sessions : List Session
   pub created : ℕ
-  pub sets : Sets
+  pub inputs : Sets
   pub suggestions : List (List Bound)
   pub columns : List (List Column)
-  pub spaces : Spaces
+  pub room : Spaces
   pub frames : Frames
   pub ended : ℕ
   pub chains : List Chain
@@ -82,10 +82,10 @@ opening_core settings = record {
   events = no_events;
   sessions = [];
   created = 0;
-  sets = no_sets;
+  inputs = no_sets;
   suggestions = no_suggestions;
   columns = no_columns;
-  spaces = no_spaces;
+  room = no_spaces;
   frames = no_frames;
   ended = 0;
   chains = no_chains;

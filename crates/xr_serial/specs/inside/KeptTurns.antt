@@ -1,5 +1,5 @@
 -- That a turn keeps a run: it stands before it as the round robin's run would, and so it does behind it.
-use Rattle.std.specs.Prelude.{◌<◌, ◌+◌, ℕ, Bool, true, false, if◌then◌else◌}
+use Rattle.std.specs.Prelude.{◌<◌, ◌+◌, ℕ, Bool, if◌then◌else◌}
 use Rattle.xr_types.specs.declared.scenario.Scenario.{Scenario}
 use Rattle.xr_model.specs.machine.State.{State}
 use Rattle.xr_device.specs.Prospect.{Prospect}

@@ -28,13 +28,13 @@ profile_checks atoms profile = when (is_none (text_at atoms profile)) PathInvali
 
 -- what a binding picks of a profile's controller: for the action's type, by the path's text
 abbrev pub pick_of : CoreState → Profile → Binding → Option Pick
-pick_of s which b = option_and_then (λ type. option_and_then (component which type) (text_at s.atoms b.path)) (type_of_action s.sets b.action)
+pick_of s which b = option_and_then (λ type. option_and_then (component which type) (text_at s.atoms b.path)) (type_of_action s.inputs b.action)
 
 -- what refuses a binding: its action, its action's set, its path, or that the controller has no such part for the action
 abbrev pub binding_checks : CoreState → Profile → Binding → List Refusal
 binding_checks s which b =
     no_handle s.handles Action b.action
-    ∷ when (is_in_sealed_set s.sets b.action) ActionsetsAlreadyAttached
+    ∷ when (is_in_sealed_set s.inputs b.action) ActionsetsAlreadyAttached
     ∷ when (is_none (text_at s.atoms b.path)) PathInvalid
     ∷ when (is_none (pick_of s which b)) PathUnsupported
     ∷ []

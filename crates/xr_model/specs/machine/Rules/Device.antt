@@ -35,7 +35,7 @@ behind_event s (event.Stage on) = record s { device = record s.device { stage = 
 behind_event s (event.Profile who profile) =
     record s { device = record s.device { profiles = slice_set s.device.profiles (user_place who) profile; inputs = without_values s.device.inputs who } }
 behind_event s (event.Input who row value) = record s { device = record s.device { inputs = with_value s.device.inputs who row value } }
-behind_event s (event.Pose origin time pose) = record s { spaces = sampled s.spaces origin time pose }
+behind_event s (event.Pose origin time pose) = record s { room = sampled s.room origin time pose }
 behind_event s (event.Mark mark) = record s { marks = with_mark s.marks mark 0 }
 behind_event s event.Fault = with_lost s
 behind_event s (event.Garbled line) = with_lost s

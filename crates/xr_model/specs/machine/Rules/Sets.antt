@@ -24,14 +24,14 @@ use Rattle.xr_model.specs.machine.Rules.Session.{life_of}
 abbrev pub with_action_set : CoreState → ℕ → ℕ → List ℕ → List ℕ → ℕ → CoreState
 with_action_set s instance given name localized priority = record s {
   handles = with_handle s.handles ActionSet instance given;
-  sets = with_set s.sets given name localized priority;
+  inputs = with_set s.inputs given name localized priority;
 }
 
 -- xrCreateActionSet
 abbrev pub create_action_set_rule : CoreState → ℕ → ℕ → List ℕ → List ℕ → ℕ → Rule
 create_action_set_rule s given instance name localized priority = record (ordinary s) {
   handles = no_handle s.handles Instance instance ∷ [];
-  behind = set_checks s.sets name localized ++ no_room s.handles ActionSet ∷ [];
+  behind = set_checks s.inputs name localized ++ no_room s.handles ActionSet ∷ [];
   creates = Some ActionSet;
   effect = done (with_action_set s instance given name localized priority) (Handle given);
 }
@@ -76,13 +76,13 @@ new_action s given set name type subs localized =
     record { handle = given; set = set; name = name; localized = localized; type = type; declared = declared_by s.atoms no_users subs }
 
 abbrev pub with_new_action : CoreState → ℕ → sets.Action → CoreState
-with_new_action s given x = record s { handles = with_handle s.handles Action x.set given; sets = with_action s.sets x }
+with_new_action s given x = record s { handles = with_handle s.handles Action x.set given; inputs = with_action s.inputs x }
 
 -- xrCreateAction
 abbrev pub create_action_rule : CoreState → ℕ → ℕ → List ℕ → ActionType → List ℕ → List ℕ → Rule
 create_action_rule s given set name type subs localized = record (ordinary s) {
   handles = no_handle s.handles ActionSet set ∷ [];
-  behind = action_checks s.sets set name ++ (sub_checks s.atoms no_users subs ++ (action_label_checks s.sets set localized ++ no_room s.handles Action ∷ []));
+  behind = action_checks s.inputs set name ++ (sub_checks s.atoms no_users subs ++ (action_label_checks s.inputs set localized ++ no_room s.handles Action ∷ []));
   creates = Some Action;
   effect = done (with_new_action s given (new_action s given set name type subs localized)) (Handle given);
 }
@@ -98,7 +98,7 @@ destroy_action_rule s action = record (ordinary s) {
 
 -- the sets are the session's from now on, and sealed
 abbrev pub with_attached_sets : CoreState → ℕ → List ℕ → CoreState
-with_attached_sets s session handles = record s { sessions = with_session_at session (with_attached (sets_named s.sets handles)) s.sessions; sets = with_sealed s.sets handles }
+with_attached_sets s session handles = record s { sessions = with_session_at session (with_attached (sets_named s.inputs handles)) s.sessions; inputs = with_sealed s.inputs handles }
 
 -- xrAttachSessionActionSets: once for a session; a set that is named twice counts once
 abbrev pub attach_sets_rule : CoreState → ℕ → List ℕ → Rule

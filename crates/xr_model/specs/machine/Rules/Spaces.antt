@@ -20,7 +20,7 @@ use Rattle.xr_model.specs.machine.Rules.Session.{life_of}
 abbrev pub with_new_space : CoreState → ℕ → ℕ → Root → ℕ → CoreState
 with_new_space s session given root offset = record s {
   handles = with_handle s.handles kind.Space session given;
-  spaces = with_space s.spaces given root offset;
+  room = with_space s.room given root offset;
 }
 
 -- xrCreateReferenceSpace
@@ -35,7 +35,7 @@ create_reference_space_rule s given session what offset = record (ordinary s) {
 
 -- nothing stands below a space, so its row and the spaces are all that change
 abbrev pub with_space_gone : CoreState → ℕ → CoreState
-with_space_gone s space = record s { handles = without_alone s.handles kind.Space space; spaces = without_space s.spaces space }
+with_space_gone s space = record s { handles = without_alone s.handles kind.Space space; room = without_space s.room space }
 
 -- xrDestroySpace. It is refused for its handle alone, also where the session is lost.
 abbrev pub destroy_space_rule : CoreState → ℕ → Rule
@@ -54,5 +54,5 @@ locate_space_rule s space base time = record (ordinary s) {
   on = Some (loss_of (life_of s (session_above s.handles space)));
   handles = no_handle s.handles kind.Space space ∷ no_handle s.handles kind.Space base ∷ [];
   behind = when (int_le time (pos 0)) TimeInvalid ∷ [];
-  effect = done s (gives.Location (unwrap_or (located s.spaces (record { columns = s.columns }) space base time) Missing));
+  effect = done s (gives.Location (unwrap_or (located s.room (record { columns = s.columns }) space base time) Missing));
 }

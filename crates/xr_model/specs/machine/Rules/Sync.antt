@@ -69,14 +69,14 @@ connected_at s who = suggested_at s.suggestions who (option_and_then (λ p. p) (
 
 -- the bindings of a sync, in the order of the user paths and then of the suggestions
 abbrev pub bindings_of : CoreState → List Ranked
-bindings_of s = flat_map (λ who. flat_map (ranked s.sets s.handles) (connected_at s who)) all_users
+bindings_of s = flat_map (λ who. flat_map (ranked s.inputs s.handles) (connected_at s who)) all_users
 
 -- ---- xrSyncActions
 
 -- What refuses an item: its handle, a set that the session hasn't attached, and, where it names a user path, a number that is no
 -- atom, and one that no action of the set declares.
 abbrev pub is_named : CoreState → ActiveSet → Bool
-is_named s item = (item.sub == 0) || unwrap_or (option_map (set_declares s.sets item.set) (user_at s.atoms item.sub)) false
+is_named s item = (item.sub == 0) || unwrap_or (option_map (set_declares s.inputs item.set) (user_at s.atoms item.sub)) false
 
 abbrev pub item_checks : CoreState → ℕ → ActiveSet → List Refusal
 item_checks s session item =
@@ -120,10 +120,10 @@ getter_rule s wanted session action sub =
 -- the column of a user path that the action declares, or of all by 0
 abbrev pub column_named : CoreState → ℕ → ℕ → Option ℕ
 column_named s action sub =
-    if sub == 0 then Some 0 else option_and_then (λ who. if action_declares s.sets action who then Some (user_place who + 1) else None) (user_at s.atoms sub)
+    if sub == 0 then Some 0 else option_and_then (λ who. if action_declares s.inputs action who then Some (user_place who + 1) else None) (user_at s.atoms sub)
 
 abbrev pub is_of_poses : CoreState → ℕ → Bool
-is_of_poses s action = unwrap_or (option_map (is_same_type type.Pose) (type_of_action s.sets action)) false
+is_of_poses s action = unwrap_or (option_map (is_same_type type.Pose) (type_of_action s.inputs action)) false
 
 -- the column of the action's place
 abbrev pub action_root : CoreState → ℕ → ℕ → Root

@@ -1,4 +1,4 @@
-use Rattle.std.proofs.Common.{rules, ◌≡◌, false, [], take, length, refl, ◌∙◌}
+use Rattle.std.proofs.Common.{false, [], take, refl}
 use Rattle.xr_types.specs.declared.calls.Actor.TheVariants.{Compositor}
 use Rattle.xr_types.specs.CallKinds.{lent_size, written_size}
 use Rattle.xr_serial.proofs.Lending.{made_of}

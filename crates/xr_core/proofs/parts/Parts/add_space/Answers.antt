@@ -12,8 +12,8 @@ pub add-requires : goal.add-requires
 add-requires c =
     let rows : length c.self.inside.handles.spaces ≡ SPACES = c.give-handle.ensures.row in
     let room : has_room c.self.inside.handles kind.Space ≡ true = ap (λ (s : CoreState). has_room s.handles kind.Space) c.self.view_is ∙ c.requires.room in
-    let few = housed.room_for_one (map (λ x. x.handle) c.self.inside.spaces.spaces) c.self.inside.handles.spaces c.self.invariant.2.spaces room in
-    let same = names_count (λ (x : Space). x.handle) c.self.inside.spaces.spaces in
+    let few = housed.room_for_one (map (λ x. x.handle) c.self.inside.room.spaces) c.self.inside.handles.spaces c.self.invariant.2.spaces room in
+    let same = names_count (λ (x : Space). x.handle) c.self.inside.room.spaces in
     omega (arith, few, same, rows)
 
 pub invariant_of-self : goal.invariant_of-self
@@ -22,7 +22,7 @@ invariant_of-self c =
     let nonzero : (c.give-handle.result == 0) ≡ false = search rules in (
       rw c.give-handle.ensures.state c.self.invariant.0,
       c.self.invariant.1,
-      rw c.add.ensures (kept_space c.self.inside.spaces c.self.inside.sets c.self.inside.handles c.give-handle.new.handles _ c.args.session c.give-handle.result c.self.invariant.2 refl nonzero room c.give-handle.ensures.state),
+      rw c.add.ensures (kept_space c.self.inside.room c.self.inside.inputs c.self.inside.handles c.give-handle.new.handles _ c.args.session c.give-handle.result c.self.invariant.2 refl nonzero room c.give-handle.ensures.state),
       c.self.invariant.3,
       c.self.invariant.4,
     )

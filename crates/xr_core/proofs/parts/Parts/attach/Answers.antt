@@ -7,7 +7,7 @@ pub invariant_of-self : goal.invariant_of-self
 invariant_of-self c = (
   rw c.attach_at.ensures (listed_lives c.self.inside.handles c.self.inside.sessions.items c.args.session _ (λ x. refl) c.self.invariant.0),
   c.self.invariant.1,
-  rw c.seal.ensures (kept_sealed c.self.inside.spaces c.self.inside.sets c.self.inside.handles c.args.sets.now c.self.invariant.2),
+  rw c.seal.ensures (kept_sealed c.self.inside.room c.self.inside.inputs c.self.inside.handles c.args.sets.now c.self.invariant.2),
   c.self.invariant.3,
   c.self.invariant.4,
 )

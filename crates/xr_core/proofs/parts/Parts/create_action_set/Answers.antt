@@ -22,13 +22,13 @@ returns-in_err-may_create_action_set c =
 pub new_set-handle-requires-clause-checked : goal.new_set-handle-requires-clause-checked
 new_set-handle-requires-clause-checked c =
     let none = (ok_none (first_of (refusals (create_action_set_rule c.args.self.now 0 c.args.instance c.args.name.now c.args.localized.now c.args.priority))) _ _ (sym (c.in_ok-may_create_action_set.ensures c.args.priority))).0 in
-    let behind = none_second (no_handle c.args.self.now.handles kind.Instance c.args.instance ∷ when false CallOrderInvalid ∷ []) (set_checks c.args.self.now.sets c.args.name.now c.args.localized.now ++ no_room c.args.self.now.handles kind.ActionSet ∷ []) none in
-    none_first (set_checks c.args.self.now.sets c.args.name.now c.args.localized.now) (no_room c.args.self.now.handles kind.ActionSet ∷ []) behind
+    let behind = none_second (no_handle c.args.self.now.handles kind.Instance c.args.instance ∷ when false CallOrderInvalid ∷ []) (set_checks c.args.self.now.inputs c.args.name.now c.args.localized.now ++ no_room c.args.self.now.handles kind.ActionSet ∷ []) none in
+    none_first (set_checks c.args.self.now.inputs c.args.name.now c.args.localized.now) (no_room c.args.self.now.handles kind.ActionSet ∷ []) behind
 
 pub new_set-handle-requires-clause-room : goal.new_set-handle-requires-clause-room
 new_set-handle-requires-clause-room c =
     let none = (ok_none (first_of (refusals (create_action_set_rule c.args.self.now 0 c.args.instance c.args.name.now c.args.localized.now c.args.priority))) _ _ (sym (c.in_ok-may_create_action_set.ensures c.args.priority))).0 in
-    room_last (no_handle c.args.self.now.handles kind.Instance c.args.instance ∷ when false CallOrderInvalid ∷ set_checks c.args.self.now.sets c.args.name.now c.args.localized.now) c.args.self.now.handles kind.ActionSet none
+    room_last (no_handle c.args.self.now.handles kind.Instance c.args.instance ∷ when false CallOrderInvalid ∷ set_checks c.args.self.now.inputs c.args.name.now c.args.localized.now) c.args.self.now.handles kind.ActionSet none
 
 pub returns : goal.returns
 returns c =

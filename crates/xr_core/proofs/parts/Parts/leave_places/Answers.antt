@@ -7,7 +7,7 @@ pub invariant_of-self : goal.invariant_of-self
 invariant_of-self c = (
   c.self.invariant.0,
   c.self.invariant.1,
-  rw c.leave.ensures (kept_roots c.self.inside.spaces c.self.inside.sets c.self.inside.handles (λ place. slice_index_or c.actions-there.result place false) c.self.invariant.2),
+  rw c.leave.ensures (kept_roots c.self.inside.room c.self.inside.inputs c.self.inside.handles (λ place. slice_index_or c.actions-there.result place false) c.self.invariant.2),
   c.self.invariant.3,
   c.self.invariant.4,
 )
@@ -16,7 +16,7 @@ pub invariant_of-self-else-all : goal.invariant_of-self-else-all
 invariant_of-self-else-all c = (
   c.self.invariant.0,
   c.self.invariant.1,
-  rw c.leave.ensures (kept_roots c.self.inside.spaces c.self.inside.sets c.self.inside.handles (λ place. slice_index_or c.actions-there.result place false) c.self.invariant.2),
+  rw c.leave.ensures (kept_roots c.self.inside.room c.self.inside.inputs c.self.inside.handles (λ place. slice_index_or c.actions-there.result place false) c.self.invariant.2),
   c.self.invariant.3,
   c.self.invariant.4,
 )

@@ -12,8 +12,8 @@ pub add_action-requires : goal.add_action-requires
 add_action-requires c =
     let rows : length c.self.inside.handles.actions ≡ ACTIONS = c.give-handle.ensures.row in
     let room : has_room c.self.inside.handles kind.Action ≡ true = ap (λ (s : CoreState). has_room s.handles kind.Action) c.self.view_is ∙ c.requires.room in
-    let few = housed.room_for_one (map (λ x. x.handle) c.self.inside.sets.actions) c.self.inside.handles.actions c.self.invariant.2.actions room in
-    let same = names_count (λ (x : Action). x.handle) c.self.inside.sets.actions in
+    let few = housed.room_for_one (map (λ x. x.handle) c.self.inside.inputs.actions) c.self.inside.handles.actions c.self.invariant.2.actions room in
+    let same = names_count (λ (x : Action). x.handle) c.self.inside.inputs.actions in
     record { room = omega (arith, few, same, rows); name = search rules; label = search rules }
 
 pub invariant_of-self : goal.invariant_of-self
@@ -22,7 +22,7 @@ invariant_of-self c =
     let nonzero : (c.give-handle.result == 0) ≡ false = search rules in (
       rw c.give-handle.ensures.state c.self.invariant.0,
       c.self.invariant.1,
-      rw c.add_action.ensures (kept_action c.self.inside.spaces c.self.inside.sets c.self.inside.handles c.give-handle.new.handles _ c.args.action.set c.give-handle.result c.self.invariant.2 refl nonzero room c.give-handle.ensures.state),
+      rw c.add_action.ensures (kept_action c.self.inside.room c.self.inside.inputs c.self.inside.handles c.give-handle.new.handles _ c.args.action.set c.give-handle.result c.self.invariant.2 refl nonzero room c.give-handle.ensures.state),
       c.self.invariant.3,
       c.self.invariant.4,
     )

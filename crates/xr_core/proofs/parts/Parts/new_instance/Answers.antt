@@ -8,7 +8,7 @@ pub invariant_of-self : goal.invariant_of-self
 invariant_of-self c = (
   rw c.give.ensures.state c.self.invariant.0,
   c.self.invariant.1,
-  kept_same c.self.inside.spaces c.self.inside.sets c.self.inside.handles c.give.new.handles (with_handle c.self.inside.handles kind.Instance 0 c.give.result) c.give.ensures.state refl refl refl c.self.invariant.2,
+  kept_same c.self.inside.room c.self.inside.inputs c.self.inside.handles c.give.new.handles (with_handle c.self.inside.handles kind.Instance 0 c.give.result) c.give.ensures.state refl refl refl c.self.invariant.2,
   c.self.invariant.3,
   c.self.invariant.4,
 )

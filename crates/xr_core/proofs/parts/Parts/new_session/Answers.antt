@@ -19,7 +19,7 @@ invariant_of-self c =
     let nonzero : (c.give-handle.result == 0) ≡ false = search rules in (
       listed_give c.self.inside.handles c.give-handle.new.handles c.self.inside.sessions.items c.push.new.self.items c.create-session.result c.args.instance c.give-handle.result room c.give-handle.ensures.state (rw c.create-session.ensures.session refl) nonzero c.push.ensures.items c.self.invariant.0,
       c.self.invariant.1,
-      kept_same c.self.inside.spaces c.self.inside.sets c.self.inside.handles c.give-handle.new.handles (with_handle c.self.inside.handles kind.Session c.args.instance c.give-handle.result) c.give-handle.ensures.state refl refl refl c.self.invariant.2,
+      kept_same c.self.inside.room c.self.inside.inputs c.self.inside.handles c.give-handle.new.handles (with_handle c.self.inside.handles kind.Session c.args.instance c.give-handle.result) c.give-handle.ensures.state refl refl refl c.self.invariant.2,
       c.self.invariant.3,
       c.self.invariant.4,
     )

@@ -12,8 +12,8 @@ pub add_set-requires : goal.add_set-requires
 add_set-requires c =
     let rows : length c.self.inside.handles.sets ≡ ACTION_SETS = c.give-handle.ensures.row in
     let room : has_room c.self.inside.handles kind.ActionSet ≡ true = ap (λ (s : CoreState). has_room s.handles kind.ActionSet) c.self.view_is ∙ c.requires.room in
-    let few = housed.room_for_one (map (λ x. x.handle) c.self.inside.sets.sets) c.self.inside.handles.sets c.self.invariant.2.sets room in
-    let same = names_count (λ (x : Set). x.handle) c.self.inside.sets.sets in
+    let few = housed.room_for_one (map (λ x. x.handle) c.self.inside.inputs.sets) c.self.inside.handles.sets c.self.invariant.2.sets room in
+    let same = names_count (λ (x : Set). x.handle) c.self.inside.inputs.sets in
     record { room = omega (arith, few, same, rows); checked = search rules }
 
 pub invariant_of-self : goal.invariant_of-self
@@ -22,7 +22,7 @@ invariant_of-self c =
     let nonzero : (c.give-handle.result == 0) ≡ false = search rules in (
       rw c.give-handle.ensures.state c.self.invariant.0,
       c.self.invariant.1,
-      rw c.add_set.ensures (kept_set c.self.inside.spaces c.self.inside.sets c.self.inside.handles c.give-handle.new.handles _ c.args.instance c.give-handle.result c.self.invariant.2 refl nonzero room c.give-handle.ensures.state),
+      rw c.add_set.ensures (kept_set c.self.inside.room c.self.inside.inputs c.self.inside.handles c.give-handle.new.handles _ c.args.instance c.give-handle.result c.self.invariant.2 refl nonzero room c.give-handle.ensures.state),
       c.self.invariant.3,
       c.self.invariant.4,
     )

@@ -9,7 +9,7 @@ pub invariant_of-self : goal.invariant_of-self
 invariant_of-self g c = (
   rw c.give-handle.ensures.state c.self.invariant.0,
   c.self.invariant.1,
-  kept_same c.self.inside.spaces c.self.inside.sets c.self.inside.handles c.give-handle.new.handles (with_handle c.self.inside.handles kind.Swapchain c.args.session c.give-handle.result) c.give-handle.ensures.state refl refl refl c.self.invariant.2,
+  kept_same c.self.inside.room c.self.inside.inputs c.self.inside.handles c.give-handle.new.handles (with_handle c.self.inside.handles kind.Swapchain c.args.session c.give-handle.result) c.give-handle.ensures.state refl refl refl c.self.invariant.2,
   rw c.add.ensures.chains (length_added _ c.self.inside.chains _ ∙ c.self.invariant.3),
   c.self.invariant.4,
 )

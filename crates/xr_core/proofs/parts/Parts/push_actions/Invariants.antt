@@ -8,5 +8,5 @@ invariant-loop-action l =
     (l.initial.out ++ flat_map (words_of_action (first_seen l.self.sessions) l.self.handles l.self.columns) l.action-items
     ≡ l.out ++ flat_map (words_of_action (first_seen l.self.sessions) l.self.handles l.self.columns) (drop l.action-index l.action-items))
     × (length l.out ≤ length l.initial.out + 14 * l.action-index)
-    × (l.action-items ≡ l.self.sets.actions)
+    × (l.action-items ≡ l.self.inputs.actions)
     × (length l.action-items ≤ 64)

@@ -10,27 +10,27 @@ use Rattle.xr_core.proofs.parts.Parts.read.Goals as goal
 pub returns-in_default-action_at : goal.returns-in_default-action_at
 returns-in_default-action_at c =
     let named : named_first c.args.self.now.sessions c.args.session ≡ Some c.in-Some.live.now = search rules in
-    let none : action_at c.args.self.now.sets c.args.action ≡ None = search rules in
+    let none : action_at c.args.self.now.inputs c.args.action ≡ None = search rules in
     sym (no_action c.args.self.now c.args.wanted c.args.session c.args.action c.args.sub c.in-Some.live.now named none)
 
 pub returns-in_err-success : goal.returns-in_err-success
 returns-in_err-success c =
     let named : named_first c.args.self.now.sessions c.args.session ≡ Some c.in-Some.live.now = search rules in
-    let there : action_at c.args.self.now.sets c.args.action ≡ Some c.in-Some-action_at.entry.now = search rules in
+    let there : action_at c.args.self.now.inputs c.args.action ≡ Some c.in-Some-action_at.entry.now = search rules in
     let is : c.from_residual.result ≡ Err (c.in_err-success.field-0.0) = search rules in
     is ∙ sym (refused_by_loss c.args.self.now c.args.wanted c.args.session c.args.action c.args.sub c.in-Some.live.now named c.in-Some-action_at.entry.now there (c.in_err-success.field-0.0) (sym c.in_err-success.ensures))
 
 pub returns-then-not-has_set : goal.returns-then-not-has_set
 returns-then-not-has_set c =
     let named : named_first c.args.self.now.sessions c.args.session ≡ Some c.in-Some.live.now = search rules in
-    let there : action_at c.args.self.now.sets c.args.action ≡ Some c.in-Some-action_at.entry.now = search rules in
+    let there : action_at c.args.self.now.inputs c.args.action ≡ Some c.in-Some-action_at.entry.now = search rules in
     let other : is_attached c.in-Some.live.now.attached c.in-Some-action_at.entry.now.set ≡ false = search rules in
     sym (refused_by_set c.args.self.now c.args.wanted c.args.session c.args.action c.args.sub c.in-Some.live.now named c.in-Some-action_at.entry.now there c.in_ok-success.success (sym c.in_ok-success.ensures) other)
 
 pub returns-then-not-is_same_type : goal.returns-then-not-is_same_type
 returns-then-not-is_same_type c =
     let named : named_first c.args.self.now.sessions c.args.session ≡ Some c.in-Some.live.now = search rules in
-    let there : action_at c.args.self.now.sets c.args.action ≡ Some c.in-Some-action_at.entry.now = search rules in
+    let there : action_at c.args.self.now.inputs c.args.action ≡ Some c.in-Some-action_at.entry.now = search rules in
     let attached : is_attached c.in-Some.live.now.attached c.in-Some-action_at.entry.now.set ≡ true = search rules in
     let other : is_same_type c.in-Some-action_at.entry.now.type c.args.wanted ≡ false = search rules in
     sym (refused_by_type c.args.self.now c.args.wanted c.args.session c.args.action c.args.sub c.in-Some.live.now named c.in-Some-action_at.entry.now there c.in_ok-success.success (sym c.in_ok-success.ensures) attached other)
@@ -38,7 +38,7 @@ returns-then-not-is_same_type c =
 pub returns-in_default-column_by : goal.returns-in_default-column_by
 returns-in_default-column_by c =
     let named : named_first c.args.self.now.sessions c.args.session ≡ Some c.in-Some.live.now = search rules in
-    let there : action_at c.args.self.now.sets c.args.action ≡ Some c.in-Some-action_at.entry.now = search rules in
+    let there : action_at c.args.self.now.inputs c.args.action ≡ Some c.in-Some-action_at.entry.now = search rules in
     let attached : is_attached c.in-Some.live.now.attached c.in-Some-action_at.entry.now.set ≡ true = search rules in
     let typed : is_same_type c.in-Some-action_at.entry.now.type c.args.wanted ≡ true = search rules in
     let none : (if c.args.sub == 0 then Some 0 else column_from 1 c.self.inside.users c.in-Some-action_at.entry.now.declared c.args.sub) ≡ None = search rules in
@@ -48,7 +48,7 @@ returns-in_default-column_by c =
 pub returns : goal.returns
 returns c =
     let named : named_first c.args.self.now.sessions c.args.session ≡ Some c.in-Some.live.now = search rules in
-    let there : action_at c.args.self.now.sets c.args.action ≡ Some c.in-Some-action_at.entry.now = search rules in
+    let there : action_at c.args.self.now.inputs c.args.action ≡ Some c.in-Some-action_at.entry.now = search rules in
     let attached : is_attached c.in-Some.live.now.attached c.in-Some-action_at.entry.now.set ≡ true = search rules in
     let typed : is_same_type c.in-Some-action_at.entry.now.type c.args.wanted ≡ true = search rules in
     let has : (if c.args.sub == 0 then Some 0 else column_from 1 c.self.inside.users c.in-Some-action_at.entry.now.declared c.args.sub) ≡ Some c.in-Some-column_by.column = search rules in

@@ -34,7 +34,7 @@ returns-in-NextFrame g c =
 pub returns-in-ImageDone : goal.returns-in-ImageDone
 returns-in-ImageDone g c =
     subst (λ (r : Call). DecidesAlong g.C.Cells.does (record { core = c.args.self.now; cells = c.args.cells.now; lent = record { text = c.args.text.now; frame = c.args.shown.now } }) (record { core = c.image_done.new.self; cells = c.image_done.new.cells; lent = record { text = c.args.text.now; frame = c.args.shown.now } }) c.args.who r c.image_done.result)
-    (sym c.in-ImageDone.is) (c.image_done.ensures c.args.who (record { text = c.args.text.now; frame = c.args.shown.now }))
+    (sym c.in-ImageDone.is) (c.image_done.ensures c.args.who c.args.text.now c.args.shown.now)
 
 pub returns-in_default : goal.returns-in_default
 returns-in_default g c = rw (← c.self.view_is, ← c.deref_mut.ensures.value) (c.decide.ensures c.self.inside.held.items c.args.shown.now)
