@@ -27,11 +27,13 @@ NOTHING = "(?!)"
 
 @dataclass
 class Answer:
-    """What the program answers: its exit status, its line on standard error where it has one, and lines that say why."""
+    """What the program answers: its exit status, its line on standard error where it has one, lines that say why, and what holds of the order of
+    calls on threads."""
 
     status: int
     line: str = ""
     more: tuple[str, ...] = ()
+    order: str = ""
 
 
 def unset(marks: Container[int]) -> str:

@@ -206,9 +206,9 @@ def wrong_ops(wanted: Wanted, scripts: Scripts) -> tuple[int, str] | None:
 
 def ops_of(wanted: Wanted, scripts: Scripts) -> list[int]:
     """The numbers of the ops that a line is about."""
-    names = [it.name for it in scripts[wanted.script - 1]] + ["leave"]
-    last = wanted.last or len(names) - 1
-    return [it for it in range(wanted.number, last + 1) if wanted.name in ("", names[it - 1])]
+    ops = scripts[wanted.script - 1]
+    numbers = range(wanted.number, (wanted.last or len(ops)) + 1)
+    return [it for it in numbers if wanted.name in ("", ops[it - 1].name if it <= len(ops) else "leave")]
 
 
 def calls_wanted(found: list[Wanted], scripts: Scripts) -> tuple[dict[tuple[int, int], Wanted], list[Wrong]]:

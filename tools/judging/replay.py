@@ -63,9 +63,14 @@ def in_order(report: Report) -> list[Call]:
     return [found[place] for place in sorted(found)]
 
 
+def without_places(line: str) -> str:
+    """A line of a report without the place of its call."""
+    return re.sub(" @[0-9]+$", "", line)
+
+
 def stripped(data: bytes) -> list[str]:
     """The lines of a report without the places of its calls."""
-    return [re.sub(" @[0-9]+$", "", it) for it in data.decode("utf-8").split("\n")[:-1]]
+    return [without_places(it) for it in data.decode("utf-8").split("\n")[:-1]]
 
 
 class Judged(NamedTuple):

@@ -19,6 +19,8 @@ READING = (
     ("legal", "- {places}"),
     ("timeline", "- -o {room}/late.html"),
     ("check", "/dev/stdin"),
+    ("run", "/dev/stdin"),
+    ("orders", "/dev/stdin"),
     ("expect", "{life}"),
 )
 
@@ -49,7 +51,9 @@ def wrong_words(tally: Tally, program: str, room: Path) -> None:
 
 def checked(tally: Tally, program: str, room: Path) -> None:
     """The words that tools/check takes."""
-    for name, text in (("a.json", "[]"), ("serial", "[],[]")):
+    waits = '{"op":"wait_frame","session":0}'
+    texts = {"a.json": "[]", "serial": "[],[]", "awaits.json": '[{"op":"await","mark":1}]', "frames.json": f"[{waits},{waits}]"}
+    for name, text in texts.items():
         (room / name).write_text(f'{{"version":1,"scripts":[{text}]}}')
     (room / "a.device").write_text("mark 65\n")
     (room / "full").mkdir()

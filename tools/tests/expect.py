@@ -6,9 +6,10 @@ from __future__ import annotations
 import os
 import random
 import re
+import time
 from pathlib import Path
 
-from helpers import EXAMPLES, Tally, fake_program, main, places_of, rows_of, sessions, spoilt_text, tool, with_device
+from helpers import EXAMPLES, Tally, fake_program, main, places_of, rows_of, scenario_of, sessions, spoilt_text, tool, with_device
 
 from expecting.comparing import Looked, compare
 from expecting.expectations import calls_wanted, read_expectations
@@ -18,6 +19,8 @@ from expecting.writing import written
 from reports.values import CODES
 
 MUTATIONS = 1500
+# so many lines take 2 s; a busy machine has three times as much
+MANY, LONGEST = 20_000, 6
 LIFE = with_device(EXAMPLES / "life.json")
 
 
@@ -120,6 +123,17 @@ def statuses(tally: Tally, program: str, room: Path) -> None:
         tally.ends(f"{ops!r} of {text!r}", tool("expect", [scenario, *words]), status, told)
 
 
+def long(tally: Tally, program: str, room: Path) -> None:
+    """Many lines take a time that grows with them, and not with their square."""
+    scenario = room / "long.json"
+    scenario.write_text(scenario_of(f"{MANY} mark mark=1"), encoding="utf-8")
+    tool("expect", [scenario, "--write"])
+    began = time.monotonic()
+    ran = tool("expect", [scenario])
+    took = time.monotonic() - began
+    tally.check(ran.returncode == 0 and took < LONGEST, f"{MANY} lines take {took:.1f} s: {ran.stdout!r} {ran.stderr!r}")
+
+
 # ---- programs
 
 
@@ -158,4 +172,4 @@ def fuzz(tally: Tally, program: str, room: Path) -> None:
 
 
 if __name__ == "__main__":
-    main("expect", examples, lines, commands, statuses, programs, fuzz)
+    main("expect", examples, lines, commands, statuses, long, programs, fuzz)

@@ -2,17 +2,17 @@
 from __future__ import annotations
 
 import random
-from collections.abc import Callable
 from pathlib import Path
 from typing import NamedTuple
 
 from helpers import CASES, EXAMPLES, Ops, scenario_of, with_device
 
 import by_chance
+from checking import orders
 from judging.replay import NotLegal, has_places, judge
-from machine.turns import Turns, is_made
+from machine import reporting
 from reports.reading import FIRST_LINE, NoReport, read_lines
-from scenarios.devices import FAILED_DEVICE, FAULT, NO_DEVICE, DeviceText, device_in
+from scenarios.devices import FAILED_DEVICE, NO_DEVICE, DeviceText, device_in
 from scenarios.reading import Scripts, scripts_in
 
 Lines = list[str]
@@ -94,50 +94,14 @@ def spoilt_by_chance(number: int) -> tuple[list[Ops], list[str] | None]:
 # ---- runs of the machine
 
 
-class Run(Turns):
-    """A run whose report is kept."""
-
-    def __init__(self, text: Text) -> None:
-        super().__init__(text.scripts, text.device.all)
-        self.blocks: dict[str, Lines] = {f"thread {it.number}": [] for it in self.scripts}
-        self.blocks.update(compositor=[], device=[])
-
-    def note(self, actor: str, line: str) -> None:
-        block = self.blocks[actor]
-        is_numbered = actor != "compositor" and not line.startswith((FAULT, "garbled "))
-        block.append(f"{len(block) + 1} {line}" if is_numbered else line)
-
-    def report(self) -> Lines:
-        """The lines of the report, once nobody can go on."""
-        lines = [line for head, block in self.blocks.items() for line in (head, *block)]
-        stuck = [f"thread {it.number} {it.made + 1} {it.next.name}" for it in self.scripts if not it.is_done]
-        stuck += [f"device {it}" for it in self.events[self.told :][:1]]
-        stuck += [] if self.has_ended else ["compositor next_frame"]
-        last = self.blocks["device"][-1].split(" ")[0] if self.blocks["device"] else ""
-        status = {FAULT: 5, "garbled": 6}.get(last, 7 if stuck else 0)
-        return ["xrsim report 1", *lines, *(["stuck", *stuck] if stuck else []), f"status {status}"]
-
-
 def in_rounds(text: Text) -> Lines:
     """The report of the round robin."""
-    run = Run(text)
-    turns = run.turns()
-    while any([is_made(turn) for turn in turns]):
-        pass
-    return run.report()
+    return reporting.in_rounds(text.scripts, text.device.all)
 
 
 def in_any_order(text: Text, chance: random.Random) -> Lines:
-    """The report of a run in which chance says whose turn is next, and how many turns it takes."""
-    run = Run(text)
-    turns = run.turns()
-    waiting: list[Callable[[], bool]] = []
-    most = chance.choice((1, 1, 3, 12))
-    while len(waiting) < len(turns):
-        turn = chance.choice([it for it in turns if it not in waiting])
-        made = sum(is_made(turn) for _ in range(chance.randint(1, most)))
-        waiting = [] if made else [*waiting, turn]
-    return run.report()
+    """The report of a run in which chance says whose turn is next."""
+    return orders.in_any_order(text.scripts, text.device.all, chance)[0].report()
 
 
 def lines_of(report: bytes) -> Lines:

@@ -24,7 +24,7 @@ import sys
 import tempfile
 import threading
 from collections import Counter
-from collections.abc import Iterable, Iterator
+from collections.abc import Iterator
 from concurrent.futures import ThreadPoolExecutor
 from pathlib import Path
 from typing import Any, NamedTuple
@@ -34,11 +34,11 @@ from runs import Text, in_any_order, in_rounds, judged, lines_of, made_text, sto
 
 import by_chance
 from changes import CALL, changed_reports
+from checking.hanging import cannot_hang
 from judging.replay import stripped
 from reports.reading import read_lines
 from reports.values import OPS
 from scenarios.devices import FAILED_DEVICE, NO_DEVICE
-from scenarios.reading import Op
 
 RUNS, MOST_RUNS = 300, 1_000_000
 LONGEST = 20
@@ -70,38 +70,9 @@ def ran(program: str, form: str, text: Text, *more: str, **child: Any) -> Ran:
     return Ran(it.returncode, it.stdout, it.stderr.decode(errors="replace"))
 
 
-# ---- what can't hang
-#
-# A run hangs where all that haven't ended wait, and nothing can change that any more. What may be waited for:
-#
-# - The compositor waits while no frame is pending. It gives back all images that it holds, takes each frame that is pending, and
-#   is told the end once all scripts have left. So it hangs only where a script does.
-# - `wait_image` waits while a frame that is pending uses the image, or the compositor holds it. The compositor takes all pending
-#   frames and gives all images back, so this ends.
-# - `wait_frame` waits while pending frames and the begun one are more than two, which ends likewise; and while a frame is waited
-#   for that isn't begun. Say that behind each `wait_frame` its script has a `begin_frame` of the same session before it waits for
-#   a mark or a frame again. Whose wait succeeded last then comes to its begin, as nothing but an image can hold it up. That begin
-#   finds the frame waited for, and begins it; or it finds none, the session gone, lost, or in another running period, and in each
-#   of these nothing is waited for, or a wait is refused. And the waits of a run are so many and no more.
-# - An `await` waits for its mark, and a mark that is set stays set. So which awaits end doesn't depend on the order: one order in
-#   which all come to their ends, as the round robin, shows it of all.
-
-
-def begins(wait: Op, behind: Iterable[Op]) -> bool:
-    """Whether a wait for a frame has its begin before its script waits again."""
-    session = wait.fields["session"]
-    for it in behind:
-        if it.name == "begin_frame" and it.fields["session"] == session:
-            return True
-        if it.name in ("await", "wait_frame") or it.fields.get("as", 0) == session:
-            return False
-    return False
-
-
-def cannot_hang(text: Text) -> bool:
-    """Whether each wait for a frame ends, of which one that is alone has none before it that isn't begun, and each for a mark."""
-    waits = [begins(it, ops[at:]) for ops in text.scripts for at, it in enumerate(ops, 1) if it.name == "wait_frame"]
-    return (len(waits) == 1 or all(waits)) and "stuck" not in in_rounds(text)
+def ends_always(text: Text) -> bool:
+    """Whether no run of a text can hang."""
+    return cannot_hang(text.scripts, "stuck" in in_rounds(text))
 
 
 def is_of_one_report(text: Text) -> bool:
@@ -141,14 +112,14 @@ def keep(text: Text, made: Ran) -> str:
 def batches(tally: Tally, most: int, room: Path) -> Iterator[list[Text]]:
     """The texts of so many runs: each stored text, or as many of each as have room in a third of them, but for those that are long or
     may hang; and then a scenario by chance some times each."""
-    stored = [(text, report.count(b"\n") <= MOST_LINES and cannot_hang(text)) for text, _, report in stored_runs()]
+    stored = [(text, report.count(b"\n") <= MOST_LINES and ends_always(text)) for text, _, report in stored_runs()]
     found = [text for text, is_fit in stored if is_fit]
     print(f"threads: {len(stored) - len(found)} stored texts are long or may hang, so they aren't run")
     plan = (found * max(1, most // 3 // len(found)))[: max(1, most * 7 // 10)]
     yield plan
     for number, begun in enumerate(range(len(plan), most, TIMES), 1):
         text = made_text(room, f"chance{number % 1000}", *by_chance.scenario(number))._replace(name=f"by chance {number}")
-        tally.check(cannot_hang(text), f"{text.name}: this may hang")
+        tally.check(ends_always(text), f"{text.name}: this may hang")
         order = in_any_order(text, random.Random(number))
         tally.check("stuck" not in order, f"{text.name}: the tool's own machine is stuck in some order")
         yield [text] * min(TIMES, most - begun)

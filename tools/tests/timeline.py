@@ -16,7 +16,7 @@ from operator import mul
 from pathlib import Path
 
 from helpers import EXAMPLES, ROOT, TABLES, TOOLS, Tally, main, rows_of, run, spoilt_text, tool, with_device
-from runs import Run, Text, content, in_rounds, joined, made_text, marks_by_chance, spoilt_by_chance, stored_runs
+from runs import Text, content, in_rounds, joined, made_text, marks_by_chance, spoilt_by_chance, stored_runs
 
 from browser import browser
 from drawing.page import page
@@ -25,6 +25,7 @@ from drawing.replay import STATES
 from drawing.report import Unreadable, join_scenario, read_report, read_scenario
 from drawing.scene import Scene
 from machine.answers import HeldBack
+from machine.reporting import Run
 from reports.values import GETTERS
 from scenarios.devices import FAILED_DEVICE
 
@@ -125,7 +126,7 @@ class Held(Run):
     waited for there, if it was held back; and the states that sessions went through at each place."""
 
     def __init__(self, text: Text) -> None:
-        super().__init__(text)
+        super().__init__(text.scripts, text.device.all)
         self.made: list[tuple[str, str, str, int, int, str]] = []
         self.held: dict[str, str] = {}
         self.places: dict[str, int] = {}
