@@ -1,6 +1,7 @@
 """The two texts of a run, opened and read as the program does it, and what it answers to them."""
 from __future__ import annotations
 
+import os
 from dataclasses import replace
 
 from checking import prediction
@@ -10,7 +11,9 @@ from files import FileFault, text_of
 from scenarios.devices import MOST_TEXT, read_device
 from scenarios.reading import MOST_BYTES, read_scenario
 from scenarios.schema import Schema
+from shown import clipped, visible
 
+STUCK = 7
 ALWAYS = "whatever the order of calls"
 PERHAPS = "or hangs, where somebody waits for ever in the order that calls come in"
 HERE = "or hangs, as it does in the order of the round robin"
@@ -39,6 +42,13 @@ class Texts:
         """The files that can't be read."""
         return [(name, it) for name, it in zip(self.names, (self.fault, self.device_fault)) if it]
 
+    @property
+    def beside(self) -> str:
+        """A device's text that stands beside the scenario and isn't named, as far as this is told by its name."""
+        stem, _, ending = self.names[0].rpartition(".")
+        name = f"{stem}.device" if stem and ending == "json" else ""
+        return name if len(self.names) == 1 and os.path.isfile(name) else ""
+
     def answer(self) -> Answer | None:
         """What the program answers, where that can be told: of a pipe that is to be read once only it can't."""
         parts = [it.part for _, it in self.faults]
@@ -47,7 +57,9 @@ class Texts:
         if self.fault and self.fault.part == "read":
             return Answer(3, prediction.CANNOT_READ)
         if self.scenario and (self.scenario.refusal or "waits" not in parts):
-            return prediction.answer_of(self.scenario, self.device, self.device_fault is not None)
+            answer = prediction.answer_of(self.scenario, self.device, self.device_fault is not None)
+            beside = f"{visible(clipped(self.beside))} stands beside it, and no --device is given"
+            return replace(answer, more=(*answer.more, beside)) if answer.status == STUCK and self.beside else answer
         return None
 
     def answer_on_threads(self) -> Answer | None:

@@ -152,6 +152,7 @@ class LineReader:
         first, has_range, end = found.groups("")  # type: ignore[union-attr]
         last = int(end or 0) if has_range else int(first)
         self.must(not end or last >= int(first), 1, f"the range {ops} ends before it begins")
+        self.must(third.upper() not in CODES or third in CODES, 2, f"a result stands in capitals: {third.upper()}")
         name = third if re.fullmatch("[a-z_0-9]+", third) else ""
         if name:
             self.must_be(OPS, 2, "op")

@@ -5,6 +5,7 @@ import os
 import signal
 import subprocess
 import tempfile
+from pathlib import Path
 from typing import IO, NamedTuple
 
 from ends import Refused, complain, shown
@@ -13,7 +14,7 @@ from reports.reading import NoReport, Report, join, read_report
 from scenarios.reading import NoScenario, Scripts, scripts_in
 from shown import one_line, visible
 
-PROGRAM = "./xrsim"
+PROGRAM = str(Path(__file__).resolve().parents[2] / "xrsim")
 WITH_REPORT = (0, 5, 6, 7)
 SCENARIO_REFUSED = 4
 

@@ -127,7 +127,7 @@ def plain_tests(part: Part) -> Iterator[Test]:
     """The tests of which words a value may be, and of how large or long it may be."""
     if "const" in part:
         const = part["const"]
-        wanted = f"stands here, and {as_json(const)} is wanted"
+        wanted = f"stands here, and {'a name or 0' if const == 0 else as_json(const)} is wanted"
         is_const: Callable[[Any], bool] = lambda value: type(value) is type(const) and value == const  # noqa: E731
         yield test_of(is_const, lambda value, place: f"{place.shown} {in_quotes(value) or wanted}")
     if "enum" in part:

@@ -52,10 +52,12 @@ def wrong_words(tally: Tally, program: str, room: Path) -> None:
 def checked(tally: Tally, program: str, room: Path) -> None:
     """The words that tools/check takes."""
     waits = '{"op":"wait_frame","session":0}'
-    texts = {"a.json": "[]", "serial": "[],[]", "awaits.json": '[{"op":"await","mark":1}]', "frames.json": f"[{waits},{waits}]"}
+    awaits = '[{"op":"await","mark":1}]'
+    texts = {"a.json": "[]", "serial": "[],[]", "awaits.json": awaits, "beside.json": awaits, "frames.json": f"[{waits},{waits}]"}
     for name, text in texts.items():
         (room / name).write_text(f'{{"version":1,"scripts":[{text}]}}')
     (room / "a.device").write_text("mark 65\n")
+    (room / "beside.device").write_text("mark 1\n")
     (room / "full").mkdir()
     for words, status, said in rows_of("checked_words"):
         tally.ends(f"check {words}", tool("check", words.split(), cwd=room), status, said)

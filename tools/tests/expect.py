@@ -9,11 +9,11 @@ import re
 import time
 from pathlib import Path
 
-from helpers import EXAMPLES, Tally, fake_program, main, places_of, rows_of, scenario_of, sessions, spoilt_text, tool, with_device
+from helpers import EXAMPLES, ROOT, Tally, fake_program, main, places_of, rows_of, scenario_of, sessions, spoilt_text, tool, with_device
 
 from expecting.comparing import Looked, compare
 from expecting.expectations import calls_wanted, read_expectations
-from expecting.running import Run, run_scenario
+from expecting.running import PROGRAM, Run, run_scenario
 from expecting.words import words_of
 from expecting.writing import written
 from reports.values import CODES
@@ -149,8 +149,7 @@ def programs(tally: Tally, program: str, room: Path) -> None:
     given = fake_program(room, f"echo one >&2; echo two >&2; cat {EXAMPLES}/life.report")
     for closed in ("2>&-", "<&- 2>&-"):
         tally.ends(f"words of the program under {closed}", tool("expect", LIFE, shell=f'"$@" {closed}', **given), 0, "")
-    ran = tool("expect", LIFE, env={name: it for name, it in os.environ.items() if name != "XRSIM"}, cwd=room)
-    tally.complains("no XRSIM", ran, "expect: nothing was run: the program ./xrsim can't be run: there is no such file")
+    tally.same(PROGRAM, str(ROOT / "xrsim"), "the program where no XRSIM names one")
 
 
 # ---- texts that a few changes have spoilt

@@ -27,9 +27,9 @@ UNPROVED = b"run: unproved: "
 
 
 def told(ran: Ended) -> tuple[int, bytes, bytes]:
-    """How a run ended and what it printed, without the line that says that it isn't proved."""
+    """How a run ended and what it printed, without what the tool says for itself."""
     lines = ran.stderr.split(b"\n")
-    return ran.returncode, ran.stdout, b"\n".join(it for it in lines if not it.startswith(UNPROVED))
+    return ran.returncode, ran.stdout, b"\n".join(it for it in lines if not it.startswith(b"run: "))
 
 
 def stored_words() -> list[tuple[Path, list[str]]]:
