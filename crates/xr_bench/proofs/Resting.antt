@@ -5,7 +5,7 @@ use Rattle.std.specs.Prelude.{All, slice_index_or}
 use Rattle.atomic_table.specs.Seated.{TableId}
 use Rattle.atomic_table.specs.Table.{Me}
 use Rattle.atomic_table.specs.declared.shared.Seat.{Seat}
-use Rattle.xr_model.specs.laws.Moments.{Moment}
+use Rattle.xr_model.specs.machine.State.{CoreState}
 use Rattle.xr_rule.specs.Seats.{IsFresh, AreFresh, IsBetween}
 use Rattle.xr_rule.specs.View.{View, Idle, view, hold_from}
 use Rattle.xr_lock.specs.Holders.{Taken, MayGive, Given}
@@ -16,12 +16,12 @@ module _ {S : Type 0} where
   at_rest m b = λ i. (view m.0.know (b.idle i), b.carries i)
 
   -- what was taken and is given back stands as it stood
-  pub may_give_back : (stands : S → Moment → Type 0) (m n : Me (Option S) View) (held other : S) → Taken stands m.0.know n held → ((x : Moment) → stands held x → stands other x) → MayGive stands n other
+  pub may_give_back : (stands : S → CoreState → Type 0) (m n : Me (Option S) View) (held other : S) → Taken stands m.0.know n held → ((x : CoreState) → stands held x → stands other x) → MayGive stands n other
   may_give_back stands m n held other taken same =
-      subst (λ (z : Me (Option S) View). MayGive stands z other) (sym taken.is) record { hold = hold_from taken.ticket taken.look; is = refl; stands_so = same _ taken.stands_now }
+      subst (λ (z : Me (Option S) View). MayGive stands z other) (sym taken.is) record { hold = hold_from taken.ticket taken.look; is = refl; unmade = λ _. refl; stands_so = same _ taken.stands_now }
 
   -- and the seat is as it was
-  pub gave_back : (stands : S → Moment → Type 0) (m n w : Me (Option S) View) (held : S) → IsBetween m → Taken stands m.0.know n held → Given n w → w ≡ m
+  pub gave_back : (stands : S → CoreState → Type 0) (m n w : Me (Option S) View) (held : S) → IsBetween m → Taken stands m.0.know n held → Given n w → w ≡ m
   gave_back stands m n w held between taken given =
       let g = subst (λ (z : Me (Option S) View). Given z w) taken.is given (hold_from taken.ticket taken.look) refl in
       (λ i. (g.1 i, g.0 i)) ∙ sym (at_rest m between)

@@ -19,7 +19,7 @@ use Rattle.xr_runtime.specs.Calling.{behind, seen_by, entry_by}
 use Rattle.xr_runtime.specs.Passes.{IsCompositor, Composes}
 use Rattle.xr_runtime.specs.declared.passes.CompositorPass.{CompositorPass}
 use Rattle.xr_runtime.proofs.Passing.{seat_is, calls_more, knows_after}
-use Rattle.xr_runtime.proofs.Going.{moments_in_turn}
+use Rattle.xr_rule.proofs.Carrying.{moments_in_turn}
 use Rattle.xr_compositor.specs.declared.Turned.TheVariants as turned
 use Rattle.xr_compositor.specs.Turns.{know_of, own_calls, IsReturn, AreReturns, GaveOneBack, GivesBack, GaveAllBack, AsksForFrame, Turns}
 use Rattle.xr_compositor.proofs.FewImages.{few_held}
@@ -54,17 +54,17 @@ unfolding exchange_at
 is_return m e some = let so = returned_so m.state e some in record { asks = refl; succeeds = so.0; gives_nothing = so.1; shows_none = so.2 }
 
 pub gave_one : (table : TableId) (old new : CompositorPass) (reply : Reply) (before after : Lent) → IsCompositor table old → Composes table old ask.ImageDone before after reply new
-    → 0 < old.held → GaveOneBack table old new
+    → 0 < length old.held.items → GaveOneBack table old new
 gave_one table old new reply before after is c some_held =
     let k = know_of old in
     let e : Entry = entry_by k ask.ImageDone reply in
     let m : Moment = behind k c.called.look in
-    let known = c.held_before in
+    let known = ap length c.held_before in
     let some : 0 < length m.state.cells.held = omega (arith, some_held, known) in
     let so = returned_so m.state e some in
     let less = one_less m.state e some in
-    let now : new.held ≡ length (step m.state e).0.cells.held =
-    c.is.held_is ∙ ap (λ (q : Know). length (seen_by q).state.cells.held) (knows_after old.seat.me new.seat.me ask.ImageDone reply before after is.rests.between c.called)
+    let now : length new.held.items ≡ length (step m.state e).0.cells.held =
+    ap length c.is.held_is ∙ ap (λ (q : Know). length (seen_by q).state.cells.held) (knows_after old.seat.me new.seat.me ask.ImageDone reply before after is.rests.between c.called)
     ∙ ap (λ (z : Moment). length z.state.cells.held) (moments_in_turn (opening_moment k.apps) c.called.look (e ∷ [])) in record {
       is = c.is;
       unended = c.ended_is ∙ (ap (λ (r : Reply). is_end r.gives) (sym c.called.replies) ∙ ap is_end so.1);
@@ -75,6 +75,10 @@ gave_one table old new reply before after is c some_held =
     }
 
 -- ---- all images
+
+pub none_left : (held : List Image) → length held ≡ 0 → held ≡ []
+none_left [] none = refl
+none_left (x ∷ xs) none = absurd (omega arith)
 
 pub none_back : (table : TableId) (p : CompositorPass) → IsCompositor table p → p.ended ≡ false → GivesBack table p p
 none_back table p is unended = record { is = is; unended = unended; images = []; made = sym (append-nil (own_calls p)); returns = tt; each = omega arith }
@@ -93,7 +97,7 @@ one_back table first old new b o = record {
   each = let before = b.each in let one = o.held in omega (arith, before, one, length-append b.images (o.image ∷ []));
 }
 
-pub calls_and_held : (table : TableId) (old new : CompositorPass) → IsCompositor table old → GivesBack table old new → new.calls + new.held ≡ old.calls + old.held
+pub calls_and_held : (table : TableId) (old new : CompositorPass) → IsCompositor table old → GivesBack table old new → new.calls + length new.held.items ≡ old.calls + length old.held.items
 calls_and_held table old new is b =
     let before = is.counts in
     let now = b.is.counts in
@@ -180,16 +184,16 @@ module _ (table : TableId) (old new : CompositorPass) (reply : Reply) (before af
     is = refl;
   }
 
-  held_now : new.held ≡ length (seen_by (know_after k c.called.look e)).state.cells.held
-  held_now = c.is.held_is ∙ ap (λ (q : Know). length (seen_by q).state.cells.held) knows_now
+  held_now : length new.held.items ≡ length (seen_by (know_after k c.called.look e)).state.cells.held
+  held_now = ap length c.is.held_is ∙ ap (λ (q : Know). length (seen_by q).state.cells.held) knows_now
 
-  few_now : new.held ≤ 48
+  few_now : length new.held.items ≤ 48
   few_now = let few = few_held (with_apps k.apps) (c.called.look ++ e ∷ []) c.called.decides.sees.legal in omega (arith, held_now, few)
 
   told_frame : reply ≡ frame.outcome.reply
   told_frame = replies_so (behind k c.called.look) e reply c.called.replies
 
-  pub room_to_give_back : old.calls < 2 ^ 62 → new.calls + new.held < 2 ^ 63
+  pub room_to_give_back : old.calls < 2 ^ 62 → new.calls + length new.held.items < 2 ^ 63
   room_to_give_back few =
       let more = calls_more old.seat.me new.seat.me ask.NextFrame reply before after is.rests.between c.called in
       let counts = is.counts in
@@ -205,15 +209,15 @@ module _ (table : TableId) (old new : CompositorPass) (reply : Reply) (before af
     asks = asked_for;
     told = (told_frame, shown, shown_there (behind k c.called.look) e before after c.called.writes (ap (λ (r : Reply). r.gives) c.called.replies ∙ shown));
     returns = g.back.returns;
-    each = let all = g.back.each in let none = g.none_held in omega (arith, all, none, held_now);
+    each = let all = g.back.each in let none = ap length g.none_held in omega (arith, all, none, held_now);
     few = let all = g.back.each in omega (arith, all, few_now);
     at_end = tt;
     none_held = g.none_held;
     ended = g.back.unended ∙ sym (ap (λ (r : Reply). is_end r.gives) (sym told_frame) ∙ ap is_end shown);
   }
 
-  none_at_end : reply.gives ≡ gives.Ended → new.held ≡ 0
-  none_at_end told = c.is.held_is ∙ (ap (λ (q : Know). length (seen_by q).state.cells.held) knows_now ∙ (ap (λ (m : Moment). length m.state.cells.held) (moments_in_turn (opening_moment k.apps) c.called.look (e ∷ [])) ∙ ended_so (behind k c.called.look).state e (ap (λ (r : Reply). r.gives) c.called.replies ∙ told)))
+  none_at_end : reply.gives ≡ gives.Ended → length new.held.items ≡ 0
+  none_at_end told = ap length c.is.held_is ∙ (ap (λ (q : Know). length (seen_by q).state.cells.held) knows_now ∙ (ap (λ (m : Moment). length m.state.cells.held) (moments_in_turn (opening_moment k.apps) c.called.look (e ∷ [])) ∙ ended_so (behind k c.called.look).state e (ap (λ (r : Reply). r.gives) c.called.replies ∙ told)))
 
   pub turned_ended : reply.gives ≡ gives.Ended → Turns table old before.frame after.frame (turned.Ended reply) new
   turned_ended told = record {
@@ -227,6 +231,6 @@ module _ (table : TableId) (old new : CompositorPass) (reply : Reply) (before af
     each = sym (none_at_end told) ∙ held_now;
     few = omega arith;
     at_end = refl;
-    none_held = none_at_end told;
+    none_held = none_left new.held.items (none_at_end told);
     ended = c.ended_is ∙ ap (λ (r : Reply). is_end r.gives) told_frame;
   }

@@ -42,7 +42,7 @@ pub record GaveOneBack (table : TableId) (old new : CompositorPass) : Type 0 whe
   pub image : Exchange
   pub made : own_calls new ≡ own_calls old ++ image ∷ []
   pub returns : IsReturn image
-  pub held : new.held + 1 ≡ old.held
+  pub held : length new.held.items + 1 ≡ length old.held.items
 
 -- Images were given back, each by a call of its own, and the pass keeps its promise.
 pub record GivesBack (table : TableId) (old new : CompositorPass) : Type 0 where
@@ -51,12 +51,12 @@ pub record GivesBack (table : TableId) (old new : CompositorPass) : Type 0 where
   pub images : List Exchange
   pub made : own_calls new ≡ own_calls old ++ images
   pub returns : AreReturns images
-  pub each : length images + new.held ≡ old.held
+  pub each : length images + length new.held.items ≡ length old.held.items
 
 -- all that were held
 pub record GaveAllBack (table : TableId) (old new : CompositorPass) : Type 0 where
   pub back : GivesBack table old new
-  pub none_held : new.held ≡ 0
+  pub none_held : new.held.items ≡ []
 
 -- What a turn came to is what its request for a frame came to: a frame was shown, which is left in the place that was lent, or the end
 -- was told, and that place is as it was.
@@ -92,5 +92,5 @@ pub record Turns (table : TableId) (old : CompositorPass) (before after : Shown)
   pub each : length images ≡ length (seen_by (know_after (know_of old) asks.look asks.entry)).state.cells.held
   pub few : length images ≤ 48
   pub at_end : NoneAtEnd came images
-  pub none_held : new.held ≡ 0
+  pub none_held : new.held.items ≡ []
   pub ended : new.ended ≡ is_end frame.outcome.reply.gives

@@ -1,8 +1,8 @@
-//! A turn of the compositor: a frame is taken and shown, and all of its images are given back. It knows no lists, scripts
-//! or threads.
+//! A turn of the compositor: a frame is taken and shown, and all of its images are given back, without the lock. It knows no lists,
+//! scripts or threads.
 #![tactic(auto)]
 
-ghost use Rattle.std.specs.Prelude.{◌≡◌, ◌+◌, ◌<◌, ◌^◌, false};
+ghost use Rattle.std.specs.Prelude.{◌≡◌, ◌+◌, ◌<◌, ◌^◌, [], false, length};
 ghost use Rattle.xr_runtime.specs.Passes.{table_of, IsCompositor};
 ghost use Rattle.xr_compositor.specs.Turns.{Turns, GaveOneBack, GaveAllBack};
 
@@ -20,25 +20,25 @@ pub enum Turned {
 }
 
 // Gives one image back.
-fn give_back<R: Wait>(runtime: &Runtime, rt: &R, pass: &mut CompositorPass)
+fn give_back(runtime: &Runtime, pass: &mut CompositorPass)
     requires is { IsCompositor (table_of runtime.now) pass.old }
     requires unended { pass.old.ended ≡ false }
     requires few { pass.old.calls < 2 ^ 63 }
-    requires some_held { 0 < pass.old.held }
+    requires some_held { 0 < length pass.old.held.items }
     ensures gave { GaveOneBack (table_of runtime.now) pass.old pass.new }
 {
-    runtime.image_done(rt, pass);
+    runtime.image_done(pass);
 }
 
 // Gives back all images that are held.
-fn give_all_back<R: Wait>(runtime: &Runtime, rt: &R, pass: &mut CompositorPass)
+fn give_all_back(runtime: &Runtime, pass: &mut CompositorPass)
     requires is { IsCompositor (table_of runtime.now) pass.old }
     requires unended { pass.old.ended ≡ false }
-    requires few { pass.old.calls + pass.old.held < 2 ^ 63 }
+    requires few { pass.old.calls + length pass.old.held.items < 2 ^ 63 }
     ensures gave { GaveAllBack (table_of runtime.now) pass.old pass.new }
 {
     while pass.held() > 0 {
-        give_back(runtime, rt, pass);
+        give_back(runtime, pass);
     }
 }
 
@@ -53,13 +53,13 @@ pub fn turn<R: Wait>(
     requires is { IsCompositor (table_of runtime.now) pass.old }
     requires unended { pass.old.ended ≡ false }
     requires few { pass.old.calls < 2 ^ 62 }
-    requires none_held { pass.old.held ≡ 0 }
+    requires none_held { pass.old.held.items ≡ [] }
     ensures turns { Turns (table_of runtime.now) pass.old out.old out.new result pass.new }
 {
     let reply = runtime.next_frame(rt, pass, out);
     match reply.gives {
         Gives::Shown => {
-            give_all_back(runtime, rt, pass);
+            give_all_back(runtime, pass);
             Turned::Shown(reply)
         }
         Gives::Ended => Turned::Ended(reply),

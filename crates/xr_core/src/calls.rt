@@ -11,3 +11,5 @@ mod sets;
 mod spaces;
 mod swapchains;
 mod sync;
+
+pub(crate) use swapchains::is_up;

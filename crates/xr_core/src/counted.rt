@@ -8,15 +8,18 @@ ghost use Rattle.xr_model.specs.machine.Machine.{IsPresent};
 ghost use Rattle.xr_model.specs.machine.Refusals.{first_of};
 ghost use Rattle.xr_model.specs.machine.Rule.{refusals};
 ghost use Rattle.xr_model.specs.machine.Rules.Frames.{wait_frame_rule, is_frame_awaited};
+ghost use Rattle.xr_model.specs.laws.ImageWords.{late_of};
 ghost use Rattle.xr_model.specs.machine.CoreCalls.{MayMake};
 ghost use Rattle.xr_model.specs.machine.OverCells.{MayApply, AppliesOver, world};
 
+use crate::calls::is_up;
 use crate::halt::{Halt, refusal};
 use crate::uncounted::Uncounted;
+use arrayvec::ArrayVec;
 use std::alloc::Global;
 use std::marker::Model;
 use xr_model::{Cells, Machine};
-use xr_types::{Actor, Call, Image, NoMemory, Reply, Shown, Step};
+use xr_types::{Actor, Call, Image, MOST_LAYERS, NoMemory, Reply, Shown, Step};
 
 /// What the machine of one thread has beside its cells: what it keeps, and the images of the frame taken last that aren't given
 /// back. Memory for path texts and suggestions is taken from its allocator.
@@ -131,6 +134,30 @@ impl Core {
         ensures { result.now ≡ self.now.held }
     {
         self.inside.held.as_slice()
+    }
+
+    /// The same as a list of its own, for who keeps it beside the core.
+    pub fn copy_taken(&self) -> ArrayVec<Image, MOST_LAYERS>
+        ensures { result.items ≡ self.now.held }
+    {
+        self.inside.copy_held()
+    }
+
+    /// Forgets which images aren't given back, where this is kept beside the core.
+    pub fn settle(&mut self)
+        ensures { self.new ≡ record self.old { held = [] } }
+    {
+        self.inside.settle();
+    }
+
+    /// Whether a call is a wait for an image whose time is up by now.
+    pub fn is_late(&self, call: &Call<'_>) -> bool
+        ensures { result ≡ late_of self.now.kept.device.clock call.now }
+    {
+        let Call::WaitImage { timeout, start, .. } = call else {
+            return false;
+        };
+        is_up(self.clock(), timeout, start)
     }
 
     /// Makes a call, or says that it has to wait and leaves all as it was. `text` is the buffer that

@@ -14,7 +14,6 @@ use crate::Core;
 use std::alloc::Global;
 use std::marker::Model;
 use xr_chains::PlainCells;
-use xr_model::Machine;
 use xr_types::{Actor, Call, NoMemory, Shown, Step};
 
 /// The machine of one thread: a core over plain cells, seen by contracts as its state.
@@ -114,11 +113,4 @@ impl PlainCore {
     {
         self.core.apply(&mut self.cells, who, call, text, shown)
     }
-}
-
-/// It stands for the state that it is.
-impl Machine for PlainCore {
-    ghost use Rattle.std.specs.Prelude.{◌≡◌};
-
-    ghost stands = { λ p s. p ≡ s };
 }

@@ -127,6 +127,24 @@ impl Uncounted {
         }
     }
 
+    /// The images that are held.
+    pub(crate) fn copy_held(&self) -> ArrayVec<Image, MOST_LAYERS>
+        ensures { result.items ≡ self.now.held }
+    {
+        let mut copied = ArrayVec::new();
+        let Ok(()) = copied.try_extend_from_slice(self.held.as_slice()) else {
+            unreachable!()
+        };
+        copied
+    }
+
+    /// No image is held from now on.
+    pub(crate) fn settle(&mut self)
+        ensures { self.new ≡ record self.old { held = [] } }
+    {
+        self.held.clear();
+    }
+
     /// Takes the first image that is held, where one is.
     fn pop_held(&mut self) -> Option<Image>
         ensures image { result ≡ slice_get self.old.held 0 }

@@ -108,7 +108,7 @@ says_after i s clocks past [] legal whole says = says
 says_after i s clocks past (e ∷ es) legal whole says =
     says_after i (step s e).0 (clocks_after clocks e (step s e).0) (decided s e ∷ past) es legal.3 (whole_step s e legal.0 legal.2 whole) (says_step i s e past whole says)
 
-none_had : (n p k : ℕ) → has_index (slice_get (replicate n free_place) p) k ≡ false
+pub none_had : (n p k : ℕ) → has_index (slice_get (replicate n free_place) p) k ≡ false
 none_had zero p k = refl
 none_had (suc n) zero k = refl
 none_had (suc n) (suc p) k = none_had n p k
@@ -124,7 +124,7 @@ pub owners_are_in_the_state : OwnersAreInTheState
 owners_are_in_the_state = owners_fit
 
 -- an image that an application has isn't used
-had_unused : (s : State) (i : Image) → StateIsSound s → is_had s.core i ≡ true → count_now s i ≡ 0
+pub had_unused : (s : State) (i : Image) → StateIsSound s → is_had s.core i ≡ true → count_now s i ≡ 0
 had_unused s i sound had = by (slice_get s.core.chains i.place) had (sound.idle i.place)
   where
     by : (o : Option Chain) → has_index o i.index ≡ true → IsIdle s.core.frames.pending s.cells.held i.place o → count_of s.core.frames.pending s.cells.held (3 * i.place + i.index) ≡ 0
@@ -133,7 +133,7 @@ had_unused s i sound had = by (slice_get s.core.chains i.place) had (sound.idle 
         let two = both_of c.has_waited (oldest_of c.acquired == i.index) had in
         subst (λ (n : ℕ). count_of s.core.frames.pending s.cells.held (3 * i.place + n) ≡ 0) (same_key (oldest_of c.acquired) i.index two.1) (idle two.0)
 
-none_more : (u r n : ℕ) → u ≡ r + n → n ≡ 0 → nat_lt r u ≡ false
+pub none_more : (u r n : ℕ) → u ≡ r + n → n ≡ 0 → nat_lt r u ≡ false
 none_more u r n e z = grind (arith, nat_tests, e, z)
 
 pub no_two_owners : NoTwoOwners

@@ -71,6 +71,7 @@ pub mod ImageSteps
 pub mod ImageOwners
 pub mod ImageStamps
 pub mod ShownFrames
+pub mod CellsTold
 pub mod OverCells
 pub mod CellCounts
 pub mod SyncFinds
@@ -100,3 +101,9 @@ pub mod EventsTell
 pub mod GrowingHistories
 pub mod OthersEntries
 pub mod FewCalls
+pub mod CallWords
+pub mod FittingCalls
+pub mod WordSteps
+pub mod HeldReturns
+pub mod ImageWaits
+pub mod FreeEntries

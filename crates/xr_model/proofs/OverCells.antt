@@ -1,29 +1,24 @@
 -- What is answered over cells of any kind: calls that touch none, and what plain cells make of the clause.
-use Rattle.std.proofs.Common.{◌≡◌, ◌||◌, ◌&&◌, ◌==◌, ℕ, Bool, true, false, List, [], ◌∷◌, ◌++◌, length, Option, refl, sym, ap, subst, ◌∙◌, arith, true≢false, not}
+use Rattle.std.proofs.Common.{◌≡◌, ◌||◌, ◌==◌, ℕ, Bool, true, false, List, [], ◌∷◌, ◌++◌, length, refl, sym, ap, subst, ◌∙◌, arith, true≢false, not}
 use Rattle.std.specs.Prelude.{is_some, slice_set, if◌then◌else◌}
-use Rattle.xr_types.specs.Code.{is_success}
 use Rattle.xr_types.specs.declared.frames.Image.{Image}
 use Rattle.xr_types.specs.declared.calls.Actor.{Actor}
 use Rattle.xr_types.specs.declared.calls.Call.{Call}
 use Rattle.xr_types.specs.declared.calls.Step.{Step}
 use Rattle.xr_types.specs.declared.calls.Step.TheVariants.{Done, NotReady}
-use Rattle.xr_types.specs.declared.handles.Kind.{Kind}
-use Rattle.xr_types.specs.declared.handles.Kind.TheVariants.{Swapchain}
-use Rattle.xr_model.specs.machine.Chains.{chain_at, is_wait_wrong, oldest_image}
+use Rattle.xr_model.specs.machine.Chains.{oldest_image}
 use Rattle.xr_model.specs.machine.Images.{Stamped, slot_of, count_of, first_images, stamps_at, with_stamps}
 use Rattle.xr_model.specs.machine.CellCalls.{CellCall, pin, claim, free, stamp, peek, give_back, claim_calls, pin_calls, free_calls, stamp_calls, peek_calls, return_calls, MayCall, Leads}
 use Rattle.xr_model.specs.machine.PlainImages.{PlainImages, PlainMay, PlainDoes, count_at}
-use Rattle.xr_model.specs.machine.Handles.{is_live}
 use Rattle.xr_model.specs.machine.Refusals.{first_of}
 use Rattle.xr_model.specs.machine.Calls.{Entry}
 use Rattle.xr_types.specs.declared.calls.Call.TheVariants as ask
 use Rattle.xr_model.specs.machine.State.{CoreState, State, CellReads}
 use Rattle.xr_model.specs.machine.Rule.{Effect, Did, refusals, decided_call}
-use Rattle.xr_model.specs.machine.Rules.Session.{life_of}
-use Rattle.xr_model.specs.machine.Rules.Spaces.{session_above}
-use Rattle.xr_model.specs.machine.Machine.{effect, rule, core_ready, IsGiven, reads_of, waited_image, cell_calls, as_unused, held_after}
+use Rattle.xr_model.specs.machine.Machine.{effect, rule, core_ready, reads_of, waited_image, cell_calls, as_unused, held_after}
 use Rattle.xr_model.specs.machine.CoreCalls.{Lent, left_in, entry_of, CoreApplies, Applies}
 use Rattle.xr_model.specs.machine.OverCells.{entry_by, AppliesOver}
+use Rattle.xr_model.proofs.CellsTold.{IsTold, AreTold, HoldTold, Told, Agrees, agree, same_by, allowed_by}
 use Rattle.xr_model.proofs.HeldFits.{did_kept}
 use Rattle.xr_model.specs.laws.Soundness.{IsAside}
 
@@ -191,75 +186,13 @@ stamps_done s r e stamps =
 
 -- ---- only a wait that finds an image depends on its count, and only a frame that is shown on stamps
 
--- nothing but a count stands against a wait on this chain
-abbrev MayWait : CoreState → ℕ → Type 0
-MayWait s chain = (is_live s.handles Swapchain chain ≡ true) × ((life_of s (session_above s.handles chain)).lost ≡ false) × (is_wait_wrong (chain_at s.chains chain) ≡ false)
+held_same : (what : Call) (hs gs : List Image) → hs ≡ gs → HoldTold what hs gs
+held_same ask.NextFrame hs gs same = same
+held_same ask.ImageDone hs gs same = same
+held_same _ hs gs same = tt
 
-abbrev IsTold : CoreState → Call → Bool → Bool → Type 0
-IsTold s (ask.WaitImage chain timeout start) u v = MayWait s chain → u ≡ v
-IsTold s _ u v = Unit {0}
-
--- where no image is held, a frame is shown with these stamps
-abbrev AreTold : List Image → Call → List ℕ → List ℕ → Type 0
-AreTold held ask.NextFrame ns ms = held ≡ [] → ns ≡ ms
-AreTold held _ ns ms = Unit {0}
-
-record Agrees (s : CoreState) (r q : CellReads) (e : Entry) : Type 0 where
-  creates : (rule s r e).creates ≡ (rule s q e).creates
-  takes : (rule s r e).takes_memory ≡ (rule s q e).takes_memory
-  first : first_of (refusals (rule s r e)) ≡ first_of (refusals (rule s q e))
-  readies : core_ready s r e ≡ core_ready s q e
-
-or_true : (b : Bool) → (b || true) ≡ true
-or_true true = refl
-or_true false = refl
-
-module _ (s : CoreState) (held : List Image) (u v : Bool) (ns ms : List ℕ) where
-  abbrev told : CellReads
-  told = record { unused = u; stamps = ns; held = held }
-
-  abbrev other : CellReads
-  other = record { unused = v; stamps = ms; held = held }
-
-  agree : (e : Entry) → IsTold s e.call u v → Agrees s told other e
-  agree e = by e.call
-    where
-      by : (r : Call) → IsTold s r u v → Agrees s told other (record e { call = r })
-      by (ask.WaitImage chain timeout start) is = at (is_live s.handles Swapchain chain) refl (life_of s (session_above s.handles chain)).lost refl (is_wait_wrong (chain_at s.chains chain)) refl
-        where
-          at : (a : Bool) → is_live s.handles Swapchain chain ≡ a → (b : Bool) → (life_of s (session_above s.handles chain)).lost ≡ b → (d : Bool) → is_wait_wrong (chain_at s.chains chain) ≡ d
-              → Agrees s told other (record e { call = ask.WaitImage chain timeout start })
-          at false live b lost d order = record { creates = refl; takes = refl; first = rw live refl; readies = rw live (or_true _ ∙ sym (or_true _)) }
-          at true live true lost d order = record { creates = refl; takes = refl; first = rw (lost, live) refl; readies = rw (lost, live) (or_true _ ∙ sym (or_true _)) }
-          at true live false lost true order = record { creates = refl; takes = refl; first = rw (lost, order, live) refl; readies = rw (lost, order, live) (or_true _ ∙ sym (or_true _)) }
-          at true live false lost false order = let same : u ≡ v = is (live, lost, order) in rw same (record { creates = refl; takes = refl; first = refl; readies = refl })
-      by r is = record { creates = refl; takes = refl; first = refl; readies = refl }
-
-  same_effect : (e : Entry) → IsTold s e.call u v → AreTold held e.call ns ms → effect s told e ≡ effect s other e
-  same_effect e = by e.call
-    where
-      by : (r : Call) → IsTold s r u v → AreTold held r ns ms → effect s told (record e { call = r }) ≡ effect s other (record e { call = r })
-      by (ask.WaitImage chain timeout start) is are = at (is_live s.handles Swapchain chain) refl (life_of s (session_above s.handles chain)).lost refl (is_wait_wrong (chain_at s.chains chain)) refl
-        where
-          at : (a : Bool) → is_live s.handles Swapchain chain ≡ a → (b : Bool) → (life_of s (session_above s.handles chain)).lost ≡ b → (d : Bool) → is_wait_wrong (chain_at s.chains chain) ≡ d
-              → effect s told (record e { call = ask.WaitImage chain timeout start }) ≡ effect s other (record e { call = ask.WaitImage chain timeout start })
-          at false live b lost d order = rw live refl
-          at true live true lost d order = rw (lost, live) refl
-          at true live false lost true order = rw (lost, order, live) refl
-          at true live false lost false order = let same : u ≡ v = is (live, lost, order) in rw same refl
-      by ask.NextFrame is are = at held refl
-        where
-          at : (hs : List Image) → held ≡ hs → effect s told (record e { call = ask.NextFrame }) ≡ effect s other (record e { call = ask.NextFrame })
-          at [] none = let same : ns ≡ ms = are none in rw same refl
-          at (i ∷ hs) some = rw some refl
-      by r is are = refl
-
-module _ (s : CoreState) (r q : CellReads) (e : Entry) (same : r.held ≡ q.held) (is : IsTold s e.call r.unused q.unused) where
-  agree_of : Agrees s r q e
-  agree_of = subst (λ (hs : List Image). Agrees s (record { unused = r.unused; stamps = r.stamps; held = hs }) q e) (sym same) (agree s q.held r.unused q.unused r.stamps q.stamps e is)
-
-  same_of : AreTold q.held e.call r.stamps q.stamps → effect s r e ≡ effect s q e
-  same_of are = subst (λ (hs : List Image). effect s (record { unused = r.unused; stamps = r.stamps; held = hs }) e ≡ effect s q e) (sym same) (same_effect s q.held r.unused q.unused r.stamps q.stamps e is are)
+agree_of : (s : CoreState) (r q : CellReads) (e : Entry) → r.held ≡ q.held → IsTold s e.call r.unused q.unused → Agrees s r q e
+agree_of s r q e same is = agree s r.unused q.unused r.stamps q.stamps r.held q.held e is (held_same e.call r.held q.held same)
 
 -- what a claim answered is whether the count is 0
 told_by : (s : CoreState) (r : CellReads) (held : List Image) (e : Entry) (c d : PlainImages) → ((k : ℕ) → count_at c k ≡ count_of s.frames.pending held k) → Leads PlainDoes c (cell_calls s r e) d
@@ -267,7 +200,7 @@ told_by : (s : CoreState) (r : CellReads) (held : List Image) (e : Entry) (c d :
 told_by s r held e c d counts = by e.call
   where
     by : (what : Call) → Leads PlainDoes c (cell_calls s r (record e { call = what })) d → IsTold s what r.unused (count_of s.frames.pending held (slot_of (waited_image s what)) == 0)
-    by (ask.WaitImage chain timeout start) leads = λ may. (rw (may.1, may.2, may.0) at leads).1.0 ∙ ap (λ (n : ℕ). n == 0) (counts (slot_of (oldest_image s.chains chain)))
+    by (ask.WaitImage chain timeout start) leads = λ may. (rw (may.lost, may.order, may.live) at leads).1.0 ∙ ap (λ (n : ℕ). n == 0) (counts (slot_of (oldest_image s.chains chain)))
     by _ leads = tt
 
 -- what looks at images found is their stamps
@@ -305,16 +238,12 @@ plainly s new held held2 c d who asked lent left (Done answer) counts x =
     let q : CellReads = reads_of (whole s c.stamps held) e.call in
     let is = told_by s x.reads held e c d counts x.cells in
     let here : Agrees s x.reads q e = agree_of s x.reads q e x.own is in
-    let effects : effect s x.reads e ≡ effect s q e = same_of s x.reads q e x.own is (subst (λ (hs : List Image). AreTold hs e.call x.reads.stamps q.stamps) x.own (shown_by s x.reads e c d x.each x.cells)) in
+    let told : Told s x.reads q e.call = record { unused = is; stamps = subst (λ (hs : List Image). AreTold hs e.call x.reads.stamps q.stamps) x.own (shown_by s x.reads e c d x.each x.cells); held = held_same e.call x.reads.held q.held x.own } in
+    let effects : effect s x.reads e ≡ effect s q e = same_by s x.reads q e told in
     let stamps : d.stamps ≡ with_stamps (effect s x.reads e).did.stamped c.stamps = stamps_follow (cell_calls s x.reads e) c d x.cells ∙ stamps_done s x.reads e c.stamps in
     let a = x.applies in
     record {
-      allowed = record {
-        handle = subst (λ (k : Option Kind). IsGiven (is_some k && is_success (decided_call s e.call (effect s q e)).1.reply.code) s.handles e.given) here.creates
-            (subst (λ (y : Effect). IsGiven (is_some (rule s x.reads e).creates && is_success (decided_call s e.call y).1.reply.code) s.handles e.given) effects a.allowed.handle);
-        memory = λ short. let both = a.allowed.memory short in (sym here.takes ∙ both.0, sym here.first ∙ both.1);
-        present = a.allowed.present;
-      };
+      allowed = allowed_by s x.reads q e told a.allowed;
       is_ready = sym here.readies ∙ a.is_ready;
       leads = subst (λ (y : Effect). whole new d.stamps held2 ≡ whole (decided_call s e.call y).0 (with_stamps y.did.stamped c.stamps) (held_after held y.did)) effects
           (moves new (decided_call s e.call (effect s x.reads e)).0 d.stamps (with_stamps (effect s x.reads e).did.stamped c.stamps) held2 (held_after held (effect s x.reads e).did) a.leads stamps x.holds);

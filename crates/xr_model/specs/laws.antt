@@ -30,3 +30,5 @@ pub mod Moments
 pub mod MomentLaws
 pub mod FewCalls
 pub mod Soundness
+pub mod ImageWords
+pub mod ImageWordLaws

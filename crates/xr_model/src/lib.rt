@@ -31,6 +31,7 @@ ghost use Rattle.xr_model.specs.laws.RobinLaws.{TurnsGoRound, NobodyHasTwoTurns,
 ghost use Rattle.xr_model.specs.laws.ReportLaws.{ReportsTellTheCalls, ValuesTellWhatWasGiven, FrameLinesTellTheFrame, EventLinesTellTheEvent};
 
 mod cells;
+pub mod image_words;
 mod machine;
 
 pub use cells::Cells;

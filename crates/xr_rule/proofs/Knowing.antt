@@ -16,7 +16,7 @@ use Rattle.xr_model.proofs.GrowingHistories.{legal_grows, entries_are_by_actors}
 use Rattle.xr_model.proofs.Rows.{both_of}
 use Rattle.xr_rule.specs.Sums.{total}
 use Rattle.xr_rule.specs.View.{Own, Know, know, own_of, with_call, with_seen, is_of, owns, parts, numbers_from, all_numbers, spent_know, longer, know_after}
-use Rattle.xr_rule.specs.Rule.{are_by_callers, Knows, OneHistory, MayNote, HasAll}
+use Rattle.xr_rule.specs.Rule.{are_by_callers, Knows, OneHistory, MayDecide, HasAll}
 use Rattle.xr_rule.proofs.Histories.{IsBy, calls-mine, calls-other, calls-between}
 use Rattle.xr_rule.proofs.Prefixes.{prefix_self, prefix_more, prefix_trans, prefix_whole, prefix_length, longer_is}
 use Rattle.xr_rule.proofs.Sums.{at_in, at_one, at_append, empty_list, total-append, total-set, term_le, terms_le}
@@ -53,7 +53,7 @@ mine_more key log e o os all is none zero p at =
     subst P (some-injective (own_of o.number (o.calls ++ d ∷ []) o.saw) p at) (calls-mine o.number (opening_moment key) log e is ∙ ap (λ l. l ++ d ∷ []) (all 0 o refl))
 mine_more key log e o os all is none (suc i) p at = calls-other p.number o.number (opening_moment key) log e is (not_owned o.number os i p at none) ∙ all (suc i) p at
 
-few_more : (key : ℕ) (log : List Entry) (e : Entry) (o : Own) (os : List Own) (s : List Entry) → ((i : ℕ) (p : Own) → get_elem? (o ∷ os) i ≡ some p → HasFew p.number p.calls) → MayNote (know key (o ∷ os) s) log e
+few_more : (key : ℕ) (log : List Entry) (e : Entry) (o : Own) (os : List Own) (s : List Entry) → ((i : ℕ) (p : Own) → get_elem? (o ∷ os) i ≡ some p → HasFew p.number p.calls) → MayDecide (know key (o ∷ os) s) log e
     → (i : ℕ) (p : Own) → get_elem? (with_call (exchange_at (moment_after (opening_moment key) log) e) (o ∷ os)) i ≡ some p → HasFew p.number p.calls
 few_more key log e o os s all may zero p at =
     let x : Exchange = exchange_at (moment_after (opening_moment key) log) e in
@@ -67,7 +67,7 @@ callers_more (x ∷ xs) e all one =
     rw two.0 (callers_more xs e two.1 one)
 
 pub history_decides : (key : ℕ) (log : List Entry) (ks : List Know) (id : ℕ) (e : Entry) (o : Own) (os : List Own) (s : List Entry) → OneHistory key log ks → get_elem? ks id ≡ some (know key (o ∷ os) s)
-    → MayNote (know key (o ∷ os) s) log e → OneHistory key (log ++ e ∷ []) (set ks id (know_after (know key (o ∷ os) s) log e))
+    → MayDecide (know key (o ∷ os) s) log e → OneHistory key (log ++ e ∷ []) (set ks id (know_after (know key (o ∷ os) s) log e))
 history_decides key log ks id e o os s t at may =
     let is = may.by_own in
     let k : Know = know key (o ∷ os) s in

@@ -4,8 +4,12 @@ pub mod Histories
 pub mod Knowing
 pub mod Counts
 pub mod Turning
+pub mod Carrying
 pub mod Steps
 pub mod Serving
+pub mod HolderSteps
+pub mod Returning
+pub mod ClaimSteps
 pub mod Moves
 pub mod Starts
 pub mod Calls

@@ -1,22 +1,31 @@
 -- Seats that are cut in two, kept and joined, and the table at its start and its end.
-use Rattle.std.proofs.Common.{◌≡◌, ℕ, zero, suc, ◌+◌, ◌<◌, ◌≤◌, ◌≢◌, false, List, [], ◌∷◌, ◌++◌, map, length, get_or, set, sym, refl, ap, ◌∙◌, subst, ⊎_elim, arith, Option, Some, None, IfSome}
+use Rattle.std.proofs.Common.{◌≡◌, ℕ, zero, suc, ◌+◌, ◌<◌, ◌≤◌, ◌≢◌, false, List, [], ◌∷◌, ◌++◌, map, length, get_or, set, replicate, ◌%◌, ◌^◌, sym, refl, ap, ◌∙◌, subst, ⊎_elim, arith, Option, Some, None, IfSome}
 use mathlib.Core.Logic.{dite}
 use mathlib.Core.Option.{Option as Home, some, some-injective, some-ne-none}
 use mathlib.Core.List.{map-append}
 use native.Mathlib.Decide.{ℕ_discrete}
 use lib.ListN.{get_elem?}
 use lib.Seq.{map-set}
-use Rattle.atomic_table.specs.Table.{State, opening, Splits, Joins, Seen, Final}
+use Rattle.atomic_table.specs.Table.{State as Table, opening, Splits, Joins, Seen, Final}
 use Rattle.atomic_table.proofs.Lists.{at_set, at_snoc, at_map, at_longer, set_again, set_else}
 use Rattle.xr_model.specs.machine.Calls.{Entry}
-use Rattle.xr_model.specs.laws.Moments.{Moment, opening_moment, moment_after}
+use Rattle.xr_model.specs.machine.CellCalls.{CellCall}
+use Rattle.xr_model.specs.machine.State.{CoreState, State, with_apps}
+use Rattle.xr_model.specs.laws.Moments.{opening_moment, moment_after}
+use Rattle.xr_model.proofs.WordSteps.{opening_word, opening_stamp}
 use Rattle.xr_rule.specs.View.{Own, Know, Turn, View, Idle, Waiting, Holding, view, know, know_of, turn_of, out, has_ticket, is_holder, newcomer, spent_know, spent_view, staying_view, cut_view, keepsake, joined_view}
-use Rattle.xr_rule.specs.Rule.{OneHistory, Tickets, HoldsIf, SlotStands, MayNote, Fits, FollowsRule, HasAll}
+use Rattle.xr_rule.specs.Rule.{OneHistory, Tickets, HoldsIf, SlotStands, image_word, stamp_word, WordsSay, WordsSayIf, ImageWords, MayNote, Fits, FollowsRule, HasAll, word_count}
 use Rattle.xr_rule.proofs.Sums.{at_one, at_unmap, total-append}
 use Rattle.xr_rule.proofs.Knowing.{history_splits, history_joins, history_keeps, history_opens, others_spent, saw_all, history_ends}
 use Rattle.xr_rule.proofs.Steps.{knows, turns}
 
-module _ {S : Type 0} (stands : S → Moment → Type 0) where
+-- a list of zeros
+pub none_set : (n k : ℕ) → ◌≡◌ {A = ℕ} (get_or (replicate n 0) k 0) 0
+none_set zero k = refl
+none_set (suc n) zero = refl
+none_set (suc n) (suc k) = none_set n k
+
+module _ {S : Type 0} (stands : S → CoreState → Type 0) where
   -- tickets and the slot where a seat with no ticket comes
   turns_come : (a b d z : ℕ) (us : List Turn) → Tickets a b d z us → Tickets a b d z (us ++ Idle ∷ [])
   turns_come a b d z us t = record {
@@ -34,11 +43,17 @@ module _ {S : Type 0} (stands : S → Moment → Type 0) where
     free = λ none_holds. h.free (λ j u e. none_holds j u (at_longer us (Idle ∷ []) j u e));
   }
 
+  images_come : (st : State) (ws : List ℕ) (us : List Turn) → ImageWords st ws us → ImageWords st ws (us ++ Idle ∷ [])
+  images_come st ws us i = record {
+    held = λ j u e. ⊎_elim (λ (q : get_elem? us j ≡ some u). i.held j u q) (λ (q : Idle ≡ u). subst (WordsSayIf st ws) q tt) (at_snoc us Idle u j e);
+    free = λ none_holds. i.free (λ j u e. none_holds j u (at_longer us (Idle ∷ []) j u e));
+  }
+
   -- the rule over other views, where all that it says of views holds of them
-  over_views : (key : ℕ) (s : State (Option S) View) (r : FollowsRule stands key s) (vs : List View) → OneHistory key r.log (map know_of vs)
+  over_views : (key : ℕ) (s : Table (Option S) View) (r : FollowsRule stands key s) (vs : List View) → OneHistory key r.log (map know_of vs)
       → Tickets (get_or s.words 0 0) (get_or s.words 1 0) r.drawn r.served (map turn_of vs) → SlotStands stands key r.log r.served s.homes (map turn_of vs)
-      → ((j : ℕ) (v : View) → get_elem? vs j ≡ some v → Fits v) → FollowsRule stands key record { words = s.words; homes = s.homes; views = vs }
-  over_views key s r vs history tickets slot fits = record { log = r.log; drawn = r.drawn; served = r.served; wide = r.wide; few = r.few; history = history; tickets = tickets; slot = slot; fits = fits }
+      → ImageWords (moment_after (opening_moment key) r.log).state s.words (map turn_of vs) → ((j : ℕ) (v : View) → get_elem? vs j ≡ some v → Fits v) → FollowsRule stands key record { words = s.words; homes = s.homes; views = vs }
+  over_views key s r vs history tickets slot images fits = record { log = r.log; drawn = r.drawn; served = r.served; wide = r.wide; few = r.few; history = history; tickets = tickets; slot = slot; images = images; fits = fits }
 
   pub splits : (key id a : ℕ) (o p : Own) (os : List Own) (z : List Entry) (u : Turn) → Splits (FollowsRule stands key) id (view (know a (o ∷ p ∷ os) z) u) (staying_view (view (know a (o ∷ p ∷ os) z) u)) (cut_view (view (know a (o ∷ p ∷ os) z) u))
   splits key id a o p os z u s r at =
@@ -56,18 +71,24 @@ module _ {S : Type 0} (stands : S → Moment → Type 0) where
       (subst (OneHistory key r.log) (sym kn) (history_splits key r.log (knows s) id a o p os z r.history known))
       (subst (Tickets (get_or s.words 0 0) (get_or s.words 1 0) r.drawn r.served) (sym tn) (turns_come (get_or s.words 0 0) (get_or s.words 1 0) r.drawn r.served (turns s) r.tickets))
       (subst (SlotStands stands key r.log r.served s.homes) (sym tn) (slot_come key r.log r.served s.homes (turns s) r.slot))
+      (subst (ImageWords (moment_after (opening_moment key) r.log).state s.words) (sym tn) (images_come (moment_after (opening_moment key) r.log).state s.words (turns s) r.images))
       (λ j x e. ⊎_elim
       (λ (h : get_elem? (set s.views id l) j ≡ some x). ⊎_elim (λ (q : (j ≡ id) × (l ≡ x)). subst Fits q.1 (cut u fit)) (λ (q : (j ≢ id) × (get_elem? s.views j ≡ some x)). r.fits j x q.1) (at_set s.views id j l x h))
-      (λ (q : n ≡ x). subst Fits q record { numbered = omega arith; notes_own = tt }) (at_snoc (set s.views id l) n x j e))
+      (λ (q : n ≡ x). subst Fits q record { numbered = omega arith; holds = tt }) (at_snoc (set s.views id l) n x j e))
     where
-      recast : (look : List Entry) (e : Option Entry) → IfSome e (λ y. MayNote (know a (o ∷ p ∷ os) z) look y) → IfSome e (λ y. MayNote (know a (o ∷ os) z) look y)
-      recast look None may = tt
-      recast look (Some e) may = record { by_own = may.by_own; caller = may.caller; numbers = may.numbers; comes = may.comes; few = may.few }
+      recast : (look : List Entry) (made : List CellCall) (e : Option Entry) → IfSome e (λ y. MayNote (know a (o ∷ p ∷ os) z) look made y) → IfSome e (λ y. MayNote (know a (o ∷ os) z) look made y)
+      recast look made None may = tt
+      recast look made (Some e) may = let d = may.decides in record {
+        decides = record { by_own = d.by_own; caller = d.caller; numbers = d.numbers; comes = d.comes; few = d.few };
+        returns_none = may.returns_none;
+        claims_none = may.claims_none;
+        made_is = may.made_is;
+      }
 
       cut : (u : Turn) → Fits (view (know a (o ∷ p ∷ os) z) u) → Fits (view (know a (o ∷ os) z) u)
-      cut Idle f = record { numbered = omega arith; notes_own = tt }
-      cut (Waiting t) f = record { numbered = omega arith; notes_own = tt }
-      cut (Holding h) f = record { numbered = omega arith; notes_own = recast h.look h.noted f.notes_own }
+      cut Idle f = record { numbered = omega arith; holds = tt }
+      cut (Waiting t) f = record { numbered = omega arith; holds = tt }
+      cut (Holding h) f = record { numbered = omega arith; holds = record { begins = f.holds.begins; notes_own = recast h.look h.made h.noted f.holds.notes_own; made_fits = f.holds.made_fits } }
 
   pub keeps_seen : (key id : ℕ) (v : View) → Splits (FollowsRule stands key) id v v (keepsake v)
   keeps_seen key id v s r at =
@@ -80,7 +101,8 @@ module _ {S : Type 0} (stands : S → Moment → Type 0) where
       (subst (OneHistory key r.log) (sym kn) (history_keeps key r.log (knows s) id v.know r.history (at_map know_of s.views id v at)))
       (subst (Tickets (get_or s.words 0 0) (get_or s.words 1 0) r.drawn r.served) (sym tn) (turns_come (get_or s.words 0 0) (get_or s.words 1 0) r.drawn r.served (turns s) r.tickets))
       (subst (SlotStands stands key r.log r.served s.homes) (sym tn) (slot_come key r.log r.served s.homes (turns s) r.slot))
-      (λ j x e. ⊎_elim (λ (h : get_elem? s.views j ≡ some x). r.fits j x h) (λ (q : n ≡ x). subst Fits q record { numbered = omega arith; notes_own = tt }) (at_snoc s.views n x j e)))
+      (subst (ImageWords (moment_after (opening_moment key) r.log).state s.words) (sym tn) (images_come (moment_after (opening_moment key) r.log).state s.words (turns s) r.images))
+      (λ j x e. ⊎_elim (λ (h : get_elem? s.views j ≡ some x). r.fits j x h) (λ (q : n ≡ x). subst Fits q record { numbered = omega arith; holds = tt }) (at_snoc s.views n x j e)))
 
   pub joins : (key id other : ℕ) (v w : View) → v.turn ≡ Idle → w.turn ≡ Idle → 0 < length w.know.own → Joins (FollowsRule stands key) id v other w (joined_view v w) spent_view
   joins key id other v w rest idle some_own s r at apart them =
@@ -96,33 +118,45 @@ module _ {S : Type 0} (stands : S → Moment → Type 0) where
       (subst (OneHistory key r.log) (sym kn) (history_joins key r.log (knows s) id other v.know w.know r.history (at_map know_of s.views id v at) apart (at_map know_of s.views other w there) some_own))
       (subst (Tickets (get_or s.words 0 0) (get_or s.words 1 0) r.drawn r.served) (sym tn) r.tickets)
       (subst (SlotStands stands key r.log r.served s.homes) (sym tn) r.slot)
+      (subst (ImageWords (moment_after (opening_moment key) r.log).state s.words) (sym tn) r.images)
       (λ j x e. ⊎_elim
-      (λ (q : (j ≡ other) × (spent_view ≡ x)). subst Fits q.1 record { numbered = omega arith; notes_own = tt })
+      (λ (q : (j ≡ other) × (spent_view ≡ x)). subst Fits q.1 record { numbered = omega arith; holds = tt })
       (λ (q : (j ≢ other) × (get_elem? vs j ≡ some x)). ⊎_elim (λ (y : (j ≡ id) × (b ≡ x)). subst Fits y.1 (resting b rest)) (λ (y : (j ≢ id) × (get_elem? s.views j ≡ some x)). r.fits j x y.1) (at_set s.views id j b x q.1))
       (at_set vs other j spent_view x e))
     where
       resting : (v : View) → v.turn ≡ Idle → Fits v
-      resting v e = subst (λ (u : Turn). Fits (view v.know u)) (sym e) record { numbered = omega arith; notes_own = tt }
+      resting v e = subst (λ (u : Turn). Fits (view v.know u)) (sym e) record { numbered = omega arith; holds = tt }
 
-  pub opens : (key : ℕ) (x : S) → key ≤ 8 → stands x (opening_moment key) → FollowsRule stands key (opening (0 ∷ 0 ∷ []) (Some x ∷ []) (newcomer key))
-  opens key x few ok = record {
+  pub opens : (key : ℕ) (x : S) (ws : List ℕ) → key ≤ 8 → length ws ≡ word_count → ((n : ℕ) → get_or ws n 0 ≡ 0) → stands x (opening_moment key).state.core → FollowsRule stands key (opening ws (Some x ∷ []) (newcomer key))
+  opens key x ws few wide none_set ok = record {
     log = [];
     drawn = 0;
     served = 0;
-    wide = refl;
+    wide = wide;
     few = few;
     history = history_opens key;
-    tickets = record { ticket_is = omega arith; serving_is = omega arith; all_out = omega arith; below = λ n l. refl; above = λ n l. refl; once = λ n. omega arith };
+    tickets = record { ticket_is = none_set 0; serving_is = none_set 1; all_out = omega arith; below = λ n l. refl; above = λ n l. refl; once = λ n. omega arith };
     slot = record { held = λ j u e. only_idle j u e; free = λ _. (x, refl, ok) };
+    images = record { held = λ j u e. only_says j u e; free = λ _. says };
     fits = λ j v e. only_new j v e;
   }
     where
+      says : WordsSay (opening_moment key).state [] ws
+      says = record {
+        image = λ i placed. none_set (image_word i) ∙ ap (λ (n : ℕ). n % 2 ^ 64) (sym (opening_word (with_apps key) i));
+        stamp = λ i placed. none_set (stamp_word i) ∙ sym (opening_stamp (with_apps key) i);
+      }
+
       only_idle : (j : ℕ) (u : Turn) → get_elem? (Idle ∷ []) j ≡ some u → HoldsIf [] 0 u
       only_idle zero u e = subst (HoldsIf [] 0) (some-injective Idle u e) tt
       only_idle (suc j) u e = absurd (some-ne-none u (sym e))
 
+      only_says : (j : ℕ) (u : Turn) → get_elem? (Idle ∷ []) j ≡ some u → WordsSayIf (opening_moment key).state ws u
+      only_says zero u e = subst (WordsSayIf (opening_moment key).state ws) (some-injective Idle u e) tt
+      only_says (suc j) u e = absurd (some-ne-none u (sym e))
+
       only_new : (j : ℕ) (v : View) → get_elem? (newcomer key ∷ []) j ≡ some v → Fits v
-      only_new zero v e = subst Fits (some-injective (newcomer key) v e) record { numbered = omega arith; notes_own = tt }
+      only_new zero v e = subst Fits (some-injective (newcomer key) v e) record { numbered = omega arith; holds = tt }
       only_new (suc j) v e = absurd (some-ne-none v (sym e))
 
   no_turn : (u : Turn) (n : ℕ) → out u ≤ n → n ≡ 0 → is_holder u ≡ false
@@ -132,7 +166,7 @@ module _ {S : Type 0} (stands : S → Moment → Type 0) where
 
   -- where a seat has all numbers and no ticket, the value at home stands for the status after all that it saw
   pub ends : (key id : ℕ) (v : View) (ws : List ℕ) (xs : List (Option S)) → v.turn ≡ Idle → length v.know.own ≡ key + 2 → Final (Seen (FollowsRule stands key) id v) ws xs
-      → HasAll key v.know × ((m : S) × (get_elem? xs 0 ≡ some (Some m)) × stands m (moment_after (opening_moment key) v.know.seen))
+      → HasAll key v.know × ((m : S) × (get_elem? xs 0 ≡ some (Some m)) × stands m (moment_after (opening_moment key) v.know.seen).state.core)
   ends key id v ws xs idle all f =
       let s = f.0 in
       let r = f.1.0 in
@@ -145,12 +179,12 @@ module _ {S : Type 0} (stands : S → Moment → Type 0) where
       let gone = others_spent key r.log (knows s) id j v.know w.know r.history known all nz (at_map know_of s.views j w x.1) in
       subst (λ y. is_holder y ≡ false) x.2 (no_turn w.turn (length w.know.own) (r.fits j w x.1).numbered (ap length gone)))) in (
         history_ends key r.log (knows s) id v.know r.history known all,
-        (home.0, f.4 0 (Some home.0) home.1, subst (λ l. stands home.0 (moment_after (opening_moment key) l)) (sym (saw_all key r.log (knows s) id v.know r.history known all)) home.2),
+        (home.0, f.4 0 (Some home.0) home.1, subst (λ l. stands home.0 (moment_after (opening_moment key) l).state.core) (sym (saw_all key r.log (knows s) id v.know r.history known all)) home.2),
       )
 
   -- the same for a seat as it is after its keepsake was cut off
   pub ends_at : (key id i : ℕ) (v w : View) (ws : List ℕ) (xs : List (Option S)) → i ≡ id → w ≡ v → v.turn ≡ Idle → length v.know.own ≡ key + 2 → Final (Seen (FollowsRule stands key) i w) ws xs
-      → HasAll key v.know × ((m : S) × (get_elem? xs 0 ≡ some (Some m)) × stands m (moment_after (opening_moment key) v.know.seen))
+      → HasAll key v.know × ((m : S) × (get_elem? xs 0 ≡ some (Some m)) × stands m (moment_after (opening_moment key) v.know.seen).state.core)
   ends_at key id i v w ws xs same is idle all f = ends key id v ws xs idle all (subst (λ (z : ℕ × View). Final (Seen (FollowsRule stands key) z.0 z.1) ws xs) (λ j. (same j, is j)) f)
 
   -- the value that was taken out of the closed table

@@ -1,13 +1,18 @@
 -- What each step tells its caller.
-use Rattle.std.specs.Prelude.{◌≡◌, ◌≢◌, ℕ, ◌%◌, ◌^◌, ◌<◌, true, false, List, [], ◌∷◌, ◌++◌, Option, Some, MatchOption}
+use Rattle.std.specs.Prelude.{◌≡◌, ◌≢◌, ℕ, ◌%◌, ◌^◌, ◌<◌, Bool, true, false, List, [], ◌∷◌, ◌++◌, Option, Some, MatchOption}
 use Rattle.atomic_table.specs.Table.{Me, Step}
+use Rattle.xr_types.specs.declared.calls.Actor.TheVariants.{Compositor}
+use Rattle.xr_types.specs.declared.frames.Image.{Image}
+use Rattle.xr_model.specs.machine.CellCalls.{CellCall, peek}
 use Rattle.xr_model.specs.machine.History.{after}
+use Rattle.xr_model.specs.machine.Machine.{reads_of}
 use Rattle.xr_model.specs.machine.Calls.{Entry}
 use Rattle.xr_types.specs.declared.calls.Call.TheVariants as ask
-use Rattle.xr_model.specs.machine.State.{with_apps, opening}
-use Rattle.xr_model.specs.laws.Moments.{Moment, opening_moment, moment_after, IsLegalAt, actor_at, calls_by}
+use Rattle.xr_model.specs.machine.State.{CoreState, with_apps, opening}
+use Rattle.xr_model.specs.laws.Moments.{opening_moment, moment_after, IsLegalAt, exchange_at, actor_at, calls_by}
 use Rattle.xr_model.specs.laws.PublicationLaws.{none_is_by}
-use Rattle.xr_rule.specs.Rule.{are_by_callers}
+use Rattle.xr_model.specs.laws.ImageWords.{stamp_of, stamp_after, are_free}
+use Rattle.xr_rule.specs.Rule.{are_by_callers, state_at}
 use Rattle.xr_rule.specs.View.{Know, Hold, View, Idle, Waiting, Holding, view, hold_from, number_in, calls_in, know_after}
 
 -- What a look tells a seat of the history: it begins with what the seat has seen, what has come since is by others, it is legal, it
@@ -27,27 +32,44 @@ pub record Sees (k : Know) (look : List Entry) : Type 0 where
 abbrev pub no_entry : Entry
 no_entry = record { actor = actor_at 0; call = ask.Leave; given = 0; short = false }
 
+-- the entry of an image that is given back
+abbrev pub done_entry : Entry
+done_entry = record { actor = Compositor; call = ask.ImageDone; given = 0; short = false }
+
 -- The seat has decided the entry: what it knows has the entry last.
 pub record Decides (k : Know) (look : List Entry) (e : Entry) (n : View) : Type 0 where
   pub is : n ≡ view (know_after k look e) Idle
   pub saw : Sees k look
   pub sees : Sees (know_after k look e) (look ++ e ∷ [])
 
+-- Since the holder's look images were given back, and nothing else was decided. The entry came behind that, and comes to what it would
+-- have come to at the look.
+pub record DecidesBehind (k : Know) (look : List Entry) (e : Entry) (n : View) : Type 0 where
+  pub more : List Entry
+  pub free : are_free more ≡ true
+  pub decides : Decides k (look ++ more) e n
+  pub same : exchange_at (moment_after (opening_moment k.apps) (look ++ more)) e ≡ exchange_at (moment_after (opening_moment k.apps) look) e
+  pub core : (state_at k ((look ++ more) ++ e ∷ [])).core ≡ (state_at k (look ++ e ∷ [])).core
+
+-- a holder has made one call more
+abbrev pub made_more : Know → Hold → CellCall → View
+made_more k h x = view k (Holding (record h { made = h.made ++ x ∷ [] }))
+
 module _ {S : Type 0} where
   -- a ticket is drawn: the seat waits with the one that was next
   abbrev pub Draws : Step (Option S) → Me (Option S) View → ℕ → Me (Option S) View → Type 0
   Draws st m r n = (t : ℕ) × (n ≡ (view m.0.know (Waiting t), m.1)) × (r ≡ t % 2 ^ 64)
 
-  -- the seat has the slot, with a value that stands for the state after the history
-  pub record Takes (stands : S → Moment → Type 0) (k : Know) (t : ℕ) (n : Me (Option S) View) : Type 0 where
+  -- the seat has the slot, with a value that stands for what a core keeps after the history
+  pub record Takes (stands : S → CoreState → Type 0) (k : Know) (t : ℕ) (n : Me (Option S) View) : Type 0 where
     pub look : List Entry
     pub value : S
     pub is : n ≡ (view k (Holding (hold_from t look)), (0, Some value) ∷ [])
     pub sees : Sees k look
-    pub stands_now : stands value (moment_after (opening_moment k.apps) look)
+    pub stands_now : stands value (state_at k look).core
 
   -- a look takes the slot exactly where the seat's ticket is served
-  abbrev pub Looks : (S → Moment → Type 0) → Step (Option S) → Me (Option S) View → ℕ → Me (Option S) View → Type 0
+  abbrev pub Looks : (S → CoreState → Type 0) → Step (Option S) → Me (Option S) View → ℕ → Me (Option S) View → Type 0
   Looks stands st m r n = (t : ℕ) → m.0.turn ≡ Waiting t → (r ≡ t % 2 ^ 64 → Takes stands m.0.know t n) × (r ≢ t % 2 ^ 64 → n ≡ m)
 
   -- a holder's second look notes an entry
@@ -56,4 +78,35 @@ module _ {S : Type 0} where
 
   -- a holder gives the slot back and serves the next ticket, which decides its entry if it noted one
   abbrev pub Serves : Step (Option S) → Me (Option S) View → ℕ → Me (Option S) View → Type 0
-  Serves st m r n = (h : Hold) → m.0.turn ≡ Holding h → (n.1 ≡ []) × MatchOption h.noted (n.0 ≡ view m.0.know Idle) (λ e. Decides m.0.know h.look e n.0)
+  Serves st m r n = (h : Hold) → m.0.turn ≡ Holding h → (n.1 ≡ []) × MatchOption h.noted (n.0 ≡ view m.0.know Idle) (λ e. DecidesBehind m.0.know h.look e n.0)
+
+  -- ---- words of images
+
+  abbrev pub Makes : CellCall → Step (Option S) → Me (Option S) View → ℕ → Me (Option S) View → Type 0
+  Makes x st m r n = (h : Hold) → m.0.turn ≡ Holding h → n ≡ (made_more m.0.know h x, m.1)
+
+  -- a look at a stamp finds the one at the holder's look, but for those that it has set since
+  abbrev pub Peeks : Image → Step (Option S) → Me (Option S) View → ℕ → Me (Option S) View → Type 0
+  Peeks i st m r n = (h : Hold) → m.0.turn ≡ Holding h → (r ≡ stamp_after h.made i (stamp_of (state_at m.0.know h.look) i)) × (n ≡ (made_more m.0.know h (peek i r), m.1))
+
+  -- The entry of a wait is decided while its seat goes on holding: the image was unused there, or used.
+  pub record DecidesHolding (k : Know) (h : Hold) (e : Entry) (unused : Bool) (m n : Me (Option S) View) : Type 0 where
+    pub more : List Entry
+    pub free : are_free more ≡ true
+    pub found : (reads_of (state_at k (h.look ++ more)) e.call).unused ≡ unused
+    pub saw : Sees k (h.look ++ more)
+    pub is : n ≡ (view (know_after k (h.look ++ more) e) (Holding (hold_from h.ticket ((h.look ++ more) ++ e ∷ []))), m.1)
+    pub sees : Sees (know_after k (h.look ++ more) e) ((h.look ++ more) ++ e ∷ [])
+
+  -- A claim of an image that is unused decides the wait, and so does one of an image that is used where the time is up.
+  pub record Claimed (e : Entry) (late : Bool) (m : Me (Option S) View) (r : ℕ) (n : Me (Option S) View) (h : Hold) : Type 0 where
+    pub hit : r ≡ 0 → DecidesHolding m.0.know h e true m n
+    pub late_miss : r ≢ 0 → late ≡ true → DecidesHolding m.0.know h e false m n
+    pub miss : r ≢ 0 → late ≡ false → n ≡ m
+
+  abbrev pub Claims : Entry → Bool → Step (Option S) → Me (Option S) View → ℕ → Me (Option S) View → Type 0
+  Claims e late st m r n = (h : Hold) → m.0.turn ≡ Holding h → Claimed e late m r n h
+
+  -- an image is given back, also while another seat holds
+  abbrev pub GivesBack : Step (Option S) → Me (Option S) View → ℕ → Me (Option S) View → Type 0
+  GivesBack st m r n = (look : List Entry) × Decides m.0.know look done_entry n.0 × (n.1 ≡ m.1)

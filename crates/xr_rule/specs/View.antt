@@ -1,5 +1,6 @@
 -- What a seat knows, and how views are cut in two and joined.
 use Rattle.std.specs.Prelude.{ℕ, zero, suc, ◌+◌, ◌==◌, nat_le, Bool, true, false, List, [], ◌∷◌, ◌++◌, length, Option, Some, None, if◌then◌else◌}
+use Rattle.xr_model.specs.machine.CellCalls.{CellCall}
 use Rattle.xr_model.specs.machine.Calls.{Entry, Exchange}
 use Rattle.xr_model.specs.laws.Moments.{opening_moment, moment_after, exchange_at}
 use Rattle.xr_rule.specs.Sums.{total}
@@ -19,11 +20,13 @@ pub record Know : Type 0 where
   pub own : List Own
   pub seen : List Entry
 
--- What a holder has: its ticket, counted without bound; the history at the look that made it the holder; and its undecided entry.
+-- What a holder has: its ticket, counted without bound; the history at its last look, which is the one that made it the holder, or
+-- the claim that decided its entry; its undecided entry; and the calls on cells that it made since that look.
 pub record Hold : Type 0 where
   pub ticket : ℕ
   pub look : List Entry
   pub noted : Option Entry
+  pub made : List CellCall
 
 -- A seat has no ticket, or waits with one, or holds the slot.
 pub data Turn : Type 0 where
@@ -46,7 +49,7 @@ own_of number calls saw = record { number = number; calls = calls; saw = saw }
 
 -- what a look makes of the seat whose ticket is served
 abbrev pub hold_from : ℕ → List Entry → Hold
-hold_from ticket look = record { ticket = ticket; look = look; noted = None }
+hold_from ticket look = record { ticket = ticket; look = look; noted = None; made = [] }
 
 abbrev pub know_of : View → Know
 know_of v = v.know

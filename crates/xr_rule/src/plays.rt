@@ -1,6 +1,9 @@
 //! What each step tells, and how views are cut and joined.
 ghost use Rattle.xr_model.specs.machine.Calls.{Entry};
-ghost use Rattle.xr_rule.specs.Plays.{no_entry, Draws, Looks, Notes, Serves};
+ghost use Rattle.std.specs.Prelude.{Bool, false};
+ghost use Rattle.xr_types.specs.declared.frames.Image.{Image};
+ghost use Rattle.xr_model.specs.machine.CellCalls.{CellCall, pin};
+ghost use Rattle.xr_rule.specs.Plays.{no_entry, Draws, Looks, Notes, Serves, Makes, Peeks, Claims, GivesBack};
 ghost use Rattle.xr_rule.specs.Seats.{stands_in};
 ghost use Rattle.xr_rule.specs.View.{staying_view, cut_view, keepsake, joined_view, spent_view};
 
@@ -47,6 +50,71 @@ pub struct Serve;
 
 impl<M: Machine> Play<Option<Held<M>>, View> for Serve {
     ghost then = { Serves };
+}
+
+/// The call on cells that a step makes, or the image that it is made on, and the entry that a claim decides, which each step picks.
+pub trait Making {
+    ghost call: { CellCall };
+}
+
+impl Making for Brand {
+    ghost call = { pin (record { place = 0; index = 0 }) };
+}
+
+/// The holder pins an image, or frees it, by its word, or sets its stamp.
+pub struct Make<J> {
+    of: PhantomData<J>,
+}
+
+impl<M: Machine, J: Making> Play<Option<Held<M>>, View> for Make<J> {
+    ghost then = { Makes J.call };
+}
+
+/// The image whose stamp is looked at.
+pub trait Peeking {
+    ghost image: { Image };
+}
+
+impl Peeking for Brand {
+    ghost image = { record { place = 0; index = 0 } };
+}
+
+/// The holder looks at a stamp.
+pub struct Peek<J> {
+    of: PhantomData<J>,
+}
+
+impl<M: Machine, J: Peeking> Play<Option<Held<M>>, View> for Peek<J> {
+    ghost then = { Peeks J.image };
+}
+
+/// The wait that a claim decides, and whether its time is up.
+pub trait Claiming {
+    ghost entry: { Entry };
+
+    ghost late: { Bool };
+}
+
+impl Claiming for Brand {
+    ghost entry = { no_entry };
+
+    ghost late = { false };
+}
+
+/// The holder claims an image, by its word. This decides the wait where the image is unused, or the time is up.
+pub struct Claim<J> {
+    of: PhantomData<J>,
+}
+
+impl<M: Machine, J: Claiming> Play<Option<Held<M>>, View> for Claim<J> {
+    ghost then = { Claims J.entry J.late };
+}
+
+/// The compositor gives an image back, by its word and without the lock. This decides its entry.
+pub struct GiveBack;
+
+impl<M: Machine> Play<Option<Held<M>>, View> for GiveBack {
+    ghost then = { GivesBack };
 }
 
 /// A seat gives its second number away to a new one.

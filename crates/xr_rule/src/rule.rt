@@ -1,5 +1,7 @@
 // The table with its rule.
 ghost use Rattle.std.specs.Prelude.{◌≡◌};
+ghost use Rattle.xr_model.specs.laws.ImageLaws.{IsPlaced};
+ghost use Rattle.xr_rule.specs.Rule.{image_word, stamp_word, word_count};
 
 use crate::held::Held;
 use crate::view::View;
@@ -7,16 +9,46 @@ use atomic_table::{Table, TableRule};
 use std::alloc::Global;
 use std::marker::PhantomData;
 use xr_model::Machine;
+use xr_types::{Image, SWAPCHAINS};
 
-/// Where what stands among the words: 0 is the next ticket, 1 the ticket that is served.
+/// How many images the places have.
+const IMAGES: usize = 3 * SWAPCHAINS;
+
+/// Where the images' words begin, behind the next ticket and the one that is served.
+const FIRST_IMAGE: usize = 2;
+
+/// Where their stamps begin.
+const FIRST_STAMP: usize = FIRST_IMAGE + IMAGES;
+
+/// How many words there are.
+pub(crate) const WORDS: usize = FIRST_STAMP + IMAGES;
+
+/// Where what stands among the words: 0 is the next ticket, 1 the ticket that is served; then come the words of the images, three for
+/// each place, and then their stamps.
 pub struct Layout;
 
 impl Layout {
     /// How many words there are.
     pub fn words() -> usize
-        ensures { result ≡ 2 }
+        ensures { result ≡ word_count }
     {
-        2
+        WORDS
+    }
+
+    /// Where the word of an image stands.
+    pub fn image(image: Image) -> usize
+        requires { IsPlaced image }
+        ensures { result ≡ image_word image }
+    {
+        FIRST_IMAGE + 3 * image.place as usize + image.index as usize
+    }
+
+    /// Where the stamp of an image stands.
+    pub fn stamp(image: Image) -> usize
+        requires { IsPlaced image }
+        ensures { result ≡ stamp_word image }
+    {
+        FIRST_STAMP + 3 * image.place as usize + image.index as usize
     }
 }
 
@@ -35,11 +67,11 @@ impl<M: Machine> TableRule<Option<Held<M>>, View, u64> for XrRule<M> {
     ghost first = { λ apps. newcomer apps };
 }
 
-/// A table of two words and one slot, which follows the rule.
+/// A table of words and one slot, which follows the rule.
 #[derive(Drop)]
 pub struct XrTable<M: Machine> {
     pub table: Table<Option<Held<M>>, View, u64, XrRule<M>, Global>,
-    pub ghost sized: { (table.shared.table_id.words ≡ 2) × (table.shared.table_id.slots ≡ 1) },
+    pub ghost sized: { (table.shared.table_id.words ≡ word_count) × (table.shared.table_id.slots ≡ 1) },
 }
 
 /// Who steps on the table: it has an actor's number and what that actor knows.

@@ -1,14 +1,14 @@
 //! The table made, its seats joined, and finished.
 ghost use Rattle.std.specs.Prelude.{◌≡◌, ℕ, ◌+◌, ◌<◌, ◌≤◌, length, vec_len, vec_capacity, IfOk, []};
 ghost use Rattle.xr_model.specs.machine.History.{after};
-ghost use Rattle.xr_model.specs.machine.State.{with_apps, opening};
+ghost use Rattle.xr_model.specs.machine.State.{Cells, with_apps, opening, opening_core};
 ghost use Rattle.xr_rule.specs.Rule.{HasAll};
 ghost use Rattle.xr_rule.specs.Seats.{AreFresh, IsBetween, IsIdle};
 ghost use Rattle.xr_rule.specs.View.{joined_view, keepsake, newcomer};
 
 use crate::held::Held;
 use crate::plays::{Cut, Join, Keep};
-use crate::rule::{XrSeat, XrTable};
+use crate::rule::{WORDS, XrSeat, XrTable};
 use atomic_table::{Refused, Table};
 use std::alloc::Global;
 use xr_model::Machine;
@@ -32,16 +32,20 @@ impl<M: Machine + Drop> XrTable<M> {
         apps: u8,
     ) -> Result<(XrTable<M>, Vec<XrSeat<M>>), NoMemory>
         requires apps { (1 ≤ apps) × (apps ≤ 8) }
-        requires value { M.stands value (opening (with_apps apps)) }
+        requires value { (cells : Cells) → M.stands value (record { core = opening_core (with_apps apps); cells = cells }) }
         ensures key { IfOk result (λ r. r.0.table.shared.key ≡ apps) }
         ensures seats { IfOk result (λ r. AreFresh r.0.table.shared.table_id apps r.1.items) }
     {
-        let mut slots = Vec::with_capacity(alloc, 1)?;
+        let Ok(mut slots) = Vec::with_capacity(alloc, 1) else {
+            return Err(NoMemory);
+        };
         slots.push_reserved(Some(Held { value }));
         let count = apps as usize;
-        let mut seats = Vec::with_capacity(alloc, count + 2)?;
+        let Ok(mut seats) = Vec::with_capacity(alloc, count + 2) else {
+            return Err(NoMemory);
+        };
         let apps = apps as u64;
-        let (table, root) = match Table::new(alloc, &[0, 0], slots, &apps) {
+        let (table, root) = match Table::new(alloc, &[0; WORDS], slots, &apps) {
             Ok(made) => made,
             Err(Refused { slots: _ }) => return Err(NoMemory),
         };

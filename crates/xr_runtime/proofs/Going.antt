@@ -1,36 +1,22 @@
 -- What a seat knew of its actor when it last called still holds at its next look.
-use Rattle.std.proofs.Common.{◌≡◌, ℤ, Bool, true, false, not, ◌&&◌, List, [], ◌∷◌, ◌++◌, sym, refl, ap, ◌∙◌, subst, true≢false}
+use Rattle.std.proofs.Common.{◌≡◌, ℤ, Bool, true, false, not, ◌&&◌, List, [], ◌∷◌, ◌++◌, sym, refl, ap, ◌∙◌, subst}
 use Rattle.xr_types.specs.declared.calls.Actor.{Actor}
-use Rattle.xr_types.specs.declared.calls.Actor.TheVariants.{App, Compositor, Device}
-use Rattle.xr_model.specs.machine.CoreCalls.{asked}
 use Rattle.xr_model.specs.machine.History.{after, clock_of, clocks_after, IsLegalFrom}
 use Rattle.xr_model.specs.machine.Machine.{IsPresent, step}
 use Rattle.xr_model.specs.machine.Calls.{Entry, is_actor}
-use Rattle.xr_types.specs.declared.calls.Call.{Call}
-use Rattle.xr_types.specs.declared.calls.Call.TheVariants as ask
-use Rattle.xr_model.specs.machine.Rule.{is_by}
 use Rattle.xr_model.specs.machine.State.{State}
-use Rattle.xr_model.specs.laws.ImageLaws.{is_compositor_call}
 use Rattle.xr_model.specs.laws.Moments.{Moment, opening_moment, moment_after, clocks_over, IsLegalAt}
 use Rattle.xr_model.specs.laws.MomentLaws.{leaves_by_none}
 use Rattle.xr_types.specs.CallKinds.{is_leave}
 use Rattle.xr_model.specs.laws.PublicationLaws.{none_is_by}
-use Rattle.xr_model.proofs.Histories.{after_is_in_turn}
-use Rattle.xr_model.proofs.OthersEntries.{actors_stay, clocks_stay, held_images_stay}
+use Rattle.xr_model.proofs.OthersEntries.{actors_stay, clocks_stay}
 use Rattle.xr_model.proofs.Rows.{both_of, not_true}
+use Rattle.xr_rule.proofs.Carrying.{moments_in_turn}
 use Rattle.xr_rule.specs.Plays.{Sees}
-use Rattle.xr_rule.specs.Rule.{are_by_callers}
 use Rattle.xr_rule.specs.View.{Know}
 use Rattle.xr_runtime.specs.Calling.{actor_of, behind, seen_by}
 
 -- a history in two parts
-clocks_in_turn : (s : State) (clocks : List ℤ) (es fs : List Entry) → clocks_over s clocks (es ++ fs) ≡ clocks_over (after s es) (clocks_over s clocks es) fs
-clocks_in_turn s clocks [] fs = refl
-clocks_in_turn s clocks (e ∷ es) fs = clocks_in_turn (step s e).0 (clocks_after clocks e (step s e).0) es fs
-
-pub moments_in_turn : (m : Moment) (es fs : List Entry) → moment_after m (es ++ fs) ≡ moment_after (moment_after m es) fs
-moments_in_turn m es fs = λ i. record { state = after_is_in_turn m.state es fs i; clocks = clocks_in_turn m.state m.clocks es fs i }
-
 legal_behind : (s : State) (clocks : List ℤ) (es fs : List Entry) → IsLegalFrom s clocks (es ++ fs) → IsLegalFrom (after s es) (clocks_over s clocks es) fs
 legal_behind s clocks [] fs legal = legal
 legal_behind s clocks (e ∷ es) fs legal = legal_behind (step s e).0 (clocks_after clocks e (step s e).0) es fs legal.3
@@ -47,36 +33,6 @@ others_dont_leave who [] none = refl
 others_dont_leave who (e ∷ es) none =
     let two = both_of (not (is_actor who e.actor)) (none_is_by who es) none in
     rw (and_false (is_actor who e.actor) (is_leave e.call) (not_true (is_actor who e.actor) two.0)) (others_dont_leave who es two.1)
-
--- of what callers may ask, only the compositor's calls change what is held
-aside : (who : Actor) (what : Call) → is_by (asked who what).caller who ≡ true → is_actor Compositor who ≡ false → is_compositor_call what ≡ false
-aside (App k) ask.NextFrame by other = absurd (true≢false (sym by))
-aside (App k) ask.ImageDone by other = absurd (true≢false (sym by))
-aside Compositor ask.NextFrame by other = absurd (true≢false other)
-aside Compositor ask.ImageDone by other = absurd (true≢false other)
-aside Device ask.NextFrame by other = absurd (true≢false (sym by))
-aside Device ask.ImageDone by other = absurd (true≢false (sym by))
-aside who what by other = refl
-
-held_over : (s : State) (es : List Entry) → none_is_by Compositor es ≡ true → are_by_callers es ≡ true → (after s es).cells.held ≡ s.cells.held
-held_over s [] none own = refl
-held_over s (e ∷ es) none own =
-    let two = both_of (not (is_actor Compositor e.actor)) (none_is_by Compositor es) none in
-    let callers = both_of (is_by (asked e.actor e.call).caller e.actor) (are_by_callers es) own in
-    held_over (step s e).0 es two.1 callers.1 ∙ held_images_stay s e (aside e.actor e.call callers.0 (not_true (is_actor Compositor e.actor) two.0))
-
-callers_behind : (es fs : List Entry) → are_by_callers (es ++ fs) ≡ true → are_by_callers fs ≡ true
-callers_behind [] fs own = own
-callers_behind (e ∷ es) fs own = callers_behind es fs (both_of (is_by (asked e.actor e.call).caller e.actor) (are_by_callers (es ++ fs)) own).1
-
--- at a look the compositor's images are as they were
-pub held_at_look : (k : Know) (look : List Entry) (sees : Sees k look) → actor_of k ≡ Compositor → (behind k look).state.cells.held ≡ (seen_by k).state.cells.held
-held_at_look k look sees is =
-    let look_is : behind k look ≡ moment_after (seen_by k) sees.more = ap (behind k) (sym sees.is) ∙ moments_in_turn (opening_moment k.apps) k.seen sees.more in
-    ap (λ (m : Moment). m.state.cells.held) look_is
-    ∙ held_over (seen_by k).state sees.more
-    (subst (λ (a : Actor). none_is_by a sees.more ≡ true) is sees.none_own)
-    (callers_behind k.seen sees.more (subst (λ (es : List Entry). are_by_callers es ≡ true) (sym sees.is) sees.by_callers))
 
 -- at a look the seat's actor is there where it was, and its clock is as it was
 module _ (k : Know) (look : List Entry) (sees : Sees k look) (here : IsPresent (seen_by k).state.core (actor_of k)) where

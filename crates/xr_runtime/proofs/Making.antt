@@ -1,77 +1,81 @@
--- A call under the lock: what is taken, noted and given back, put together.
-use Rattle.std.proofs.Common.{◌≡◌, ℕ, zero, suc, ℤ, ◌<◌, ◌≤ℤ◌, pos, ◌^◌, true, List, [], ◌∷◌, ◌++◌, length, sym, refl, ap, ◌∙◌, subst, Some, true≢false}
+-- A call under the lock: what is taken, lent, noted or decided, and given back, put together.
+use Rattle.std.proofs.Common.{◌≡◌, ℕ, zero, suc, ℤ, ◌<◌, ◌≤ℤ◌, pos, ◌^◌, Bool, true, false, List, [], ◌∷◌, ◌++◌, sym, refl, ap, ◌∙◌, subst, Option, Some, None, true≢false, append-nil}
 use Rattle.xr_types.specs.declared.calls.Actor.{Actor}
 use Rattle.xr_types.specs.declared.calls.Actor.TheVariants.{App, Compositor, Device}
 use Rattle.xr_types.specs.declared.calls.Call.{Call}
 use Rattle.xr_types.specs.declared.calls.Reply.{Reply}
-use Rattle.xr_types.specs.declared.calls.Step.TheVariants.{Done}
+use Rattle.xr_types.specs.declared.calls.Step.{Step}
+use Rattle.xr_types.specs.declared.calls.Step.TheVariants.{Done, NotReady}
 use Rattle.xr_types.specs.declared.frames.Image.{Image}
 use Rattle.xr_types.specs.declared.code.Code.TheVariants.{Success, CallOrderInvalid}
 use Rattle.xr_model.specs.machine.CoreCalls as core
-use Rattle.xr_model.specs.machine.CoreCalls.{Lent, asked, MayAsk, Applies, entry_of, left_in, WaitsBy}
+use Rattle.xr_model.specs.machine.CoreCalls.{Lent, asked, MayAsk, left_in}
 use Rattle.xr_model.specs.machine.History.{StartsAt, clock_of}
 use Rattle.xr_model.specs.machine.Machine.{IsPresent, step}
-use Rattle.xr_model.specs.machine.Calls.{Entry, Exchange}
+use Rattle.xr_model.specs.machine.Calls.{Entry, Exchange, Outcome}
 use Rattle.xr_types.specs.declared.calls.Call.TheVariants as ask
 use Rattle.xr_model.specs.machine.Rule.{is_by}
-use Rattle.xr_model.specs.machine.State.{State}
+use Rattle.xr_model.specs.machine.State.{CoreState, State, WholeCore, opening_cells}
 use Rattle.xr_model.specs.laws.FewCalls.{MayAdd}
 use Rattle.xr_model.specs.laws.ImageLaws.{is_next_frame}
-use Rattle.xr_model.specs.laws.Moments.{Moment, opening_moment, exchange_at}
+use Rattle.xr_model.specs.laws.Moments.{Moment, opening_moment, exchange_at, actor_at}
 use Rattle.xr_model.proofs.Histories.{after_is_in_turn}
+use Rattle.xr_model.specs.laws.PublicationLaws.{none_is_by}
+use Rattle.xr_rule.proofs.Carrying.{none_behind, held_seen}
+use Rattle.xr_rule.proofs.Histories.{none-between}
 use Rattle.xr_rule.specs.declared.held.Held.{Held}
+use Rattle.xr_rule.specs.Plays.{Decides, DecidesBehind}
+use Rattle.xr_rule.specs.Rule.{state_at}
 use Rattle.xr_rule.specs.Seats.{stands_in, IsBetween}
-use Rattle.xr_rule.specs.View.{Know, View, Idle, view, number_in, calls_in, hold_from}
+use Rattle.xr_rule.specs.View.{Know, Hold, View, Idle, view, number_in, calls_in, hold_from, know_after}
 use Rattle.xr_lock.specs.Holders.{noted_entry, holder, Taken, NotesCall, Noted, MayGive, Given}
-use Rattle.xr_lock.proofs.Answered.{answered_notes}
-use Rattle.xr_runtime.specs.Calling.{Has, actor_of, behind, seen_by, HasRoom, MayMake, Called, Reads}
-use Rattle.xr_runtime.proofs.Going.{here_at_look, clock_at_look, held_at_look}
+use Rattle.xr_words.specs.Table.{wait_entry}
+use Rattle.xr_words.specs.Lent.{own_entry, Prepares, Decided, Waits, Tells}
+use Rattle.xr_runtime.specs.Calling.{Has, actor_of, behind, seen_by, HasRoom, MayMake, Called, Reads, Waited}
+use Rattle.xr_runtime.specs.Lending.{MayLend, IsTold}
+use Rattle.xr_runtime.proofs.Going.{here_at_look, clock_at_look}
 
--- a core stands for the state that it is
-abbrev pub is_state : State → State → Type 0
-is_state p s = p ≡ s
+-- a core stands for the states that keep what it keeps
+abbrev pub keeps : WholeCore → State → Type 0
+keeps c s = c.kept ≡ s.core
 
-abbrev pub stands : Held State → Moment → Type 0
-stands = stands_in is_state
+abbrev pub stands : Held WholeCore → CoreState → Type 0
+stands = stands_in keeps
 
 pub at_rest : (m : Has) → IsBetween m → m ≡ (view m.0.know Idle, [])
 at_rest m b = λ i. (view m.0.know (b.idle i), b.carries i)
 
+pub kept_is : (k : Know) (n : Has) (held : Held WholeCore) (taken : Taken stands k n held) → held.value.kept ≡ (state_at k taken.look).core
+kept_is k n held taken = taken.stands_now opening_cells
+
 -- ---- what the core asks
 
-pub may_make : (m n : Has) (held : Held State) (who : Actor) (what : Call) (size : ℕ) → MayMake m who what size → Taken stands m.0.know n held → core.MayMake held.value.core who what size
-may_make m n held who what size may taken = record {
+pub may_make : (m n : Has) (held : Held WholeCore) (core2 : WholeCore) (who : Actor) (what : Call) (size : ℕ) → MayMake m who what size → Taken stands m.0.know n held → core2.kept ≡ held.value.kept → core.MayMake core2.kept who what size
+may_make m n held core2 who what size may taken same = record {
   asks = may.asks;
-  present = subst (λ (s : State). IsPresent s.core who) (sym taken.stands_now) (subst (λ (a : Actor). IsPresent (behind m.0.know taken.look).state.core a) (sym may.is_own) (here_at_look m.0.know taken.look taken.sees (subst (λ (a : Actor). IsPresent (seen_by m.0.know).state.core a) may.is_own may.here)));
+  present = subst (λ (s : CoreState). IsPresent s who) (sym (same ∙ kept_is m.0.know n held taken))
+      (subst (λ (a : Actor). IsPresent (behind m.0.know taken.look).state.core a) (sym may.is_own) (here_at_look m.0.know taken.look taken.sees (subst (λ (a : Actor). IsPresent (seen_by m.0.know).state.core a) may.is_own may.here)));
 }
 
-pub few_calls : (k : Know) (n : Has) (held : Held State) → Taken stands k n held → held.value.core.locked < 2 ^ 44
-few_calls k n held taken = subst (λ (s : State). s.core.locked < 2 ^ 44) (sym taken.stands_now) taken.sees.few
-
--- ---- the call was not ready
-
-pub may_give_back : (k : Know) (n : Has) (held other : Held State) → Taken stands k n held → other.value ≡ held.value → MayGive stands n other
-may_give_back k n held other taken same = subst (λ (z : Has). MayGive stands z other) (sym taken.is) record { hold = hold_from taken.ticket taken.look; is = refl; stands_so = same ∙ taken.stands_now }
-
-pub gave_back : (m n w : Has) (held : Held State) → IsBetween m → Taken stands m.0.know n held → Given n w → w ≡ m
-gave_back m n w held between taken given =
-    let g = subst (λ (z : Has). Given z w) taken.is given (hold_from taken.ticket taken.look) refl in
-    (λ i. (g.1 i, g.0 i)) ∙ sym (at_rest m between)
-
--- ---- the call was ready
+pub few_calls : (k : Know) (n : Has) (held : Held WholeCore) (core2 : WholeCore) → Taken stands k n held → core2.kept ≡ held.value.kept → core2.kept.locked < 2 ^ 44
+few_calls k n held core2 taken same = subst (λ (s : CoreState). s.locked < 2 ^ 44) (sym (same ∙ kept_is k n held taken)) taken.sees.few
 
 -- the request for a frame is answered as out of order only where images are held
 asks_frame : (r : Call) → is_next_frame r ≡ true → r ≡ ask.NextFrame
 asks_frame ask.NextFrame is = refl
 asks_frame r is = absurd (true≢false (sym is))
 
--- and by the compositor alone
 pub asks_as_compositor : (who : Actor) (what : Call) → is_by (asked who what).caller who ≡ true → is_next_frame what ≡ true → who ≡ Compositor
 asks_as_compositor Compositor what by asks = refl
 asks_as_compositor (App k) ask.NextFrame by asks = absurd (true≢false (sym by))
 asks_as_compositor (App k) what by asks = absurd (true≢false (sym asks))
 asks_as_compositor Device ask.NextFrame by asks = absurd (true≢false (sym by))
 asks_as_compositor Device what by asks = absurd (true≢false (sym asks))
+
+only_one : (n : ℕ) → actor_at n ≡ Compositor → n ≡ 1
+only_one zero is = absurd (cc is)
+only_one (suc zero) is = refl
+only_one (suc (suc n)) is = absurd (cc is)
 
 frame_in_order : (s : State) (e : Entry) → s.cells.held ≡ [] → e.call ≡ ask.NextFrame → (step s e).1.reply.code ≡ Success
 frame_in_order s e none asks = subst (λ (r : Call). (step s (record e { call = r })).1.reply.code ≡ Success) (sym asks) (by s.cells.held none)
@@ -89,57 +93,200 @@ may_add (suc zero) m e calls room none = record { in_order = λ asks is. wrong_c
 may_add zero m e calls room none = room
 may_add (suc (suc n)) m e calls room none = room
 
-module _ (m n : Has) (held new : Held State) (who : Actor) (call : Call) (reply : Reply) (size : ℕ) (before after : Lent) (may : MayMake m who call size) (taken : Taken stands m.0.know n held)
-    (done : Applies held.value new.value who call before after (Done reply)) where
+outcome_same : (m n : Moment) (e : Entry) → exchange_at m e ≡ exchange_at n e → (step m.state e).1 ≡ (step n.state e).1
+unfolding exchange_at
+outcome_same m n e same = ap (λ (x : Exchange). x.outcome) same
+
+comes_to : (m : Moment) (e : Entry) (reply : Reply) → reply ≡ (step m.state e).1.reply → (exchange_at m e).outcome.reply ≡ reply
+unfolding exchange_at
+comes_to m e reply is = sym is
+
+core_then : (k : Know) (look : List Entry) (e : Entry) → (state_at k (look ++ e ∷ [])).core ≡ (step (state_at k look) e).0.core
+core_then k look e = ap (λ (s : State). s.core) (after_is_in_turn (opening_moment k.apps).state look (e ∷ []))
+
+module _ (m n : Has) (held : Held WholeCore) (core2 : WholeCore) (who : Actor) (call : Call) (size : ℕ) (may : MayMake m who (call) size) (taken : Taken stands m.0.know n held) (same : core2.kept ≡ held.value.kept) where
   abbrev k : Know
   k = m.0.know
+
+  abbrev what : Call
+  what = call
 
   abbrev now : Moment
   now = behind k taken.look
 
-  done_now : Applies now.state new.value (actor_of k) call before after (Done reply)
-  done_now = subst (λ (z : State × Actor). Applies z.0 new.value z.1 call before after (Done reply)) (λ i. (taken.stands_now i, may.is_own i)) done
+  abbrev look_hold : Hold
+  look_hold = hold_from taken.ticket taken.look
 
   here : IsPresent (seen_by k).state.core (actor_of k)
   here = subst (λ (a : Actor). IsPresent (seen_by k).state.core a) may.is_own may.here
 
-  starts : StartsAt (clock_of now.clocks (actor_of k)) call
-  starts = subst (λ (c : ℤ). StartsAt c call) (sym (clock_at_look k taken.look taken.sees here)) (subst (λ (a : Actor). StartsAt (clock_of (seen_by k).clocks a) call) may.is_own may.starts)
+  starts : StartsAt (clock_of now.clocks (actor_of k)) what
+  starts = subst (λ (c : ℤ). StartsAt c what) (sym (clock_at_look k taken.look taken.sees here)) (subst (λ (a : Actor). StartsAt (clock_of (seen_by k).clocks a) what) may.is_own may.starts)
 
-  none_held : is_next_frame call ≡ true → now.state.cells.held ≡ []
-  none_held asks =
-      let caller = subst (λ (a : Actor). is_by (asked a call).caller a ≡ true) may.is_own may.asks.caller in
-      held_at_look k taken.look taken.sees (asks_as_compositor (actor_of k) call caller asks) ∙ may.none_held asks
+  asks : MayAsk (actor_of k) what size
+  asks = subst (λ (a : Actor). MayAsk a what size) may.is_own may.asks
 
-  pub may_note : NotesCall stands n new call reply
-  may_note = answered_notes stands k (hold_from taken.ticket taken.look) n new call reply size before after new.value taken.is refl
-      (subst (λ (a : Actor). MayAsk a call size) may.is_own may.asks)
-      starts
-      (may_add (number_in k.own) now (noted_entry k call reply) (calls_in k.own) may.has_room none_held)
-      done_now
-      (λ x is. sym is)
+  its_number : is_next_frame what ≡ true → number_in k.own ≡ 1
+  its_number frame = only_one (number_in k.own) (asks_as_compositor (actor_of k) what asks.caller frame)
 
-  noted_is : (p : Has) → Noted n (noted_entry n.0.know call reply) p → p ≡ holder k (record (hold_from taken.ticket taken.look) { noted = Some (noted_entry k call reply) })
-  noted_is p noted = subst (λ (z : Has). Noted z (noted_entry z.0.know call reply) p) taken.is noted (hold_from taken.ticket taken.look) refl
+  none_held : is_next_frame what ≡ true → now.state.cells.held ≡ []
+  none_held frame = held_seen k taken.look taken.sees (its_number frame) ∙ may.none_held frame
 
-  -- the value stands for the state behind the call
-  leads : new.value ≡ (behind k (taken.look ++ noted_entry k call reply ∷ [])).state
-  leads = done_now.leads ∙ sym (after_is_in_turn (opening_moment k.apps).state taken.look (noted_entry k call reply ∷ []))
-
-  pub may_give : (p : Has) → Noted n (noted_entry n.0.know call reply) p → MayGive stands p new
-  may_give p noted = subst (λ (z : Has). MayGive stands z new) (sym (noted_is p noted)) record {
-    hold = record (hold_from taken.ticket taken.look) { noted = Some (noted_entry k call reply) };
+  pub may_lend : (is_next_frame what ≡ true → core2.held ≡ []) → MayLend n core2 who what
+  may_lend settled = subst (λ (z : Has). MayLend z core2 who what) (sym taken.is) record {
+    hold = look_hold;
     is = refl;
-    stands_so = leads;
+    unnoted = refl;
+    unmade = refl;
+    legal = taken.sees.legal;
+    kept = same ∙ kept_is k n held taken;
+    is_own = may.is_own;
+    other = may.other;
+    starts = starts;
+    few = may_add (number_in k.own) now (wait_entry k what) (calls_in k.own) may.has_room none_held;
+    frames = λ frame. (settled frame, none_held frame);
   }
 
-  pub call_made : (p w : Has) → Noted n (noted_entry n.0.know call reply) p → Given p w → Called m call reply before after w
-  call_made p w noted given =
-      let g = subst (λ (z : Has). Given z w) (noted_is p noted) given (record (hold_from taken.ticket taken.look) { noted = Some (noted_entry k call reply) }) refl in
-      record { look = taken.look; decides = g.1; carries = g.0; replies = sym done_now.replies; writes = done_now.writes }
+  module _ (new : Held WholeCore) (p : Has) (before after : Lent) where
+    tells_of : (answer : Step) (decided : Bool) → IsTold n core2 what new.value before after answer decided p → Tells k look_hold ((0, None) ∷ []) what new.value before after core2.kept answer decided p
+    tells_of answer decided told = subst (λ (z : Has). IsTold z core2 what new.value before after answer decided p) taken.is told look_hold refl
 
-  pub call_reads : (p w : Has) (clock : ℤ) (images : ℕ) → Noted n (noted_entry n.0.know call reply) p → Given p w → clock ≡ new.value.core.device.clock → pos 0 ≤ℤ clock → images ≡ length new.value.cells.held → Reads w.0.know clock images
-  call_reads p w clock images noted given clock_is begun images_are =
-      let g = subst (λ (z : Has). Given z w) (noted_is p noted) given (record (hold_from taken.ticket taken.look) { noted = Some (noted_entry k call reply) }) refl in
-      let there : new.value ≡ (seen_by w.0.know).state = leads ∙ ap (λ (v : View). (seen_by v.know).state) (sym g.1.is) in
-      record { clock_is = clock_is ∙ ap (λ (s : State). s.core.device.clock) there; begun = begun; images_are = images_are ∙ ap (λ (s : State). length s.cells.held) there }
+    -- ---- it has to wait
+
+    module _ (answer : Step) (decided : Bool) (told : IsTold n core2 what new.value before after answer decided p) (waits : answer ≡ NotReady) where
+      waits_told : (decided ≡ false) × Waits k look_hold ((0, None) ∷ []) what new.value before after core2.kept p
+      waits_told = tells_of NotReady decided (subst (λ (z : Step). IsTold n core2 what new.value before after z decided p) waits told)
+
+      pub give_waiting : MayGive stands p new
+      give_waiting = subst (λ (z : Has). MayGive stands z new) (sym waits_told.1.same) record { hold = look_hold; is = refl; unmade = λ _. refl; stands_so = λ cells. waits_told.1.kept ∙ (same ∙ kept_is k n held taken) }
+
+      pub gave_waiting : (w : Has) → Given p w → Waited m before after w
+      gave_waiting w given =
+          let g = subst (λ (z : Has). Given z w) waits_told.1.same given look_hold refl in
+          record { same = (λ i. (g.1 i, g.0 i)) ∙ sym (at_rest m may.between); unwritten = waits_told.1.unwritten }
+
+    module _ (reply : Reply) where
+      abbrev e : Entry
+      e = own_entry k what reply
+
+      -- ---- it is noted
+
+      module _ (prepared : Prepares k look_hold ((0, None) ∷ []) what new.value before after reply p) where
+        abbrev note_hold : Hold
+        note_hold = record look_hold { made = prepared.made }
+
+        abbrev noted_hold : Hold
+        noted_hold = record look_hold { made = prepared.made; noted = Some e }
+
+        pub note_so : NotesCall stands p new call reply
+        note_so = subst (λ (z : Has). NotesCall stands z new call reply) (sym prepared.is) record {
+          notes = record {
+            hold = note_hold;
+            is = refl;
+            unnoted = refl;
+            may = record {
+              decides = record { by_own = refl; caller = asks.caller; numbers = asks.numbers; comes = record { allowed = prepared.answers.allowed; starts = starts; is_ready = prepared.answers.is_ready }; few = may_add (number_in k.own) now e (calls_in k.own) may.has_room none_held };
+              returns_none = may.other;
+              claims_none = prepared.claims_none;
+              made_is = prepared.made_is;
+            };
+          };
+          replies = comes_to now e reply prepared.answers.replies;
+          stands_next = λ cells. prepared.answers.leads ∙ sym (core_then k taken.look e);
+        }
+
+        noted_is : (q : Has) → Noted p (noted_entry p.0.know call reply) q → q ≡ holder k noted_hold
+        noted_is q noted = subst (λ (z : Has). Noted z (noted_entry z.0.know call reply) q) prepared.is noted note_hold refl
+
+        pub give_noted : (q : Has) → Noted p (noted_entry p.0.know call reply) q → MayGive stands q new
+        give_noted q noted = subst (λ (z : Has). MayGive stands z new) (sym (noted_is q noted)) record { hold = noted_hold; is = refl; unmade = λ unnoted. absurd (some_is_none e unnoted); stands_so = λ cells. prepared.answers.leads ∙ sym (core_then k taken.look e) }
+          where
+            some_is_none : (x : Entry) → ◌≡◌ {A = Option Entry} (Some x) None → ⊥
+            some_is_none x bad = cc
+
+        -- where a frame was asked for, nothing came between
+        none_came : (v : View) (d : DecidesBehind k taken.look e v) → is_next_frame what ≡ true → d.more ≡ []
+        none_came v d frame =
+            let n : ℕ = number_in k.own in
+            let none = none-between n (opening_moment k.apps) taken.look (taken.look ++ d.more) (d.more, refl) (taken.sees.own ∙ sym d.decides.saw.own) in
+            none_behind taken.look d.more d.decides.saw.by_callers d.free (subst (λ (z : ℕ). none_is_by (actor_at z) d.more ≡ true) (its_number frame) none)
+
+        -- and the images that are held are those of the frame that was taken
+        held_now : (v : View) (d : DecidesBehind k taken.look e v) → is_next_frame what ≡ true → new.value.held ≡ (seen_by v.know).state.cells.held
+        held_now v d frame =
+            let there : taken.look ++ d.more ≡ taken.look = ap (λ (l : List Entry). taken.look ++ l) (none_came v d frame) ∙ append-nil taken.look in
+            prepared.holds frame
+            ∙ (ap (λ (s : State). s.cells.held) (sym (after_is_in_turn (opening_moment k.apps).state taken.look (e ∷ [])))
+            ∙ (ap (λ (l : List Entry). (state_at k (l ++ e ∷ [])).cells.held) (sym there) ∙ ap (λ (u : View). (seen_by u.know).state.cells.held) (sym d.decides.is)))
+
+        pub called_noted : (q w : Has) (clock : ℤ) (images : List Image) → Noted p (noted_entry p.0.know call reply) q → Given q w → clock ≡ new.value.kept.device.clock → pos 0 ≤ℤ clock → (is_next_frame what ≡ true → images ≡ new.value.held)
+            → Called m what reply before after w × Reads w.0.know what clock images
+        called_noted q w clock images noted given clock_is begun images_are =
+            let g = subst (λ (z : Has). Given z w) (noted_is q noted) given noted_hold refl in
+            let d : DecidesBehind k taken.look e w.0 = g.1 in
+            let there : Moment = behind k (taken.look ++ d.more) in
+            let outcome : (step there.state e).1 ≡ (step now.state e).1 = outcome_same there now e d.same in (
+              record {
+                look = taken.look ++ d.more;
+                decides = d.decides;
+                carries = g.0;
+                replies = ap (λ (o : Outcome). o.reply) outcome ∙ sym prepared.answers.replies;
+                writes = subst (λ (o : Outcome). after ≡ left_in o.text o.shown before) (sym outcome) prepared.answers.writes;
+              },
+              record {
+                clock_is = clock_is ∙ (ap (λ (s : CoreState). s.device.clock) (prepared.answers.leads ∙ sym (core_then k taken.look e) ∙ sym d.core) ∙ ap (λ (v : View). (seen_by v.know).state.core.device.clock) (sym d.decides.is));
+                begun = begun;
+                images_are = λ frame. images_are frame ∙ held_now w.0 d frame;
+              },
+            )
+
+      -- ---- it was decided at a claim
+
+      module _ (decided : Decided k look_hold ((0, None) ∷ []) what new.value before after reply p) where
+        abbrev x : Entry
+        x = wait_entry k what
+
+        abbrev there_look : List Entry
+        there_look = taken.look ++ decided.decides.more
+
+        abbrev k_then : Know
+        k_then = know_after k there_look x
+
+        leads : new.value.kept ≡ (state_at k (there_look ++ x ∷ [])).core
+        leads = decided.answers.leads ∙ (ap (λ (y : Entry). (step (state_at k there_look) y).0.core) decided.is_wait ∙ sym (core_then k there_look x))
+
+        pub give_decided : MayGive stands p new
+        give_decided = subst (λ (z : Has). MayGive stands z new) (sym decided.decides.is) record { hold = hold_from taken.ticket (there_look ++ x ∷ []); is = refl; unmade = λ _. refl; stands_so = λ cells. leads }
+
+        pub called_decided : (w : Has) (clock : ℤ) (images : List Image) → Given p w → clock ≡ new.value.kept.device.clock → pos 0 ≤ℤ clock → Called m what reply before after w × Reads w.0.know what clock images
+        called_decided w clock images given clock_is begun =
+            let g = subst (λ (z : Has). Given z w) decided.decides.is given (hold_from taken.ticket (there_look ++ x ∷ [])) refl in (
+              record {
+                look = there_look;
+                decides = subst (λ (y : Entry). Decides k there_look y w.0) (sym decided.is_wait) record { is = g.1; saw = decided.decides.saw; sees = decided.decides.sees };
+                carries = g.0;
+                replies = sym decided.answers.replies;
+                writes = decided.answers.writes;
+              },
+              record { clock_is = clock_is ∙ (ap (λ (s : CoreState). s.device.clock) leads ∙ ap (λ (v : View). (seen_by v.know).state.core.device.clock) (sym g.1)); begun = begun; images_are = λ frame. absurd (true≢false (sym frame ∙ decided.no_frame)) },
+            )
+
+    -- ---- whichever it was
+
+    module _ (answer : Step) (decided : Bool) (reply : Reply) (told : IsTold n core2 what new.value before after answer decided p) (is : answer ≡ Done reply) where
+      done_told : (b : Bool) → decided ≡ b → Tells k look_hold ((0, None) ∷ []) what new.value before after core2.kept (Done reply) b p
+      done_told b so = tells_of (Done reply) b (subst (λ (z : Step × Bool). IsTold n core2 what new.value before after z.0 z.1 p) (λ i. (is i, so i)) told)
+
+      pub note_done : decided ≡ false → NotesCall stands p new call reply
+      note_done undecided = note_so reply (done_told false undecided)
+
+      -- the seat noted the entry, or has it decided and is as it was
+      module _ (q : Has) (noted : decided ≡ false → Noted p (noted_entry p.0.know call reply) q) (stays : decided ≡ true → q ≡ p) where
+        pub give_done : (b : Bool) → decided ≡ b → MayGive stands q new
+        give_done false so = give_noted reply (done_told false so) q (noted so)
+        give_done true so = subst (λ (z : Has). MayGive stands z new) (sym (stays so)) (give_decided reply (done_told true so))
+
+        pub called_done : (w : Has) (clock : ℤ) (images : List Image) → Given q w → clock ≡ new.value.kept.device.clock → pos 0 ≤ℤ clock → (is_next_frame what ≡ true → images ≡ new.value.held) → (b : Bool) → decided ≡ b
+            → Called m what reply before after w × Reads w.0.know what clock images
+        called_done w clock images given clock_is begun images_are false so = called_noted reply (done_told false so) q w clock images (noted so) given clock_is begun images_are
+        called_done w clock images given clock_is begun images_are true so = called_decided reply (done_told true so) w clock images (subst (λ (z : Has). Given z w) (stays so) given) clock_is begun

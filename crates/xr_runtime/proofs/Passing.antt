@@ -1,5 +1,5 @@
 -- A pass keeps its promise over each of its calls.
-use Rattle.std.proofs.Common.{◌≡◌, true≢false, ◌&&◌, not, ◌-◌, ◌+◌, ◌<◌, ◌^◌, ◌≤ℤ◌, ℕ, ℤ, pos, Bool, true, false, List, [], ◌∷◌, ◌++◌, length, sym, refl, ap, ◌∙◌, subst, Option, arith, length-append}
+use Rattle.std.proofs.Common.{◌≡◌, ◌&&◌, not, ◌-◌, ◌+◌, ◌<◌, ◌^◌, ◌≤ℤ◌, ℕ, ℤ, pos, Bool, true, false, List, [], ◌∷◌, ◌++◌, length, sym, refl, ap, ◌∙◌, subst, Option, arith, length-append}
 use Rattle.atomic_table.specs.Seated.{TableId}
 use Rattle.std.specs.Prelude.{unwrap_or, if◌then◌else◌}
 use Rattle.std.proofs.lemmas.List.{length-set, length-replicate}
@@ -16,20 +16,21 @@ use Rattle.xr_types.specs.declared.calls.Call.{Call}
 use Rattle.xr_types.specs.declared.calls.Call.TheVariants as ask
 use Rattle.xr_model.specs.machine.State.{State, opening, with_apps}
 use Rattle.xr_model.specs.laws.FewCalls.{how_many, is_end, tells_end}
-use Rattle.xr_model.specs.laws.ImageLaws.{is_compositor_call, is_next_frame}
-use Rattle.xr_model.specs.laws.Moments.{Moment, opening_moment, moment_after, clocks_over, exchange_at, actor_at}
+use Rattle.xr_model.specs.laws.DecidedEntries.{is_image_done}
+use Rattle.xr_model.specs.laws.Moments.{Moment, opening_moment, moment_after, clocks_over, IsLegalAt, exchange_at, actor_at}
 use Rattle.xr_model.specs.laws.MomentLaws.{leaves_by_none}
 use Rattle.xr_model.proofs.MarkValues.{set_there}
 use Rattle.xr_model.proofs.OthersEntries.{actors_stay}
 use Rattle.xr_rule.specs.Seats.{IsBetween}
 use Rattle.xr_rule.specs.View.{Own, Know, View, number_in, calls_in, with_call, know_after}
+use Rattle.xr_rule.proofs.Carrying.{moments_in_turn, held_seen}
 use Rattle.xr_runtime.specs.Calling.{Has, actor_of, behind, seen_by, entry_by, HasRoom, MayMake, Called, Reads}
 use Rattle.xr_runtime.specs.Passes.{MayCall, AppCalls, IsCompositor, Composes, IsDevice, Tells}
 use Rattle.xr_runtime.specs.declared.passes.AppPass.{AppPass}
 use Rattle.xr_runtime.specs.declared.passes.CompositorPass.{CompositorPass}
 use Rattle.xr_runtime.specs.declared.passes.DevicePass.{DevicePass}
 use Rattle.xr_runtime.proofs.Making.{asks_as_compositor}
-use Rattle.xr_runtime.proofs.Going.{here_at_look, clock_at_look, held_at_look, moments_in_turn, rest_is_legal}
+use Rattle.xr_runtime.proofs.Going.{here_at_look, clock_at_look, rest_is_legal}
 
 -- ---- what a call makes of a seat
 
@@ -156,12 +157,12 @@ module _ (table : TableId) (old new : AppPass) (what : Call) (reply : Reply) (be
       (sym may.is.is_own)
       (clock_next now.clocks old.app time (is_locked what) has_place)
 
-  clock_after : (clock : ℤ) (images : ℕ) → Reads n.0.know clock images → (if is_locked what then clock else old.clock) ≡ clock_of (seen_by n.0.know).clocks (App old.app)
+  clock_after : (clock : ℤ) (images : List Image) → Reads n.0.know what clock images → (if is_locked what then clock else old.clock) ≡ clock_of (seen_by n.0.know).clocks (App old.app)
   clock_after clock images r =
       let is : clock ≡ time = r.clock_is ∙ ap (λ (z : Moment). z.state.core.device.clock) is_seen in
       sym (ap (λ (z : Moment). clock_of z.clocks (App old.app)) is_seen ∙ (clock_here ∙ (λ i. if is_locked what then sym is i else clock_now i)))
 
-  pub app_called : (clock : ℤ) (images : ℕ) → new.seat.table_id ≡ old.seat.table_id → Reads n.0.know clock images → new.app ≡ old.app → new.calls ≡ old.calls + 1 → new.left ≡ is_leave what
+  pub app_called : (clock : ℤ) (images : List Image) → new.seat.table_id ≡ old.seat.table_id → Reads n.0.know what clock images → new.app ≡ old.app → new.calls ≡ old.calls + 1 → new.left ≡ is_leave what
       → new.clock ≡ (if is_locked what then clock else old.clock) → AppCalls table old what before after reply new
   app_called clock images id r app_is calls_are left_is clock_is =
       let more = seat_is m n what reply before after between c in record {
@@ -181,37 +182,30 @@ module _ (table : TableId) (old new : AppPass) (what : Call) (reply : Reply) (be
 
 -- ---- the compositor and the device
 
-starts_alone : (clock : ℤ) (what : Call) → is_compositor_call what ≡ true → StartsAt clock what
-starts_alone clock ask.NextFrame its_own = tt
-starts_alone clock ask.ImageDone its_own = tt
-starts_alone clock what its_own = absurd (true≢false (sym its_own))
-
-none_left : (held : List Image) → length held ≡ 0 → held ≡ []
-none_left [] none = refl
-none_left (x ∷ xs) none = absurd (omega (arith, none))
-
 no_device : Device ≡ Compositor → ⊥
 no_device is = cc
 
-pub may_compose : (table : TableId) (p : CompositorPass) (what : Call) (size : ℕ) → IsCompositor table p → p.ended ≡ false → MayAsk Compositor what size → is_compositor_call what ≡ true → (is_next_frame what ≡ true → p.held ≡ 0) → MayMake p.seat.me Compositor what size
-may_compose table p what size is unended asks its_own none_held = record {
+pub may_ask_frame : (table : TableId) (p : CompositorPass) (size : ℕ) → IsCompositor table p → p.ended ≡ false → p.held.items ≡ [] → MayMake p.seat.me Compositor ask.NextFrame size
+may_ask_frame table p size is unended none_held = record {
   between = is.rests.between;
   is_own = sym (ap actor_at is.is_own);
   here = tt;
-  asks = asks;
-  starts = starts_alone (clock_of (seen_by p.seat.me.0.know).clocks Compositor) what its_own;
+  asks = record { caller = refl; numbers = refl; buffer = tt };
+  starts = tt;
   has_room = subst (λ (n : ℕ). HasRoom n (calls_in p.seat.me.0.know.own)) (sym is.is_own) (is.unended unended);
-  none_held = λ asks_it. none_left (seen_by p.seat.me.0.know).state.cells.held (sym is.held_is ∙ none_held asks_it);
+  other = refl;
+  none_held = λ asks_it. sym is.held_is ∙ none_held;
 }
 
-pub may_tell : (table : TableId) (p : DevicePass) (what : Call) (size : ℕ) → IsDevice table p → p.calls < 2 ^ 40 → MayAsk Device what size → StartsAt (pos 0) what → MayMake p.seat.me Device what size
-may_tell table p what size is few asks starts = record {
+pub may_tell : (table : TableId) (p : DevicePass) (what : Call) (size : ℕ) → IsDevice table p → p.calls < 2 ^ 40 → MayAsk Device what size → StartsAt (pos 0) what → is_image_done what ≡ false → MayMake p.seat.me Device what size
+may_tell table p what size is few asks starts other = record {
   between = is.rests.between;
   is_own = sym (ap actor_at is.is_own);
   here = tt;
   asks = asks;
   starts = starts;
   has_room = subst (λ (n : ℕ). HasRoom n (calls_in p.seat.me.0.know.own)) (sym is.is_own) (subst (λ (n : ℕ). n < 2 ^ 40) is.counts few);
+  other = other;
   none_held = λ asks_it. absurd (no_device (asks_as_compositor Device what asks.caller asks_it));
 }
 
@@ -224,21 +218,22 @@ module _ (table : TableId) (old new : CompositorPass) (what : Call) (reply : Rep
   unfolding exchange_at
   not_told untold = ap (λ (r : Reply). is_end r.gives) c.replies ∙ untold
 
-  pub composed : (clock : ℤ) (images : ℕ) → new.seat.table_id ≡ old.seat.table_id → Reads new.seat.me.0.know clock images → new.held ≡ images → new.calls ≡ old.calls + 1 → old.ended ≡ false → new.ended ≡ is_end reply.gives
-      → Composes table old what before after reply new
-  composed clock images id r held_is calls_are unended ended_is =
+  -- whichever images it is told are held behind the call
+  pub composed : new.seat.table_id ≡ old.seat.table_id → new.held.items ≡ (seen_by new.seat.me.0.know).state.cells.held → new.calls ≡ old.calls + 1 → old.ended ≡ false → new.ended ≡ is_end reply.gives → Composes table old what before after reply new
+  composed id held_is calls_are unended ended_is =
       let between = is.rests.between in
       let more = seat_is old.seat.me new.seat.me what reply before after between c in record {
         is = record {
           rests = record { own = id ∙ is.rests.own; between = rests_after old.seat.me new.seat.me what reply before after between c; alone = more.parts ∙ is.rests.alone };
           is_own = more.number ∙ is.is_own;
-          held_is = held_is ∙ r.images_are;
+          legal = subst (λ (k : Know). IsLegalAt (opening_moment k.apps) k.seen) (sym (knows_after old.seat.me new.seat.me what reply before after between c)) c.decides.sees.legal;
+          held_is = held_is;
           counts = calls_are ∙ (ap (λ (z : ℕ). z + 1) is.counts ∙ sym (calls_more old.seat.me new.seat.me what reply before after between c));
           unended = λ untold. ap (how_many tells_end) more.calls ∙ (how_many_more (calls_in old.seat.me.0.know.own) (exchange_at (behind old.seat.me.0.know c.look) (entry_by old.seat.me.0.know what reply)) (not_told (sym ended_is ∙ untold)) ∙ is.unended unended);
         };
         ended_is = ended_is;
         called = c;
-        held_before = is.held_is ∙ ap length (sym (held_at_look old.seat.me.0.know c.look c.decides.saw (ap actor_at is.is_own)));
+        held_before = is.held_is ∙ sym (held_seen old.seat.me.0.know c.look c.decides.saw is.is_own);
       }
 
 pub told : (table : TableId) (old new : DevicePass) (what : Call) (reply : Reply) (before after : Lent) → IsDevice table old → Called old.seat.me what reply before after new.seat.me → new.seat.table_id ≡ old.seat.table_id → new.calls ≡ old.calls + 1

@@ -8,9 +8,9 @@ use Rattle.atomic_table.specs.declared.shared.Seat.{Seat}
 use Rattle.xr_types.specs.declared.calls.Actor.TheVariants.{App}
 use Rattle.xr_model.specs.machine.History.{clock_of}
 use Rattle.xr_model.specs.machine.Machine.{IsPresent}
-use Rattle.xr_model.specs.machine.State.{State}
+use Rattle.xr_model.specs.machine.State.{WholeCore}
 use Rattle.xr_model.specs.laws.FewCalls.{how_many, tells_end}
-use Rattle.xr_model.specs.laws.Moments.{opening_moment, actor_at}
+use Rattle.xr_model.specs.laws.Moments.{opening_moment, IsLegalAt, actor_at}
 use Rattle.xr_rule.specs.declared.held.Held.{Held}
 use Rattle.xr_rule.specs.Seats.{IsFresh, AreFresh}
 use Rattle.xr_rule.specs.View.{View, number_in, calls_in}
@@ -21,7 +21,7 @@ use Rattle.xr_runtime.specs.declared.passes.CompositorPass.{CompositorPass}
 use Rattle.xr_runtime.specs.declared.passes.DevicePass.{DevicePass}
 
 abbrev OfTable : Type 0
-OfTable = Seat (Option (Held State)) View
+OfTable = Seat (Option (Held WholeCore)) View
 
 -- ---- lists
 
@@ -112,11 +112,12 @@ last_two table apps seats mid front d c fresh is mid_is =
       fresh.device d (ap (λ (l : List OfTable). slice_get l (apps + 1)) is ∙ subst (λ (n : ℕ). slice_get (mid ++ d ∷ []) n ≡ Some d) many (last_at mid d)),
     )
 
-pub compositor_first : (table : TableId) (apps : ℕ) (p : CompositorPass) → IsFresh table apps 1 p.seat → p.held ≡ 0 → p.calls ≡ 0 → IsCompositor table p
+pub compositor_first : (table : TableId) (apps : ℕ) (p : CompositorPass) → IsFresh table apps 1 p.seat → p.held.items ≡ [] → p.calls ≡ 0 → IsCompositor table p
 compositor_first table apps p fresh held calls = record {
   rests = rests_first table apps 1 p.seat fresh;
   is_own = ap (λ (z : Has). number_in z.0.know.own) fresh.1;
-  held_is = held ∙ sym (ap (λ (z : Has). length (seen_by z.0.know).state.cells.held) fresh.1);
+  legal = subst (λ (z : Has). IsLegalAt (opening_moment z.0.know.apps) z.0.know.seen) (sym fresh.1) tt;
+  held_is = held ∙ sym (ap (λ (z : Has). (seen_by z.0.know).state.cells.held) fresh.1);
   counts = calls ∙ sym (ap (λ (z : Has). length (calls_in z.0.know.own)) fresh.1);
   unended = λ before. ap (λ (z : Has). how_many tells_end (calls_in z.0.know.own)) fresh.1;
 }

@@ -30,8 +30,8 @@ pub record Holds (apps : ℕ) (history : List Entry) (k : Know) : Type 0 where
 abbrev pub history_of : Closed → List Entry
 history_of c = c.seat.me.0.know.seen
 
--- The history is legal, each entry is by one who may ask for it, and it holds each pass's calls, and no others; the core stands for the
--- state behind it; and its counted calls are so many.
+-- The history is legal, each entry is by one who may ask for it, and it holds each pass's calls, and no others; the core keeps what
+-- the machine keeps behind it; and its counted calls are so many.
 pub record IsClosed (r : Runtime) (p : Passes) (c : Closed) : Type 0 where
   pub legal : IsLegal (with_apps (apps_of r)) (history_of c)
   pub by_callers : are_by_callers (history_of c) ≡ true
@@ -39,5 +39,5 @@ pub record IsClosed (r : Runtime) (p : Passes) (c : Closed) : Type 0 where
   pub compositor : Holds (apps_of r) (history_of c) p.compositor.seat.me.0.know
   pub device : Holds (apps_of r) (history_of c) p.device.seat.me.0.know
   pub others : (n : ℕ) → apps_of r + 2 ≤ n → calls_by n (opening_moment (apps_of r)) (history_of c) ≡ []
-  pub leads : c.core ≡ after (opening (with_apps (apps_of r))) (history_of c)
+  pub leads : c.core.kept ≡ (after (opening (with_apps (apps_of r))) (history_of c)).core
   pub places_are : c.places ≡ count_locked (history_of c)

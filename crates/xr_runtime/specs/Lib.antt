@@ -1,3 +1,4 @@
 pub mod Calling
 pub mod Passes
 pub mod Closing
+pub mod Lending

@@ -9,8 +9,9 @@ use Rattle.xr_model.specs.machine.CoreCalls.{Lent, MayAsk}
 use Rattle.xr_model.specs.machine.History.{clock_of}
 use Rattle.xr_model.specs.machine.Machine.{IsPresent}
 use Rattle.xr_types.specs.declared.calls.Call.{Call}
-use Rattle.xr_model.specs.machine.State.{State}
+use Rattle.xr_model.specs.machine.State.{WholeCore}
 use Rattle.xr_model.specs.laws.FewCalls.{how_many, is_end, tells_end}
+use Rattle.xr_model.specs.laws.Moments.{opening_moment, IsLegalAt}
 use Rattle.xr_types.specs.CallKinds.{is_leave}
 use Rattle.xr_rule.specs.declared.held.Held.{Held}
 use Rattle.xr_rule.specs.Seats.{IsBetween, IsFresh}
@@ -31,7 +32,7 @@ abbrev pub apps_of : Runtime → ℕ
 apps_of r = r.table.table.shared.key
 
 -- A seat between calls: it is this table's, no call is under way, and it has one number.
-pub record Rests (table : TableId) (s : Seat (Option (Held State)) View) : Type 0 where
+pub record Rests (table : TableId) (s : Seat (Option (Held WholeCore)) View) : Type 0 where
   pub own : s.table_id ≡ table
   pub between : IsBetween s.me
   pub alone : length s.me.0.know.own ≡ 1
@@ -80,22 +81,23 @@ AppAnswers table old what reply new = (after : List ℕ) × AnswersText table ol
 
 -- ---- the compositor and the device
 
--- What the compositor's pass promises between calls: its seat rests and is the compositor's; it knows how many images are held, and
--- whether it was told the end; and it has counted its calls.
+-- What the compositor's pass promises between calls: its seat rests, is the compositor's, and has seen a legal history; it knows which
+-- images are held behind that, and whether it was told the end; and it has counted its calls.
 pub record IsCompositor (table : TableId) (p : CompositorPass) : Type 0 where
   pub rests : Rests table p.seat
   pub is_own : number_in p.seat.me.0.know.own ≡ 1
-  pub held_is : p.held ≡ length (seen_by p.seat.me.0.know).state.cells.held
+  pub legal : IsLegalAt (opening_moment p.seat.me.0.know.apps) p.seat.me.0.know.seen
+  pub held_is : p.held.items ≡ (seen_by p.seat.me.0.know).state.cells.held
   pub counts : p.calls ≡ length (calls_in p.seat.me.0.know.own)
   pub unended : p.ended ≡ false → how_many tells_end (calls_in p.seat.me.0.know.own) ≡ 0
 
--- The call was made by the compositor's seat, at a place where as many images are held as the pass knew, and the pass keeps its
+-- The call was made by the compositor's seat, at a place where those images are held that the pass knew, and the pass keeps its
 -- promise; it is told the end where the reply says so.
 pub record Composes (table : TableId) (old : CompositorPass) (what : Call) (before after : Lent) (reply : Reply) (new : CompositorPass) : Type 0 where
   pub is : IsCompositor table new
   pub ended_is : new.ended ≡ is_end reply.gives
   pub called : Called old.seat.me what reply before after new.seat.me
-  pub held_before : old.held ≡ length (behind old.seat.me.0.know called.look).state.cells.held
+  pub held_before : old.held.items ≡ (behind old.seat.me.0.know called.look).state.cells.held
 
 -- What the device's pass promises between calls: its seat rests and is the device's, and it has counted its calls.
 pub record IsDevice (table : TableId) (p : DevicePass) : Type 0 where
@@ -113,8 +115,8 @@ pub record Tells (table : TableId) (old : DevicePass) (what : Call) (reply : Rep
 -- ---- the start
 
 -- these seats are fresh, with numbers from this one on
-abbrev pub AreSeats : TableId → ℕ → ℕ → List (Seat (Option (Held State)) View) → Type 0
-AreSeats table apps from seats = (i : ℕ) (s : Seat (Option (Held State)) View) → slice_get seats i ≡ Some s → IsFresh table apps (i + from) s
+abbrev pub AreSeats : TableId → ℕ → ℕ → List (Seat (Option (Held WholeCore)) View) → Type 0
+AreSeats table apps from seats = (i : ℕ) (s : Seat (Option (Held WholeCore)) View) → slice_get seats i ≡ Some s → IsFresh table apps (i + from) s
 
 -- An application's pass before any call.
 pub record IsFirst (table : TableId) (app : ℕ) (p : AppPass) : Type 0 where
@@ -134,6 +136,6 @@ pub record IsStarted (r : Runtime) (apps : ℕ) (p : Passes) : Type 0 where
   pub passes : AreFirst (table_of r) p.apps.items
   pub compositor : IsCompositor (table_of r) p.compositor
   pub none_shown : (p.compositor.ended ≡ false) × (p.compositor.calls ≡ 0)
-  pub none_held : p.compositor.held ≡ 0
+  pub none_held : p.compositor.held.items ≡ []
   pub device : IsDevice (table_of r) p.device
   pub none_told : p.device.calls ≡ 0

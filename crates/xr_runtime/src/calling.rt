@@ -1,48 +1,57 @@
-// One private call under the lock, which every public call is made of.
-ghost use Rattle.std.specs.Prelude.{◌≡◌, ◌≤ℤ◌, pos, length};
+// One private call under the lock, which every public call but one is made of.
+ghost use Rattle.std.specs.Prelude.{◌≡◌, true, [], length};
+ghost use Rattle.xr_model.specs.laws.ImageLaws.{is_next_frame};
 ghost use Rattle.xr_model.specs.machine.CoreCalls.{as_lent};
 ghost use Rattle.xr_runtime.specs.Calling.{MayMake, Called, CalledOrWaited, Reads};
 
+use crate::lending::{Told, lend};
+use arrayvec::ArrayVec;
 use std::sync::Wait;
-use xr_core::PlainCore;
+use xr_core::Core;
 use xr_lock::Lock;
 use xr_rule::{XrSeat, XrTable};
-use xr_types::{Actor, Call, Reply, Shown, Step};
+use xr_types::{Actor, Call, Image, MOST_LAYERS, Reply, Shown, Step};
 
-/// A runtime that threads share: a core under a lock.
+/// A runtime that threads share: a core under a lock, and the words of images beside it.
 #[derive(Drop)]
 pub struct Runtime {
-    pub(crate) table: XrTable<PlainCore>,
+    pub(crate) table: XrTable<Core>,
 }
 
-// What the private call tells: the reply, the device's clock behind the call, and how many images are held then.
+// What the private call tells: the reply, the device's clock behind the call, and the images of a frame that it took.
 #[derive(Drop)]
 pub(crate) struct Answered {
     pub(crate) reply: Reply,
     pub(crate) clock: i64,
-    pub(crate) images: usize,
+    pub(crate) taken: ArrayVec<Image, MOST_LAYERS>,
 }
 
-// the reply beside what a pass keeps of the core behind it
-fn tell(core: &PlainCore, reply: Reply) -> Answered
-    ensures reply { result.reply ≡ reply }
-    ensures clock { result.clock ≡ core.now.core.device.clock }
-    ensures begun { pos 0 ≤ℤ result.clock }
-    ensures images { result.images ≡ length core.now.cells.held }
+// Before a frame is asked for, the core's own list of images is emptied: the compositor has given all of them back.
+fn settle_before(core: &mut Core, call: &Call<'_>)
+    ensures kept { core.new.kept ≡ core.old.kept }
+    ensures none { is_next_frame call.now ≡ true → core.new.held ≡ [] }
 {
-    Answered {
-        reply,
-        clock: core.clock(),
-        images: core.held(),
+    if let Call::NextFrame = call {
+        core.settle();
+    }
+}
+
+// the images of the frame that a call took
+fn taken_by(core: &Core, call: &Call<'_>) -> ArrayVec<Image, MOST_LAYERS>
+    ensures { is_next_frame call.now ≡ true → result.items ≡ core.now.held }
+{
+    match call {
+        Call::NextFrame => core.copy_taken(),
+        _ => ArrayVec::new(),
     }
 }
 
 impl Runtime {
-    // Takes the lock, makes the call where it is ready, notes it, and gives the value back.
+    // Takes the lock, makes the call where it is ready, notes it unless a claim decided it, and gives the value back.
     pub(crate) fn make_once<R: Wait>(
         &self,
         rt: &R,
-        seat: &mut XrSeat<PlainCore>,
+        seat: &mut XrSeat<Core>,
         who: Actor,
         call: &Call<'_>,
         text: &mut [u8],
@@ -55,12 +64,29 @@ impl Runtime {
     {
         let lock = Lock { table: &self.table };
         let mut held = lock.take(rt, seat);
-        match held.value.apply(who, call, text, shown) {
+        settle_before(&mut held.value, call);
+        let Told { step, decided } = lend(
+            &self.table,
+            seat,
+            &mut held.value,
+            who,
+            call,
+            text,
+            shown,
+        );
+        match step {
             Step::Done(reply) => {
-                let answered = tell(&held.value, reply);
-                lock.note(seat, &held, call, &reply);
+                let clock = held.value.clock();
+                let taken = taken_by(&held.value, call);
+                if !decided {
+                    lock.note(seat, &held, call, &reply);
+                }
                 lock.give(seat, held);
-                Some(answered)
+                Some(Answered {
+                    reply,
+                    clock,
+                    taken,
+                })
             }
             Step::NotReady => {
                 lock.give(seat, held);
@@ -73,7 +99,7 @@ impl Runtime {
     pub(crate) fn make<R: Wait>(
         &self,
         rt: &R,
-        seat: &mut XrSeat<PlainCore>,
+        seat: &mut XrSeat<Core>,
         who: Actor,
         call: &Call<'_>,
         text: &mut [u8],
@@ -83,7 +109,7 @@ impl Runtime {
         requires may { MayMake seat.old.me who call.now (length text.old) }
         ensures own { seat.new.table_id ≡ seat.old.table_id }
         ensures called { Called seat.old.me call.now result.reply (as_lent text.old shown.old) (as_lent text.new shown.new) seat.new.me }
-        ensures reads { Reads seat.new.me.0.know result.clock result.images }
+        ensures reads { Reads seat.new.me.0.know call.now result.clock result.taken.items }
     {
         let mut tries = 0u32;
         for _ in rt.forever() {

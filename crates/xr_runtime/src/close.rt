@@ -3,7 +3,7 @@ ghost use Rattle.xr_runtime.specs.Closing.{AreAll, IsClosed};
 
 use crate::calling::Runtime;
 use crate::passes::{AppPass, CompositorPass, DevicePass, Passes};
-use xr_core::PlainCore;
+use xr_core::Core;
 use xr_rule::XrSeat;
 
 /// What is left of a runtime. It stands for the one history of all calls.
@@ -11,8 +11,8 @@ use xr_rule::XrSeat;
 pub struct Closed {
     /// How many calls were counted.
     pub places: u64,
-    pub(crate) core: PlainCore,
-    pub(crate) seat: XrSeat<PlainCore>,
+    pub(crate) core: Core,
+    pub(crate) seat: XrSeat<Core>,
 }
 
 impl Runtime {

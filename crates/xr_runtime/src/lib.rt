@@ -8,6 +8,7 @@ mod close;
 mod frames;
 mod input;
 mod instance;
+mod lending;
 mod others;
 mod passes;
 mod session;

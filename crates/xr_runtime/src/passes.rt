@@ -1,13 +1,15 @@
 //! What each actor's thread carries.
-ghost use Rattle.std.specs.Prelude.{◌≡◌};
+ghost use Rattle.std.specs.Prelude.{◌≡◌, length};
 
-use xr_core::PlainCore;
+use arrayvec::ArrayVec;
+use xr_core::Core;
 use xr_rule::XrSeat;
+use xr_types::{Image, MOST_LAYERS};
 
 /// What an application's thread carries: it makes the calls of one application.
 #[derive(Drop)]
 pub struct AppPass {
-    pub(crate) seat: XrSeat<PlainCore>,
+    pub(crate) seat: XrSeat<Core>,
     pub(crate) app: u8,
     pub(crate) calls: u64,
     pub(crate) left: bool,
@@ -40,9 +42,9 @@ impl AppPass {
 /// What the compositor's thread carries.
 #[derive(Drop)]
 pub struct CompositorPass {
-    pub(crate) seat: XrSeat<PlainCore>,
+    pub(crate) seat: XrSeat<Core>,
     pub(crate) calls: u64,
-    pub(crate) held: usize,
+    pub(crate) held: ArrayVec<Image, MOST_LAYERS>,
     pub(crate) ended: bool,
 }
 
@@ -56,9 +58,9 @@ impl CompositorPass {
 
     /// How many images of the frame taken last aren't given back.
     pub fn held(&self) -> usize
-        ensures { result ≡ self.now.held }
+        ensures { result ≡ length self.now.held.items }
     {
-        self.held
+        self.held.len()
     }
 
     /// Whether it was told the end.
@@ -72,7 +74,7 @@ impl CompositorPass {
 /// What the device's thread carries.
 #[derive(Drop)]
 pub struct DevicePass {
-    pub(crate) seat: XrSeat<PlainCore>,
+    pub(crate) seat: XrSeat<Core>,
     pub(crate) calls: u64,
 }
 

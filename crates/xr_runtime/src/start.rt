@@ -5,8 +5,9 @@ ghost use Rattle.xr_runtime.specs.Passes.{table_of, AreSeats, AreFirst, IsStarte
 
 use crate::calling::Runtime;
 use crate::passes::{AppPass, CompositorPass, DevicePass, Passes};
+use arrayvec::ArrayVec;
 use std::alloc::Global;
-use xr_core::PlainCore;
+use xr_core::Core;
 use xr_rule::{XrSeat, XrTable};
 use xr_types::NoMemory;
 
@@ -18,7 +19,7 @@ impl Runtime {
         requires few { apps ≤ MOST_SCRIPTS }
         ensures started { IfOk result (λ r. IsStarted r.0 apps r.1) }
     {
-        let core = PlainCore::start(alloc, apps)?;
+        let core = Core::start(alloc, apps)?;
         let mut passes = Vec::with_capacity(alloc, apps as usize)?;
         let (table, mut seats) = XrTable::start(alloc, core, apps)?;
         let Some(device) = seats.pop() else {
@@ -34,7 +35,7 @@ impl Runtime {
             compositor: CompositorPass {
                 seat: compositor,
                 calls: 0,
-                held: 0,
+                held: ArrayVec::new(),
                 ended: false,
             },
             device: DevicePass {
@@ -46,7 +47,7 @@ impl Runtime {
     }
 
     // gives each application's seat to a pass, in their order
-    fn seat_apps(&self, mut seats: Vec<XrSeat<PlainCore>>, apps: u8, passes: &mut Vec<AppPass>)
+    fn seat_apps(&self, mut seats: Vec<XrSeat<Core>>, apps: u8, passes: &mut Vec<AppPass>)
         requires seats { AreSeats (table_of self.now) apps 2 seats.items }
         requires count { length seats.items ≡ apps }
         requires room { (passes.old.items ≡ []) × (apps ≤ vec_capacity passes.old) }

@@ -1,3 +1,2 @@
 pub mod Loans
-pub mod Noting
-pub mod Resting
+pub mod Going

@@ -1,6 +1,6 @@
 //! Tests that the gate proves and runs: worked runs of both top calls over files in memory (`rows`), and what no case shows: parts
 //! alone (`parts`), lines of a report (`reports`), files and outputs that fail (`faults`), a load beside its text (`loads`), and
-//! calls of threads under the lock (`lock`).
+//! calls of threads under the lock, and an image that is given back without it (`lock`).
 #![tactic(auto)]
 
 #[cfg(test)]

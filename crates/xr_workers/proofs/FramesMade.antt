@@ -141,7 +141,7 @@ no_calls table p is none = by (calls_in p.seat.me.0.know.own) (sym is.counts ∙
     by [] size = refl
     by (t ∷ ts) size = absurd (omega (arith, size))
 
-pub none_composed : (table : TableId) (p : CompositorPass) (kept : Option Frames) → IsCompositor table p → p.ended ≡ false → p.held ≡ 0 → IfSome kept (λ k. (k.frames.items ≡ []) × (k.replies.items ≡ [])) → Composes table 0 p p kept
+pub none_composed : (table : TableId) (p : CompositorPass) (kept : Option Frames) → IsCompositor table p → p.ended ≡ false → p.held.items ≡ [] → IfSome kept (λ k. (k.frames.items ≡ []) × (k.replies.items ≡ [])) → Composes table 0 p p kept
 none_composed table p kept is unended none keeps = record {
   is = is;
   unended = unended;

@@ -1,5 +1,5 @@
 // The compositor's worker.
-ghost use Rattle.std.specs.Prelude.{◌≡◌, false};
+ghost use Rattle.std.specs.Prelude.{◌≡◌, [], false};
 ghost use Rattle.xr_runtime.specs.Passes.{table_of, IsCompositor};
 ghost use Rattle.xr_workers.specs.Workers.{ComposesGated, RanCompositor};
 ghost use Rattle.xr_workers.specs.inside.Composing.{KeepsFrame, ListsAll};
@@ -63,7 +63,7 @@ pub fn run_compositor<R: Wait, G: Gate>(
 ) -> Result<Composed, NoMemory>
     requires is { IsCompositor (table_of context.now.runtime.now) pass.old }
     requires first { (pass.old.ended ≡ false) × (pass.old.calls ≡ 0) }
-    requires none_held { pass.old.held ≡ 0 }
+    requires none_held { pass.old.held.items ≡ [] }
     ensures ran { RanCompositor (table_of context.now.runtime.now) pass.old pass.new result }
     ensures gated { ComposesGated (G.came context.now.gate.now) (G.went context.now.gate.now) pass.old.seat.me.0.know pass.new.seat.me.0.know }
 {

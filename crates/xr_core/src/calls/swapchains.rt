@@ -26,7 +26,7 @@ use xr_types::{Call, Code, Gives, Image, Kind, Reply};
 const FOREVER: i64 = i64::MAX;
 
 /// Whether the time of a wait is up, told the device's clock, all in ns of device time.
-fn is_up(clock: i64, timeout: &i64, start: &i64) -> bool
+pub(crate) fn is_up(clock: i64, timeout: &i64, start: &i64) -> bool
     ensures { result ≡ is_up clock timeout.now start.now }
 {
     if *timeout == FOREVER {

@@ -1,8 +1,8 @@
 // The calls that the applications make, and what each was answered.
-ghost use Rattle.std.specs.Prelude.{IsTrue, ℤ};
+ghost use Rattle.std.specs.Prelude.{◌≡◌, IsTrue, ℤ, false};
 ghost use Rattle.xr_types.specs.declared.calls.Actor.TheVariants.{App};
 ghost use Rattle.xr_model.specs.machine.CoreCalls.{MayAsk};
-ghost use Rattle.xr_model.specs.machine.History.{StartsAt};
+ghost use Rattle.xr_types.specs.CallKinds.{is_leave, with_start};
 
 use xr_types::{Call, Code, Form, Gives, Reply};
 
@@ -41,14 +41,14 @@ pub(crate) fn call_of(kind: u64, instance: u64) -> Call<'static> {
             mark: 1,
             value: instance,
         },
-        _ => Call::AwaitMark { mark: 1 },
+        _ => Call::Mark { mark: 2, value: 1 },
     }
 }
 
-/// Whether an application may make this call, lent no bytes.
+/// Whether an application may make this call, lent no bytes; it doesn't leave by it.
 pub(crate) fn is_own(app: u8, call: &Call<'_>) -> bool
     ensures asks { IsTrue result → MayAsk (App app) call.now 0 }
-    ensures starts { IsTrue result → (clock : ℤ) → StartsAt clock call.now }
+    ensures stays { IsTrue result → (clock : ℤ) → is_leave (with_start clock call.now) ≡ false }
 {
     let _app = app;
     matches!(
@@ -58,8 +58,7 @@ pub(crate) fn is_own(app: u8, call: &Call<'_>) -> bool
             | Call::GetSystem { .. }
             | Call::PollEvent { .. }
             | Call::CreateSession { .. }
-            | Call::Mark { mark: 1, .. }
-            | Call::AwaitMark { mark: 1 }
+            | Call::Mark { mark: 1 | 2, .. }
     )
 }
 

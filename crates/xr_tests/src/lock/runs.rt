@@ -1,10 +1,9 @@
 // Runs of eight applications on threads, each looked at whether one history explains its replies.
-ghost use Rattle.std.specs.Prelude.{◌≡◌, ◌<◌, ℕ, length, slice_index_or};
-ghost use Rattle.xr_tests.specs.Resting.{Rests, IsNumbered};
+ghost use Rattle.std.specs.Prelude.{◌+◌, ◌<◌, ◌≤◌, ℕ, length, slice_index_or};
+ghost use Rattle.xr_runtime.specs.Passes.{table_of, IsApp, IsFirst};
 
-use super::calling::take_part;
+use super::calling::make_calls;
 use super::calls::{APPS, Made, STEPS, Steps, call_of, is_own, is_same};
-use super::seats::end;
 use std::alloc::Global;
 use std::sync::atomic::AtomicU64;
 use std::sync::atomic::Ordering::SeqCst;
@@ -12,7 +11,7 @@ use std::sync::{Mutex, Wait};
 use std::test::Fail;
 use std::thread::{Threads, for_each_mut, yield_now};
 use xr_core::PlainCore;
-use xr_rule::{XrSeat, XrTable};
+use xr_runtime::{AppPass, Passes, Runtime};
 use xr_types::{Actor, NoMemory, Shown, Step};
 
 /// How often a thread looks whether the others have come.
@@ -44,41 +43,41 @@ impl Meeting {
     }
 }
 
-/// The calls of the seat at this place, which go into the story.
+/// The calls of the application at this place, which go into the story.
 fn tell<R: Wait>(
     rt: &R,
-    table: &XrTable<PlainCore>,
+    runtime: &Runtime,
     place: usize,
-    seat: &mut XrSeat<PlainCore>,
+    pass: &mut AppPass,
     run: u64,
     meeting: &Meeting,
 )
-    requires numbered { IsNumbered table.now.table.shared.table_id place seat.old }
-    ensures rests { Rests table.now.table.shared.table_id seat.new }
+    requires first { IsFirst (table_of runtime.now) (place + 1) pass.old }
+    requires few { place < 8 }
+    ensures is { IsApp (table_of runtime.now) pass.new }
 {
-    if place < APPS as usize {
-        meeting.wait();
-        let steps = take_part(rt, table, place, seat, run);
-        meeting.story.lock(rt).apps[place] = steps;
-    }
+    meeting.wait();
+    let steps = make_calls(rt, runtime, pass, place as u8 + 1, run);
+    meeting.story.lock(rt).apps[place] = steps;
 }
 
-/// Each seat makes its calls on a thread of its own.
+/// Each application makes its calls on a thread of its own.
 fn tell_all<R: Threads + Wait + Sync>(
     rt: &R,
-    table: &XrTable<PlainCore>,
-    seats: &mut [XrSeat<PlainCore>],
+    runtime: &Runtime,
+    passes: &mut [AppPass],
     run: u64,
     meeting: &Meeting,
 )
-    requires numbered { (i : ℕ) (d : _) → i < length seats.old → IsNumbered table.now.table.shared.table_id i (slice_index_or seats.old i d) }
-    ensures rest { (i : ℕ) (d : _) → i < length seats.old → Rests table.now.table.shared.table_id (slice_index_or seats.new i d) }
+    requires first { (i : ℕ) (d : _) → i < length passes.old → IsFirst (table_of runtime.now) (i + 1) (slice_index_or passes.old i d) }
+    requires few { length passes.old ≤ 8 }
+    ensures are { (i : ℕ) (d : _) → i < length passes.old → IsApp (table_of runtime.now) (slice_index_or passes.new i d) }
 {
     for_each_mut(
         rt,
-        seats,
-        10,
-        &|place, seat: &mut XrSeat<PlainCore>| tell(rt, table, place, seat, run, meeting),
+        passes,
+        8,
+        &|place, pass: &mut AppPass| { tell(rt, runtime, place, pass, run, meeting) },
     );
 }
 
@@ -139,16 +138,26 @@ pub(crate) fn run<R: Threads + Wait + Sync>(
     alloc: Global,
     run: u64,
 ) -> Result<bool, NoMemory> {
-    let core = PlainCore::start(alloc, APPS)?;
-    let (table, mut seats) = XrTable::start(alloc, core, APPS)?;
+    let (runtime, passes) = Runtime::start(alloc, APPS)?;
+    let Passes {
+        mut apps,
+        compositor,
+        device,
+    } = passes;
     let meeting = Meeting {
         story: Mutex::new(Story {
             apps: [[None; STEPS]; APPS as usize],
         }),
         came: AtomicU64::new(0),
     };
-    tell_all(rt, &table, seats.as_mut_slice(), run, &meeting);
-    let calls = end(table, seats).calls();
+    tell_all(rt, &runtime, apps.as_mut_slice(), run, &meeting);
+    let calls = runtime
+        .close(Passes {
+            apps,
+            compositor,
+            device,
+        })
+        .places;
     let told = *meeting.story.lock(rt);
     is_legal(alloc, &told, calls)
 }

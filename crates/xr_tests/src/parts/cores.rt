@@ -1,5 +1,5 @@
 // A core over cells that are lent, beside one over cells of its own, and the words of what getters answer from.
-ghost use Rattle.std.specs.Prelude.{◌<◌, ◌^◌, IsTrue, length};
+ghost use Rattle.std.specs.Prelude.{ℕ, ◌<◌, ◌^◌, IsTrue, length};
 ghost use Rattle.xr_types.specs.declared.calls.Actor.TheVariants.{App, Compositor, Device};
 ghost use Rattle.xr_model.specs.machine.CoreCalls.{MayAsk, MayMake};
 ghost use Rattle.xr_model.specs.machine.OverCells.{AppliesOver, world};
@@ -31,9 +31,9 @@ fn apply_lent(
     core.apply(&mut lent, who, call, text, shown)
 }
 
-/// Whether the only application may make this call, and be lent no bytes.
-fn is_own(call: &Call<'_>) -> bool
-    ensures { IsTrue result → MayAsk (App 1) call.now 0 }
+/// Whether an application may make this call, and be lent no bytes.
+pub(crate) fn is_own(call: &Call<'_>) -> bool
+    ensures { IsTrue result → (app : ℕ) → MayAsk (App app) call.now 0 }
 {
     matches!(
         call,

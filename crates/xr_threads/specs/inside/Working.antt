@@ -37,7 +37,7 @@ pub record MayRun (table : TableId) (scenario : Scenario) (ws : List AppWorker) 
   pub scripts : MayWorkAll table scenario ws
   pub compositor : IsCompositor table frames
   pub none_shown : (frames.ended ≡ false) × (frames.calls ≡ 0)
-  pub none_held : frames.held ≡ 0
+  pub none_held : frames.held.items ≡ []
   pub device : IsDevice table events
   pub none_told : events.calls ≡ 0
 

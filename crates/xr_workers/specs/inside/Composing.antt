@@ -23,7 +23,7 @@ KeepsFrame (Some old) shown reply (Some new) = (new.frames.items ≡ old.frames.
 pub record Composes (table : TableId) (turns : ℕ) (old new : CompositorPass) (kept : Option Frames) : Type 0 where
   pub is : IsCompositor table new
   pub unended : new.ended ≡ false
-  pub none_held : new.held ≡ 0
+  pub none_held : new.held.items ≡ []
   pub calls : List Exchange
   pub adds : Adds old.seat.me.0.know new.seat.me.0.know calls
   pub goes : AllGoOn calls

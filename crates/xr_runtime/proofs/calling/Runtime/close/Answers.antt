@@ -1,7 +1,7 @@
 use Rattle.std.proofs.Common.{◌≡◌, true, List, [], sym, refl, ap, ◌∙◌, subst, arith}
 use Rattle.xr_model.specs.machine.History.{after, IsLegal}
 use Rattle.xr_model.specs.machine.Calls.{Entry}
-use Rattle.xr_model.specs.machine.State.{State, with_apps, opening}
+use Rattle.xr_model.specs.machine.State.{CoreState, with_apps, opening}
 use Rattle.xr_model.specs.laws.Laws.{count_locked}
 use Rattle.xr_model.specs.laws.Moments.{opening_moment, calls_by}
 use Rattle.xr_model.proofs.Histories.{entries_are_counted}
@@ -62,7 +62,7 @@ returns c =
     let cases = c.in_default.ensures.cases in
     let none : c.loop-pass.apps.items ≡ [] = none_is_left c.loop-pass.apps.items (omega arith) in
     let seen : c.finish-finished.result.seat.me.0.know.seen ≡ k.seen = c.finish-finished.ensures.seen.0 in
-    let value : c.finish-finished.result.value ≡ after (opening (with_apps apps)) k.seen = c.finish-finished.ensures.value in
+    let value : c.finish-finished.result.value.kept ≡ (after (opening (with_apps apps)) k.seen).core = c.finish-finished.ensures.value in
     let back : k.seen ≡ c.finish-finished.result.seat.me.0.know.seen = sym seen in record {
       closed = record {
         legal = subst (IsLegal (with_apps apps)) back has.legal;
@@ -71,7 +71,7 @@ returns c =
         compositor = subst (λ (l : List Entry). Holds apps l c.args.passes.compositor.seat.me.0.know) back (is_held apps k c.args.passes.compositor.seat.me.0.know k.own refl has i.2.compositor);
         device = subst (λ (l : List Entry). Holds apps l c.args.passes.device.seat.me.0.know) back (is_held apps k c.args.passes.device.seat.me.0.know k.own refl has i.2.device);
         others = λ n beyond. subst (λ (l : List Entry). calls_by n (opening_moment apps) l ≡ []) back (has.by_actors.others n beyond);
-        leads = value ∙ ap (after (opening (with_apps apps))) back;
-        places_are = c.calls.ensures ∙ (ap (λ (s : State). s.core.locked) value ∙ (entries_are_counted (opening (with_apps apps)) k.seen ∙ (from_none (count_locked k.seen) ∙ ap count_locked back)));
+        leads = value ∙ ap (λ (l : List Entry). (after (opening (with_apps apps)) l).core) back;
+        places_are = c.calls.ensures ∙ (ap (λ (s : CoreState). s.locked) value ∙ (entries_are_counted (opening (with_apps apps)) k.seen ∙ (from_none (count_locked k.seen) ∙ ap count_locked back)));
       };
     }

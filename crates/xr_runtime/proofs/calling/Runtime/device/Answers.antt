@@ -5,7 +5,7 @@ use Rattle.xr_runtime.proofs.Passing.{may_tell, told}
 use Rattle.xr_runtime.proofs.calling.Runtime.device.Goals as goal
 
 pub make-answered-requires-clause-may : goal.make-answered-requires-clause-may
-make-answered-requires-clause-may g c = may_tell (table_of c.args.self.now) c.args.pass.now (ask.Device c.args.event) 0 c.requires.is c.requires.few (record { caller = refl; numbers = c.requires.checks; buffer = tt }) tt
+make-answered-requires-clause-may g c = may_tell (table_of c.args.self.now) c.args.pass.now (ask.Device c.args.event) 0 c.requires.is c.requires.few (record { caller = refl; numbers = c.requires.checks; buffer = tt }) tt refl
 
 pub returns : goal.returns
 returns g c = record {

@@ -1,0 +1,237 @@
+// An image that is given back without the lock: an application and the compositor make calls of a runtime from one thread.
+ghost use Rattle.xr_runtime.specs.Passes.{table_of, IsApp, IsCompositor};
+
+use crate::parts::cores::is_own;
+use std::alloc::Global;
+use std::sync::Wait;
+use std::test::Fail;
+use xr_runtime::{AppPass, CompositorPass, Passes, Runtime};
+use xr_types::{
+    Blend, Call, Code, DeviceEvent, Gives, Items, Layer, RefKind, Reply, Shown, SubImage,
+    ViewConfig, Wish,
+};
+
+/// Makes a call of the application, where it may.
+fn make<R: Wait>(rt: &R, runtime: &Runtime, app: &mut AppPass, call: &Call<'_>) -> Option<Reply>
+    requires is { IsApp (table_of runtime.now) app.old }
+    ensures is { IsApp (table_of runtime.now) app.new }
+{
+    if !is_own(call) || app.left() || app.calls() >= 1 << 40 {
+        return None;
+    }
+    Some(runtime.call(rt, app, call, &mut []))
+}
+
+/// The handle that a call gives, or 0.
+fn handle<R: Wait>(rt: &R, runtime: &Runtime, app: &mut AppPass, call: &Call<'_>) -> u64
+    requires is { IsApp (table_of runtime.now) app.old }
+    ensures is { IsApp (table_of runtime.now) app.new }
+{
+    match make(rt, runtime, app, call) {
+        Some(
+            Reply {
+                gives: Gives::Handle(handle),
+                ..
+            },
+        ) => handle,
+        _ => 0,
+    }
+}
+
+/// The code of a call's answer.
+fn code<R: Wait>(rt: &R, runtime: &Runtime, app: &mut AppPass, call: &Call<'_>) -> Option<Code>
+    requires is { IsApp (table_of runtime.now) app.old }
+    ensures is { IsApp (table_of runtime.now) app.new }
+{
+    Some(make(rt, runtime, app, call)?.code)
+}
+
+/// A session that runs, with its swapchain and its space.
+#[derive(Clone, Copy)]
+struct Scene {
+    session: u64,
+    chain: u64,
+    space: u64,
+}
+
+fn set_out<R: Wait>(rt: &R, runtime: &Runtime, app: &mut AppPass) -> Scene
+    requires is { IsApp (table_of runtime.now) app.old }
+    ensures is { IsApp (table_of runtime.now) app.new }
+{
+    let instance = handle(
+        rt,
+        runtime,
+        app,
+        &Call::CreateInstance { major: 1, minor: 0 },
+    );
+    let session = handle(
+        rt,
+        runtime,
+        app,
+        &Call::CreateSession {
+            instance,
+            system: 1,
+        },
+    );
+    let view = ViewConfig::Stereo;
+    let _ = make(rt, runtime, app, &Call::BeginSession { session, view });
+    let chain = Call::CreateSwapchain {
+        session,
+        format: 1,
+        width: 64,
+        height: 64,
+        fixed: false,
+    };
+    let space = Call::CreateReferenceSpace {
+        session,
+        kind: RefKind::Local,
+        offset: 1,
+    };
+    Scene {
+        session,
+        chain: handle(rt, runtime, app, &chain),
+        space: handle(rt, runtime, app, &space),
+    }
+}
+
+/// Waits for an image, not at all.
+fn wait<R: Wait>(rt: &R, runtime: &Runtime, app: &mut AppPass, chain: u64) -> Option<Code>
+    requires is { IsApp (table_of runtime.now) app.old }
+    ensures is { IsApp (table_of runtime.now) app.new }
+{
+    let call = Call::WaitImage {
+        chain,
+        timeout: 0,
+        start: 0,
+    };
+    code(rt, runtime, app, &call)
+}
+
+/// An image is painted and released; the codes of its wait and its release.
+fn paint<R: Wait>(rt: &R, runtime: &Runtime, app: &mut AppPass, chain: u64) -> [Option<Code>; 2]
+    requires is { IsApp (table_of runtime.now) app.old }
+    ensures is { IsApp (table_of runtime.now) app.new }
+{
+    let _ = make(rt, runtime, app, &Call::AcquireImage { chain });
+    let waited = wait(rt, runtime, app, chain);
+    let _ = make(rt, runtime, app, &Call::Paint { chain, stamp: 5 });
+    [
+        waited,
+        code(rt, runtime, app, &Call::ReleaseImage { chain }),
+    ]
+}
+
+/// A frame shows the swapchain as a quad; the code of its end.
+fn submit<R: Wait>(rt: &R, runtime: &Runtime, app: &mut AppPass, scene: Scene) -> Option<Code>
+    requires is { IsApp (table_of runtime.now) app.old }
+    ensures is { IsApp (table_of runtime.now) app.new }
+{
+    let session = scene.session;
+    let Gives::Frame(state) = make(rt, runtime, app, &Call::WaitFrame { session })?.gives else {
+        return None;
+    };
+    let _ = make(rt, runtime, app, &Call::BeginFrame { session });
+    let image = SubImage {
+        chain: scene.chain,
+        x: 0,
+        y: 0,
+        w: 64,
+        h: 64,
+    };
+    let quad = Layer::Quad {
+        space: scene.space,
+        image,
+        pose: 1,
+    };
+    let layers = [quad];
+    let end = Call::EndFrame {
+        session,
+        time: state.time,
+        blend: Blend::Opaque,
+        layers: Items::new(&layers),
+    };
+    code(rt, runtime, app, &end)
+}
+
+/// Takes a frame, where the compositor may ask for one.
+fn take<R: Wait>(rt: &R, runtime: &Runtime, compositor: &mut CompositorPass) -> Option<Code>
+    requires is { IsCompositor (table_of runtime.now) compositor.old }
+    ensures is { IsCompositor (table_of runtime.now) compositor.new }
+{
+    if compositor.ended() || compositor.calls() >= 1 << 62 || compositor.held() > 0 {
+        return None;
+    }
+    let mut shown = Shown::default();
+    Some(runtime.next_frame(rt, compositor, &mut shown).code)
+}
+
+/// Gives an image back, where the compositor holds one.
+fn give_back(runtime: &Runtime, compositor: &mut CompositorPass) -> Option<Code>
+    requires is { IsCompositor (table_of runtime.now) compositor.old }
+    ensures is { IsCompositor (table_of runtime.now) compositor.new }
+{
+    if compositor.ended() || compositor.calls() >= 1 << 62 || compositor.held() == 0 {
+        return None;
+    }
+    Some(runtime.image_done(compositor).code)
+}
+
+/// What calls come to: an image is shown, and waited for while its frame is pending, while the compositor has it, and once it was given
+/// back, with no call under the lock between.
+fn story<R: Wait>(
+    rt: &R,
+    runtime: &Runtime,
+    app: &mut AppPass,
+    compositor: &mut CompositorPass,
+) -> [Option<Code>; 12]
+    requires is { IsApp (table_of runtime.now) app.old }
+    requires composes { IsCompositor (table_of runtime.now) compositor.old }
+{
+    let scene = set_out(rt, runtime, app);
+    let chain = scene.chain;
+    let first = paint(rt, runtime, app, chain);
+    let ended = submit(rt, runtime, app, scene);
+    let second = paint(rt, runtime, app, chain);
+    let third = paint(rt, runtime, app, chain);
+    let _ = make(rt, runtime, app, &Call::AcquireImage { chain });
+    let pending = wait(rt, runtime, app, chain);
+    let taken = take(rt, runtime, compositor);
+    let held = wait(rt, runtime, app, chain);
+    let back = give_back(runtime, compositor);
+    let got = wait(rt, runtime, app, chain);
+    [
+        first[0], first[1], ended, second[0], second[1], third[0], third[1], pending, taken, held,
+        back, got,
+    ]
+}
+
+const DONE: Option<Code> = Some(Code::Success);
+
+const LATE: Option<Code> = Some(Code::TimeoutExpired);
+
+/// The same of a new runtime whose device wishes the session focused; nothing where memory is short.
+fn told<R: Wait>(rt: &R, alloc: Global) -> Option<[Option<Code>; 12]> {
+    let Ok((runtime, passes)) = Runtime::start(alloc, 1) else {
+        return None;
+    };
+    let Passes {
+        mut apps,
+        mut compositor,
+        mut device,
+    } = passes;
+    let wish = DeviceEvent::Wish(Wish::Focused);
+    let _ = runtime.device(rt, &mut device, wish);
+    let Some(mut app) = apps.pop() else {
+        return None;
+    };
+    Some(story(rt, &runtime, &mut app, &mut compositor))
+}
+
+#[test]
+fn a_wait_gets_the_image_that_was_given_back_without_the_lock(rt: HostRuntime) -> Result<(), Fail> {
+    let expected = [
+        DONE, DONE, DONE, DONE, DONE, DONE, DONE, LATE, DONE, LATE, DONE, DONE,
+    ];
+    assert_eq!(rt; told(&rt, rt.alloc()), Some(expected));
+    Ok(())
+}
