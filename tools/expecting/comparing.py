@@ -152,49 +152,32 @@ class Told(NamedTuple):
         return f"{self.scenario}: {held} of {len(self.looked)} expectations hold; {how}"
 
 
-def point(number: int, name: str, told: Told, it: Looked) -> list[str]:
-    """A point of the Test Anything Protocol, with what came otherwise."""
-    if it.holds:
-        return [f"ok {number} - {name}"]
-    parts = {"at": f"{told.file}:{it.line}:{it.column}", "op": it.op, "expected": it.expected, "came": it.came}
-    texts = {name: visible(text).replace("'", "''") for name, text in parts.items() if text}
-    return [f"not ok {number} - {name}", "  ---", *(f"  {name}: '{text}'" for name, text in texts.items()), "  ..."]
+def tap(told: Told) -> list[str]:
+    """The Test Anything Protocol, version 13: a point for each thing that was looked at."""
+    lines = ["TAP version 13"]
+    if told.refusal:
+        return [*lines, f"Bail out! {told.refusal}"]
+    lines.append(f"1..{len(told.looked)}")
+    for number, it in enumerate(told.looked, 1):
+        lines.append(f"{'ok' if it.holds else 'not ok'} {number} - {it.name}")
+        if not it.holds:
+            parts = {"at": f"{told.file}:{it.line}:{it.column}", "op": it.op, "expected": it.expected, "came": it.came}
+            texts = {name: visible(text).replace("'", "''") for name, text in parts.items() if text}
+            lines += ["  ---", *(f"  {name}: '{text}'" for name, text in texts.items()), "  ..."]
+    return [*lines, f"# {told.summary}"]
 
 
-def tap(suite: list[Told]) -> list[str]:
-    """The Test Anything Protocol, version 13: a point for each thing that was looked at. Where nothing was compared of the only scenario it bails
-    out; of one of several that is a point."""
-    lines, is_alone, number = ["TAP version 13"], len(suite) == 1, 0
-    if is_alone and suite[0].refusal:
-        return [*lines, f"Bail out! {suite[0].refusal}"]
-    lines.append(f"1..{sum(len(it.looked) or 1 for it in suite)}")
-    for told in suite:
-        for it in told.looked:
-            number += 1
-            lines += point(number, it.name if is_alone else f"{told.scenario}: {it.name}", told, it)
-        if told.refusal:
-            number += 1
-            lines += [f"not ok {number} - {told.scenario}", f"# {told.refusal}"]
-        else:
-            lines.append(f"# {told.summary}")
-    return lines
-
-
-def junit(suite: list[Told]) -> bytes:
-    """A JUnit file of a suite for each scenario, with a case for each thing that was looked at, or one error where nothing was compared."""
-    def counts(found: list[Told]) -> dict[str, str]:
-        numbers = [(len(it.looked) or 1, len(it.wrong), bool(it.refusal)) for it in found]
-        return {name: str(sum(it)) for name, it in zip(("tests", "failures", "errors"), zip(*numbers))}
-
-    top = xml.Element("testsuites", counts(suite))
-    for told in suite:
-        element = xml.SubElement(top, "testsuite", {"name": told.scenario, **counts([told])})
-        for it in told.looked:
-            case = xml.SubElement(element, "testcase", {"classname": told.scenario, "name": it.name})
-            if not it.holds:
-                message = visible(f"expected {it.expected}, came {it.came}")
-                xml.SubElement(case, "failure", {"type": "mismatch", "message": message}).text = visible(it.told(told.file))
-        if told.refusal:
-            case = xml.SubElement(element, "testcase", {"classname": told.scenario, "name": "run"})
-            xml.SubElement(case, "error", {"type": "refused", "message": visible(told.refusal)})
+def junit(told: Told) -> bytes:
+    """A JUnit file of one suite, with a case for each thing that was looked at, or one error where nothing was compared."""
+    shown = {"tests": str(len(told.looked) or 1), "failures": str(len(told.wrong)), "errors": str(int(bool(told.refusal)))}
+    top = xml.Element("testsuites", shown)
+    suite = xml.SubElement(top, "testsuite", {"name": told.scenario, **shown})
+    for it in told.looked:
+        case = xml.SubElement(suite, "testcase", {"classname": told.scenario, "name": it.name})
+        if not it.holds:
+            message = visible(f"expected {it.expected}, came {it.came}")
+            xml.SubElement(case, "failure", {"type": "mismatch", "message": message}).text = visible(it.told(told.file))
+    if told.refusal:
+        case = xml.SubElement(suite, "testcase", {"classname": told.scenario, "name": "run"})
+        xml.SubElement(case, "error", {"type": "refused", "message": visible(told.refusal)})
     return xml.tostring(top, encoding="utf-8", xml_declaration=True) + b"\n"
