@@ -2,106 +2,33 @@
 from __future__ import annotations
 
 import re
-from collections.abc import Iterator
-from dataclasses import dataclass
-from typing import Any
-
+from checking.arguments import never_taken
 from checking.prediction import unset
-from scenarios.devices import END, DeviceFound, Told
+from checking.sequence import names_of, out_of_order
+from checking.things import MADE_FROM, WANTED, Path, Thing, kind_given, kinds_of_marks, uses_of
+from scenarios.devices import CONTROLLERS, END, DeviceFound, Told
 from scenarios.findings import Finding, line_and_column
 from scenarios.json_text import Reader
 from scenarios.reading import DEPTH_OF_OPS, MOST_HANDLE_MARK, Op, ScenarioFound
 from shown import count, quoted, with_article
 
 MOST_WARNINGS = 100
-
-# what a name stands for by the op that gives it, and what is wanted in a field or as a part of one
-GIVEN = {
-    **{f"create_{it}": it for it in ("instance", "session", "action", "swapchain")},
-    **{"create_action_set": "action set", "create_reference_space": "space", "create_action_space": "space"},
-    **{"get_system": "system", "wait_frame": "time"},
-}
-WANTED = {
-    **{it: it for it in ("instance", "session", "space", "action", "system", "time")},
-    **{"base": "space", "set": "action set", "chain": "swapchain", "projection": "space", "quad": "space"},
-    **{"sets": "action set", "bindings": "action", "active": "action set", "image": "swapchain", "views": "swapchain"},
-}
-PARTS_OF_LAYERS = ("projection", "quad", "image", "views")
-
-# the field that names what a thing of a kind is made from
-MADE_FROM = {"session": "instance", "action set": "instance", "action": "set", "space": "session", "swapchain": "session"}
 ENDING = "end_session", "destroy_session", "destroy_instance"
-
-Path = tuple[Any, ...]
-
-
-@dataclass(eq=False)
-class Thing:
-    """What a name stands for: its kind where that is known, what it is made from, the op that destroys it, the op that begins
-    it where it is a session, and whether it goes from script to script."""
-
-    kind: str | None
-    parent: Thing | None = None
-    destroyed: str = ""
-    begun: Op | None = None
-    begun_at: int = 0
-    is_handed: bool = False
-
-    def gone(self) -> Thing | None:
-        """The thing whose end is its end too, if it has come to an end."""
-        return self if self.destroyed else self.parent.gone() if self.parent else None
-
-
-def uses_of(op: Op) -> Iterator[tuple[Path, str, str | None]]:
-    """The names that an op uses for what has a kind: where each stands in the op, and the kind that is wanted there. Of a list in a list the first
-    item is one."""
-    parts: list[tuple[Path, Any]] = []
-    for key, it in op.fields.items():
-        if key == "layers":
-            parts += [((key, at, part), layer[part]) for at, layer in enumerate(it) for part in PARTS_OF_LAYERS if part in layer]
-        elif key in WANTED or key == "value":
-            parts.append(((key,), it))
-    for path, value in parts:
-        items = [(path, value)]
-        if isinstance(value, list):
-            items = [((*path, at, 0), it[0]) if isinstance(it, list) else ((*path, at), it) for at, it in enumerate(value)]
-        yield from ((place, name, WANTED.get(path[-1])) for place, name in items if isinstance(name, str))
-
-
-def kinds_of_marks(scripts: list[list[Op]]) -> dict[int, set[str | None]]:
-    """The kinds of what the scripts hand over by each mark. They follow from each other, so this goes on until they stay."""
-    known: dict[int, set[str | None]] = {}
-    for _ in range(MOST_HANDLE_MARK + 1):
-        found: dict[int, set[str | None]] = {}
-        for ops in scripts:
-            kinds: dict[str, str | None] = {}
-            for op in ops:
-                value = op.fields.get("value")
-                if op.name == "mark" and isinstance(value, str):
-                    found.setdefault(op.fields["mark"], set()).add(kinds.get(value))
-                if "as" in op.fields:
-                    kinds[op.fields["as"]] = kind_given(op, known)
-        if found == known:
-            break
-        known = found
-    return known
-
-
-def kind_given(op: Op, marks: dict[int, set[str | None]]) -> str | None:
-    """The kind of what an op gives, where there is one kind that it may be of."""
-    kinds = marks.get(op.fields["mark"], set()) if op.name == "await" else {GIVEN.get(op.name)}
-    return next(iter(kinds)) if len(kinds) == 1 else None
-
 
 class Lint:
     """Looks through the scripts, each with what its names stand for. `device` has the first line of the device's text for each mark that is set or
-    awaited; it is None where a text was given that can't be read, so that nobody knows what it sets."""
+    awaited; it is None where a text was given that can't be read, so that nobody knows what it sets. Nothing is said of the ops whose refusal is
+    `expected`, each a script and its place."""
 
-    def __init__(self, found: ScenarioFound, device: dict[tuple[str, int], Told] | None, has_device: bool) -> None:
-        self.found, self.device, self.has_device = found, device, has_device
+    def __init__(self, found: ScenarioFound, device: dict[tuple[str, int], Told] | None, has_device: bool, expected: set[tuple[int, int]]) -> None:
+        self.found, self.device, self.has_device, self.expected = found, device, has_device, expected
         self.warnings: dict[int, Finding] = {}
         self.more = 0
         self.kinds = kinds_of_marks(found.scripts)
+        every = [op for ops in found.scripts for op in ops]
+        # the marks that are set with a value, and whether any script attaches sets
+        self.valued = {op.fields["mark"] for op in every if op.name == "mark" and op.fields.get("value", 0) != 0}
+        self.attaches = any(op.name == "attach_sets" for op in every)
         self.setters: dict[int, list[tuple[int, int]]] = {}
         for number, ops in enumerate(found.scripts, 1):
             for place, op in enumerate(ops, 1):
@@ -110,6 +37,8 @@ class Lint:
 
     def warn(self, op: Op, place: int, words: str, path: Path) -> None:
         """Keeps a warning of an op, at a value in it."""
+        if (self.number, place) in self.expected:
+            return
         if len(self.warnings) == MOST_WARNINGS:
             self.more += 1
             return
@@ -135,21 +64,26 @@ class Lint:
             for path, name, kind in uses_of(op):
                 if name in self.names:
                     self.look_at_use(op, place, path, name, kind)
+            for path, words in (*never_taken(op, self.made), *out_of_order(op, place, self.named, self.attaches)):
+                self.warn(op, place, words, path)
             if op.name == "await":
                 self.look_at_await(op, place)
             self.follow(op, place)
             things += [self.names[op.fields["as"]]] if "as" in op.fields else []
         others_end = any(op.name in ENDING for other, ops in enumerate(self.found.scripts, 1) if other != number for op in ops)
         for thing in things:
-            if thing.begun and not thing.gone() and not (thing.is_handed and others_end):
-                words = f"{quoted(thing.begun.fields['session'])} is begun here, and nothing behind this op ends or destroys it"
+            has_end = thing.gone() or thing.is_handed and others_end
+            if thing.begun and not has_end and any(it.name.startswith("destroy_") for it in ops[thing.begun_at :]):
+                words = f"{quoted(thing.begun.fields['session'])} is begun here, and what is destroyed behind this op is something else"
                 self.warn(thing.begun, thing.begun_at, words, ("session",))
 
     def look_at_use(self, op: Op, place: int, path: Path, name: str, kind: str | None) -> None:
         """Whether a name may stand where it is used."""
         thing = self.names[name]
         gone = thing.gone()
-        if kind and thing.kind and thing.kind != kind:
+        if thing.is_none:
+            self.warn(op, place, f"{quoted(name)} stands for no handle: the mark that gave it is set without a value", path)
+        elif kind and thing.kind and thing.kind != kind:
             words = f"{quoted(name)} is {with_article(thing.kind)}, and {with_article(kind)} is wanted here"
             self.warn(op, place, words, path)
         elif gone and (name, gone.destroyed) not in self.said:
@@ -171,10 +105,18 @@ class Lint:
             words = f"mark {mark} is set by op {setters[0][1]} of this script alone, which stands behind this one"
         self.warn(op, place, words, ("mark",))
 
+    def named(self, name: object) -> Thing | None:
+        """What a name stands for."""
+        return self.names.get(name) if isinstance(name, str) else None
+
+    def made(self, name: object) -> Op | None:
+        """The op that made what a name stands for."""
+        thing = self.named(name)
+        return thing.made if thing else None
+
     def thing(self, op: Op, field: str) -> Thing | None:
         """What a field of an op names."""
-        name = op.fields.get(field)
-        return self.names.get(name) if isinstance(name, str) else None
+        return self.named(op.fields.get(field))
 
     def follow(self, op: Op, place: int) -> None:
         """What an op does to what its names stand for. A call with a handle of another kind is refused."""
@@ -187,10 +129,16 @@ class Lint:
                 used.begun, used.begun_at = (op, place) if op.name == "begin_session" else (None, 0)
             elif op.name == "mark":
                 used.is_handed = True
+        kind = kind_given(op, self.kinds)
+        parent = self.thing(op, MADE_FROM.get(kind or "", ""))
+        is_await = op.name == "await" and op.fields["mark"] <= MOST_HANDLE_MARK
+        is_none = is_await and op.fields["mark"] not in self.valued
+        new = Thing(kind, op, parent, is_handed=op.name == "await", is_none=is_none)
         if "as" in op.fields:
-            kind = kind_given(op, self.kinds)
-            parent = self.thing(op, MADE_FROM.get(kind or "", ""))
-            self.names[op.fields["as"]] = Thing(kind, parent, is_handed=op.name == "await")
+            self.names[op.fields["as"]] = new
+        for it in names_of(op) if parent else []:
+            if it not in parent.beside or parent.beside[it].gone():
+                parent.beside[it] = new
 
 
 def marks_of(device: DeviceFound) -> dict[tuple[str, int], Told]:
@@ -207,11 +155,34 @@ def marks_of(device: DeviceFound) -> dict[tuple[str, int], Told]:
         at = told.at + 1
 
 
-def lint(scenario: ScenarioFound, device: DeviceFound | None, is_known: bool) -> tuple[list[Finding], list[Finding]]:
-    """The warnings of a scenario, and those of a device's text, which are of an `await` of a mark that nobody sets before; `is_known` is false where
-    such a text was given and not read."""
+# the lines that connect a controller or tell of an input
+OF_INPUTS = re.compile(rf"\n(?:profile (?P<user>\S+) (?P<profile>\S+)|input (?P<at>/user(?:/hand)?/\w+)/input/(?P<entry>\S+) \S+){END}".encode())
+
+
+def inputs_lacking(device: DeviceFound) -> list[Finding]:
+    """The inputs that the controller which is connected there lacks, each once."""
+    connected: dict[str, str] = {}
+    found: dict[tuple[str, str, str], Finding] = {}
+    for line in OF_INPUTS.finditer(device.text):
+        user, profile, at, entry = (it.decode() if it else "" for it in line.group("user", "profile", "at", "entry"))
+        if user:
+            connected[user] = profile
+            continue
+        there = connected.get(at, "none")
+        if there == "none" or entry in CONTROLLERS.get((there, at), ((), ()))[0] or (there, at, entry) in found or len(found) == MOST_WARNINGS:
+            continue
+        number = device.text.count(b"\n", 0, line.start() + 1)
+        found[there, at, entry] = Finding(number, len("input ") + 1, f"{there}, which is connected at {at}, has no {entry}", [], True)
+    return [*found.values()]
+
+
+def lint(
+    scenario: ScenarioFound, device: DeviceFound | None, is_known: bool, expected: set[tuple[int, int]]
+) -> tuple[list[Finding], list[Finding]]:
+    """The warnings of a scenario, and those of a device's text, which are of an `await` of a mark that nobody sets before, and of inputs that nobody
+    has; `is_known` is false where such a text was given and not read."""
     marks = marks_of(device) if device else {}
-    looked = Lint(scenario, marks if is_known else None, device is not None)
+    looked = Lint(scenario, marks if is_known else None, device is not None, expected)
     warnings, found = looked.look(), []
     for (name, mark), told in sorted(marks.items(), key=lambda it: it[1].at):
         setter = marks.get(("mark", mark))
@@ -220,4 +191,4 @@ def lint(scenario: ScenarioFound, device: DeviceFound | None, is_known: bool) ->
             if setter:
                 words = f"mark {mark} is set by line {device.line_of(setter)} alone, which stands behind this one"
             found.append(Finding(device.line_of(told), len("await ") + 1, words, [], True))
-    return warnings, found
+    return warnings, found + (inputs_lacking(device) if device else [])

@@ -7,10 +7,11 @@ from dataclasses import replace
 from checking import prediction
 from checking.hanging import cannot_hang
 from checking.prediction import Answer
+from ends import Refused, shown
 from files import FileFault, text_of
-from scenarios.devices import MOST_TEXT, read_device
-from scenarios.reading import MOST_BYTES, read_scenario
-from scenarios.schema import Schema
+from scenarios.devices import FAILED_DEVICE, MOST_TEXT, NO_DEVICE, DeviceText, device_in, read_device
+from scenarios.reading import MOST_BYTES, Scripts, read_scenario
+from scenarios.schema import NoSchema, Schema
 from shown import clipped, visible
 
 STUCK = 7
@@ -25,6 +26,22 @@ def read(name: str, most: int) -> tuple[bytes, FileFault | None]:
         return text_of(name, most), None
     except FileFault as fault:
         return b"", fault
+
+
+def texts_of(name: str, device_name: str | None) -> Texts:
+    """The texts of these names, for a tool that makes their calls."""
+    try:
+        return Texts(name, device_name, Schema.of_file())
+    except NoSchema as e:
+        raise Refused(str(e)) from None
+
+
+def device_named(name: str | None) -> DeviceText:
+    """The device of a file, which may be one that can be opened and not read, as a folder is."""
+    text, fault = read(name, MOST_TEXT + 1) if name is not None else (b"", None)
+    if fault and fault.part != "read":
+        raise Refused(f"{shown(name or '')} can't be read: {fault.why}")
+    return FAILED_DEVICE if fault else device_in(text) if name is not None else NO_DEVICE
 
 
 class Texts:
@@ -48,6 +65,22 @@ class Texts:
         stem, _, ending = self.names[0].rpartition(".")
         name = f"{stem}.device" if stem and ending == "json" else ""
         return name if len(self.names) == 1 and os.path.isfile(name) else ""
+
+    @property
+    def told(self) -> list[str]:
+        """What the device tells, and what ends it early."""
+        return (FAILED_DEVICE if self.device_fault else device_in(self.events)).all
+
+    @property
+    def scripts(self) -> Scripts:
+        """The scripts of a scenario that is run."""
+        found = self.scenario
+        for name, fault in self.faults:
+            if fault is self.fault or fault.part != "read":
+                raise Refused(f"{shown(name)} can't be read: {fault.why}")
+        if found is None or found.refusal is not None:
+            raise Refused(f"{shown(self.names[0])} is no scenario: {found.refusal if found else ''}; tools/check says more")
+        return found.scripts
 
     def answer(self) -> Answer | None:
         """What the program answers, where that can be told: of a pipe that is to be read once only it can't."""

@@ -6,9 +6,10 @@ from collections import Counter
 
 from drawing import text
 from drawing.chart import SHAPES, kind_of, state_bar
+from drawing.owners import OWNERS
 from drawing.replay import STATES, awaited, in_units, is_bad, is_fault, is_refused, mark_of, scripts_of
 from drawing.report import UNTOLD
-from drawing.scene import MEANINGS, Scene, faults_of, words_of
+from drawing.scene import MEANINGS, Scene, faults_of, places_of, words_of
 from drawing.text import counted, escaped
 from reports.reading import Call
 
@@ -29,6 +30,7 @@ MARK_ARROW = '<path class="mark-arrow{}" marker-end="url(#mark-head)" d="M-18 0H
 FRAME_ARROW = '<path class="frame-arrow" marker-end="url(#frame-head)" d="M-18 0H18"/>'
 STUCK = '<path class="stuck-back" d="M-19-6H19V6H-19Z"/><path class="stuck" d="M19-6H-19V6H19"/>'
 SUM = '<g class="sum"><rect class="shape" x="-19" y="-8" width="38" height="16" rx="4"/></g>'
+OWNER = '<g class="owner"><rect class="shape o-{}" x="-19" y="-5" width="38" height="11" rx="2"/></g>'
 MOST_ROWS = 20_000
 ROWS_IN_A_PART = 500
 ROW_HEIGHT = 26
@@ -120,7 +122,9 @@ def _signs(scene: Scene) -> list[str]:
         (any(column.is_bin for column in scene.columns), SUM, "many calls, summed up"),
     )
     shapes = [_item(f'<g class="{kind}">{SHAPES[kind]}</g>', 22, words) for kind, words in KINDS.items() if kind in kinds]
-    return shapes + [_item(inside, WIDE, words) for is_there, inside, words in signs if is_there]
+    owners = {it.owner for lane in scene.lanes if lane.chain for image in lane.chain.images for it in image}
+    bars = [_item(OWNER.format(it), WIDE, f"an image {words}") for it, words in OWNERS.items() if it in owners]
+    return shapes + [_item(inside, WIDE, words) for is_there, inside, words in signs if is_there] + bars
 
 
 def _states(scene: Scene) -> list[str]:
@@ -153,19 +157,24 @@ def _row(call: Call) -> str:
 
 
 def _all_calls(scene: Scene) -> list[Call]:
-    """All calls in the order of their places; a getter behind the counted call of its script that went before it."""
-    getters: dict[tuple[str, int], list[Call]] = {}
+    """All calls in the order of their places; a getter behind the publication that it read, and behind the call of its script before it."""
+    getters: dict[int, list[Call]] = {}
     for actor in scripts_of(scene.report):
-        last = 0
-        for call in scene.report.actors[actor]:
-            if call.is_counted:
-                last = call.place
-            else:
-                getters.setdefault((actor, last), []).append(call)
-    rows = [it for actor in scripts_of(scene.report) for it in getters.get((actor, 0), [])]
-    for call in scene.ordered:
-        rows += [call, *getters.get((call.who, call.place), [])]
-    return rows
+        for call, place in places_of(scene.report.actors[actor]):
+            if not call.is_counted:
+                getters.setdefault(place, []).append(call)
+    return [*getters.get(0, []), *(it for call in scene.ordered for it in (call, *getters.get(call.place, [])))]
+
+
+def _filter(rows: list[Call]) -> str:
+    """What rows and calls are looked for by; the page's script shows it."""
+    def choice(name: str, known: set[str]) -> str:
+        options = "".join(f"<option>{escaped(it)}" for it in sorted(known))
+        return f'<label>{name} <select name="{name}"><option value="">all{options}</select></label>'
+
+    choices = choice("actor", {it.who for it in rows}) + choice("op", {it.name for it in rows}) + choice("code", {it.code for it in rows} - {""})
+    search = '<label>search <input type="search" name="search"></label>'
+    return f'<form class="filter" aria-label="Filter" hidden>{choices}{search}<output name="shown"></output></form>'
 
 
 def _parts(rows: list[Call], words: str) -> str:
@@ -200,4 +209,4 @@ def table_of(scene: Scene) -> str:
     if bad:
         what = counted(len(bad), "refused call or fault", "refused calls and faults")
         parts += _parts(bad, f"Behind row {MOST_ROWS:,}: {{:,}} to {{:,}} of {what}")
-    return f'<section aria-label="All calls"><h2>All calls in order of place</h2>{said}{parts}</section>'
+    return f'<section aria-label="All calls"><h2>All calls in order of place</h2>{said}{_filter(rows)}{parts}</section>'

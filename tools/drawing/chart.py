@@ -5,8 +5,9 @@ from collections import Counter
 
 from drawing import text
 from drawing.columns import ASIDE, BIN_WIDTH, LEFT, Column, Piece
+from drawing.owners import OWNERS, Owners
 from drawing.replay import Arrow, Change, Session, Wait, in_units, is_bad, is_fault
-from drawing.scene import AXIS_HEIGHT, BOLD, CLOCK_HEIGHT, HEAD_HEIGHT, MORE_SIZE, NAME_SIZE, Lane, Node, Scene
+from drawing.scene import AXIS_HEIGHT, BOLD, CLOCK_HEIGHT, HEAD_HEIGHT, MORE_SIZE, NAME_SIZE, WHAT, Lane, Node, Scene
 from drawing.scene import faults_of, label_of, reach, said_of, way_of
 from drawing.text import escaped
 from reports.reading import Call
@@ -41,6 +42,8 @@ DEFS = """<defs>
  markerUnits="userSpaceOnUse" orient="auto"><path class="frame-head" d="M0 0L8 4L0 8Z"/></marker>
 </defs>"""
 NEAR_EDGE = 12
+MOST_TOLD = 8
+IMAGE_HEIGHT = 13
 PATTERNS = {"STOPPING": "stopping", "LOSS_PENDING": "loss", "EXITING": "exiting"}
 
 
@@ -207,14 +210,18 @@ class Chart:
         kind, said, label = kind_of(call), said_of(call), label_of(call)
         if len(node.calls) > 1:
             kind, label = "refused" if node.refused else kind, (f"{len(node.calls)} getters", "")
-            told = (f"{it.name} {it.code} {it.text}".strip() for it in node.calls[:8])
+            told = [f"{it.name} {it.code} {it.text}".strip() for it in node.calls[:MOST_TOLD]]
+            more = len(node.calls) - MOST_TOLD
+            told += [f"and {text.counted(more, 'getter')} more"] if more > 0 else []
             said = "\n".join((f"{text.counted(len(node.calls), 'getter')} of {lane.name}", *told))
         return group(f"call {kind}", self._x(node), lane.line, f"{titled(said)}{SHAPES[kind]}{slanted(label)}")
 
     def _sum(self, lane: Lane, node: Node, column: Column) -> str:
         """A block for many calls, with their number and how many were refused."""
         width, names, faults = BIN_WIDTH - 10, {call.name for call in node.calls}, faults_of(node.calls)
-        words = text.counted(len(node.calls) - len(faults), "call" if node.calls[0].code else "event")
+        are_frames = all(it.what == "frame" for it in node.calls)
+        what = "call" if node.calls[0].code else "frame" if are_frames else WHAT.get(lane.name, "event")
+        words = text.counted(len(node.calls) - len(faults), what)
         name = node.calls[0].name if len(names) == 1 else f"{len(names)} kinds"
         bad = [f"{node.refused:,} refused"] if node.refused else []
         bad += faults + ([f"{node.pending:,} loss pending"] if node.pending else [])
@@ -250,6 +257,20 @@ class Chart:
             out.append(group("state", x, lane.line, f"{titled(said)}{bar}{words}"))
         return out
 
+    def owners(self, lane: Lane, chain: Owners) -> list[str]:
+        """A bar for each time that an image of a swapchain is somebody's: one row an image."""
+        out = []
+        for image, owned in enumerate(chain.images):
+            ends = [it.place for it in owned[1:]] + [chain.end or len(self.scene.ordered) + 1]
+            for it, end in zip(owned, ends):
+                if it.owner and it.place <= self.piece.last and end >= self.piece.first and end > it.place:
+                    x, places = self.x_of(it.place), f"from place {it.place} {f'to {end}' if end <= len(self.scene.ordered) else 'on'}"
+                    said = titled(f"swapchain {chain.name} \u00b7 image {image}\n{OWNERS[it.owner]}, {places}")
+                    size = f'width="{num(max(self.x_of(end) - x, 2))}" height="{IMAGE_HEIGHT - 2}"'
+                    bar = f'<rect class="shape o-{it.owner}" {size} rx="2"/>'
+                    out.append(group("owner", x, lane.line - 24 + IMAGE_HEIGHT * image, f"{said}{bar}"))
+        return out
+
     def head(self) -> str:
         """The places and the clock."""
         shown = ((it.x, f"{it.first}\u2013{it.last}" if it.is_bin else it.first) for it in self.piece.columns)
@@ -262,6 +283,7 @@ class Chart:
         lines = "".join(f"M{num(column.x)} {HEAD_HEIGHT}V{num(self.scene.height)}" for column in self.piece.columns)
         backs += [f'<path class="grid" d="{lines}"/>'] if lines else []
         states = [it for lane in self.scene.lanes for session in lane.sessions for it in self.session(lane, session)]
+        states += [it for lane in self.scene.lanes if lane.chain for it in self.owners(lane, lane.chain)]
         nodes = [self.node(lane, node) for lane, nodes in self.nodes for node in nodes]
         return "\n".join([*backs, *self.waits(), *states, *self.arrows(), *nodes])
 

@@ -16,8 +16,8 @@ HERE = Path(__file__).parent
 XMLNS = 'xmlns="http://www.w3.org/2000/svg"'
 
 
-def _file(name: str) -> str:
-    return (HERE / name).read_text(encoding="utf-8").strip()
+def _file(*names: str) -> str:
+    return "\n".join((HERE / it).read_text(encoding="utf-8").strip() for it in names)
 
 
 def _steps(scene: Scene, piece: Piece) -> str:
@@ -108,7 +108,7 @@ def page(scene: Scene) -> str:
 <footer>{derived if scene.sessions else ''}</footer>
 <div id="tip" hidden></div>
 <script>
-{_file("page.js")}
+{_file("page.js", "filter.js")}
 </script>
 </body>
 </html>

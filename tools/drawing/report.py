@@ -4,8 +4,9 @@ from __future__ import annotations
 
 import re
 
+from drawing.owners import Owners, OwnersReplay
 from ends import Refused
-from judging.replay import NotLegal, judge, told_by
+from judging.replay import NotLegal, told_by
 from machine.answers import Answer
 from reports.reading import DEVICE, FIRST_LINE, WORDS, Call, NoReport, Report, check_ends, check_places, join, read_lines, text_of
 from scenarios.devices import DeviceText
@@ -148,15 +149,15 @@ def words_of(e: NotLegal) -> str:
     return f"call {call.number} of {call.who}, `{call.name}`, came to {told_by(call)}, which {whose} doesn't give"
 
 
-def join_scenario(report: Report, scripts: Scripts) -> None:
-    """Gives each call of a script its arguments, where the scenario is the report's, as far as that tells of the arguments. Of the device it
-    tells the events, the one that it waits for, and what ended it."""
+def join_scenario(report: Report, scripts: Scripts) -> list[Owners]:
+    """Gives each call of a script its arguments, where the scenario is the report's, as far as that tells of the arguments; and the owners of the
+    images of its swapchains. Of the device the report tells the events, the one that it waits for, and what ended it."""
     events = [told_by(it) for it in report.events] + [f"await {it.text}" for it in report.stuck if it.actor == DEVICE]
     last = report.device[-1] if report.device else Call("", DEVICE)
     device = DeviceText(events, last.values["line"] if last.what == "garbled" else None, has_failed=last.what == "fault")
     try:
         join(report, scripts)
-        judge(scripts, device, report)
+        return [*OwnersReplay(scripts, device, report).chains.values()]
     except NoReport as e:
         raise own_words(e) from None
     except NotLegal as e:

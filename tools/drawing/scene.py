@@ -1,11 +1,13 @@
 """All that a drawing of one run needs: its calls with what is said of them, its lanes, columns and pieces."""
 from __future__ import annotations
 
+from collections.abc import Iterator, Sequence
 from dataclasses import dataclass, field
 from math import cos, radians, sin
 
 from drawing import columns as cols
 from drawing import replay, text
+from drawing.owners import Owners
 from drawing.replay import is_fault, is_refused, scripts_of
 from reports.reading import COMPOSITOR, DEVICE, Call, Report
 from scenarios.reading import Scripts
@@ -14,6 +16,8 @@ SLANT = 40
 SIN, COS = sin(radians(SLANT)), cos(radians(SLANT))
 NAME_SIZE, MORE_SIZE, BOLD = 11.5, 10.5, 1.08
 MOST_SESSION_LANES = 6
+MOST_CHAIN_LANES = 6
+MOST_PATHS = 4
 AXIS_HEIGHT, CLOCK_HEIGHT = 24, 24
 HEAD_HEIGHT = AXIS_HEIGHT + CLOCK_HEIGHT
 
@@ -48,12 +52,13 @@ class Node:
 
 @dataclass
 class Lane:
-    """A row of the drawing: an actor's calls, or a session's states."""
+    """A row of the drawing: an actor's calls, a session's states, or whose a swapchain's images are."""
 
     name: str
     more: str
     nodes: list[Node] = field(default_factory=list)
     sessions: list[replay.Session] = field(default_factory=list)
+    chain: Owners | None = None
     top: float = 0
     line: float = 0
     height: float = 0
@@ -69,7 +74,7 @@ def label_of(call: Call) -> tuple[str, str]:
     elif name == "frame":
         return f"frame {call.number}", replay.in_units(call.values["time"])
     elif call.who in WHAT:
-        return text.cut(f"{name} {call.text}".strip(), 28), ""
+        return text.cut_inside(f"{name} {call.text}".strip(), 30), ""
     if call.code != "XR_SUCCESS":
         return name, call.code.removeprefix("XR_").removeprefix("ERROR_")
     if name == "wait_frame":
@@ -114,10 +119,18 @@ def said_of(call: Call) -> str:
     return "\n".join(line for line in (front, f"{call.name} {words_of(call)}".strip(), came, call.note) if line)
 
 
+def places_of(calls: list[Call]) -> Iterator[tuple[Call, int]]:
+    """The calls of an actor with the places that they stand at: a getter's is that of the publication that it read, or of the call before it."""
+    last = 0
+    for call in calls:
+        last = max(last, call.place)
+        yield call, last
+
+
 class Scene:
     """A run, laid out."""
 
-    def __init__(self, report: Report, scripts: Scripts | None, title: str) -> None:
+    def __init__(self, report: Report, scripts: Scripts | None, title: str, chains: Sequence[Owners] = ()) -> None:
         self.report, self.scripts, self.title = report, scripts, title
         self.ordered = report.ordered()
         self.sessions = replay.sessions_of(self.ordered)
@@ -127,11 +140,15 @@ class Scene:
         self.columns = cols.columns_of(self.ordered)
         self.index = cols.index_of(self.columns)
         self._note_calls()
+        self._note_paths()
         self.lanes = [self._lane(actor) for actor in (*scripts_of(report), DEVICE, COMPOSITOR)]
         if len(self.sessions) > MOST_SESSION_LANES:
             self.lanes.append(Lane("sessions", f"1 to {len(self.sessions):,}, derived", sessions=self.sessions))
         else:
             self.lanes += [Lane(f"session {it.ordinal}", "states, derived", sessions=[it]) for it in self.sessions]
+        shown = chains[:MOST_CHAIN_LANES]
+        more = f"swapchain, {f'first {len(shown)} of {len(chains)}, ' * (len(chains) > len(shown))}images derived"
+        self.lanes += [Lane(text.cut_inside(it.name, 12), more, chain=it) for it in shown]
         self.pieces = cols.pieces_of(self.columns, self._lines_of_labels())
         self.height = self._place_lanes()
 
@@ -148,15 +165,27 @@ class Scene:
                 since = f"waited from place {start:,}" if start else "waited from the start"
                 call.note = f"{since}; {call.note}" if call.note else since
 
+    def _note_paths(self) -> None:
+        """Says of each call that names atoms the paths that its script has them from."""
+        for calls in self.report.scripts:
+            named: dict[str, str] = {}
+            for call in calls:
+                paths = [f"{it} is {named[it]}" for it in text.names_in(call.arguments) if it in named]
+                more = len(paths) - MOST_PATHS
+                told = ", ".join(paths[:MOST_PATHS] + ([f"and {text.counted(more, 'path')} more"] if more > 0 else []))
+                call.note = "; ".join(filter(None, (call.note, told)))
+                given = call.arguments.get("as") if call.arguments else None
+                named.pop(given or "", None)
+                if given and call.name == "string_to_path":
+                    named[given] = call.arguments["text"]
+
     def _lane(self, actor: str) -> Lane:
         calls = self.report.actors[actor]
         refused, faults = sum(map(is_refused, calls)), faults_of(calls)
         more = [text.counted(len(calls) - len(faults), WHAT.get(actor, "call"))]
         lane = Lane(actor, ", ".join(more + ([f"{refused:,} refused"] if refused else []) + faults))
-        last = 0
-        for call in calls:
-            last = call.place if call.is_counted else last
-            column = self.index[last] if self.columns else 0
+        for call, place in places_of(calls):
+            column = self.index[place] if self.columns else 0
             is_aside = not call.is_counted and not (self.columns and self.columns[column].is_bin)
             node = lane.nodes[-1] if lane.nodes else None
             if node and (node.column, node.is_aside) == (column, is_aside):

@@ -3,8 +3,11 @@ from __future__ import annotations
 
 import json
 import re
+from collections.abc import Iterator
 from html import escape
 from typing import Any
+
+from machine.turns import USES
 
 MOST = 160
 _UNSEEN = re.compile("[\x00-\x1f\x7f-\x9f\xad\u061c\u200b-\u200f\u2028-\u202e\u2060-\u206f\ud800-\udfff\ufeff\ufff0-\uffff]")
@@ -25,6 +28,22 @@ def escaped(text: str) -> str:
 def cut(text: str, most: int = MOST) -> str:
     """The text, or its front and a sign that more follows."""
     return text if len(text) <= most else text[: most - 1] + "\u2026"
+
+
+def cut_inside(text: str, most: int) -> str:
+    """The text, or its front and its end with a sign that something is left out between them. Ends tell names apart."""
+    return text if len(text) <= most else f"{text[: most // 3]}\u2026{text[len(text) - most + most // 3 + 1 :]}"
+
+
+def names_in(args: dict[str, Any] | None) -> list[str]:
+    """The names of arguments in their order, each once, but for what the op itself names or writes."""
+    def strings(value: Any) -> Iterator[str]:
+        for it in value.values() if isinstance(value, dict) else value if isinstance(value, list) else ():
+            yield from strings(it)
+        if isinstance(value, str):
+            yield value
+
+    return list(dict.fromkeys(it for key, value in (args or {}).items() if key in USES for it in strings(value)))
 
 
 def width_of(text: str, size: float) -> float:

@@ -5,7 +5,7 @@ import xml.etree.ElementTree as xml
 from typing import NamedTuple
 
 from expecting.expectations import Wanted
-from expecting.running import Run
+from expecting.running import Run, why_illegal
 from expecting.words import differing
 from reports.reading import DEVICE, Call, Report, op_at
 from shown import listed, visible
@@ -126,6 +126,14 @@ def compare(found: list[Wanted], calls: dict[tuple[int, int], Wanted], run: Run)
     return sorted(looked, key=lambda it: it.line) + [look_at_status(status, run)]
 
 
+def look_at_threads(runs: int, name: str, run: Run, device: str | None) -> list[Looked]:
+    """Whether so many runs on threads end and are legal. Where the round robin is stuck nobody knows that one ends, and none is tried."""
+    if run.report is None or run.scripts is None or run.report.stuck:
+        return []
+    whys = (why_illegal(name, run.scripts, device) for _ in range(runs))
+    return [Looked(f"threads run {it}", 0, 0, not why, why or "legal", "a legal report") for it, why in enumerate(whys, 1)]
+
+
 # ---- how it is told
 
 
@@ -145,6 +153,11 @@ class Told(NamedTuple):
         return [it for it in self.looked if not it.holds]
 
     @property
+    def tests(self) -> int:
+        """How many things were looked at, of which a refusal is one."""
+        return len(self.looked) or 1
+
+    @property
     def summary(self) -> str:
         """A line that counts."""
         held = len(self.looked) - len(self.wrong)
@@ -152,32 +165,46 @@ class Told(NamedTuple):
         return f"{self.scenario}: {held} of {len(self.looked)} expectations hold; {how}"
 
 
-def tap(told: Told) -> list[str]:
-    """The Test Anything Protocol, version 13: a point for each thing that was looked at."""
-    lines = ["TAP version 13"]
-    if told.refusal:
-        return [*lines, f"Bail out! {told.refusal}"]
-    lines.append(f"1..{len(told.looked)}")
-    for number, it in enumerate(told.looked, 1):
-        lines.append(f"{'ok' if it.holds else 'not ok'} {number} - {it.name}")
-        if not it.holds:
-            parts = {"at": f"{told.file}:{it.line}:{it.column}", "op": it.op, "expected": it.expected, "came": it.came}
-            texts = {name: visible(text).replace("'", "''") for name, text in parts.items() if text}
-            lines += ["  ---", *(f"  {name}: '{text}'" for name, text in texts.items()), "  ..."]
-    return [*lines, f"# {told.summary}"]
+def point(number: int, name: str, told: Told, it: Looked) -> list[str]:
+    """A point of the Test Anything Protocol, with what came otherwise."""
+    if it.holds:
+        return [f"ok {number} - {name}"]
+    parts = {"at": f"{told.file}:{it.line}:{it.column}", "op": it.op, "expected": it.expected, "came": it.came}
+    texts = {name: visible(text).replace("'", "''") for name, text in parts.items() if text}
+    return [f"not ok {number} - {name}", "  ---", *(f"  {name}: '{text}'" for name, text in texts.items()), "  ..."]
 
 
-def junit(told: Told) -> bytes:
-    """A JUnit file of one suite, with a case for each thing that was looked at, or one error where nothing was compared."""
-    shown = {"tests": str(len(told.looked) or 1), "failures": str(len(told.wrong)), "errors": str(int(bool(told.refusal)))}
-    top = xml.Element("testsuites", shown)
-    suite = xml.SubElement(top, "testsuite", {"name": told.scenario, **shown})
-    for it in told.looked:
-        case = xml.SubElement(suite, "testcase", {"classname": told.scenario, "name": it.name})
-        if not it.holds:
-            message = visible(f"expected {it.expected}, came {it.came}")
-            xml.SubElement(case, "failure", {"type": "mismatch", "message": message}).text = visible(it.told(told.file))
-    if told.refusal:
-        case = xml.SubElement(suite, "testcase", {"classname": told.scenario, "name": "run"})
-        xml.SubElement(case, "error", {"type": "refused", "message": visible(told.refusal)})
+def tap(suite: list[Told], is_folder: bool) -> list[str]:
+    """The Test Anything Protocol, version 13: a point for each thing that was looked at. Where nothing was compared, one scenario bails out, and one
+    of a folder is a point."""
+    if not is_folder and suite[0].refusal:
+        return ["TAP version 13", f"Bail out! {suite[0].refusal}"]
+    lines, number = ["TAP version 13", f"1..{sum(it.tests for it in suite)}"], 0
+    for told in suite:
+        for number, it in enumerate(told.looked, number + 1):
+            lines += point(number, f"{told.scenario}: {it.name}" if is_folder else it.name, told, it)
+        if told.refusal:
+            number += 1
+            lines.append(f"not ok {number} - {told.scenario}")
+        lines.append(f"# {told.refusal or told.summary}")
+    return lines
+
+
+def junit(suite: list[Told]) -> bytes:
+    """A JUnit file of a suite for each scenario, with a case for each thing that was looked at, or one error where nothing was compared."""
+    def counts(found: list[Told]) -> dict[str, str]:
+        numbers = [(it.tests, len(it.wrong), bool(it.refusal)) for it in found]
+        return {name: str(sum(it)) for name, it in zip(("tests", "failures", "errors"), zip(*numbers))}
+
+    top = xml.Element("testsuites", counts(suite))
+    for told in suite:
+        element = xml.SubElement(top, "testsuite", {"name": told.scenario, **counts([told])})
+        for it in told.looked:
+            case = xml.SubElement(element, "testcase", {"classname": told.scenario, "name": it.name})
+            if not it.holds:
+                message = visible(f"expected {it.expected}, came {it.came}")
+                xml.SubElement(case, "failure", {"type": "mismatch", "message": message}).text = visible(it.told(told.file))
+        if told.refusal:
+            case = xml.SubElement(element, "testcase", {"classname": told.scenario, "name": "run"})
+            xml.SubElement(case, "error", {"type": "refused", "message": visible(told.refusal)})
     return xml.tostring(top, encoding="utf-8", xml_declaration=True) + b"\n"

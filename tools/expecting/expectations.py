@@ -3,7 +3,7 @@ from __future__ import annotations
 
 import re
 from collections.abc import Iterable
-from typing import NamedTuple
+from typing import Any, NamedTuple
 
 from expecting.words import Word, fits, words_of
 from reports.reading import MOST_SCRIPTS
@@ -13,7 +13,7 @@ from shown import listed, near_hint, visible
 
 # the statuses that a text can bring about
 STATUSES = ("0", "4", "5", "6", "7")
-FIRST_WORDS = ("frame", "frames", "ended", "device", "events", "stuck", "status")
+FIRST_WORDS = ("frame", "frames", "ended", "device", "events", "stuck", "status", "label")
 FORMS = {
     "frame": "frame N, and perhaps its time and layers as a report has them",
     "frames": "frames COUNT",
@@ -22,6 +22,7 @@ FORMS = {
     "events": "events COUNT",
     "stuck": "stuck thread SCRIPT OP NAME, stuck device await MARK, or stuck compositor next_frame",
     "status": "status S, where S is 0, 4, 5, 6 or 7, and perhaps the program's line behind `xrsim: `",
+    "label": "label WORD SCRIPT NAME, and perhaps which op of this name it is there, from 1",
     "call": "SCRIPT OP CODE, and perhaps the op's name before CODE and what it gives behind it",
 }
 _COUNT = re.compile(r"0|[1-9]\d{0,8}")
@@ -53,9 +54,10 @@ class WrongLine(Exception):
 
 
 class Wanted(NamedTuple):
-    """What a line expects: `what` is call, frame, frames, ended, event, events, garbled, fault, stuck or status. `number` is the first op, the
-    frame, the event, the count, the garbled line or the status. A range of ops has the last one too, and 0 where it goes to the script's end.
-    `words` are to be compared, for a call its code and what it gives, and `front` are the words before them."""
+    """What a line expects: `what` is call, frame, frames, ended, event, events, garbled, fault, stuck or status; or label, of which `number` says
+    which op of its name in the script it is. Else `number` is the first op, the frame, the event, the count, the garbled line or the status. A range
+    of ops has the last one too, and 0 where it goes to the script's end. `words` are to be compared, for a call its code and what it gives, and
+    `front` are the words before them. A call that is named by a label has it until the scenario is known."""
 
     what: str
     line: int
@@ -65,6 +67,7 @@ class Wanted(NamedTuple):
     script: int = 0
     last: int = 0
     name: str = ""
+    label: Wanted | None = None
 
     @property
     def column(self) -> int:
@@ -82,7 +85,8 @@ class Wanted(NamedTuple):
     @property
     def key(self) -> object:
         """What no two lines may have alike. Ranges are looked at with the scenario."""
-        numbers = {"call": ("range", self.line) if self.is_range else (self.script, self.number), "stuck": self.text}
+        is_whole = self.is_range or self.label
+        numbers = {"call": ("line", self.line) if is_whole else (self.script, self.number), "stuck": self.text, "label": self.front[-1].text}
         return self.what, numbers.get(self.what, self.number if self.what in ("frame", "event") else 0)
 
     @property
@@ -93,8 +97,8 @@ class Wanted(NamedTuple):
 class LineReader:
     """Reads the words of one line."""
 
-    def __init__(self, line: int, words: list[Word]) -> None:
-        self.line, self.words = line, words
+    def __init__(self, line: int, words: list[Word], labels: dict[str, Wanted]) -> None:
+        self.line, self.words, self.labels = line, words, labels
         self.texts = [it.text for it in words]
 
     def must(self, holds: object, at: int, why: str) -> None:
@@ -110,13 +114,18 @@ class LineReader:
         if not any(fits(word, it) for it in known):
             self.must(False, at, f"`{visible(word)}` is no {what}{near_hint(word, known, '`')}")
 
-    def wanted(self, what: str, behind: int, **more: int | str) -> Wanted:
-        return Wanted(what, self.line, self.words[:behind], self.words[behind:], **more)  # type: ignore[arg-type]
+    def wanted(self, what: str, behind: int, **more: Any) -> Wanted:
+        return Wanted(what, self.line, self.words[:behind], self.words[behind:], **more)
 
     def read(self) -> Wanted:
         what, second = self.texts[0], self.texts[1] if len(self.texts) > 1 else ""
         if what[0].isdigit():
             return self.call()
+        if what in self.labels:
+            label = self.labels[what]
+            return self.answered(1, script=label.script, name=label.name, label=label)
+        if what == "label":
+            return self.labelled(second)
         if what == "stuck":
             is_it = _STUCK.fullmatch(" ".join(self.texts[1:]))
             self.must(is_it, 1, f"who is stuck is due here, as a report has it: {FORMS['stuck']}")
@@ -131,7 +140,7 @@ class LineReader:
         elif what not in FIRST_WORDS:
             self.must(what != "thread", 0, "`thread` begins no line here: each call has its script before it, as `1 4 XR_SUCCESS`")
             otherwise = f": a script's number is due, or one of {listed(FIRST_WORDS)}"
-            self.must(False, 0, f"`{visible(what)}` begins no line{near_hint(what, FIRST_WORDS, '`', otherwise=otherwise)}")
+            self.must(False, 0, f"`{visible(what)}` begins no line{near_hint(what, (*FIRST_WORDS, *self.labels), '`', otherwise=otherwise)}")
         return self.plain(what, FORMS[self.texts[0]])
 
     def plain(self, what: str, form: str) -> Wanted:
@@ -156,10 +165,24 @@ class LineReader:
         name = third if re.fullmatch("[a-z_0-9]+", third) else ""
         if name:
             self.must_be(OPS, 2, "op")
-        at = 3 if name else 2
+        return self.answered(3 if name else 2, number=int(first), script=int(script), last=last, name=name)
+
+    def answered(self, at: int, **more: Any) -> Wanted:
+        """A call, whose code stands at this place."""
         self.must(at < len(self.words), at, f"a result is due here: {FORMS['call']}")
         self.must_be(CODES, at, "result")
-        return self.wanted("call", at, number=int(first), script=int(script), last=last, name=name)
+        return self.wanted("call", at, **more)
+
+    def labelled(self, label: str) -> Wanted:
+        """A word for an op of a script."""
+        script, name, which = (*self.texts[2:], "", "", "")[:3]
+        self.must(re.fullmatch("[a-z][a-z0-9_]*", label) and label not in FIRST_WORDS, 1, f"a word that begins no line is due here: {FORMS['label']}")
+        self.must(re.fullmatch(f"[1-{MOST_SCRIPTS}]", script), 2, f"a script's number is due here: {FORMS['label']}")
+        self.must(name, 3, f"an op's name is due here: {FORMS['label']}")
+        self.must_be(OPS, 3, "op")
+        self.must(not which or _COUNT.fullmatch(which) and which != "0", 4, f"a number from 1 on is due here: {FORMS['label']}")
+        self.must(len(self.words) <= 5, 5, f"nothing more is due here: {FORMS['label']}")
+        return Wanted("label", self.line, self.words[:2], self.words[2:], int(which or 1), int(script), name=name)
 
 
 def read_expectations(data: bytes) -> tuple[list[Wanted], list[Wrong]]:
@@ -172,25 +195,41 @@ def read_expectations(data: bytes) -> tuple[list[Wanted], list[Wrong]]:
     found: list[Wanted] = []
     wrong: list[Wrong] = []
     seen: dict[object, int] = {}
+    labels: dict[str, Wanted] = {}
     for number, line in enumerate(text.split("\n"), 1):
         try:
             words = words_of(line)
             if not words:
                 continue
-            wanted = LineReader(number, words).read()
+            wanted = LineReader(number, words, labels).read()
         except WrongLine as e:
             wrong.append(e.args[0])
             continue
         if seen.setdefault(wanted.key, number) != number:
             wrong.append(Wrong(number, wanted.column, f"the same is expected by line {seen[wanted.key]} already"))
-        found.append(wanted)
+        if wanted.what == "label":
+            labels[wanted.front[1].text] = wanted
+        else:
+            found.append(wanted)
     if not found and not wrong:
         wrong.append(Wrong(1, 1, "no line expects anything; tools/expect --write makes the lines from a run"))
     return found, wrong
 
 
+def unlabelled(wanted: Wanted, scripts: Scripts) -> Wanted:
+    """A call by its number, where its label is one of this scenario."""
+    label = wanted.label
+    ops = scripts[label.script - 1] if label and label.script <= len(scripts) else []
+    numbers = [at for at, op in enumerate(ops, 1) if label and op.name == label.name]
+    if not label or label.number > len(numbers):
+        return wanted
+    return wanted._replace(number=numbers[label.number - 1], last=numbers[label.number - 1], label=None)
+
+
 def wrong_ops(wanted: Wanted, scripts: Scripts) -> tuple[int, str] | None:
     """Which word of a call's line isn't of this scenario, from 0, and why, if one isn't."""
+    if wanted.label:
+        return 0, f"script {wanted.script} hasn't as many ops {wanted.name} as line {wanted.label.line} says"
     if wanted.script > len(scripts):
         return 0, f"the scenario has no script {wanted.script}: its last one is {len(scripts)}"
     ops = scripts[wanted.script - 1]
@@ -212,18 +251,27 @@ def ops_of(wanted: Wanted, scripts: Scripts) -> list[int]:
     return [it for it in numbers if wanted.name in ("", ops[it - 1].name if it <= len(ops) else "leave")]
 
 
+def refused_in(data: bytes, scripts: Scripts) -> set[tuple[int, int]]:
+    """The calls of which a file of expectations expects that they are refused, each by its script and its place; none where it is wrong."""
+    found, wrong = read_expectations(data)
+    calls, more = ({}, wrong) if wrong else calls_wanted(found, scripts)
+    return set() if more else {place for place, it in calls.items() if it.words[0].text.startswith("XR_ERROR_")}
+
+
 def calls_wanted(found: list[Wanted], scripts: Scripts) -> tuple[dict[tuple[int, int], Wanted], list[Wrong]]:
     """Which line each call is compared with. Two lines of one rank that have a call in common are wrong."""
     calls: dict[tuple[int, int], Wanted] = {}
     wrong: list[Wrong] = []
+    named = [unlabelled(it, scripts) for it in found if it.what == "call"]
     for rank in (0, 1, 2):
         here: dict[tuple[int, int], Wanted] = {}
-        for wanted in (it for it in found if it.what == "call" and it.rank == rank):
+        for wanted in (it for it in named if it.rank == rank):
             why = wrong_ops(wanted, scripts)
             places = [] if why else [(wanted.script, it) for it in ops_of(wanted, scripts)]
             twice = next((it for it in places if it in here), None)
             if twice:
-                why = 1, f"op {twice[1]} of script {twice[0]} is in the range of line {here[twice].line} already"
+                is_one = "in the range" if here[twice].is_range else "the op"
+                why = len(wanted.front) - 1 and 1, f"op {twice[1]} of script {twice[0]} is {is_one} of line {here[twice].line} already"
             elif places and all(it in calls for it in places):
                 why = 1, "nothing is left for this range: each call in it has a line that goes before it"
             if why:

@@ -10,7 +10,7 @@ from collections.abc import Container
 from dataclasses import dataclass, field
 from typing import NamedTuple
 
-from machine.answers import NO_HANDLE, Fields, due, live, refuse
+from machine.answers import NO_HANDLE, Fields, due, each, live, refuse
 
 MOST_CHAINS = 16
 MOST_SIDE = 8192
@@ -113,13 +113,17 @@ class Frames:
         return f"frame {frame.number} time {frame.time} layers {len(layers)}{''.join(layers)}"
 
 
+def is_within(part: list[int], most_x: int, most_y: int) -> bool:
+    """Whether a sub-image has a pixel, and all of them are of an image of this size."""
+    _, x, y, width, height = part
+    return 0 <= x < x + width <= most_x and 0 <= y < y + height <= most_y
+
+
 def image_shown(part: list[int], chains: dict[int, Chain]) -> Image:
     """The image that a sub-image is a part of, with at least a pixel: the one that its swapchain released last."""
-    handle, x, y, width, height = part
-    chain = live(chains, handle)
-    is_within = 0 <= x < x + width <= chain.width and 0 <= y < y + height <= chain.height
-    refuse(not is_within, "XR_ERROR_SWAPCHAIN_RECT_INVALID")
-    return handle, due(chain.last, "XR_ERROR_LAYER_INVALID")
+    chain = live(chains, part[0])
+    refuse(not is_within(part, chain.width, chain.height), "XR_ERROR_SWAPCHAIN_RECT_INVALID")
+    return part[0], due(chain.last, "XR_ERROR_LAYER_INVALID")
 
 
 def layers_of(time: int, blend: str, layers: list[Fields], spaces: Container[int], chains: dict[int, Chain]) -> list[Layer]:
@@ -127,12 +131,15 @@ def layers_of(time: int, blend: str, layers: list[Fields], spaces: Container[int
     refuse(time <= 0, "XR_ERROR_TIME_INVALID")
     refuse(blend != "opaque", "XR_ERROR_ENVIRONMENT_BLEND_MODE_UNSUPPORTED")
     refuse(len(layers) > MOST_LAYERS, "XR_ERROR_LAYER_LIMIT_EXCEEDED")
-    found = []
-    for layer in layers:
-        kind = "projection" if "projection" in layer else "quad"
-        parts: list[list[int]] = layer["views"] if kind == "projection" else [layer["image"]]
-        refuse(layer[kind] not in spaces, NO_HANDLE)
-        refuse(kind == "projection" and len(parts) != VIEWS, "XR_ERROR_VALIDATION_FAILURE")
-        found.append(Layer(kind, [image_shown(it, chains) for it in parts]))
-        refuse(kind == "quad" and layer["pose"] == 0, "XR_ERROR_POSE_INVALID")
-    return found
+    return each(layers, lambda it: layer_of(it, spaces, chains))
+
+
+def layer_of(layer: Fields, spaces: Container[int], chains: dict[int, Chain]) -> Layer:
+    """A layer by its images."""
+    kind = "projection" if "projection" in layer else "quad"
+    parts: list[list[int]] = layer["views"] if kind == "projection" else [layer["image"]]
+    refuse(layer[kind] not in spaces, NO_HANDLE)
+    refuse(kind == "projection" and len(parts) != VIEWS, "XR_ERROR_VALIDATION_FAILURE")
+    images = each(parts, lambda it: image_shown(it, chains))
+    refuse(kind == "quad" and layer["pose"] == 0, "XR_ERROR_POSE_INVALID")
+    return Layer(kind, images)

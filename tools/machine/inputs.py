@@ -7,7 +7,7 @@ from collections.abc import Iterable
 from dataclasses import dataclass, field
 from typing import NamedTuple
 
-from machine.answers import OUT_OF_MEMORY, due, refuse
+from machine.answers import OUT_OF_MEMORY, due, each, refuse
 from scenarios.devices import CONTROLLERS, POSES, USERS
 
 MOST_PATH = 255
@@ -171,9 +171,13 @@ class Suggestion(NamedTuple):
 def users_of(atoms: Atoms, subactions: list[int]) -> list[str]:
     """The user paths that an action declares by these atoms, each once."""
     users: list[str] = []
-    for user in map(atoms.known, subactions):
+
+    def declare(atom: int) -> None:
+        user = atoms.known(atom)
         refuse(user not in USERS or user in users, "XR_ERROR_PATH_UNSUPPORTED")
         users.append(user)
+
+    each(subactions, declare)
     return users
 
 

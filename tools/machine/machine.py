@@ -4,7 +4,9 @@ from __future__ import annotations
 from collections import deque
 from collections.abc import Callable
 
-from machine.answers import (LOSS_PENDING, NO_HANDLE, NOT_FOCUSED, OUT_OF_MEMORY, SUCCESS, Answer, Fields, HeldBack, Refused, due, live, refuse)
+from machine.answers import (
+    LOSS_PENDING, NO_HANDLE, NOT_FOCUSED, OUT_OF_MEMORY, SUCCESS, Answer, Fields, HeldBack, Refused, due, each, live, refuse
+)
 from machine.frames import FORMATS, IMAGES_OF_A_CHAIN, MOST_FRAMES, MOST_SIDE, MOST_TIME, Chain, Frames, Image, layers_of
 from machine.inputs import (
     INACTIVE, MOST_ACTIONS, MOST_SETS, MOST_SUGGESTED, MOST_SYNCED, Action, ActionSet, Atoms, Column, Device, Suggestion,
@@ -284,7 +286,7 @@ class ApplicationCalls(State):
         refuse(known not in PROFILES, "XR_ERROR_PATH_UNSUPPORTED")
         refuse(not bindings, "XR_ERROR_VALIDATION_FAILURE")
         refuse(len(bindings) > MOST_SUGGESTED, "XR_ERROR_LIMIT_REACHED")
-        found = [self.suggestion(known, action, path) for action, path in bindings]
+        found = each(bindings, lambda it: self.suggestion(known, *it))
         refuse(is_short, OUT_OF_MEMORY)
         self.suggestions[known] = found
 
@@ -298,7 +300,7 @@ class ApplicationCalls(State):
         found = self.usable_session(session)
         refuse(found.attached is not None, "XR_ERROR_ACTIONSETS_ALREADY_ATTACHED")
         refuse(not sets, "XR_ERROR_VALIDATION_FAILURE")
-        for it in [live(self.sets, handle) for handle in sets]:
+        for it in each(sets, lambda handle: live(self.sets, handle)):
             it.is_sealed = True
         found.attached = {*sets}
         return found.answer()
@@ -308,7 +310,7 @@ class ApplicationCalls(State):
     def sync_actions(self, session: int, active: list[list[int]]) -> Answer:
         found = self.usable_session(session)
         refuse(len(active) > MOST_SYNCED, "XR_ERROR_LIMIT_REACHED")
-        listed = {(handle, self.user_listed(found, handle, sub)) for handle, sub in active}
+        listed = {*each(active, lambda it: (it[0], self.user_listed(found, *it)))}
         if found.state != "FOCUSED":
             for action in self.actions.values():
                 action.deactivate()

@@ -1,7 +1,7 @@
 """A run of the machine whose report is kept, as the program prints it with places."""
 from __future__ import annotations
 
-from machine.turns import Turns, is_made
+from machine.turns import Turns
 from scenarios.devices import FAULT
 from scenarios.reading import Scripts
 
@@ -37,7 +37,5 @@ class Run(Turns):
 def in_rounds(scripts: Scripts, events: list[str]) -> list[str]:
     """The report of the round robin: a turn to each actor, round after round, until nobody can go on."""
     run = Run(scripts, events)
-    turns = run.turns()
-    while any([is_made(turn) for turn in turns]):
-        pass
+    run.in_rounds()
     return run.report()

@@ -32,6 +32,7 @@ class Script:
         self.made = self.clock = 0
         self.values: dict[str, int] = {}
         self.known: Fields | None = None
+        self.answer = Answer()
 
     @property
     def is_done(self) -> bool:
@@ -59,7 +60,7 @@ class Script:
         if op.name not in GETTERS:
             self.clock = clock
         self.made += 1
-        self.known = None
+        self.known, self.answer = None, answer
 
 
 class Turns:
@@ -109,6 +110,13 @@ class Turns:
     def turns(self) -> list[Callable[[], bool]]:
         """A turn for each actor, in the order of a round."""
         return [*(lambda script=it: self.call(script) for it in self.scripts), self.tell, self.compose]
+
+
+    def in_rounds(self) -> None:
+        """A turn to each actor, round after round, until nobody can go on."""
+        turns = self.turns()
+        while any([is_made(turn) for turn in turns]):
+            pass
 
 
 def is_made(turn: Callable[[], bool]) -> bool:

@@ -6,13 +6,11 @@ with what has to be said of them; and long ones. What differs is told, and the l
 from __future__ import annotations
 
 import json
-import os
 import re
 from pathlib import Path
 
-from helpers import Tally, main, places_of, rows_of, scenario_of, tool
+from helpers import EXAMPLES, Tally, main, places_of, rows_of, scenario_of, seconds_of, tool, with_device
 
-MOST_TRIES = 5
 EMPTY = scenario_of("")
 WARNING = re.compile(r"^(a\.\w+):([0-9]+):([0-9]+): warning: (.*)$", re.M)
 LOOKS = re.compile(r"^a\.(?:json|device):.*(?:looks like|encoding of single bytes, as) (UTF-16|a binary file|Latin-1)", re.M)
@@ -67,6 +65,17 @@ def suspicious(tally: Tally, program: str, room: Path) -> None:
         tally.check(is_good and is_quiet, f"--lint says {status} {shown!r} of {marked} {told!r}")
 
 
+def examples(tally: Tally, program: str, room: Path) -> None:
+    """No example is suspicious, and what its expectations don't expect to be refused is told."""
+    for file in sorted(EXAMPLES.glob("*.json")):
+        said = tool("check", ["--lint", *with_device(file)]).stdout.decode()
+        tally.check("warning: " not in said, f"{file.name}: {said!r}")
+    (room / "a.expect").write_text("1 2 XR_ERROR_API_VERSION_UNSUPPORTED\n1 3 XR_SUCCESS\n", encoding="utf-8")
+    _, said = checked(room, scenario_of("3 create_instance major=2 minor=0"), "-", "--lint")
+    (room / "a.expect").unlink()
+    tally.same([line for _, line, *_ in WARNING.findall(said)], ["1", "3"], "which refusals are told beside a file of expectations")
+
+
 def counts(tally: Tally, program: str, room: Path) -> None:
     """A mark is told once, and no more than a hundred warnings are."""
     _, said = checked(room, scenario_of("40000 await mark=1"), "-", "--lint")
@@ -97,28 +106,17 @@ def binaries(tally: Tally, program: str, room: Path) -> None:
         tally.same(LOOKS.findall(checked(room, None, None)[1]), [looks] * times, f"what is said of {text[:20]!r}")
 
 
-def seconds_of(room: Path, enough: float, scenario: str, device: str = "-") -> float:
-    """The processor time that the tool takes: that of the first of some tries that is little enough, or else of the last."""
-    for _ in range(MOST_TRIES):
-        before = sum(os.times()[2:4])
-        checked(room, scenario, device)
-        taken = sum(os.times()[2:4]) - before
-        if taken < enough:
-            break
-    return taken
-
-
 def times(tally: Tally, program: str, room: Path) -> None:
     """1 MiB of a scenario is read in less than a second, and 16 MiB of a device's text in less than two."""
     for start, ops in LONG_SCENARIOS:
         size = len(scenario_of(ops)) - len(EMPTY) + 3
         text = scenario_of(f"{start}; " + "; ".join([ops] * ((1_048_576 - 500) // size)))
-        taken = seconds_of(room, 1, text)
+        taken = seconds_of(lambda: checked(room, text), 1)
         tally.check(taken < 1, f"a scenario of {len(text)} bytes of {ops[:40]} takes {taken:.2f} s")
     for lines in LONG_DEVICES:
-        taken = seconds_of(room, 2, scenario_of("{INSTANCE}; {SESSION}"), lines * (16_777_216 // len(lines)))
+        taken = seconds_of(lambda: checked(room, scenario_of("{INSTANCE}; {SESSION}"), lines * (16_777_216 // len(lines))), 2)
         tally.check(taken < 2, f"a device's text of {lines!r} takes {taken:.2f} s")
 
 
 if __name__ == "__main__":
-    main("check", suspicious, counts, wrong, binaries, times)
+    main("check", suspicious, examples, counts, wrong, binaries, times)

@@ -21,6 +21,10 @@ READING = (
     ("check", "/dev/stdin"),
     ("run", "/dev/stdin"),
     ("orders", "/dev/stdin"),
+    ("why", "/dev/stdin"),
+    ("dump", "/dev/stdin"),
+    ("coverage", "/dev/stdin"),
+    ("reduce", "/dev/stdin --stuck -o {room}/less"),
     ("expect", "{life}"),
 )
 

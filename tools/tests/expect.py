@@ -6,19 +6,21 @@ from __future__ import annotations
 import os
 import random
 import re
-import time
+import signal
 from pathlib import Path
 
-from helpers import EXAMPLES, ROOT, Tally, fake_program, main, places_of, rows_of, scenario_of, sessions, spoilt_text, tool, with_device
+from helpers import EXAMPLES, ROOT, Tally, fake_program, main, places_of, rows_of, scenario_of, seconds_of, sessions, spoilt_text, tool, with_device
 
 from expecting.comparing import Looked, compare
 from expecting.expectations import calls_wanted, read_expectations
 from expecting.running import PROGRAM, Run, run_scenario
+from expecting.running import ran as ran_for
 from expecting.words import words_of
 from expecting.writing import written
 from reports.values import CODES
 
 MUTATIONS = 1500
+MOST_LINES = 100
 # so many lines take 2 s; a busy machine has three times as much
 MANY, LONGEST = 20_000, 6
 LIFE = with_device(EXAMPLES / "life.json")
@@ -56,9 +58,9 @@ def front_of(words: list[str]) -> int:
 
 
 def spoil(tally: Tally, name: str, run: Run, text: str) -> None:
-    """Each word of each line in another's place is told, by the place of that word where it says what is to come."""
+    """Each word in another's place is told, by the place of that word where it says what is to come: of each line, or of some of a long file."""
     lines = text.split("\n")
-    for number, line in enumerate(lines, 1):
+    for number, line in [*enumerate(lines, 1)][:: 1 + len(lines) // MOST_LINES]:
         words = words_of(line)
         for at, word in enumerate(words):
             if (word.text, at) == ("ended", 0):
@@ -128,9 +130,8 @@ def long(tally: Tally, program: str, room: Path) -> None:
     scenario = room / "long.json"
     scenario.write_text(scenario_of(f"{MANY} mark mark=1"), encoding="utf-8")
     tool("expect", [scenario, "--write"])
-    began = time.monotonic()
     ran = tool("expect", [scenario])
-    took = time.monotonic() - began
+    took = seconds_of(lambda: tool("expect", [scenario]), LONGEST)
     tally.check(ran.returncode == 0 and took < LONGEST, f"{MANY} lines take {took:.1f} s: {ran.stdout!r} {ran.stderr!r}")
 
 
@@ -149,6 +150,9 @@ def programs(tally: Tally, program: str, room: Path) -> None:
     given = fake_program(room, f"echo one >&2; echo two >&2; cat {EXAMPLES}/life.report")
     for closed in ("2>&-", "<&- 2>&-"):
         tally.ends(f"words of the program under {closed}", tool("expect", LIFE, shell=f'"$@" {closed}', **given), 0, "")
+    os.environ["XRSIM"] = fake_program(room, "exec sleep 60")["env"]["XRSIM"]
+    tally.same(ran_for(["threads"], 0.2)[0], -signal.SIGKILL, "a run that hangs")
+    os.environ["XRSIM"] = program
     tally.same(PROGRAM, str(ROOT / "xrsim"), "the program where no XRSIM names one")
 
 

@@ -20,6 +20,7 @@ TABLES = TOOLS / "tests/tables"
 sys.path.insert(1, str(TOOLS))
 MOST_SHOWN = 12
 LONGEST = 60
+LOOP, SECONDS_OF_LOOP = "for _ in range(5_000_000): pass", 0.2
 
 Ended = subprocess.CompletedProcess
 Ops = list[dict[str, Any]]
@@ -148,6 +149,33 @@ def run(words: list, text: bytes = b"", **more: Any) -> Ended:
 def tool(name: str, words: list, text: bytes = b"", shell: str = "", **more: Any) -> Ended:
     """Runs a tool, or a shell that has it as its arguments."""
     return run([*(["bash", "-c", shell, "bash"] if shell else []), sys.executable, TOOLS / name, *words], text, **more)
+
+
+# ---- time
+
+
+def used() -> float:
+    """The processor time of all that was run, in seconds."""
+    return sum(os.times()[2:4])
+
+
+def slowness() -> float:
+    """How much slower this machine is now than the one that limits of time are for, by a loop that takes that one so many seconds."""
+    before = used()
+    run([sys.executable, "-c", LOOP])
+    return max(1.0, (used() - before) / SECONDS_OF_LOOP)
+
+
+def seconds_of(work: Callable[[], object], enough: float, most_tries: int = 5) -> float:
+    """The processor time that what is run takes, on the machine that limits are for: that of the first of some tries that is little enough, or
+    else of the last."""
+    for _ in range(most_tries):
+        slow, before = slowness(), used()
+        work()
+        taken = (used() - before) / slow
+        if taken < enough:
+            break
+    return taken
 
 
 def with_device(scenario: Path) -> list[str]:

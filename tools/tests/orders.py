@@ -4,10 +4,9 @@ counts.
 from __future__ import annotations
 
 import random
-import time
 from pathlib import Path
 
-from helpers import EXAMPLES, Tally, main, rows_of, scenario_of, tool, with_device
+from helpers import EXAMPLES, Tally, main, rows_of, scenario_of, seconds_of, tool, with_device
 from runs import joined, judged, made_text, marks_by_chance
 
 from checking.orders import in_any_order
@@ -28,9 +27,9 @@ def scenarios(tally: Tally, program: str, room: Path) -> None:
 
 def speed(tally: Tally, program: str, room: Path) -> None:
     """So many orders of an example of fifty calls."""
-    began = time.monotonic()
-    ran = tool("orders", [*with_device(EXAMPLES / "threads.json"), "--runs", str(ORDERS)])
-    took = time.monotonic() - began
+    words = [*with_device(EXAMPLES / "threads.json"), "--runs", str(ORDERS)]
+    ran = tool("orders", words)
+    took = seconds_of(lambda: tool("orders", words), LONGEST)
     tally.check(b"op 5 locate_space" in ran.stdout and took < LONGEST, f"{ORDERS} orders take {took:.1f} s: {ran.stdout!r}")
 
 

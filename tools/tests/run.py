@@ -8,11 +8,10 @@ What differs is told, and the last line counts.
 from __future__ import annotations
 
 import sys
-import time
 from concurrent.futures import ThreadPoolExecutor
 from pathlib import Path
 
-from helpers import CASES, EXAMPLES, Ended, Tally, main, rows_of, run, tool, with_device
+from helpers import CASES, EXAMPLES, Ended, Tally, main, rows_of, run, seconds_of, tool, with_device
 from runs import content, in_rounds, lines_of, made_text, spoilt_by_chance
 
 import by_chance
@@ -53,9 +52,8 @@ def by_words(tally: Tally, program: str, room: Path) -> None:
             tally.check(is_said, f"tools/run {' '.join(words)} says that a report isn't proved: {own.stderr!r}")
     for words, status, said in rows_of("run_words"):
         tally.ends(f"run {words}", tool("run", words.split(), cwd=EXAMPLES), status, said)
-    began = time.monotonic()
-    tool("run", with_device(EXAMPLES / "life.json"))
-    tally.check(time.monotonic() - began < LONGEST, f"tools/run takes {time.monotonic() - began:.1f} s for an example")
+    took = seconds_of(lambda: tool("run", with_device(EXAMPLES / "life.json")), LONGEST)
+    tally.check(took < LONGEST, f"tools/run takes {took:.1f} s for an example")
 
 
 def chance(tally: Tally, program: str, room: Path) -> None:

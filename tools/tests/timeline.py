@@ -5,10 +5,12 @@ line counts.
 """
 from __future__ import annotations
 
+import json
 import math
 import os
 import random
 import re
+import shutil
 import xml.etree.ElementTree as xml
 from collections.abc import Callable
 from itertools import combinations
@@ -75,6 +77,10 @@ def check_page(tally: Tally, name: str, html: str, report: bytes) -> None:
         for it in (r" @\d+$", r"^\d+ get_(?!system).* @", r"^\d+ await .*@", "^frame ", " XR_ERROR_.* @", "^(?:fault|garbled)")
     )
     tally.check(not EXTERNAL.search(html), f"{name}: a reference outside the page")
+    last = 0
+    for bracket, place in re.findall(r"<tr[^>]*><td class=n>(\(?)(\d+)", html):
+        tally.check(int(place) <= last if bracket else int(place) == last + 1, f"{name}: row {bracket}{place} stands behind {last}")
+        last = last if bracket else int(place)
     roots = [it for it in svgs_of(html) if it.get("class") == "timeline"]
     lanes = [f"script {it}" for it in re.findall(r"^thread (\d)$", text, re.M)] + ["device", "compositor"]
     tally.same(re.findall(r'class="lane-name"[^>]*>([^<]*)<', html)[: len(lanes)], lanes, f"{name}: its lanes")
@@ -246,6 +252,54 @@ def pieces(tally: Tally, program: str, room: Path) -> None:
     tally.same(drawn, (60 + 2, 183), "pieces: arrows and calls")  # two more are in the legend
 
 
+def filters(tally: Tally, program: str, room: Path) -> None:
+    """A filter leaves the rows and the calls that have an actor, an op, a code and some words."""
+    html = (room / "handover.html").read_text(encoding="utf-8")
+    rows = [re.findall(r"<td(?: class=n)?>([^<]*)", it) for it in re.findall(r"<tr(?: class=.)?>(<td.*)", html)]
+    labels = [title_of(it).replace("\n", ". ") for it in having([it for it in svgs_of(html) if it.get("class") == "timeline"], "call")]
+    for name in ("script 2", "poll_event", "XR_EVENT_UNAVAILABLE"):
+        tally.check(f"<option>{name}" in html, f"the filter has no {name}")
+    if not shutil.which("node"):
+        return print("timeline: skipped: no node, so no filter was tried")
+    for actor, op, code, search, due, calls in rows_of("filters", 6):
+        chosen = {"actor": actor.strip("-"), "op": op.strip("-"), "code": code.strip("-"), "search": search.strip("-")}
+        given = json.dumps({"rows": rows, "labels": labels, "chosen": chosen}).encode()
+        ran = run(["node", TABLES / "filtering.js", TOOLS / "drawing/filter.js"], given)
+        left = json.loads(ran.stdout or b"{}")
+        tally.same((len(left.get("rows", "")), len(left.get("calls", ""))), (int(due), int(calls)), f"{chosen}: rows and calls {ran.stderr[:300]!r}")
+        tally.same((left.get("told"), left.get("hidden")), (f"{due} of {len(rows)} rows", False), f"{chosen}: what is told")
+    return None
+
+
+def owners(tally: Tally, program: str, room: Path) -> None:
+    """An image is the application's from a wait that succeeded to its release or the end of its swapchain, and the compositor's from the end of a
+    frame on; no two owners have it at once, and each is drawn."""
+    drawn = 0
+    for text in (it for it, _, stored in stored_runs() if b" acquire_image " in stored and len(stored) < 20_000):
+        report = read_report(joined(in_rounds(text)))
+        chains = join_scenario(report, text.scripts)
+        named = {it.place: it.name for it in report.ordered()}
+        made = sum(it.name == "create_swapchain" and it.is_met for it in report.ordered())
+        tally.same(len(chains), made, f"{text.name}: its swapchains")
+        for chain in chains:
+            for image in chain.images:
+                places = [it.place for it in image]
+                tally.same(places, sorted(set(places)), f"{text.name}: the changes of an image of {chain.name}")
+                for one, other in zip(image, image[1:] + [None]):
+                    begins = {"application": ("wait_image",), "compositor": ("end_frame",)}.get(one.owner, (named.get(one.place),))
+                    tally.check(named.get(one.place) in begins, f"{text.name}: {one} begins at {named.get(one.place)}")
+                    is_released = other is None or one.owner != "application" or named[other.place] == "release_image"
+                    tally.check(is_released, f"{text.name}: {one} ends at {other}")
+        scene = Scene(report, text.scripts, text.name, chains)
+        bars = [it for it in having([it for it in svgs_of(page(scene)) if it.get("class") == "timeline"], "owner")]
+        drawn += len(bars)
+        tally.check(not chains or "swapchain" in page(scene), f"{text.name}: no lane of a swapchain")
+    tally.check(drawn > 50, f"only {drawn} bars of images are drawn")
+    titles = [title_of(it) for it in having(svgs_of((room / "images.html").read_text(encoding="utf-8")), "owner")]
+    wanted = "swapchain world \u00b7 image 0\nis the application's, which waited for it, from place 12 to 14"
+    tally.check(wanted in titles, f"images: {titles}")
+
+
 def one_script(calls: list[str], end: str = "status 0") -> bytes:
     """The report of one script with these calls, whose device ends so."""
     lines = "\n".join(f"{i} {it} @{i}" for i, it in enumerate([*calls, "leave XR_SUCCESS"], 1))
@@ -268,7 +322,7 @@ def long_runs(tally: Tally, program: str, room: Path) -> None:
 
 def node_count(node: xml.Element) -> int:
     """How many calls a drawn node stands for."""
-    found = re.search(r"\n([\d,]+) (?:call|event)s?(?:,|\n)", title_of(node))
+    found = re.search(r"\n([\d,]+) (?:call|event|frame|turn)s?(?:,|\n)", title_of(node))
     return int(found[1].replace(",", "")) if "sum" in node.get("class", "").split() else 1
 
 
@@ -383,5 +437,5 @@ def fuzz(tally: Tally, program: str, room: Path) -> None:
 
 
 if __name__ == "__main__":
-    trials = examples, pictures, held_back, by_hand, eight_stuck, pieces, long_runs, rows, colours, legend_states
+    trials = examples, pictures, filters, owners, held_back, by_hand, eight_stuck, pieces, long_runs, rows, colours, legend_states
     main("timeline", *trials, refuses, fuzz, browser)

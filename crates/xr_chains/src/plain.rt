@@ -31,7 +31,7 @@ impl Model for PlainCells {
 fn slot_of(image: Image) -> usize
     ensures { result ≡ slot_of image }
 {
-    3 * image.place as usize + image.index as usize
+    IMAGES * image.place as usize + image.index as usize
 }
 
 impl PlainCells {

@@ -9,10 +9,10 @@ use Rattle.xr_types.specs.declared.handles.Kind.TheVariants as kind
 use Rattle.xr_model.specs.machine.Handles.{Handles}
 use Rattle.xr_model.specs.machine.HandlePlaces.{place_among}
 use Rattle.xr_model.specs.machine.Publication.{SeenSession, first_seen, shown_of, columns_in, published_action, publication_of}
-use Rattle.xr_model.specs.machine.PublicationWords.{column_words, action_words, words}
+use Rattle.xr_model.specs.machine.PublicationWords.{column_words, action_words, row_words, words}
 use Rattle.xr_model.specs.machine.Sets.{Action}
 use Rattle.xr_model.specs.machine.State.{CoreState}
-use Rattle.xr_core.specs.inside.Viewing.{row_words, what_word, words_of_action, contents_words}
+use Rattle.xr_core.specs.inside.Viewing.{words_of_row, what_word, words_of_action, words_of_columns, contents_words}
 
 module _ {T : Type 0} (f : T → List ℕ) where
   -- one more of a list
@@ -44,24 +44,27 @@ row_in h columns action place d is within = rw is (by columns place within)
     by (x ∷ xs) zero within = refl
     by (x ∷ xs) (suc i) within = by xs i (omega (arith, within))
 
-pub two_more : (out rest : List ℕ) (a b : ℕ) → ((out ++ a ∷ []) ++ b ∷ []) ++ rest ≡ out ++ a ∷ b ∷ rest
-two_more out rest a b = append_assoc (out ++ a ∷ []) (b ∷ []) rest ∙ append_assoc out (a ∷ []) (b ∷ rest)
+pub two_more : (out : List ℕ) (a b : ℕ) → (out ++ a ∷ []) ++ b ∷ [] ≡ out ++ a ∷ b ∷ []
+two_more out a b = append_assoc out (a ∷ []) (b ∷ [])
 
 pub five_more : (out : List ℕ) (a b c d e : ℕ) → ((((out ++ a ∷ []) ++ b ∷ []) ++ c ∷ []) ++ d ∷ []) ++ e ∷ [] ≡ out ++ a ∷ b ∷ c ∷ d ∷ e ∷ []
 five_more out a b c d e =
-    ap (λ (l : List ℕ). (l ++ d ∷ []) ++ e ∷ []) (two_more out (c ∷ []) a b) ∙ append_assoc (out ++ a ∷ b ∷ c ∷ []) (d ∷ []) (e ∷ []) ∙ append_assoc out (a ∷ b ∷ c ∷ []) (d ∷ e ∷ [])
+    ap (λ (l : List ℕ). ((l ++ c ∷ []) ++ d ∷ []) ++ e ∷ []) (two_more out a b) ∙ ap (λ (l : List ℕ). (l ++ d ∷ []) ++ e ∷ []) (append_assoc out (a ∷ b ∷ []) (c ∷ [])) ∙ two_more (out ++ a ∷ b ∷ c ∷ []) d e
+    ∙ append_assoc out (a ∷ b ∷ c ∷ []) (d ∷ e ∷ [])
 
 -- ---- the words of what is published
 
-shown_words : (row : List Column) → flat_map column_words (map shown_of row) ≡ row_words row
+shown_words : (row : List Column) → flat_map column_words (map shown_of row) ≡ words_of_row row
 shown_words [] = refl
 shown_words (c ∷ row) = ap (λ (l : List ℕ). column_words (shown_of c) ++ l) (shown_words row)
 
-each_words : (session : Option SeenSession) (h : Handles) (columns : List (List Column)) (xs : List Action) → flat_map action_words (map (published_action session h columns) xs) ≡ flat_map (words_of_action session h columns) xs
+each_words : (session : Option SeenSession) (h : Handles) (columns : List (List Column)) (xs : List Action) → flat_map action_words (map (published_action session h columns) xs) ≡ flat_map (words_of_action session) xs
 each_words session h columns [] = refl
-each_words session h columns (x ∷ xs) =
-    ap (λ (l : List ℕ). (x.handle ∷ what_word session x ∷ l) ++ flat_map action_words (map (published_action session h columns) xs)) (shown_words (columns_in h columns x.handle))
-    ∙ ap (λ (l : List ℕ). words_of_action session h columns x ++ l) (each_words session h columns xs)
+each_words session h columns (x ∷ xs) = ap (λ (l : List ℕ). words_of_action session x ++ l) (each_words session h columns xs)
+
+each_row : (session : Option SeenSession) (h : Handles) (columns : List (List Column)) (xs : List Action) → flat_map row_words (map (published_action session h columns) xs) ≡ flat_map (words_of_columns h columns) xs
+each_row session h columns [] = refl
+each_row session h columns (x ∷ xs) = rw (shown_words (columns_in h columns x.handle), each_row session h columns xs) refl
 
 each_length : (session : Option SeenSession) (h : Handles) (columns : List (List Column)) (xs : List Action) → length (map (published_action session h columns) xs) ≡ length xs
 each_length session h columns [] = refl
@@ -69,4 +72,4 @@ each_length session h columns (x ∷ xs) = ap suc (each_length session h columns
 
 -- the number, and then what a core writes
 pub words_of_core : (s : CoreState) → words (publication_of s) ≡ s.published ∷ contents_words s
-words_of_core s = rw (each_words (first_seen s.sessions) s.handles s.columns s.inputs.actions, each_length (first_seen s.sessions) s.handles s.columns s.inputs.actions) refl
+words_of_core s = rw (each_words (first_seen s.sessions) s.handles s.columns s.inputs.actions, each_row (first_seen s.sessions) s.handles s.columns s.inputs.actions, each_length (first_seen s.sessions) s.handles s.columns s.inputs.actions) refl

@@ -6,7 +6,7 @@ ghost use Rattle.xr_types.specs.Device.{is_time};
 ghost use Rattle.xr_types.specs.Printed.{all_users};
 ghost use Rattle.xr_model.specs.machine.Publication.{shown_of, first_seen, is_attached, columns_in, atom_of_user, publication_of};
 ghost use Rattle.xr_model.specs.machine.PublicationWords.{bits, with_bit, type_number, column_words, words};
-ghost use Rattle.xr_core.specs.inside.Viewing.{row_words, words_of_action, session_words, contents_words};
+ghost use Rattle.xr_core.specs.inside.Viewing.{words_of_row, words_of_action, words_of_columns, session_words, contents_words};
 
 use crate::Core;
 use crate::parts::Parts;
@@ -58,7 +58,7 @@ fn push_column(out: &mut View, column: &Column)
 fn push_row(out: &mut View, row: &[Column; COLUMNS])
     requires room { length out.old + 12 ≤ MOST_WORDS }
     requires times { list_all (λ c. is_time c.time) row.now ≡ true }
-    ensures words { out.new ≡ out.old ++ row_words row.now }
+    ensures words { out.new ≡ out.old ++ words_of_row row.now }
     ensures few { length out.new ≤ length out.old + 12 }
 {
     for column in row {
@@ -93,7 +93,7 @@ impl Parts {
     #[tactic(auto, using(crate::proofs::Viewed::row_in))]
     fn push_columns(&self, out: &mut View, action: u64)
         requires room { length out.old + 12 ≤ MOST_WORDS }
-        ensures words { out.new ≡ out.old ++ row_words (columns_in self.now.handles self.now.columns action) }
+        ensures words { out.new ≡ out.old ++ words_of_row (columns_in self.now.handles self.now.columns action) }
         ensures few { length out.new ≤ length out.old + 12 }
     {
         if let Some(place) = self.handles.place_among(Kind::Action, action) {
@@ -101,28 +101,39 @@ impl Parts {
         }
     }
 
-    /// The words of an action.
+    /// The words of an action, but for its columns.
     #[tactic(auto, using(crate::proofs::Viewed::two_more))]
     fn push_action(&self, out: &mut View, action: &Action)
-        requires room { length out.old + 14 ≤ MOST_WORDS }
-        ensures words { out.new ≡ out.old ++ words_of_action (first_seen self.now.sessions) self.now.handles self.now.columns action.now }
-        ensures few { length out.new ≤ length out.old + 14 }
+        requires room { length out.old + 2 ≤ MOST_WORDS }
+        ensures words { out.new ≡ out.old ++ words_of_action (first_seen self.now.sessions) action.now }
+        ensures few { length out.new ≤ length out.old + 2 }
     {
         let attached = self.shows_set(action.set());
         let what = with_bit(bits(&action.declared()), attached) * 8 + type_number(action.kind());
         out.words.push(action.handle());
         out.words.push(what);
-        self.push_columns(out, action.handle());
     }
 
-    /// The words of all actions.
+    /// The words of all actions, but for their columns.
     #[tactic(auto, using(crate::proofs::Viewed::words_more))]
     fn push_actions(&self, out: &mut View)
-        requires room { length out.old + 14 * 64 ≤ MOST_WORDS }
-        ensures { out.new ≡ out.old ++ flat_map (words_of_action (first_seen self.now.sessions) self.now.handles self.now.columns) self.now.inputs.actions }
+        requires room { length out.old + 2 * 64 ≤ MOST_WORDS }
+        ensures words { out.new ≡ out.old ++ flat_map (words_of_action (first_seen self.now.sessions)) self.now.inputs.actions }
+        ensures few { length out.new ≤ length out.old + 2 * 64 }
     {
         for action in self.inputs.actions() {
             self.push_action(out, action);
+        }
+    }
+
+    /// The words of all actions' columns.
+    #[tactic(auto, using(crate::proofs::Viewed::words_more))]
+    fn push_rows(&self, out: &mut View)
+        requires room { length out.old + 12 * 64 ≤ MOST_WORDS }
+        ensures { out.new ≡ out.old ++ flat_map (words_of_columns self.now.handles self.now.columns) self.now.inputs.actions }
+    {
+        for action in self.inputs.actions() {
+            self.push_columns(out, action.handle());
         }
     }
 
@@ -176,6 +187,7 @@ impl Parts {
         self.push_session(out);
         self.push_atoms(out);
         self.push_actions(out);
+        self.push_rows(out);
     }
 }
 

@@ -11,7 +11,6 @@ use Rattle.xr_device.specs.Answers.{ReadsOn}
 use Rattle.xr_device.specs.Kinds.{Stored, of_list, TextReading, of_text}
 use Rattle.xr_device.specs.Prospect.{Prospect}
 use Rattle.xr_runtime.specs.declared.close.Closed.{Closed}
-use Rattle.xr_runtime.specs.Closing.{history_of}
 use Rattle.xr_threads.specs.declared.threads.Ended.{Ended}
 use Rattle.xr_threads.specs.Threads.{RanOnThreads}
 use Rattle.xr_drive.specs.Files.{FilesUnrun, FilesAnswer, ReadAlone, ReadBeside, DeviceClosed}
@@ -23,7 +22,7 @@ use Rattle.xr_runs.specs.Runs.{FailsBehind}
 
 -- how the lists of a run came, beside a device that was so before it and is so behind it
 abbrev CameFrom : Closed → Scenario → Prospect → Prospect → Lists → Type 0
-CameFrom c = CameSo (RanOnThreads (history_of c))
+CameFrom c = CameSo (RanOnThreads c)
 
 -- ---- beside no device's file
 

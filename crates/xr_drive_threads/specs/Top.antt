@@ -7,7 +7,6 @@ use Rattle.xr_types.specs.declared.status.Status.TheVariants.{Done, Usage, OpenF
 use Rattle.xr_model.specs.command_line.Words.{WordsForm, run, run_under}
 use Rattle.xr_model.specs.device_text.DeviceText.{DeviceStream}
 use Rattle.xr_runtime.specs.declared.close.Closed.{Closed}
-use Rattle.xr_runtime.specs.Closing.{history_of}
 use Rattle.xr_threads.specs.Threads.{RanOnThreads}
 use Rattle.xr_drive.specs.Run.{RunBy}
 use Rattle.xr_drive.specs.Top.{Outside, IsAnswer}
@@ -18,7 +17,7 @@ threads_form words = option_map run (run_under (codes "threads") (map string_byt
 
 -- The lists are those of a run on threads, of the one history for which this closed runtime stands.
 abbrev pub RanClosed : Option Closed → Scenario → Option DeviceStream → ℕ → Lists → Type 0
-RanClosed closed scenario told count lists = (c : Closed) × (closed ≡ Some c) × RanOnThreads (history_of c) scenario told count lists
+RanClosed closed scenario told count lists = (c : Closed) × (closed ≡ Some c) × RanOnThreads c scenario told count lists
 
 -- A runtime was closed where the scenario was run, none where it was not, and `Stuck` never comes; where memory was short either may be.
 abbrev pub IsClosedFor : Status → Option Closed → Type 0

@@ -13,7 +13,7 @@ use Rattle.xr_rule.specs.Plays.{Sees, DecidesBehind}
 
 -- the entry of a call of the seat's actor that is answered so
 abbrev pub noted_entry : Know → Call → Reply → Entry
-noted_entry k call reply = entry_of (actor_at (number_in k.own)) (call) reply
+noted_entry k call reply = entry_of (actor_at (number_in k.own)) call reply
 
 module _ {S : Type 0} where
   -- a holder whose slot is empty, since the value is with the caller

@@ -1,5 +1,5 @@
 -- The chains fit what is counted over every legal history, so calls on images are out of order where the counts say so.
-use Rattle.std.proofs.Common.{◌≡◌, ◌≢◌, ◌==◌, ◌&&◌, ◌||◌, ◌+◌, ◌-◌, ℕ, ℤ, zero, suc, Bool, true, false, not, List, [], ◌∷◌, ◌++◌, length, drop, replicate, Option, Some, None, option_map, refl, sym, ap, subst, ◌∙◌, arith, true≢false}
+use Rattle.std.proofs.Common.{◌≡◌, ◌≢◌, ◌==◌, ◌&&◌, ◌||◌, ◌+◌, ◌-◌, ◌%◌, ◌≤◌, ℕ, ℤ, zero, suc, Bool, true, false, not, List, [], ◌∷◌, ◌++◌, length, drop, replicate, Option, Some, None, option_map, refl, sym, ap, subst, ◌∙◌, arith, true≢false}
 use Rattle.std.specs.Prelude.{is_some, nat_lt, if◌then◌else◌}
 use Rattle.std.specs.List.{list_any}
 use Rattle.std.proofs.lemmas.Bool.Decides.{nat_tests}
@@ -9,7 +9,7 @@ use Rattle.xr_types.specs.declared.handles.TheConstants.{SWAPCHAINS}
 use Rattle.xr_types.specs.declared.device.DeviceEvent.{DeviceEvent}
 use Rattle.xr_types.specs.declared.device.DeviceEvent.TheVariants as event
 use Rattle.xr_types.specs.declared.handles.Kind.TheVariants as kind
-use Rattle.xr_model.specs.machine.Chains.{Chain, is_format, is_size, no_place, is_place_used, free_place, kept_place, new_chain, has_no_chain, is_chain, chain_at, with_chain, with_chain_at, left_in_place, left_in_places, acquiring, waiting, releasing, is_acquire_wrong, is_wait_wrong, is_paint_wrong}
+use Rattle.xr_model.specs.machine.Chains.{Chain, is_format, is_size, no_place, is_place_used, free_place, kept_place, new_chain, has_no_chain, is_chain, chain_at, with_chain, with_chain_at, left_in_place, left_in_places, oldest_of, index_behind, unless_acquired, acquiring, waiting, releasing, is_acquire_wrong, is_wait_wrong, is_paint_wrong}
 use Rattle.xr_types.specs.Frames.{PendingFrame}
 use Rattle.xr_model.specs.machine.Frames.{is_empty, one_if}
 use Rattle.xr_model.specs.machine.Handles.{Handles, no_handles, no_handle, no_room, has, is_live, was_given, with_handle, cleared, without, without_alone, destroyed_parents}
@@ -51,11 +51,64 @@ chain_sorts (ask.WaitImage chain timeout start) b e = (refl, e, refl)
 chain_sorts (ask.ReleaseImage chain) b e = (refl, refl, e)
 chain_sorts _ b e = (refl, refl, refl)
 
+-- the indices come in turn from 0 on; that of a static chain comes once
+abbrev pub turn_of : Bool → ℕ → ℕ
+turn_of true zero = 0
+turn_of true (suc k) = 1
+turn_of false k = k % 3
+
+-- so many indices, from this turn on
+abbrev pub turns : Bool → ℕ → ℕ → List ℕ
+turns fixed k zero = []
+turns fixed k (suc n) = turn_of fixed k ∷ turns fixed (k + 1) n
+
+-- an index that was released last is that of the turn before
+abbrev pub LastIs : Bool → Option ℕ → ℕ → Type 0
+LastIs fixed None releases = Unit {0}
+LastIs fixed (Some n) releases = (1 ≤ releases) × (n ≡ turn_of fixed (releases - 1))
+
+turn_more : (fixed : Bool) (k : ℕ) → index_behind fixed (turn_of fixed k) ≡ turn_of fixed (k + 1)
+turn_more true k = ap (λ (n : ℕ). turn_of true n) (one_more k)
+  where
+    one_more : (n : ℕ) → suc n ≡ n + 1
+    one_more n = omega arith
+turn_more false k = omega arith
+
+turns_more : (fixed : Bool) (k n : ℕ) → turns fixed k (n + 1) ≡ turns fixed k n ++ turn_of fixed (k + n) ∷ []
+turns_more fixed k zero = let same : k ≡ k + 0 = omega arith in ap (λ (i : ℕ). turn_of fixed i ∷ []) same
+turns_more fixed k (suc n) =
+    let more : suc n + 1 ≡ suc (n + 1) = omega arith in
+    let here : turns fixed k (suc n + 1) ≡ turn_of fixed k ∷ turns fixed (k + 1) (n + 1) = ap (λ (i : ℕ). turns fixed k i) more in
+    let next : (k + 1) + n ≡ k + suc n = omega arith in
+    here ∙ ap (λ (l : List ℕ). turn_of fixed k ∷ l) (turns_more fixed (k + 1) n ∙ ap (λ (i : ℕ). turns fixed (k + 1) n ++ turn_of fixed i ∷ []) next)
+
+last_kept : (fixed : Bool) (n : ℕ) (o : Option ℕ) (releases : ℕ) → LastIs fixed o releases → LastIs fixed (unless_acquired n o) releases
+last_kept fixed n None releases is = tt
+last_kept fixed n (Some last) releases is = by (last == n)
+  where
+    by : (b : Bool) → LastIs fixed (if b then None else Some last) releases
+    by true = tt
+    by false = is
+
+pub oldest_turn : (fixed : Bool) (xs : List ℕ) (k : ℕ) → is_empty xs ≡ false → xs ≡ turns fixed k (length xs) → (oldest_of xs ≡ turn_of fixed k) × (drop 1 xs ≡ turns fixed (k + 1) (length (drop 1 xs)))
+oldest_turn fixed [] k some is = absurd (true≢false some)
+oldest_turn fixed (x ∷ xs) k some is = (first x (turn_of fixed k) xs (turns fixed (k + 1) (length xs)) is, rest x (turn_of fixed k) xs (turns fixed (k + 1) (length xs)) is)
+  where
+    first : (a b : ℕ) (xs ys : List ℕ) → a ∷ xs ≡ b ∷ ys → a ≡ b
+    first a b xs ys same = cc
+
+    rest : (a b : ℕ) (xs ys : List ℕ) → a ∷ xs ≡ b ∷ ys → xs ≡ ys
+    rest a b xs ys same = cc
+
 pub record ChainFits (q : ℕ) (c : Chain) (past : List Decided) : Type 0 where
+  pub next : c.next ≡ turn_of c.is_static (on_chain is_acquire_image q past)
+  pub indices : c.acquired ≡ turns c.is_static (on_chain is_release_image q past) (length c.acquired)
+  pub last : LastIs c.is_static c.last (on_chain is_release_image q past)
   pub acquired : on_chain is_acquire_image q past ≡ on_chain is_release_image q past + length c.acquired
   pub waited : on_chain is_wait_image q past ≡ on_chain is_release_image q past + one_if c.has_waited
   pub some : c.has_waited ≡ true → is_empty c.acquired ≡ false
   pub static : is_static_chain q past ≡ c.is_static
+  pub once : c.is_static ≡ true → on_chain is_acquire_image q past ≤ 1
   pub first : c.is_static ≡ true → (c.next == 0) ≡ (on_chain is_acquire_image q past == 0)
 
 abbrev pub OptFits : ℕ → Option Chain → List Decided → Type 0
@@ -67,10 +120,14 @@ chain_aside q c t past aside fits =
     let two = neither_of (is_chain_call t.call && (t.is_done && (asked_chain t.call == q))) (creates_static q t) aside in
     let none = chain_sorts t.call (t.is_done && (asked_chain t.call == q)) two.0 in
     record {
+      next = rw none.0 fits.next;
+      indices = rw none.2 fits.indices;
+      last = rw none.2 fits.last;
       acquired = rw (none.0, none.2) fits.acquired;
       waited = rw (none.1, none.2) fits.waited;
       some = fits.some;
       static = rw two.1 fits.static;
+      once = λ is. rw none.0 (fits.once is);
       first = λ is. rw none.0 (fits.first is);
     }
 
@@ -135,7 +192,7 @@ changed_other f change h q apart (c ∷ cs) = by (is_chain h c) refl (is_chain q
     by false eb true ed more = rw ed refl
     by false eb false ed more = rw ed more
 
-abbrev has_chain : List Chain → ℕ → Bool
+abbrev pub has_chain : List Chain → ℕ → Bool
 has_chain chains q = list_any (λ c. c.handle == q) chains
 
 changed_absent : (f : Chain → Chain) → IsChange f → (h q : ℕ) (chains : List Chain) → has_chain (with_chain_at h f chains) q ≡ has_chain chains q
@@ -383,13 +440,21 @@ fits_created h chains session g format w k fixed d past nz new room known fits =
     own =
         let none = no_counts g past (fits.untouched g nz new) in
         record {
+          next = rw none.acquires (first_turn fixed);
+          indices = refl;
+          last = tt;
           acquired = rw (none.acquires, none.releases) refl;
           waited = rw (none.waits, none.releases) refl;
           some = λ is. absurd (true≢false (sym is));
           static = rw (itself g, none.static) (as_fixed fixed);
+          once = λ is. rw none.acquires (omega arith);
           first = λ is. rw none.acquires refl;
         }
       where
+        first_turn : (b : Bool) → 0 ≡ turn_of b 0
+        first_turn true = refl
+        first_turn false = refl
+
         as_fixed : (b : Bool) → (b && true) || false ≡ b
         as_fixed true = refl
         as_fixed false = refl
@@ -420,6 +485,17 @@ or_false : (a b : Bool) → a || b ≡ false → (a ≡ false) × (b ≡ false)
 or_false true b e = absurd (true≢false e)
 or_false false b e = (refl, e)
 
+-- a static chain is acquired where it never was
+once_more : (c : Chain) (n : ℕ) → c.is_static ≡ true → is_acquire_wrong (Some c) ≡ false → (c.next == 0) ≡ (n == 0) → n + 1 ≤ 1
+unfolding is_acquire_wrong
+once_more c n static free first =
+    let none : not (c.next == 0) ≡ false = rw static at free in
+    let zero_count = same_key n 0 (sym first ∙ not_false (c.next == 0) none) in
+    omega (arith, zero_count)
+
+less_one : (n : ℕ) → n ≡ (n + 1) - 1
+less_one n = omega arith
+
 not_zero_more : (n : ℕ) → (n + 1 == 0) ≡ false
 not_zero_more n = grind (arith, nat_tests)
 
@@ -430,10 +506,15 @@ module _ (q g : ℕ) (d : Did) (past : List Decided) where
       let acquired = fits.acquired in
       let more = length_more c.acquired c.next in
       record {
+        next = rw (itself q) (ap (λ (n : ℕ). index_behind c.is_static n) fits.next ∙ turn_more c.is_static (on_chain is_acquire_image q past));
+        indices = rw more (ap (λ (l : List ℕ). l ++ c.next ∷ []) fits.indices ∙ ap (λ (n : ℕ). turns c.is_static (on_chain is_release_image q past) (length c.acquired) ++ n ∷ []) (fits.next ∙ ap (λ (n : ℕ). turn_of c.is_static n) acquired)
+            ∙ sym (turns_more c.is_static (on_chain is_release_image q past) (length c.acquired)));
+        last = last_kept c.is_static c.next c.last (on_chain is_release_image q past) fits.last;
         acquired = rw (itself q) (omega (arith, acquired, more));
         waited = fits.waited;
         some = λ is. more_is_some c.acquired c.next;
         static = fits.static;
+        once = λ is. rw (itself q) (once_more c (on_chain is_acquire_image q past) is free (fits.first is));
         first = λ is. rw (is, itself q) (sym (not_zero_more (on_chain is_acquire_image q past)));
       }
 
@@ -443,7 +524,7 @@ module _ (q g : ℕ) (d : Did) (past : List Decided) where
   waits (Some c) timeout start free fits =
       let two = or_false (is_empty c.acquired) c.has_waited free in
       let waited : on_chain is_wait_image q past ≡ on_chain is_release_image q past + 0 = rw two.1 at fits.waited in
-      record { acquired = fits.acquired; waited = rw (itself q) (omega (arith, waited)); some = λ is. two.0; static = fits.static; first = fits.first }
+      record { next = fits.next; indices = fits.indices; last = fits.last; acquired = fits.acquired; waited = rw (itself q) (omega (arith, waited)); some = λ is. two.0; static = fits.static; once = fits.once; first = fits.first }
 
   releases : (o : Option Chain) → is_paint_wrong o ≡ false → Changes q releasing (record { call = ask.ReleaseImage q; is_done = true; given = g; did = d }) past o
   unfolding is_paint_wrong
@@ -453,11 +534,16 @@ module _ (q g : ℕ) (d : Did) (past : List Decided) where
       let waited : on_chain is_wait_image q past ≡ on_chain is_release_image q past + 1 = rw has at fits.waited in
       let acquired = fits.acquired in
       let less = one_less c.acquired (fits.some has) in
+      let turn = oldest_turn c.is_static c.acquired (on_chain is_release_image q past) (fits.some has) fits.indices in
       record {
+        next = fits.next;
+        indices = rw (itself q) turn.1;
+        last = rw (itself q) (omega arith, turn.0 ∙ ap (λ (n : ℕ). turn_of c.is_static n) (less_one (on_chain is_release_image q past)));
         acquired = rw (itself q) (omega (arith, acquired, less));
         waited = rw (itself q) (omega (arith, waited));
         some = λ is. absurd (true≢false (sym is));
         static = fits.static;
+        once = fits.once;
         first = fits.first;
       }
 
@@ -489,10 +575,10 @@ module _ (s : CoreState) (past : List Decided) (fits : ChainsFit s.handles s.cha
       done None free = rw (good, handles, chains) (fit free)
       done (Some loss) free = rw (success_still loss f.effect.code good, handles, chains) (fit free)
 
-given_nonzero : (n : ℕ) → n ≢ 0 → (n == 0) ≡ false
+pub given_nonzero : (n : ℕ) → n ≢ 0 → (n == 0) ≡ false
 given_nonzero n some = is_false (n == 0) (λ e. some (same_key n 0 e))
 
-new_given : (b : Bool) (h : Handles) (g : ℕ) → b ≡ true → IsGiven b h g → (g ≢ 0) × (was_given h g ≡ false)
+pub new_given : (b : Bool) (h : Handles) (g : ℕ) → b ≡ true → IsGiven b h g → (g ≢ 0) × (was_given h g ≡ false)
 new_given true h g e is = is
 new_given false h g e is = absurd (true≢false (sym e))
 

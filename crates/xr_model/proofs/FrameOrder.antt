@@ -120,10 +120,10 @@ pub record FramesFit (h : Handles) (l : FrameLoop) (past : List Decided) : Type 
   pub loops : (q : ℕ) → is_live h kind.Session q ≡ true → LoopFits q l past
 
 -- no handle is live that wasn't before, and none was taken back
-record Fewer (h h2 : Handles) : Type 0 where
-  row : length h2.sessions ≡ length h.sessions
-  live : (q : ℕ) → is_live h2 kind.Session q ≡ true → is_live h kind.Session q ≡ true
-  given : (q : ℕ) → was_given h2 q ≡ false → was_given h q ≡ false
+pub record Fewer (h h2 : Handles) : Type 0 where
+  pub row : length h2.sessions ≡ length h.sessions
+  pub live : (q : ℕ) → is_live h2 kind.Session q ≡ true → is_live h kind.Session q ≡ true
+  pub given : (q : ℕ) → was_given h2 q ≡ false → was_given h q ≡ false
 
 -- a call that touches no session and leaves the loop
 fits_aside : (h h2 : Handles) (l : FrameLoop) (t : Decided) (past : List Decided) → ((q : ℕ) → touches q t ≡ false) → Fewer h h2 → AreKnown h2 → FramesFit h l past → FramesFit h2 l (t ∷ past)
@@ -135,7 +135,7 @@ fits_aside h h2 l t past aside fewer known fits = record {
 }
 
 -- what isn't given isn't live
-live_given : (h : Handles) (q : ℕ) → AreKnown h → is_live h kind.Session q ≡ true → ((q == 0) ≡ false) × (was_given h q ≡ true)
+pub live_given : (h : Handles) (q : ℕ) → AreKnown h → is_live h kind.Session q ≡ true → ((q == 0) ≡ false) × (was_given h q ≡ true)
 live_given h q known live = by (q == 0) refl (was_given h q) refl live
   where
     by : (z : Bool) → (q == 0) ≡ z → (w : Bool) → was_given h q ≡ w → not z && has h.sessions q ≡ true → (z ≡ false) × (w ≡ true)
@@ -154,7 +154,7 @@ only_row (s ∷ []) p q one a b = by (s.handle == p) refl (s.handle == q) refl a
     by false ec d ed a b = absurd (true≢false (sym a))
 only_row (s ∷ t ∷ row) p q one a b = absurd (omega (arith, one))
 
-live_has : (h : Handles) (q : ℕ) → is_live h kind.Session q ≡ true → has h.sessions q ≡ true
+pub live_has : (h : Handles) (q : ℕ) → is_live h kind.Session q ≡ true → has h.sessions q ≡ true
 live_has h q live = by (q == 0) live
   where
     by : (z : Bool) → not z && has h.sessions q ≡ true → has h.sessions q ≡ true
@@ -213,7 +213,7 @@ module _ (s : CoreState) (reads : CellReads) (e : Entry) (other : is_session_cre
   given_before : (q : ℕ) → (e.given == q) || was_given s.handles q ≡ false → was_given s.handles q ≡ false
   given_before q new = (neither_of (e.given == q) (was_given s.handles q) new).1
 
-  fewer_step : Fewer s.handles (core_step s reads e).0.handles
+  pub fewer_step : Fewer s.handles (core_step s reads e).0.handles
   fewer_step = kept_by_step (λ h xs. Fewer s.handles h) s reads e (record {
     same = λ d c. fewer_same s.handles;
     instance = λ d c. record { row = refl; live = λ q live. live; given = given_before };
@@ -439,7 +439,7 @@ pub goes : (s : CoreState) (o : Option Refusal) (x : Effect) → o ≡ None → 
 goes s None x none = refl
 goes s (Some r) x none = cc
 
-nonzero : (n : ℕ) → n ≢ 0 → (n == 0) ≡ false
+pub nonzero : (n : ℕ) → n ≢ 0 → (n == 0) ≡ false
 nonzero n some = by (n == 0) refl
   where
     by : (b : Bool) → (n == 0) ≡ b → b ≡ false
@@ -490,7 +490,7 @@ pub fits_after : (s : State) (clocks : List ℤ) (past : List Decided) (es : Lis
 fits_after s clocks past [] legal fits = fits
 fits_after s clocks past (e ∷ es) legal fits = fits_after (step s e).0 (clocks_after clocks e (step s e).0) (decided s e ∷ past) es legal.3 (fits_step s e past legal.0 legal.2 fits)
 
-fits_opening : (settings : Settings) → FramesFit (opening settings).core.handles (opening settings).core.frames.frame_loop []
+pub fits_opening : (settings : Settings) → FramesFit (opening settings).core.handles (opening settings).core.frames.frame_loop []
 fits_opening settings = record {
   row = refl;
   known = known_opening settings;

@@ -34,7 +34,7 @@ use Rattle.xr_model.specs.laws.Soundness.{IsBelow, AreSound, StateIsSound, IsIdl
 
 -- ---- stamps that are set
 
-set_other : (xs : List ℕ) (k j v : ℕ) → (k == j) ≡ false → slice_get (slice_set xs k v) j ≡ slice_get xs j
+pub set_other : (xs : List ℕ) (k j v : ℕ) → (k == j) ≡ false → slice_get (slice_set xs k v) j ≡ slice_get xs j
 set_other [] k j v other = refl
 set_other (x ∷ xs) zero zero v other = absurd (true≢false other)
 set_other (x ∷ xs) zero (suc j) v other = refl

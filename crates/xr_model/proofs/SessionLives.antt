@@ -63,7 +63,7 @@ found_at handle k f named (z ∷ xs) = by (z.handle == handle) refl (z.handle ==
     by false eb false ec more = rw ec more
 
 -- each has changed
-found_each : (f : Life → Changed) (k : ℕ) (xs : List Session)
+pub found_each : (f : Life → Changed) (k : ℕ) (xs : List Session)
     → session_at (each_changed f xs) k ≡ option_map (λ x. with_life (f x.life).life x) (session_at xs k)
 found_each f k [] = refl
 found_each f k (z ∷ xs) = by (z.handle == k) (found_each f k xs)

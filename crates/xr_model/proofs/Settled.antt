@@ -24,14 +24,14 @@ use Rattle.xr_model.proofs.Settling.{no_row_fits}
 use Rattle.xr_model.proofs.SessionLives.{life_after, Follows, lived}
 
 -- no row fits this life
-abbrev HasSettled : Wish → Life → Type 0
+abbrev pub HasSettled : Wish → Life → Type 0
 HasSettled w life = next_state w life.exit life.state ≡ None
 
 abbrev AllSettled : Wish → List Session → Type 0
 AllSettled w xs = (session : ℕ) (x : Session) → session_at xs session ≡ Some x → HasSettled w x.life
 
 -- the wish after a request
-abbrev wish_after : Wish → Call → Wish
+abbrev pub wish_after : Wish → Call → Wish
 wish_after w (ask.Device (event.Wish wish)) = wish
 wish_after w _ = w
 
@@ -44,7 +44,7 @@ event_wish : (s : CoreState) (what : DeviceEvent) → (behind_event s what).devi
 event_wish s (event.Wish wish) = refl
 event_wish s _ = refl
 
-is_wish_after : (s : State) (e : Entry) → (step s e).0.core.device.wish ≡ wish_after s.core.device.wish e.call
+pub is_wish_after : (s : State) (e : Entry) → (step s e).0.core.device.wish ≡ wish_after s.core.device.wish e.call
 is_wish_after s e = by e.call
   where
     by : (r : Call) → (step s (record e { call = r })).0.core.device.wish ≡ wish_after s.core.device.wish r

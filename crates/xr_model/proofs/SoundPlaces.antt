@@ -8,7 +8,7 @@ use Rattle.xr_model.specs.machine.Frames.{is_empty}
 use Rattle.xr_model.specs.machine.Handles.{Handles}
 use Rattle.xr_model.proofs.Rows.{same_key, neither_of}
 use Rattle.xr_model.proofs.FrameOrder.{not_false}
-use Rattle.xr_model.specs.laws.Soundness.{head_or, IsRun, most_acquired, is_acquired, LastFits, is_live_in, PlaceIsSound}
+use Rattle.xr_model.specs.laws.Soundness.{IsRun, most_acquired, is_acquired, LastFits, is_live_in, PlaceIsSound}
 
 -- ---- indices
 

@@ -1,10 +1,10 @@
 -- What each entry makes of words and stamps.
-use Rattle.std.proofs.Common.{◌≡◌, ◌+◌, ◌*◌, ◌^◌, ◌≤◌, ◌==◌, ◌&&◌, ◌||◌, ◌⊎◌, inl, inr, ⊎_elim, ℕ, zero, suc, Bool, true, false, List, [], ◌∷◌, ◌++◌, length, refl, sym, ap, subst, ◌∙◌, arith, true≢false}
+use Rattle.std.proofs.Common.{◌≡◌, ◌+◌, ◌^◌, ◌≤◌, ◌==◌, ◌&&◌, ◌||◌, ◌⊎◌, inl, inr, ⊎_elim, ℕ, zero, suc, Bool, true, false, List, [], ◌∷◌, ◌++◌, length, refl, sym, ap, subst, ◌∙◌, arith, true≢false}
 use Rattle.std.specs.Prelude.{nat_le, nat_lt, if◌then◌else◌, replicate, slice_get, unwrap_or}
 use Rattle.std.proofs.lemmas.Bool.Decides.{nat_tests}
 use Rattle.xr_types.specs.declared.handles.TheConstants.{SWAPCHAINS}
 use Rattle.xr_types.specs.declared.frames.Image.{Image}
-use Rattle.xr_model.specs.machine.Images.{Stamped, slot_of, times_in, is_image, with_stamps}
+use Rattle.xr_model.specs.machine.Images.{Stamped, slot_of, image_count, times_in, is_image, with_stamps}
 use Rattle.xr_model.specs.machine.Calls.{Entry}
 use Rattle.xr_types.specs.declared.calls.Call.{Call}
 use Rattle.xr_types.specs.declared.calls.Call.TheVariants as ask
@@ -189,7 +189,7 @@ pub opening_word : (settings : Settings) (i : Image) → word_of (opening settin
 opening_word settings i = rw (none_had SWAPCHAINS i.place i.index) refl
 
 pub opening_stamp : (settings : Settings) (i : Image) → stamp_of (opening settings) i ≡ 0
-opening_stamp settings i = none_stamped (3 * SWAPCHAINS) (slot_of i)
+opening_stamp settings i = none_stamped image_count (slot_of i)
 
 -- ---- the laws
 

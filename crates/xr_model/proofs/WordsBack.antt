@@ -1,5 +1,5 @@
 -- The words of a publication read back.
-use Rattle.std.proofs.Common.{◌≡◌, ◌==◌, ◌+◌, ◌*◌, ◌/◌, ◌^◌, ◌<◌, ◌≤ℤ◌, ℕ, ℤ, pos, negsuc, zero, suc, Bool, true, false, List, [], ◌∷◌, refl, ap, ◌∙◌, arith, length, to_z-of_z}
+use Rattle.std.proofs.Common.{◌≡◌, ◌==◌, ◌+◌, ◌*◌, ◌/◌, ◌^◌, ◌<◌, ◌≤ℤ◌, ℕ, ℤ, pos, negsuc, zero, suc, Bool, true, false, List, [], ◌∷◌, refl, ap, ◌∙◌, arith, length, ◌++◌, to_z-of_z}
 use Rattle.std.specs.Prelude.{unsigned_abs, flat_map, All, FitsSigned}
 use Rattle.std.specs.Int.{w32, cast_unsigned}
 use Rattle.std.proofs.lemmas.Nat.{div-mul-add, mod-mul-add}
@@ -7,7 +7,7 @@ use Rattle.std.proofs.lemmas.List.{take_at, drop_at}
 use Rattle.xr_types.specs.declared.input.ActionType.{ActionType}
 use Rattle.xr_types.specs.declared.input.ActionType.TheVariants as type
 use Rattle.xr_model.specs.machine.Publication.{ShownColumn, PublishedAction, Publication}
-use Rattle.xr_model.specs.machine.PublicationWords.{bit, with_bit, bits, type_number, column_words, action_words, low_bit, bits_in, type_in, column_in, columns_in, action_in, actions_in}
+use Rattle.xr_model.specs.machine.PublicationWords.{bit, with_bit, bits, type_number, column_words, action_words, row_words, low_bit, bits_in, type_in, column_in, columns_in, action_in, actions_in, actions_of}
 use Rattle.xr_model.specs.machine.Reads.{reads}
 use Rattle.xr_model.specs.laws.WordLaws.{ColumnFits, ActionFits, WordsGiveBack, WordsAreRead}
 
@@ -93,11 +93,19 @@ action_back a fits = rw (
   columns_back 6 a.columns fits.columns fits.each,
 ) refl
 
-actions_back : (xs : List PublishedAction) → All ActionFits xs → actions_in (length xs) (flat_map action_words xs) ≡ xs
-actions_back [] each = refl
-actions_back (a ∷ xs) each =
-    let size : length (flat_map column_words a.columns) ≡ 12 = columns_size a.columns ∙ rw ((first_fits ActionFits a xs each).columns) refl in
-    rw (take_at (flat_map column_words a.columns) (flat_map action_words xs) 12 size, drop_at (flat_map column_words a.columns) (flat_map action_words xs) 12 size, action_back a (first_fits ActionFits a xs each), actions_back xs (rest_fits ActionFits a xs each)) refl
+actions_size : (xs : List PublishedAction) → length (flat_map action_words xs) ≡ 2 * length xs
+actions_size [] = refl
+actions_size (a ∷ xs) = rw (actions_size xs) (omega arith)
+
+-- whatever stands behind the words of the actions
+rows_back : (xs : List PublishedAction) (behind : List ℕ) → All ActionFits xs → actions_in (length xs) (flat_map action_words xs ++ behind) (flat_map row_words xs) ≡ xs
+rows_back [] behind each = refl
+rows_back (a ∷ xs) behind each =
+    let size : length (row_words a) ≡ 12 = columns_size a.columns ∙ rw ((first_fits ActionFits a xs each).columns) refl in
+    rw (take_at (row_words a) (flat_map row_words xs) 12 size, drop_at (row_words a) (flat_map row_words xs) 12 size, action_back a (first_fits ActionFits a xs each), rows_back xs behind (rest_fits ActionFits a xs each)) refl
+
+actions_back : (xs : List PublishedAction) → All ActionFits xs → actions_of (length xs) (flat_map action_words xs ++ flat_map row_words xs) ≡ xs
+actions_back xs each = rw (drop_at (flat_map action_words xs) (flat_map row_words xs) (2 * length xs) (actions_size xs)) (rows_back xs (flat_map row_words xs) each)
 
 pub words_give_back : WordsGiveBack
 words_give_back p fits =
@@ -106,8 +114,8 @@ words_give_back p fits =
       high (with_bit (length p.actions) p.loss.pending) p.loss.lost,
       low (length p.actions) p.loss.pending,
       high (length p.actions) p.loss.pending,
-      take_at p.atoms (flat_map action_words p.actions) 5 fits.atoms,
-      drop_at p.atoms (flat_map action_words p.actions) 5 fits.atoms,
+      take_at p.atoms (flat_map action_words p.actions ++ flat_map row_words p.actions) 5 fits.atoms,
+      drop_at p.atoms (flat_map action_words p.actions ++ flat_map row_words p.actions) 5 fits.atoms,
       actions_back p.actions fits.each,
     ) refl
 

@@ -31,8 +31,17 @@ ghost use Rattle.xr_model.specs.laws.RobinLaws.{TurnsGoRound, NobodyHasTwoTurns,
 ghost use Rattle.xr_model.specs.laws.ReportLaws.{ReportsTellTheCalls, ValuesTellWhatWasGiven, FrameLinesTellTheFrame, EventLinesTellTheEvent};
 
 mod cells;
+pub mod condition_laws;
+pub mod device_laws;
+pub mod frame_laws;
+pub mod getter_laws;
+pub mod image_laws;
 pub mod image_words;
+pub mod input_laws;
 mod machine;
+pub mod path_laws;
+pub mod space_laws;
+pub mod state_laws;
 
 pub use cells::Cells;
 pub use machine::Machine;

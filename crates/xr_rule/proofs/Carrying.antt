@@ -25,7 +25,8 @@ use Rattle.xr_model.specs.laws.ImageWordLaws.{Leaves}
 use Rattle.xr_model.proofs.FreeEntries.{free_is, free_leaves, carried}
 use Rattle.xr_rule.specs.View.{Know, number_in, calls_in}
 use Rattle.xr_rule.specs.Plays.{Sees}
-use Rattle.xr_rule.specs.Rule.{are_by_callers, Grew, state_at, MayDecide, MayNote}
+use Rattle.xr_model.specs.laws.MomentLaws.{are_by_callers}
+use Rattle.xr_rule.specs.Rule.{Grew, state_at, MayDecide, MayNote}
 
 -- ---- moments, one behind another
 

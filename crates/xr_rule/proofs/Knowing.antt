@@ -16,7 +16,8 @@ use Rattle.xr_model.proofs.GrowingHistories.{legal_grows, entries_are_by_actors}
 use Rattle.xr_model.proofs.Rows.{both_of}
 use Rattle.xr_rule.specs.Sums.{total}
 use Rattle.xr_rule.specs.View.{Own, Know, know, own_of, with_call, with_seen, is_of, owns, parts, numbers_from, all_numbers, spent_know, longer, know_after}
-use Rattle.xr_rule.specs.Rule.{are_by_callers, Knows, OneHistory, MayDecide, HasAll}
+use Rattle.xr_model.specs.laws.MomentLaws.{are_by_callers}
+use Rattle.xr_rule.specs.Rule.{Knows, OneHistory, MayDecide, HasAll}
 use Rattle.xr_rule.proofs.Histories.{IsBy, calls-mine, calls-other, calls-between}
 use Rattle.xr_rule.proofs.Prefixes.{prefix_self, prefix_more, prefix_trans, prefix_whole, prefix_length, longer_is}
 use Rattle.xr_rule.proofs.Sums.{at_in, at_one, at_append, empty_list, total-append, total-set, term_le, terms_le}

@@ -20,7 +20,8 @@ use Rattle.xr_model.proofs.FreeEntries.{told_as_unused}
 use Rattle.xr_model.proofs.CellsTold.{same_by}
 use Rattle.xr_model.proofs.WordSteps.{word_steps, stamp_steps, all_stamps}
 use Rattle.xr_rule.specs.View.{Own, Know, Hold, Turn, View, Idle, Waiting, Holding, view, know, know_of, turn_of, number_in, calls_in, out, has_ticket, with_call, history_with, know_after}
-use Rattle.xr_rule.specs.Rule.{are_by_callers, OneHistory, Tickets, HoldsIf, SlotStands, Grew, WordsSay, state_at, MayDecide, MayNote, FollowsRule, word_count}
+use Rattle.xr_model.specs.laws.MomentLaws.{are_by_callers}
+use Rattle.xr_rule.specs.Rule.{OneHistory, Tickets, HoldsIf, SlotStands, Grew, WordsSay, state_at, MayDecide, MayNote, FollowsRule, word_count}
 use Rattle.xr_rule.specs.Plays.{Sees, Decides, DecidesBehind, Serves}
 use Rattle.xr_rule.proofs.Sums.{at_in}
 use Rattle.xr_rule.proofs.Knowing.{history_decides}

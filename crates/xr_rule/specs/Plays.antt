@@ -12,12 +12,13 @@ use Rattle.xr_model.specs.machine.State.{CoreState, with_apps, opening}
 use Rattle.xr_model.specs.laws.Moments.{opening_moment, moment_after, IsLegalAt, exchange_at, actor_at, calls_by}
 use Rattle.xr_model.specs.laws.PublicationLaws.{none_is_by}
 use Rattle.xr_model.specs.laws.ImageWords.{stamp_of, stamp_after, are_free}
-use Rattle.xr_rule.specs.Rule.{are_by_callers, state_at}
+use Rattle.xr_model.specs.laws.MomentLaws.{are_by_callers}
+use Rattle.xr_rule.specs.Rule.{state_at}
 use Rattle.xr_rule.specs.View.{Know, Hold, View, Idle, Waiting, Holding, view, hold_from, number_in, calls_in, know_after}
 
--- What a look tells a seat of the history: it begins with what the seat has seen, what has come since is by others, it is legal, it
--- each entry is by one who may ask for it, it has just those calls of the seat's actor that the seat keeps, and fewer than 2^44 of its
--- calls were counted.
+-- What a look tells a seat of the history: it begins with what the seat has seen, what has come since is by others, it is legal, each
+-- entry is by one who may ask for it, it has just those calls of the seat's actor that the seat keeps, and fewer than 2^44 of its calls
+-- were counted.
 pub record Sees (k : Know) (look : List Entry) : Type 0 where
   pub more : List Entry
   pub is : k.seen ++ more ≡ look

@@ -1,16 +1,14 @@
 -- The rule of the table: there is one history; what each seat knows of it, the two words and the slot fit it.
-use Rattle.std.specs.Prelude.{◌≡◌, ◌≢◌, ℕ, ◌+◌, ◌*◌, ◌%◌, ◌^◌, ◌<◌, ◌≤◌, ◌⊎◌, Bool, true, false, List, [], ◌∷◌, ◌++◌, map, length, slice_index, Option, Some, IfSome}
-use Rattle.std.specs.List.{list_all}
+use Rattle.std.specs.Prelude.{◌≡◌, ◌≢◌, ℕ, ◌+◌, ◌%◌, ◌^◌, ◌<◌, ◌≤◌, ◌⊎◌, Bool, true, false, List, [], ◌∷◌, ◌++◌, map, length, slice_index, Option, Some, IfSome}
 use mathlib.Core.Option.{Option as Home, some}
 use mathlib.Core.List.{IsPrefix}
 use lib.ListN.{get_elem?}
 use Rattle.atomic_table.specs.Table.{State as Table}
 use Rattle.xr_types.specs.declared.frames.Image.{Image}
-use Rattle.xr_types.specs.declared.handles.TheConstants.{SWAPCHAINS}
 use Rattle.xr_model.specs.scenario.InRange.{Each}
 use Rattle.xr_model.specs.machine.CellCalls.{CellCall}
 use Rattle.xr_model.specs.machine.CoreCalls.{asked}
-use Rattle.xr_model.specs.machine.Images.{slot_of}
+use Rattle.xr_model.specs.machine.Images.{slot_of, image_count}
 use Rattle.xr_model.specs.machine.History.{StartsAt, clock_of}
 use Rattle.xr_model.specs.machine.Machine.{IsPresent, reads_of, cell_calls}
 use Rattle.xr_model.specs.machine.Calls.{Entry}
@@ -19,17 +17,13 @@ use Rattle.xr_model.specs.machine.State.{CoreState, State}
 use Rattle.xr_model.specs.laws.DecidedEntries.{is_image_done}
 use Rattle.xr_model.specs.laws.ImageLaws.{IsPlaced}
 use Rattle.xr_model.specs.laws.Moments.{opening_moment, moment_after, MayCome, IsLegalAt, actor_at, calls_by}
-use Rattle.xr_model.specs.laws.MomentLaws.{IsByActors}
+use Rattle.xr_model.specs.laws.MomentLaws.{IsByActors, are_by_callers}
 use Rattle.xr_model.specs.laws.FewCalls.{HasFew, MayAdd, how_many, tells_end}
 use Rattle.xr_model.specs.laws.ImageWords.{word_of, stamp_of, word_after, stamp_after, FitsCall, claimed_by, are_free, Claims, late_of}
 use Rattle.xr_rule.specs.Sums.{total}
 use Rattle.xr_rule.specs.View.{Own, Know, Hold, Turn, View, Idle, Waiting, Holding, know_of, turn_of, number_in, calls_in, owns, parts, out, has_ticket, is_holder}
 
 -- ---- one history
-
--- each of these was asked by one who may ask for it
-abbrev pub are_by_callers : List Entry → Bool
-are_by_callers es = list_all (λ e. is_by (asked e.actor e.call).caller e.actor) es
 
 -- What one seat knows: what it has seen is the history's front, each of its numbers has the calls that it keeps, and these are few.
 pub record Knows (apps : ℕ) (log : List Entry) (k : Know) : Type 0 where
@@ -87,9 +81,6 @@ pub record SlotStands {S : Type 0} (stands : S → CoreState → Type 0) (apps :
 -- ---- images
 
 -- The words: the two of tickets, then one for each image of each place, and then their stamps.
-abbrev pub image_count : ℕ
-image_count = 3 * SWAPCHAINS
-
 abbrev pub first_image : ℕ
 first_image = 2
 

@@ -1,4 +1,5 @@
-//! The rule over the words: a ticket lock around a machine's value, and one history of all calls, which the proofs alone keep.
+//! The rule over the words: a ticket lock around a machine's value, a word and a stamp for each image, and one history of all calls, which the
+//! proofs alone keep. It knows the calls on cells and the wait for an image; when a call is ready it knows by laws of the model alone.
 #![tactic(auto)]
 
 mod held;

@@ -9,22 +9,19 @@ use atomic_table::{Table, TableRule};
 use std::alloc::Global;
 use std::marker::PhantomData;
 use xr_model::Machine;
-use xr_types::{Image, SWAPCHAINS};
-
-/// How many images the places have.
-const IMAGES: usize = 3 * SWAPCHAINS;
+use xr_types::{IMAGES, Image, SWAPCHAINS};
 
 /// Where the images' words begin, behind the next ticket and the one that is served.
 const FIRST_IMAGE: usize = 2;
 
 /// Where their stamps begin.
-const FIRST_STAMP: usize = FIRST_IMAGE + IMAGES;
+const FIRST_STAMP: usize = FIRST_IMAGE + IMAGES * SWAPCHAINS;
 
 /// How many words there are.
-pub(crate) const WORDS: usize = FIRST_STAMP + IMAGES;
+pub(crate) const WORDS: usize = FIRST_STAMP + IMAGES * SWAPCHAINS;
 
-/// Where what stands among the words: 0 is the next ticket, 1 the ticket that is served; then come the words of the images, three for
-/// each place, and then their stamps.
+/// Where what stands among the words: 0 is the next ticket, 1 the ticket that is served; then come the words of the images of each place,
+/// and then their stamps.
 pub struct Layout;
 
 impl Layout {
@@ -40,7 +37,7 @@ impl Layout {
         requires { IsPlaced image }
         ensures { result ≡ image_word image }
     {
-        FIRST_IMAGE + 3 * image.place as usize + image.index as usize
+        FIRST_IMAGE + IMAGES * image.place as usize + image.index as usize
     }
 
     /// Where the stamp of an image stands.
@@ -48,7 +45,7 @@ impl Layout {
         requires { IsPlaced image }
         ensures { result ≡ stamp_word image }
     {
-        FIRST_STAMP + 3 * image.place as usize + image.index as usize
+        FIRST_STAMP + IMAGES * image.place as usize + image.index as usize
     }
 }
 

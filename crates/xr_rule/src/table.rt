@@ -36,14 +36,10 @@ impl<M: Machine + Drop> XrTable<M> {
         ensures key { IfOk result (λ r. r.0.table.shared.key ≡ apps) }
         ensures seats { IfOk result (λ r. AreFresh r.0.table.shared.table_id apps r.1.items) }
     {
-        let Ok(mut slots) = Vec::with_capacity(alloc, 1) else {
-            return Err(NoMemory);
-        };
+        let mut slots = Vec::with_capacity(alloc, 1)?;
         slots.push_reserved(Some(Held { value }));
         let count = apps as usize;
-        let Ok(mut seats) = Vec::with_capacity(alloc, count + 2) else {
-            return Err(NoMemory);
-        };
+        let mut seats = Vec::with_capacity(alloc, count + 2)?;
         let apps = apps as u64;
         let (table, root) = match Table::new(alloc, &[0; WORDS], slots, &apps) {
             Ok(made) => made,

@@ -1,6 +1,5 @@
 -- A core over a table's words: what it asks of them, and what its clause says of the seat.
 use Rattle.std.proofs.Common.{◌≡◌, ℕ, ℤ, Bool, true, false, List, [], ◌∷◌, length, sym, refl, ap, ◌∙◌, subst, Option, true≢false}
-use Rattle.atomic_table.specs.Table.{Me}
 use Rattle.xr_types.specs.declared.calls.Actor.{Actor}
 use Rattle.xr_types.specs.declared.calls.Call.{Call}
 use Rattle.xr_types.specs.declared.calls.Reply.{Reply}
@@ -17,30 +16,22 @@ use Rattle.xr_model.specs.machine.State.{CoreState, CellReads, WholeCore, with_a
 use Rattle.xr_model.specs.laws.Moments.{actor_at}
 use Rattle.xr_model.proofs.SoundImages.{sound_history}
 use Rattle.xr_model.specs.laws.ImageWords.{Claims, claimed_by, late_of}
-use Rattle.xr_rule.specs.View.{Know, Hold, View, Holding, view, number_in}
+use Rattle.xr_rule.specs.View.{Know, Hold, Holding, view, number_in}
 use Rattle.xr_rule.specs.Rule.{state_at, MayClaim}
-use Rattle.xr_rule.specs.declared.held.Held.{Held}
 use Rattle.xr_words.specs.declared.cells.TableCells.{TableCells}
-use Rattle.xr_words.specs.Table.{wait_entry, ClaimsIf, MayStep, MayTouch, MeMay, MeDoes, SeatDoes}
+use Rattle.xr_words.specs.Table.{wait_entry, ClaimsIf, MayStep, MeMay, MeDoes}
+use Rattle.xr_words.specs.Lending.{MayMakeOf, MakesOf}
 use Rattle.xr_words.specs.Lent.{own_entry, Tells}
 use Rattle.xr_words.proofs.Leading.{MeLeads}
 use Rattle.xr_words.proofs.Lending.{leads_me, may_apply}
 use Rattle.xr_words.proofs.Applied.{prepares, decides, waits}
+use Rattle.xr_runtime.specs.Calling.{Has}
 use Rattle.xr_runtime.specs.Lending.{MayLend}
 
 -- ---- a table's words as cells
 
 abbrev pub Words : Type 0
 Words = TableCells WholeCore
-
-abbrev pub Has : Type 0
-Has = Me (Option (Held WholeCore)) View
-
-abbrev pub may_of : Words → CellCall → Type 0
-may_of c x = MayTouch c.table.now.table.shared.table_id c.call.now c.late c.seat.now x
-
-abbrev pub does_of : Words → CellCall → Words → Type 0
-does_of c x d = (d.table ≡ c.table) × (d.seat.ghost_name ≡ c.seat.ghost_name) × (d.call ≡ c.call) × (d.late ≡ c.late) × SeatDoes c.call.now c.late c.seat.now c.decided x d.seat.now d.decided
 
 abbrev pub me_of : Words → Has
 me_of c = c.seat.now.me
@@ -57,7 +48,7 @@ module _ (what : Call) (late : Bool) (c0 : Words) where
     pub what_is : c.call.now ≡ what
     pub late_is : c.late ≡ late
 
-  touches : (c : Words) (x : CellCall) → MayStep c.table.now.table.shared.table_id c.call.now c.late c.seat.now x → may_of c x
+  touches : (c : Words) (x : CellCall) → MayStep c.table.now.table.shared.table_id c.call.now c.late c.seat.now x → MayMakeOf c x
   touches c (pin i) may = may
   touches c (claim i b) may = may
   touches c (free i) may = may
@@ -65,13 +56,13 @@ module _ (what : Call) (late : Bool) (c0 : Words) where
   touches c (peek i n) may = may
   touches c (give_back i) may = tt
 
-  asks : (c : Words) (x : CellCall) → Same c → MeMay what late (me_of c) x → may_of c x
+  asks : (c : Words) (x : CellCall) → Same c → MeMay what late (me_of c) x → MayMakeOf c x
   asks c x same m = touches c x record {
     sets = record { own = same.own; hold = m.hold; is = m.is; unnoted = m.unnoted; fits = m.fits };
     claims = subst (λ (z : Call × Bool). ClaimsIf (me_of c).0.know m.hold z.0 z.1 x) (λ i. (sym same.what_is i, sym same.late_is i)) m.claims;
   }
 
-  tells : (c : Words) (x : CellCall) (d : Words) → Same c → does_of c x d → Same d × MeDoes what late (me_of c) (decided_of c) x (me_of d) (decided_of d)
+  tells : (c : Words) (x : CellCall) (d : Words) → Same c → MakesOf c x d → Same d × MeDoes what late (me_of c) (decided_of c) x (me_of d) (decided_of d)
   tells c x d same done = (
     record {
       table = done.0 ∙ same.table;
@@ -118,9 +109,9 @@ module _ (m : Has) (core : WholeCore) (who : Actor) (call : Call) (size : ℕ) (
   abbrev kept : CoreState
   kept = (state_at k p.hold.look).core
 
-  pub asks_cells : MayApply may_of does_of core c who what
-  asks_cells = subst (λ (a : Actor). MayApply may_of does_of core c a what) (sym p.is_own)
-      (may_apply what late may_of does_of me_of decided_of (Same what late c) (asks what late c) (tells what late c) k p.hold m.1 core c same (at ∙ p.is) p.unnoted p.unmade
+  pub asks_cells : MayApply MayMakeOf MakesOf core c who what
+  asks_cells = subst (λ (a : Actor). MayApply MayMakeOf MakesOf core c a what) (sym p.is_own)
+      (may_apply what late MayMakeOf MakesOf me_of decided_of (Same what late c) (asks what late c) (tells what late c) k p.hold m.1 core c same (at ∙ p.is) p.unnoted p.unmade
       (sound_history (with_apps k.apps) p.hold.look p.legal) p.kept p.other (may_claim m core who what size late p may late_is))
 
   late_now : late ≡ late_of kept.device.clock what
@@ -129,12 +120,12 @@ module _ (m : Has) (core : WholeCore) (who : Actor) (call : Call) (size : ℕ) (
   module _ (new : WholeCore) (d : Words) (before after : Lent) (fresh : c.decided ≡ false) where
     -- what the clause says of a reply, for what the core keeps at the look and the seat's own actor
     abbrev Says : CellReads → Reply → CoreState × Actor → Type 0
-    Says r reply z = (length r.stamps ≡ length (effect z.0 r (entry_of z.1 what reply)).did.taken) × Leads does_of c (cell_calls z.0 r (entry_of z.1 what reply)) d
+    Says r reply z = (length r.stamps ≡ length (effect z.0 r (entry_of z.1 what reply)).did.taken) × Leads MakesOf c (cell_calls z.0 r (entry_of z.1 what reply)) d
         × AnswersBy (CoreAllows z.0 r (entry_of z.1 what reply)) (core_ready z.0 r (entry_of z.1 what reply)) (core_step z.0 r (entry_of z.1 what reply)) new.kept reply before after × (new.held ≡ held_after core.held (effect z.0 r (entry_of z.1 what reply)).did)
 
-    from_start : (xs : List CellCall) → Leads does_of c xs d → Same what late c d × MeLeads what late (view k (Holding p.hold), m.1) false xs (me_of d) (decided_of d)
+    from_start : (xs : List CellCall) → Leads MakesOf c xs d → Same what late c d × MeLeads what late (view k (Holding p.hold), m.1) false xs (me_of d) (decided_of d)
     from_start xs leads =
-        let led = leads_me what late may_of does_of me_of decided_of (Same what late c) (asks what late c) (tells what late c) c xs d same leads in
+        let led = leads_me what late MayMakeOf MakesOf me_of decided_of (Same what late c) (asks what late c) (tells what late c) c xs d same leads in
         (led.0, subst (λ (z : Has × Bool). MeLeads what late z.0 z.1 xs (me_of d) (decided_of d)) (λ i. ((at ∙ p.is) i, fresh i)) led.1)
 
     done_so : (r : CellReads) (reply : Reply) → r.held ≡ core.held → Says r reply (kept, actor_at (number_in k.own)) → (images : List Image) → claimed_by kept r (own_entry k what reply) ≡ images
@@ -148,14 +139,14 @@ module _ (m : Has) (core : WholeCore) (who : Actor) (call : Call) (size : ℕ) (
         let got = decides k p.hold m.1 late r reply what i is (me_of d) (decided_of d) new before after late_now claimed led.1 says.2 in
         (led.0, subst (λ (b : Bool). Tells k p.hold m.1 what new before after core.kept (Done reply) b (me_of d)) (sym got.0) got.1)
 
-    pub told_so : (answer : Step) → AppliesOver does_of (record { core = core; cells = c; lent = before }) (record { core = new; cells = d; lent = after }) who call answer
+    pub told_so : (answer : Step) → AppliesOver MakesOf (record { core = core; cells = c; lent = before }) (record { core = new; cells = d; lent = after }) who call answer
         → Same what late c d × Tells k p.hold m.1 what new before after core.kept answer (decided_of d) (me_of d)
     told_so (Done reply) x =
         let says : Says x.reads reply (kept, actor_at (number_in k.own)) = subst (Says x.reads reply) (λ t. (p.kept t, p.is_own t)) (x.each, x.cells, x.applies, x.holds) in
         done_so x.reads reply x.own says (claimed_by kept x.reads (own_entry k what reply)) refl
     told_so NotReady x =
         let w = x.applies 0 false in
-        let at_look : (core_ready kept x.reads (wait_entry k what) ≡ false) × Leads does_of c (cell_calls kept x.reads (wait_entry k what)) d = subst (λ (z : CoreState × Actor). (core_ready z.0 x.reads (record { actor = z.1; call = what; given = 0; short = false }) ≡ false) × Leads does_of c (cell_calls z.0 x.reads (record { actor = z.1; call = what; given = 0; short = false })) d)
+        let at_look : (core_ready kept x.reads (wait_entry k what) ≡ false) × Leads MakesOf c (cell_calls kept x.reads (wait_entry k what)) d = subst (λ (z : CoreState × Actor). (core_ready z.0 x.reads (record { actor = z.1; call = what; given = 0; short = false }) ≡ false) × Leads MakesOf c (cell_calls z.0 x.reads (record { actor = z.1; call = what; given = 0; short = false })) d)
         (λ t. (p.kept t, p.is_own t)) (w.not_ready, x.cells) in
         let led = from_start (cell_calls kept x.reads (wait_entry k what)) at_look.1 in
         let got = waits k p.hold m.1 late x.reads what (me_of d) (decided_of d) late_now at_look.0 led.1 in

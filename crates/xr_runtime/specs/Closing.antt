@@ -6,7 +6,7 @@ use Rattle.xr_model.specs.machine.Calls.{Entry}
 use Rattle.xr_model.specs.machine.State.{with_apps, opening}
 use Rattle.xr_model.specs.laws.Laws.{count_locked}
 use Rattle.xr_model.specs.laws.Moments.{opening_moment, calls_by}
-use Rattle.xr_rule.specs.Rule.{are_by_callers}
+use Rattle.xr_model.specs.laws.MomentLaws.{are_by_callers}
 use Rattle.xr_rule.specs.View.{Know, number_in, calls_in}
 use Rattle.xr_runtime.specs.declared.calling.Runtime.{Runtime}
 use Rattle.xr_runtime.specs.declared.close.Closed.{Closed}

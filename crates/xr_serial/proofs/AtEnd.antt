@@ -16,12 +16,13 @@ use Rattle.xr_io.specs.Outside.{Rose}
 use Rattle.xr_model.specs.machine.Calls.{Entry, Outcome, is_actor, Exchange}
 use Rattle.xr_types.specs.declared.calls.Call.TheVariants as ask
 use Rattle.xr_model.specs.machine.State.{State, opening}
-use Rattle.xr_model.specs.machine.History.{shown_if, calls_from, calls_of}
+use Rattle.xr_model.specs.machine.History.{calls_of, IsLegal}
 use Rattle.xr_model.specs.runs.Scripts.{FollowsSoFar}
 use Rattle.xr_model.specs.runs.Robin.{Agenda, script, events, compositor, actor_of, next_call, NextMove, next_move, IsCallOf, agendas_behind, is_ended, device_calls, first_agendas, IsRobinFrom, agendas_left, in_round}
 use Rattle.xr_types.specs.declared.calls.Gives.TheVariants.{Ended}
 use Rattle.xr_types.specs.declared.frames.Shown.{Shown}
 use Rattle.xr_model.specs.laws.FrameLaws.{shown_from}
+use Rattle.xr_model.specs.laws.MomentLaws.{are_by_callers}
 use Rattle.xr_model.specs.machine.Machine.{step}
 use Rattle.xr_model.specs.report.RunEnding.{is_fault}
 use Rattle.xr_model.specs.runs.Lists.{end_of, done_from, frames_in, events_in, lists_to, lists_of, made_from, waiting_of}
@@ -34,12 +35,13 @@ use Rattle.xr_serial.specs.inside.RunInvariant.{AppKept, EndKept, events_told, R
 use Rattle.xr_serial.specs.inside.AtEnd.{app_next, apps_next, next_name, next_calls, lists_at}
 use Rattle.xr_serial.proofs.TurnOrder.{none_turn, all_held}
 use Rattle.xr_serial.proofs.ActorParts.{AreAll, parts_count}
-use Rattle.xr_serial.proofs.Ops.{name_is, op_hidden}
+use Rattle.xr_serial.proofs.Callers.{robin_by_callers}
+use Rattle.xr_serial.proofs.Ops.{name_is}
 use Rattle.xr_serial.proofs.AppTurns.{all_of}
 use Rattle.xr_serial.proofs.Ending.{Gives, gives, events_sound, in_round_is, device_held}
 use Rattle.xr_runs.specs.Sides.{exchange_of, pending_list, AllGoOn}
 use Rattle.xr_runs.specs.Runs.{settings_of, OfEachScript, GoesOn, a_frame, an_image, IsEnd, IsWhole, FailsBehind}
-use Rattle.xr_runs.proofs.CallTexts.{IsHidden, shows_none}
+use Rattle.xr_runs.proofs.FramesOfRuns.{all_shown, all_submitted}
 use Rattle.xr_runs.proofs.Failing.{fails_behind}
 
 filled : (w : Waiting) (ws : List Waiting) → w ∷ ws ≡ [] → ⊥
@@ -81,33 +83,6 @@ ends_last (t ∷ u ∷ front) last were ends = (were.0, ends_last (u ∷ front) 
 ends_once : (ended : Option Reply) (calls : List Exchange) → EndKept ended calls → map waiting_of (compositor_part ended 0) ≡ [] → IsEnd calls
 ends_once None calls none h = absurd (filled _ [] h)
 ends_once (Some reply) calls end none = rw end.2 (ends_last end.0 end.1 end.3 (ap (λ (r : Reply). r.gives) end.4 ∙ end.5))
-
--- ---- the frames that a history shows
-
--- the frames of the compositor's calls are all that a history of the round robin shows
-robin_shows : (s : State) (agendas : List Agenda) (es : List Entry) → IsRobinFrom s agendas es → frames_in (calls_from s Compositor es) ≡ shown_from s es
-robin_shows s agendas [] robin = refl
-robin_shows s agendas (e ∷ es) robin = by (next_move s [] agendas) robin.0 (robin_shows (step s e).0 (agendas_behind (next_move s [] agendas) (step s e).0 (step s e).1) es robin.1)
-  where
-    rest : List Shown
-    rest = shown_from (step s e).0 es
-
-    -- a call of another is hidden
-    hidden : is_actor Compositor e.actor ≡ false → IsHidden e.call → frames_in (calls_from (step s e).0 Compositor es) ≡ rest → frames_in (calls_from s Compositor (e ∷ es)) ≡ shown_from s (e ∷ es)
-    hidden other still more = rw (other, shows_none s e still) more
-
-    own : is_actor Compositor e.actor ≡ true → frames_in (calls_from (step s e).0 Compositor es) ≡ rest → frames_in (calls_from s Compositor (e ∷ es)) ≡ shown_from s (e ∷ es)
-    own mine more = rw mine (ap (λ (l : List Shown). shown_if (step s e).1.shown ++ l) more)
-
-    by : (m : Option NextMove) → IsCallOf m e → frames_in (calls_from (step s e).0 Compositor es) ≡ rest → frames_in (calls_from s Compositor (e ∷ es)) ≡ shown_from s (e ∷ es)
-    by None is more = absurd is
-    by (Some m) is more = of m.agenda is.0 is.1
-      where
-        of : (x : Agenda) → e.actor ≡ actor_of x → e.call ≡ next_call x → frames_in (calls_from s Compositor (e ∷ es)) ≡ shown_from s (e ∷ es)
-        of (script app place [] values clock) who what = hidden (rw who refl) (rw what tt) more
-        of (script app place (o ∷ os) values clock) who what = hidden (rw who refl) (subst IsHidden (sym what) (op_hidden clock values o)) more
-        of (events event later) who what = hidden (rw who refl) (rw what tt) more
-        of (compositor held) who what = own (rw who refl) more
 
 -- ---- those left
 
@@ -286,6 +261,15 @@ module _ (scenario : Scenario) (turn : ℕ) (s : State) (run : RunState) (start 
             ∙ ap (λ (p : Option DeviceEvent). events_in (inv.calls Device) ++ pending_list p) unknown ∙ append-nil (events_in (inv.calls Device)));
       }
 
+  legal : IsLegal (settings_of scenario) history
+  legal = inv.standing.so_far.legal [] tt
+
+  own : are_by_callers history ≡ true
+  own = robin_by_callers (opening (settings_of scenario)) (first_agendas scenario calls) history robin
+
+  shown : run.compositor.frames ≡ shown_from (opening (settings_of scenario)) history
+  shown = inv.kept.compositor.frames_are ∙ ap frames_in (sym (calls_are Compositor)) ∙ all_shown (opening (settings_of scenario)) history own
+
   ran_so : Ran scenario start.remaining device.count (lists_at scenario run)
   ran_so = record {
     history = history;
@@ -293,14 +277,13 @@ module _ (scenario : Scenario) (turn : ℕ) (s : State) (run : RunState) (start 
     ending = device.ending;
     gave = device.gave;
     sound = events_sound run.side (inv.calls Device) start now inv.kept.device;
-    legal = inv.standing.so_far.legal [] tt;
+    legal = legal;
     robin = robin;
     follow = follow_so_far;
     device = (pending_list run.side.pending ++ device.rest, rw (calls_are Device) (device.calls_are ∙ append_assoc (events_in (inv.calls Device)) (pending_list run.side.pending) device.rest));
     whole = whole;
-    shown =
-        inv.kept.compositor.frames_are ∙ ap frames_in (sym (calls_are Compositor))
-        ∙ robin_shows (opening (settings_of scenario)) (first_agendas scenario calls) history robin;
+    shown = shown;
+    submitted = λ none. shown ∙ all_submitted (settings_of scenario) history legal own (whole none).ends;
     made = lists_are;
   }
 

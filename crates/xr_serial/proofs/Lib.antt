@@ -2,6 +2,7 @@ pub mod Lending
 pub mod TurnOrder
 pub mod ActorParts
 pub mod Ops
+pub mod Callers
 pub mod Steps
 pub mod OnlyLeaveLeaves
 pub mod Pending

@@ -19,13 +19,8 @@ use Rattle.xr_model.specs.machine.Frames.{is_empty}
 use Rattle.xr_serial.specs.inside.Made.{asked}
 use Rattle.xr_types.specs.declared.calls.Actor.TheVariants.{Compositor}
 use Rattle.xr_serial.specs.inside.RunInvariant.{is_getter_name}
-use Rattle.xr_runs.proofs.CallTexts.{IsHidden}
 
 -- no op asks for a frame to be shown
-pub op_hidden : (clock : ℤ) (values : List ℕ) (o : Op) → IsHidden (with_start clock (request_for values o))
-op_hidden clock values (op.CreateInstance major minor) = tt
-op_hidden clock values _ = tt
-
 pub name_is : (clock : ℤ) (values : List ℕ) (o : Op) → listed_name (with_start clock (request_for values o)) ≡ call_name o
 name_is clock values (op.CreateInstance major minor) = refl
 name_is clock values _ = refl

@@ -17,6 +17,7 @@ use Rattle.xr_model.specs.machine.Calls.{Entry, Exchange}
 use Rattle.xr_model.specs.machine.State.{with_apps, opening}
 use Rattle.xr_model.specs.runs.Lists.{lists_to, made_from, frames_in, replies_in, events_in, end_of}
 use Rattle.xr_model.specs.runs.Scripts.{Follows}
+use Rattle.xr_model.specs.laws.FrameLaws.{shown_from}
 use Rattle.xr_model.proofs.Rows.{both_of}
 use Rattle.xr_rule.specs.View.{Know, number_in, calls_in}
 use Rattle.xr_runtime.specs.declared.calling.Runtime.{Runtime}
@@ -35,9 +36,9 @@ use Rattle.xr_threads.specs.Threads.{RanOnThreads, ClosesRun}
 use Rattle.xr_threads.specs.inside.Working.{pass_of, calls_made, HasWorked, HaveWorked, list_of, is_listed, Parted}
 use Rattle.xr_threads.specs.inside.Ending.{AreListed}
 use Rattle.xr_threads.proofs.Places.{there, mapped}
-use Rattle.xr_threads.proofs.Shown.{all_shown}
 use Rattle.xr_threads.proofs.Workers.{all_calls}
-use Rattle.xr_runs.specs.Runs.{settings_of, OfEachScript}
+use Rattle.xr_runs.specs.Runs.{settings_of, OfEachScript, IsEnd}
+use Rattle.xr_runs.proofs.FramesOfRuns.{all_shown, all_submitted}
 
 -- a list that is there
 there_if : {X : Type 0} (o : Option X) (P : X → Type 0) → is_some o ≡ true → IfSome o P → (x : X) × (o ≡ Some x) × P x
@@ -138,11 +139,15 @@ module _ (came went : Actor → ℕ → Type 0) (table : TableId) (r : Runtime) 
     pub ran_on_threads : (c_old : CompositorPass) (d_old : DevicePass) (start now : Prospect) (composed : Composed) (made : DeviceMade) (all : Lists)
         → IsCompositor table c_old → c_old.calls ≡ 0 → RanCompositor table c_old p.compositor (Ok composed) → IsDevice table d_old → d_old.calls ≡ 0 → RanDevice table start now d_old p.device (Ok made)
         → all ≡ record { apps = map list_of ws; device = made.calls; compositor = composed.frames; ended = Some composed.ended; shown = composed.replies; done = []; events = made.events; next = [] }
-        → (n : ℕ) × (now.given ≡ start.given + n) × RanOnThreads history scenario start.remaining n all
+        → (n : ℕ) × (now.given ≡ start.given + n) × RanOnThreads c scenario start.remaining n all
     ran_on_threads c_old d_old start now composed made all is_c none_c ran_c is_d none_d ran_d is =
         let of_c : calls_of (settings_of scenario) Compositor history ≡ ran_c.calls = compositor_calls c_old ran_c.calls is_c none_c ran_c.is.is_own ran_c.made in
         let of_d : calls_of (settings_of scenario) Device history ≡ ran_d.calls = device_calls_are d_old ran_d.calls is_d none_d ran_d.is.is_own ran_d.made in
-        let l = ran_d.lists in (
+        let l = ran_d.lists in
+        let legal : IsLegal (settings_of scenario) history = subst (λ (n : ℕ). IsLegal (with_apps n) history) apps k.legal in
+        let ends : IsEnd (calls_of (settings_of scenario) Compositor history) = rw of_c ran_c.ends in
+        let shown : all.compositor ≡ shown_from (opening (settings_of scenario)) history =
+        ap (λ (z : Lists). z.compositor) is ∙ (ran_c.lists.frames ∙ (ap frames_in (sym of_c) ∙ all_shown (opening (settings_of scenario)) history k.by_callers)) in (
           length l.told,
           l.counted,
           record {
@@ -150,15 +155,17 @@ module _ (came went : Actor → ℕ → Type 0) (table : TableId) (r : Runtime) 
             ending = l.ending;
             gave = l.gave;
             sound = rw is l.sound;
-            legal = subst (λ (n : ℕ). IsLegal (with_apps n) history) apps k.legal;
+            legal = legal;
+            places = k.places_are;
             by_callers = k.by_callers;
             whole = record {
               follow = follow;
-              ends = rw of_c ran_c.ends;
+              ends = ends;
               device = rw of_d (l.asks ∙ l.events_are);
             };
             no_others = subst (λ (m : ℕ). (n : ℕ) → m + 2 ≤ n → calls_by n (opening_moment m) history ≡ []) apps k.others;
-            shown = ap (λ (z : Lists). z.compositor) is ∙ (ran_c.lists.frames ∙ (ap frames_in (sym of_c) ∙ all_shown (opening (settings_of scenario)) history k.by_callers));
+            shown = shown;
+            submitted = shown ∙ all_submitted (settings_of scenario) history legal k.by_callers ends;
             made = is ∙ (λ i. record {
               apps = all_lists i;
               device = (l.calls_are ∙ ap (made_from 1) (sym of_d)) i;
@@ -176,7 +183,7 @@ module _ (came went : Actor → ℕ → Type 0) (table : TableId) (ws : List App
     (parts : Parted ws p.apps.items lists all) (count : length ws ≡ length scenario.scripts) (have : HaveWorked came went table scenario ws) (composed : Result Composed NoMemory) (told : Result DeviceMade NoMemory) (start now : Prospect)
     (c_old : CompositorPass) (is_c : IsCompositor table c_old) (none_c : c_old.calls ≡ 0) (ran_c : RanCompositor table c_old p.compositor composed)
     (d_old : DevicePass) (is_d : IsDevice table d_old) (none_d : d_old.calls ≡ 0) (ran_d : RanDevice table start now d_old p.device told) where
-  pub ran_if : (result : Result Lists NoMemory) → IfOk result (AreListed lists all composed told) → IfOk result (λ l. (n : ℕ) × (now.given ≡ start.given + n) × RanOnThreads (history_of c) scenario start.remaining n l)
+  pub ran_if : (result : Result Lists NoMemory) → IfOk result (AreListed lists all composed told) → IfOk result (λ l. (n : ℕ) × (now.given ≡ start.given + n) × RanOnThreads c scenario start.remaining n l)
   ran_if (Err short) if = tt
   ran_if (Ok l) if =
       ran_on_threads came went table r p c scenario k apps ws parts.passes_are count have (parts.listed if.listed) c_old d_old start now if.frames if.made l is_c none_c (subst (RanCompositor table c_old p.compositor) if.composed_is ran_c) is_d none_d

@@ -1,4 +1,3 @@
 pub mod Places
 pub mod Workers
-pub mod Shown
 pub mod Ending

@@ -4,7 +4,6 @@ ghost use Rattle.std.specs.List.{list_any};
 ghost use Rattle.xr_device.specs.Answers.{ReadsOn};
 ghost use Rattle.xr_io.specs.Outside.{Rose};
 ghost use Rattle.xr_model.specs.report.RunEnding.{is_fault};
-ghost use Rattle.xr_runtime.specs.Closing.{history_of};
 ghost use Rattle.xr_threads.specs.Threads.{RanBeside, ClosesRun};
 ghost use Rattle.xr_threads.specs.inside.Ending.{AreListed};
 ghost use Rattle.xr_runs.specs.Runs.{CanBeRun, FailsBehind};
@@ -68,7 +67,7 @@ pub fn run<R: Threads + Wait + Sync, G: Gate + Sync, D: Device>(
 ) -> Result<Ended, NoMemory>
     requires runs { CanBeRun scenario.now }
     ensures closed { IfOk result (λ e. ClosesRun (G.came gate.now) (G.went gate.now) scenario.now e.closed) }
-    ensures ran { IfOk result (λ e. IfOk e.lists (λ lists. RanBeside (history_of e.closed) scenario.now (D.prospect device.old) (D.prospect device.new) lists)) }
+    ensures ran { IfOk result (λ e. IfOk e.lists (λ lists. RanBeside e.closed scenario.now (D.prospect device.old) (D.prospect device.new) lists)) }
     ensures fault { IfOk result (λ e. IfOk e.lists (λ lists. list_any is_fault lists.events ≡ true → Rose (D.prospect device.old).faults (D.prospect device.new).faults)) }
     ensures unfailed { IfOk result (λ e. IfOk e.lists (λ lists. list_any is_fault lists.events ≡ false → (D.prospect device.new).faults ≡ (D.prospect device.old).faults)) }
     ensures failed { IfOk result (λ e. IfOk e.lists (λ lists. list_any is_fault lists.events ≡ true → FailsBehind (D.prospect device.old) (D.prospect device.new) lists.events)) }

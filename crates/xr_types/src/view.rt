@@ -4,7 +4,7 @@ ghost use Rattle.std.specs.Prelude.{◌≡◌, []};
 use arrayvec::ArrayVec;
 use std::marker::Model;
 
-/// How many words there are at most: eight, and fourteen for each of 64 actions.
+/// How many words there are at most: eight, two for each of 64 actions, and twelve for the columns of each.
 pub const MOST_WORDS: usize = 904;
 
 /// What getters of input answer from, as words that threads can share. Contracts see the list of the words.

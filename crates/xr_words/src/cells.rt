@@ -1,6 +1,6 @@
 // The words of images as cells.
-ghost use Rattle.std.specs.Prelude.{◌≡◌, false};
-ghost use Rattle.xr_words.specs.Table.{MayTouch, SeatDoes};
+ghost use Rattle.std.specs.Prelude.{false};
+ghost use Rattle.xr_words.specs.Lending.{MayMakeOf, MakesOf};
 
 use crate::steps::{claim_by, free_by, peek_by, pin_by, stamp_by};
 use std::marker::Brand;
@@ -24,9 +24,9 @@ pub struct TableCells<'a, M: Machine> {
 }
 
 impl<'a, M: Machine> Cells for TableCells<'a, M> {
-    ghost may = { λ c x. MayTouch c.table.now.table.shared.table_id c.call.now c.late c.seat.now x };
+    ghost may = { MayMakeOf };
 
-    ghost does = { λ c x d. (d.table ≡ c.table) × (d.seat.ghost_name ≡ c.seat.ghost_name) × (d.call ≡ c.call) × (d.late ≡ c.late) × SeatDoes c.call.now c.late c.seat.now c.decided x d.seat.now d.decided };
+    ghost does = { MakesOf };
 
     fn pin(&mut self, image: Image) {
         pin_by::<M, Brand>(self.table, self.seat, image);

@@ -9,14 +9,18 @@ use Rattle.xr_model.specs.machine.Sets.{Action}
 use Rattle.xr_model.specs.machine.SessionRule.{Loss}
 use Rattle.xr_model.specs.machine.State.{CoreState}
 
-abbrev pub row_words : List Column → List ℕ
-row_words row = flat_map (λ c. column_words (shown_of c)) row
+abbrev pub words_of_row : List Column → List ℕ
+words_of_row row = flat_map (λ c. column_words (shown_of c)) row
 
 abbrev pub what_word : Option SeenSession → Action → ℕ
 what_word session x = with_bit (bits x.declared) (is_attached (option_and_then (λ it. it.attached) session) x.set) * 8 + type_number x.type
 
-abbrev pub words_of_action : Option SeenSession → Handles → List (List Column) → Action → List ℕ
-words_of_action session h columns x = x.handle ∷ what_word session x ∷ row_words (columns_in h columns x.handle)
+abbrev pub words_of_action : Option SeenSession → Action → List ℕ
+words_of_action session x = x.handle ∷ what_word session x ∷ []
+
+-- the words of an action's columns
+abbrev pub words_of_columns : Handles → List (List Column) → Action → List ℕ
+words_of_columns h columns x = words_of_row (columns_in h columns x.handle)
 
 abbrev pub no_loss : Loss
 no_loss = record { lost = false; pending = false }
@@ -30,4 +34,5 @@ session_words session actions =
 abbrev pub contents_words : CoreState → List ℕ
 contents_words s =
     session_words (first_seen s.sessions) (length s.inputs.actions)
-    ++ (map (atom_of_user s.atoms s.inputs.actions) all_users ++ flat_map (words_of_action (first_seen s.sessions) s.handles s.columns) s.inputs.actions)
+    ++ (map (atom_of_user s.atoms s.inputs.actions) all_users
+    ++ (flat_map (words_of_action (first_seen s.sessions)) s.inputs.actions ++ flat_map (words_of_columns s.handles s.columns) s.inputs.actions))

@@ -1,6 +1,6 @@
 -- Frames in every history: how many are pending, that they are shown as they were submitted, how many are taken, and the
 -- times that are predicted.
-use Rattle.std.specs.Prelude.{◌≡◌, ◌≤◌, ◌<◌, ◌+◌, ◌*◌, ◌+ℤ◌, ◌&&◌, int_le, int_lt, nat_abs, pos, ℕ, ℤ, Bool, true, false, List, [], ◌∷◌, ◌++◌, map, length, if◌then◌else◌}
+use Rattle.std.specs.Prelude.{◌≡◌, ◌≤◌, ◌<◌, ◌+◌, ◌*◌, ◌+ℤ◌, ◌&&◌, ◌||◌, int_le, int_lt, nat_abs, pos, ℕ, ℤ, Bool, true, false, List, [], ◌∷◌, ◌++◌, map, length, if◌then◌else◌}
 use Rattle.xr_types.specs.Code.{is_success}
 use Rattle.xr_types.specs.declared.frames.Layer.{Layer}
 use Rattle.xr_types.specs.declared.frames.ShownLayer.{ShownLayer}
@@ -16,6 +16,9 @@ use Rattle.xr_model.specs.machine.Rules.Frames.{look_of}
 use Rattle.xr_model.specs.machine.State.{Settings, State, opening}
 use Rattle.xr_model.specs.machine.Machine.{step}
 use Rattle.xr_model.specs.machine.History.{after, IsLegal, shown_if}
+use Rattle.xr_model.specs.laws.FewCalls.{is_end}
+use Rattle.xr_model.specs.laws.ImageLaws.{is_next_frame}
+use Rattle.xr_model.specs.laws.MomentLaws.{are_by_callers}
 
 -- at most three frames are pending
 abbrev pub AtMostThree : Type 0
@@ -53,6 +56,24 @@ FramesAsSubmitted =
     (settings : Settings) (es : List Entry) → IsLegal settings es
     → shown_from (opening settings) es ++ shown_now (after (opening settings) es) (after (opening settings) es).core.frames.pending
     ≡ submitted_from (opening settings) es
+
+-- ---- the end
+
+-- the compositor asks for a frame, and is told the end
+abbrev pub is_told_end : State → Entry → Bool
+is_told_end s e = is_next_frame e.call && is_end (step s e).1.reply.gives
+
+abbrev pub was_told_end : State → List Entry → Bool
+was_told_end s [] = false
+was_told_end s (e ∷ es) = is_told_end s e || was_told_end (step s e).0 es
+
+-- Where the compositor was told the end, all frames that were submitted are shown, in order, each with the stamps that its images had.
+abbrev pub AllAreShownAtTheEnd : Type 0
+AllAreShownAtTheEnd =
+    (settings : Settings) (es : List Entry) → IsLegal settings es → are_by_callers es ≡ true → was_told_end (opening settings) es ≡ true
+    → shown_from (opening settings) es ≡ submitted_from (opening settings) es
+
+-- ---- numbers
 
 -- these frames have the numbers from this one on
 abbrev pub AreNumbered : ℕ → List Shown → Type 0

@@ -3,6 +3,8 @@ use Rattle.std.specs.Prelude.{◌≡◌, ◌+◌, ◌≤◌, ◌<◌, ◌==◌, 
 use Rattle.std.specs.List.{list_all}
 use Rattle.xr_types.specs.declared.calls.Actor.{Actor}
 use Rattle.xr_model.specs.machine.Calls.{Entry, is_actor}
+use Rattle.xr_model.specs.machine.CoreCalls.{asked}
+use Rattle.xr_model.specs.machine.Rule.{is_by}
 use Rattle.xr_types.specs.CallKinds.{is_leave}
 use Rattle.xr_model.specs.machine.State.{State}
 use Rattle.xr_model.specs.machine.Machine.{IsPresent, step}
@@ -45,6 +47,10 @@ pub record HasNumber (apps : ℕ) (who : Actor) : Type 0 where
   pub number : ℕ
   pub is_below : number < apps + 2
   pub is : who ≡ actor_at number
+
+-- each of these was asked by one who may ask for it
+abbrev pub are_by_callers : List Entry → Bool
+are_by_callers es = list_all (λ e. is_by (asked e.actor e.call).caller e.actor) es
 
 -- Each entry of a legal history is by an actor that there is, so no other number has calls.
 pub record IsByActors (apps : ℕ) (es : List Entry) : Type 0 where

@@ -109,3 +109,28 @@ PendingLosses =
     (s : State) (e : Entry) (session : ℕ) → session_of s.core.handles e.call ≡ Some session
     → ((step s e).1.reply.code ≡ SessionLossPending)
     ↔ ((refusal e.short (rule s.core (reads_of s e.call) e) ≡ None) × ((rule s.core (reads_of s e.call) e).effect.code ≡ Success) × (is_state (life_of s.core session).state LossPending ≡ true))
+
+-- ---- getters
+
+-- it is a getter of this session and this action
+abbrev pub is_getter_of : Call → ℕ → ℕ → Bool
+is_getter_of (ask.GetBoolean session action sub) s a = (session == s) && (action == a)
+is_getter_of (ask.GetFloat session action sub) s a = (session == s) && (action == a)
+is_getter_of (ask.GetVector session action sub) s a = (session == s) && (action == a)
+is_getter_of (ask.GetPoseActive session action sub) s a = (session == s) && (action == a)
+is_getter_of _ s a = false
+
+-- So it is with a getter of a live action: the loss comes exactly where the session is live and the device was lost after its creation.
+abbrev pub LostGetters : Type 0
+LostGetters =
+    (settings : Settings) (es : List Entry) (e : Entry) (session action : ℕ) → IsLegal settings es → is_getter_of e.call session action ≡ true
+    → is_live (after (opening settings) es).core.handles kind.Action action ≡ true
+    → ((step (after (opening settings) es) e).1.reply.code ≡ SessionLost)
+    ↔ ((is_live (after (opening settings) es).core.handles kind.Session session ≡ true) × (was_lost session false es ≡ true))
+
+-- And the pending loss exactly where nothing refuses it and the session is in that state.
+abbrev pub PendingGetters : Type 0
+PendingGetters =
+    (s : State) (e : Entry) (session action : ℕ) → is_getter_of e.call session action ≡ true
+    → ((step s e).1.reply.code ≡ SessionLossPending)
+    ↔ ((refusal e.short (rule s.core (reads_of s e.call) e) ≡ None) × (is_state (life_of s.core session).state LossPending ≡ true))

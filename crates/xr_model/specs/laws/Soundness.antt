@@ -3,7 +3,7 @@ use Rattle.xr_types.specs.declared.frames.FrameLayer.{FrameLayer}
 use Rattle.xr_types.specs.declared.frames.Image.{Image}
 use Rattle.xr_model.specs.scenario.InRange.{Each}
 use Rattle.xr_model.specs.machine.Chains.{Chain, oldest_of, index_behind, is_place_used}
-use Rattle.xr_model.specs.machine.Images.{times_in, images_of_layer, count_of}
+use Rattle.xr_model.specs.machine.Images.{times_in, images_of_layer, count_of, image_count}
 use Rattle.xr_model.specs.laws.Owners.{has_image}
 use Rattle.std.specs.Prelude.{◌≡◌, ◌+◌, ◌*◌, ◌<◌, ◌≤◌, ◌==◌, ◌||◌, ℕ, Bool, true, false, not, List, [], ◌∷◌, drop, Option, Some, None, slice_get, ◌&&◌, length}
 use Rattle.std.specs.List.{list_any}
@@ -11,6 +11,7 @@ use Rattle.xr_types.specs.declared.handles.Slot.{Slot}
 use Rattle.xr_model.specs.machine.Frames.{is_empty}
 use Rattle.xr_model.specs.machine.Handles.{Handles, has, was_given}
 use Rattle.xr_types.specs.declared.handles.TheConstants.{SWAPCHAINS}
+use Rattle.xr_types.specs.declared.limits.TheConstants.{IMAGES}
 use Rattle.xr_types.specs.Frames.{PendingFrame}
 use Rattle.xr_types.specs.declared.calls.Call.{Call}
 use Rattle.xr_types.specs.declared.calls.Call.TheVariants as ask
@@ -106,7 +107,7 @@ is_taken (Some c) = not (c.handle == 0)
 -- the image that this place's application waited for is unused
 abbrev pub IsIdle : List PendingFrame → List Image → ℕ → Option Chain → Type 0
 IsIdle pending held place None = Unit {0}
-IsIdle pending held place (Some c) = c.has_waited ≡ true → count_of pending held (3 * place + oldest_of c.acquired) ≡ 0
+IsIdle pending held place (Some c) = c.has_waited ≡ true → count_of pending held (IMAGES * place + oldest_of c.acquired) ≡ 0
 
 -- these are what is left of those without some of the first
 pub record AreLeft (held shown : List Image) : Type 0 where
@@ -131,7 +132,7 @@ StateIsSound s = IsSound s.core.handles.chains s.core.chains s.core.frames.pendi
 
 -- there is a count for each image of each place, and it is how often the image is used
 pub record AreCounted (c : PlainImages) (pending : List PendingFrame) (held : List Image) : Type 0 where
-  pub all : length c.counts ≡ 3 * SWAPCHAINS
+  pub all : length c.counts ≡ image_count
   pub counts : (k : ℕ) → count_at c k ≡ count_of pending held k
 
 -- ---- handles

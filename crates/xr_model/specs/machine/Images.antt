@@ -8,15 +8,21 @@ use Rattle.xr_types.specs.declared.frames.ShownLayer.{ShownLayer}
 use Rattle.xr_types.specs.declared.frames.ShownLayer.TheVariants as shown
 use Rattle.xr_types.specs.Frames.{PendingFrame}
 use Rattle.xr_types.specs.declared.frames.Shown.{Shown}
+use Rattle.xr_types.specs.declared.handles.TheConstants.{SWAPCHAINS}
+use Rattle.xr_types.specs.declared.limits.TheConstants.{IMAGES}
 use Rattle.xr_model.specs.machine.Frames.{one_if}
 
 -- it is this image
 abbrev pub is_image : Image → Image → Bool
 is_image i j = (j.place == i.place) && (j.index == i.index)
 
--- where an image stands among all: three for each place
+-- where an image stands among those of all places
 abbrev pub slot_of : Image → ℕ
-slot_of i = 3 * i.place + i.index
+slot_of i = IMAGES * i.place + i.index
+
+-- how many images all places have
+abbrev pub image_count : ℕ
+image_count = IMAGES * SWAPCHAINS
 
 -- ---- counts
 

@@ -1,7 +1,6 @@
 -- Cells of one thread: for each image a count, whether an application has it, and its stamp.
-use Rattle.std.specs.Prelude.{◌≡◌, ◌+◌, ◌-◌, ◌*◌, ◌^◌, ◌==◌, min, ℕ, Bool, true, false, List, replicate, slice_get, slice_set, unwrap_or, if◌then◌else◌}
-use Rattle.xr_types.specs.declared.handles.TheConstants.{SWAPCHAINS}
-use Rattle.xr_model.specs.machine.Images.{slot_of, stamp_in}
+use Rattle.std.specs.Prelude.{◌≡◌, ◌+◌, ◌-◌, ◌^◌, ◌==◌, min, ℕ, Bool, true, false, List, replicate, slice_get, slice_set, unwrap_or, if◌then◌else◌}
+use Rattle.xr_model.specs.machine.Images.{slot_of, image_count, stamp_in}
 use Rattle.xr_model.specs.machine.CellCalls.{CellCall, pin, claim, free, stamp, peek, give_back}
 
 pub record PlainImages : Type 0 where
@@ -9,9 +8,9 @@ pub record PlainImages : Type 0 where
   pub holders : List Bool
   pub stamps : List ℕ
 
--- three images for each place: none is used, no application has one, and every stamp is 0
+-- all images of all places: none is used, no application has one, and every stamp is 0
 abbrev pub no_images : PlainImages
-no_images = record { counts = replicate (3 * SWAPCHAINS) 0; holders = replicate (3 * SWAPCHAINS) false; stamps = replicate (3 * SWAPCHAINS) 0 }
+no_images = record { counts = replicate image_count 0; holders = replicate image_count false; stamps = replicate image_count 0 }
 
 abbrev pub count_at : PlainImages → ℕ → ℕ
 count_at c k = unwrap_or (slice_get c.counts k) 0

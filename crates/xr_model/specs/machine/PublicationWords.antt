@@ -1,4 +1,5 @@
--- A publication as words of 64 bits: eight, and fourteen for each live action, so 904 at most. That it is kept so is this project's own.
+-- A publication as words of 64 bits: eight, two for each live action, and then twelve for the columns of each, so 904 at most. Who looks for
+-- an action goes through the two alone. That a publication is kept so is this project's own.
 use Rattle.std.specs.Prelude.{ℕ, pos, unsigned_abs, ◌+◌, ◌*◌, ◌/◌, ◌%◌, ◌^◌, ◌==◌, zero, suc, Bool, true, false, List, [], ◌∷◌, ◌++◌, length, take, drop, flat_map, if◌then◌else◌}
 use Rattle.std.specs.Int.{w32, cast_unsigned, cast_signed}
 use Rattle.xr_types.specs.declared.input.ActionType.{ActionType}
@@ -31,15 +32,19 @@ type_number type.Vibration = 4
 abbrev pub column_words : ShownColumn → List ℕ
 column_words c = (cast_unsigned w32 c.y * 2 ^ 32 + cast_unsigned w32 c.x) ∷ with_bit (with_bit (unsigned_abs c.time) c.active) c.changed ∷ []
 
--- an action: its handle; the user paths that it declares, whether its set is attached, and its type; its columns
+-- an action: its handle; the user paths that it declares, whether its set is attached, and its type
 abbrev pub action_words : PublishedAction → List ℕ
-action_words a = a.handle ∷ (with_bit (bits a.declared) a.attached * 8 + type_number a.type) ∷ flat_map column_words a.columns
+action_words a = a.handle ∷ (with_bit (bits a.declared) a.attached * 8 + type_number a.type) ∷ []
+
+-- its columns
+abbrev pub row_words : PublishedAction → List ℕ
+row_words a = flat_map column_words a.columns
 
 abbrev pub flags_word : Publication → ℕ
 flags_word p = with_bit (with_bit (length p.actions) p.loss.pending) p.loss.lost
 
 abbrev pub words : Publication → List ℕ
-words p = p.number ∷ p.session ∷ flags_word p ∷ (p.atoms ++ flat_map action_words p.actions)
+words p = p.number ∷ p.session ∷ flags_word p ∷ (p.atoms ++ (flat_map action_words p.actions ++ flat_map row_words p.actions))
 
 -- ---- reading back
 
@@ -63,10 +68,15 @@ columns_in _ _ = []
 abbrev pub action_in : ℕ → ℕ → List ℕ → PublishedAction
 action_in handle what ws = record { handle = handle; attached = low_bit (what / 8); type = type_in (what % 8); declared = bits_in 5 (what / 8 / 2); columns = columns_in 6 ws }
 
-abbrev pub actions_in : ℕ → List ℕ → List PublishedAction
-actions_in (suc k) (handle ∷ what ∷ ws) = action_in handle what (take 12 ws) ∷ actions_in k (drop 12 ws)
-actions_in _ _ = []
+-- so many actions, and the words of their columns
+abbrev pub actions_in : ℕ → List ℕ → List ℕ → List PublishedAction
+actions_in (suc k) (handle ∷ what ∷ ws) row = action_in handle what (take 12 row) ∷ actions_in k ws (drop 12 row)
+actions_in _ _ _ = []
+
+-- the same of words in which the columns stand behind the actions
+abbrev pub actions_of : ℕ → List ℕ → List PublishedAction
+actions_of k ws = actions_in k ws (drop (2 * k) ws)
 
 abbrev pub publication_in : List ℕ → Publication
-publication_in (number ∷ session ∷ flags ∷ ws) = record { number = number; session = session; loss = record { lost = low_bit flags; pending = low_bit (flags / 2) }; atoms = take 5 ws; actions = actions_in (flags / 2 / 2) (drop 5 ws) }
+publication_in (number ∷ session ∷ flags ∷ ws) = record { number = number; session = session; loss = record { lost = low_bit flags; pending = low_bit (flags / 2) }; atoms = take 5 ws; actions = actions_of (flags / 2 / 2) (drop 5 ws) }
 publication_in _ = record { number = 0; session = 0; loss = record { lost = false; pending = false }; atoms = []; actions = [] }

@@ -1,7 +1,6 @@
 -- The state of the machine: what a core keeps, and the cells beside it.
-use Rattle.std.specs.Prelude.{ℕ, ◌*◌, Option, Bool, false, replicate, List, []}
+use Rattle.std.specs.Prelude.{ℕ, Option, Bool, false, replicate, List, []}
 use Rattle.xr_types.specs.declared.frames.Image.{Image}
-use Rattle.xr_types.specs.declared.handles.TheConstants.{SWAPCHAINS}
 use Rattle.xr_types.specs.declared.input.Bound.{Bound}
 use Rattle.xr_types.specs.declared.input.Column.{Column}
 use Rattle.xr_model.specs.machine.Handles.{Handles, no_handles}
@@ -9,6 +8,7 @@ use Rattle.xr_model.specs.machine.Bindings.{no_suggestions}
 use Rattle.xr_model.specs.machine.Chains.{Chain, no_chains}
 use Rattle.xr_model.specs.machine.Events.{Queue, no_events}
 use Rattle.xr_model.specs.machine.Frames.{Frames, no_frames}
+use Rattle.xr_model.specs.machine.Images.{image_count}
 use Rattle.xr_model.specs.machine.LiveSessions.{Session}
 use Rattle.xr_model.specs.machine.Marks.{no_marks}
 use Rattle.xr_model.specs.machine.Sets.{Sets, no_sets}
@@ -98,9 +98,9 @@ opening_core settings = record {
   published = 0;
 }
 
--- the cells before any call: three images for each place of a chain
+-- the cells before any call: the images of all places
 abbrev pub opening_cells : Cells
-opening_cells = record { stamps = replicate (3 * SWAPCHAINS) 0; held = [] }
+opening_cells = record { stamps = replicate image_count 0; held = [] }
 
 -- the state before any call
 abbrev pub opening : Settings → State

@@ -5,8 +5,7 @@ use Rattle.xr_core.proofs.parts.Parts.push_actions.Given as goal
 
 abbrev pub invariant-loop-action : goal.invariant-loop-action
 invariant-loop-action l =
-    (l.initial.out ++ flat_map (words_of_action (first_seen l.self.sessions) l.self.handles l.self.columns) l.action-items
-    ≡ l.out ++ flat_map (words_of_action (first_seen l.self.sessions) l.self.handles l.self.columns) (drop l.action-index l.action-items))
-    × (length l.out ≤ length l.initial.out + 14 * l.action-index)
+    (l.initial.out ++ flat_map (words_of_action (first_seen l.self.sessions)) l.action-items ≡ l.out ++ flat_map (words_of_action (first_seen l.self.sessions)) (drop l.action-index l.action-items))
+    × (length l.out ≤ length l.initial.out + 2 * l.action-index)
     × (l.action-items ≡ l.self.inputs.actions)
     × (length l.action-items ≤ 64)

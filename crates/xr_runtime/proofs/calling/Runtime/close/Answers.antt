@@ -5,7 +5,7 @@ use Rattle.xr_model.specs.machine.State.{CoreState, with_apps, opening}
 use Rattle.xr_model.specs.laws.Laws.{count_locked}
 use Rattle.xr_model.specs.laws.Moments.{opening_moment, calls_by}
 use Rattle.xr_model.proofs.Histories.{entries_are_counted}
-use Rattle.xr_rule.specs.Rule.{are_by_callers}
+use Rattle.xr_model.specs.laws.MomentLaws.{are_by_callers}
 use Rattle.xr_rule.specs.View.{keepsake, joined_view}
 use Rattle.xr_runtime.specs.Calling.{Has}
 use Rattle.xr_runtime.specs.Closing.{Holds}

@@ -1,0 +1,28 @@
+//! The laws of where spaces are: what a new space is, and what a location tells.
+ghost use Rattle.xr_model.specs.laws.LocationLaws.{ReferenceSpacesAreAsAsked, ActionSpacesFollowTheirColumns, PosesFollowColumns, LocationsAreFactors};
+
+/// In a legal history a reference space that is created moves with the origin of its kind, and has the offset that was asked for.
+#[tactic(auto, using(crate::proofs::Locations::reference_spaces_are_as_asked))]
+pub fn reference_spaces_are_as_asked()
+    ensures { ReferenceSpacesAreAsAsked }
+{}
+
+/// In a legal history the space of an action that is created moves with the column of the action's place for the user path that was
+/// named, or with that of all for the number 0, and has the offset that was asked for.
+#[tactic(auto, using(crate::proofs::Locations::action_spaces_follow_their_columns))]
+pub fn action_spaces_follow_their_columns()
+    ensures { ActionSpacesFollowTheirColumns }
+{}
+
+/// A space that moves with a column has the pose of the origin which the column has, where that is active, and else none.
+#[tactic(auto, using(crate::proofs::Locations::poses_follow_columns))]
+pub fn poses_follow_columns()
+    ensures { PosesFollowColumns }
+{}
+
+/// A location is the base's offset, the base's pose, the space's pose and the space's offset, of the two spaces as they are named, and
+/// is missing where one of them has no pose.
+#[tactic(auto, using(crate::proofs::Locations::locations_are_factors))]
+pub fn locations_are_factors()
+    ensures { LocationsAreFactors }
+{}

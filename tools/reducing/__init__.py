@@ -1,0 +1,1 @@
+"""What tools/reduce is made of."""
