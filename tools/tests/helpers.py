@@ -20,7 +20,7 @@ TABLES = TOOLS / "tests/tables"
 sys.path.insert(1, str(TOOLS))
 MOST_SHOWN = 12
 LONGEST = 60
-LOOP, SECONDS_OF_LOOP = "for _ in range(5_000_000): pass", 0.2
+LOOP, SECONDS_OF_LOOP = "for _ in range(5_000_000): pass", 0.24
 
 Ended = subprocess.CompletedProcess
 Ops = list[dict[str, Any]]
