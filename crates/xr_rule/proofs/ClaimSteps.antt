@@ -1,5 +1,5 @@
 -- A holder claims an image, which decides its wait: where the image is unused, and where it is used and the time is up.
-use Rattle.std.proofs.Common.{◌≡◌, ◌≢◌, ℕ, ℤ, ◌+◌, ◌%◌, ◌^◌, ◌<◌, ◌==◌, Bool, true, false, List, [], ◌∷◌, ◌++◌, length, get_or, set, sym, refl, ap, ◌∙◌, subst, arith, Option, None, length-set, get_or-set_same, get_or-set_other, append-nil, true≢false, eq-eqb, ne_eqb}
+use Rattle.std.proofs.Common.{◌≡◌, ◌≢◌, ℕ, ℤ, ◌+◌, ◌%◌, ◌^◌, ◌<◌, ◌≤◌, ◌==◌, Bool, true, false, List, [], ◌∷◌, ◌++◌, length, get_or, set, sym, refl, ap, ◌∙◌, subst, arith, Option, None, length-set, get_or-set_same, get_or-set_other, true≢false, eq-eqb, ne_eqb}
 use Rattle.std.specs.Prelude.{if◌then◌else◌}
 use mathlib.Core.Logic.{dite}
 use mathlib.Core.Option.{some, none}
@@ -7,22 +7,24 @@ use native.Mathlib.Decide.{ℕ_discrete}
 use prog.Atomic.{either}
 use lib.ListN.{get_elem?}
 use Rattle.atomic_table.specs.Table.{State as Table, Me, Act, step, keeps, carried_after, Valid, stepped, Allows}
-use Rattle.atomic_table.proofs.Lists.{at_map, set_again, set_here}
+use Rattle.atomic_table.proofs.Lists.{at_map, set_again}
 use Rattle.xr_types.specs.declared.frames.Image.{Image}
 use Rattle.xr_model.specs.machine.CellCalls.{CellCall}
 use Rattle.xr_model.specs.machine.Images.{Stamped, slot_of, stamp_in, with_stamps}
 use Rattle.xr_model.specs.machine.Machine.{step as machine_step, reads_of, core_ready, IsPresent}
 use Rattle.xr_model.specs.machine.History.{StartsAt, clock_of}
+use Rattle.xr_types.specs.CallKinds.{publishes}
+use Rattle.xr_types.specs.declared.calls.Call.{Call}
 use Rattle.xr_model.specs.machine.Calls.{Entry}
 use Rattle.xr_model.specs.machine.Rule.{Did, nothing_done}
 use Rattle.xr_model.specs.machine.Rules.Swapchains.{is_up}
 use Rattle.xr_model.specs.machine.State.{CoreState, State, with_apps}
 use Rattle.xr_model.specs.laws.ImageLaws.{IsPlaced, is_had, did_at, count_now}
-use Rattle.xr_model.specs.laws.Moments.{Moment, opening_moment, moment_after, IsLegalAt, exchange_at}
+use Rattle.xr_model.specs.laws.Moments.{Moment, opening_moment, moment_after, IsLegalAt}
 use Rattle.xr_model.proofs.Histories.{after_is_in_turn}
 use Rattle.xr_model.proofs.ImageOwners.{counts_are_few}
 use Rattle.xr_model.proofs.Rows.{same_key}
-use Rattle.xr_rule.proofs.HolderSteps.{apart_of}
+use Rattle.xr_rule.proofs.HolderSteps.{apart_of, else_word}
 use Rattle.xr_model.proofs.SoundImages.{sound_history}
 use Rattle.xr_model.specs.laws.ImageWords.{word_of, stamp_of, are_free, Claims, late_of}
 use Rattle.xr_model.proofs.CallWords.{slot_within}
@@ -30,15 +32,14 @@ use Rattle.xr_model.proofs.FittingCalls.{claimed_fits}
 use Rattle.xr_model.specs.laws.ImageWordLaws.{Leaves, Gets}
 use Rattle.xr_model.proofs.ImageWaits.{gets, expires, wait_allowed, unused_is, claims_at}
 use Rattle.xr_model.proofs.WordSteps.{word_claims, word_stays}
-use Rattle.xr_rule.specs.View.{Know, Hold, Turn, View, Holding, view, hold_from, know_of, turn_of, number_in, calls_in, know_after}
-use Rattle.xr_rule.specs.Rule.{OneHistory, Tickets, Grew, image_word, stamp_word, WordsSay, state_at, MayDecide, MayClaim, FollowsRule, word_count, first_image}
+use Rattle.xr_rule.specs.Shows.{is_writing, Shows}
+use Rattle.xr_rule.specs.View.{Know, Hold, View, Eyes, Holding, sight, hold_from, know_of, turn_of, number_in, calls_in, know_after}
+use Rattle.xr_rule.specs.Rule.{Grew, image_word, stamp_word, WordsSay, state_at, MayDecide, MayClaim, published_words, FollowsRule, front_word, word_count, first_image}
 use Rattle.xr_rule.specs.Plays.{Sees, DecidesHolding, Claimed, Claims as ClaimsPlay}
-use Rattle.xr_rule.proofs.Sums.{at_in}
-use Rattle.xr_rule.proofs.Turning.{yes_ticket, turns_keep}
-use Rattle.xr_rule.proofs.Prefixes.{prefix_self}
+use Rattle.xr_rule.proofs.Deciding.{decides_so}
 use Rattle.xr_rule.proofs.Carrying.{leaves_at, others_add}
-use Rattle.xr_rule.proofs.Serving.{call_length, decides_own}
-use Rattle.xr_rule.proofs.Steps.{knows, turns, apps_of, sees, nobody_else, slot_holding, images_holding, whole, unchanged}
+use Rattle.xr_rule.proofs.Published.{next_publishes_none}
+use Rattle.xr_rule.proofs.Steps.{knows, turns, eyes, apps_of, unchanged, shows_still}
 
 -- ---- the entry
 
@@ -66,7 +67,7 @@ module _ (key : ℕ) (log : List Entry) (e : Entry) (i : Image) (ws : List ℕ) 
   abbrev s : State
   s = (moment_after (opening_moment key) log).state
 
-  fits : IsPlaced i × (is_had s.core i ≡ false)
+  pub fits : IsPlaced i × (is_had s.core i ≡ false)
   fits = subst (λ (j : Image). IsPlaced j × (is_had s.core j ≡ false)) (sym claims.image) (claimed_fits s claims.chain (sound_history (with_apps key) log legal) claims.may)
 
   word_is : get_or ws (image_word i) 0 ≡ count_now s i
@@ -123,56 +124,28 @@ module _ (key : ℕ) (log : List Entry) (e : Entry) (i : Image) (ws : List ℕ) 
 
 -- ---- the step
 
-module _ {S : Type 0} (stands : S → CoreState → Type 0) where
-  -- the seat goes on holding behind its own entry
-  decides_so : (key id : ℕ) (h : Hold) (k : Know) (e : Entry) (s : Table (Option S) View) (r : FollowsRule stands key s) (ws : List ℕ) → get_elem? s.views id ≡ some (view k (Holding h)) → MayDecide k r.log e
-      → length ws ≡ word_count → get_or ws 0 0 ≡ get_or s.words 0 0 → get_or ws 1 0 ≡ get_or s.words 1 0
-      → (IsLegalAt (opening_moment key) (r.log ++ e ∷ []) → WordsSay (moment_after (opening_moment key) (r.log ++ e ∷ [])).state [] ws)
-      → FollowsRule stands key record { words = ws; homes = s.homes; views = set s.views id (view (know_after k r.log e) (Holding (hold_from h.ticket (r.log ++ e ∷ [])))) }
-      × Sees k r.log × Sees (know_after k r.log e) (r.log ++ e ∷ [])
-  decides_so key id h k e s r ws at may wide zero_is one_is says =
-      let u : Turn = Holding h in
-      let n : Know = know_after k r.log e in
-      let log : List Entry = r.log ++ e ∷ [] in
-      let g : Hold = hold_from h.ticket log in
-      let there : get_elem? (turns s) id ≡ some u = at_map turn_of s.views id (view k u) at in
-      let known : get_elem? (knows s) id ≡ some k = at_map know_of s.views id (view k u) at in
-      let fit = r.fits id (view k u) at in
-      let some_own = fit.numbered in
-      let held = r.slot.held id u there in
-      let others = nobody_else stands key s r id u there (yes_ticket h.ticket r.served held.is_served) in
-      let told : OneHistory key log (set (knows s) id n) = decides_own key r.log r.log (knows s) id k e r.history known some_own refl may in
-      let longer_own : 0 < length n.own = omega (arith, call_length (exchange_at (moment_after (opening_moment k.apps) r.log) e) k.own, some_own) in (
-        whole stands key s ws s.homes id (view n (Holding g)) log r.drawn r.served r.fits wide r.few told
-            (subst (λ (x : ℕ × ℕ). Tickets x.0 x.1 r.drawn r.served (set (turns s) id (Holding g))) (λ q. (sym zero_is q, sym one_is q)) (turns_keep (get_or s.words 0 0) (get_or s.words 1 0) r.drawn r.served (turns s) id u (Holding g) r.tickets there refl (λ m. refl)))
-            (slot_holding (turns s) id others stands key log r.served s.homes u g there (record { is_served = held.is_served; grew = record { more = []; is = append-nil log; free = refl } }))
-            (images_holding (turns s) id others (moment_after (opening_moment key) log).state ws u g there (says told.legal))
-            record { numbered = longer_own; holds = record { begins = prefix_self log; notes_own = tt; made_fits = tt } },
-        sees key r.log (knows s) id k r.few r.history known some_own,
-        sees key log (set (knows s) id n) id n r.few told (set_here (knows s) id n (at_in (knows s) id k known)) longer_own,
-      )
-
+module _ {S : Type 0} (stands : List ℕ → S → CoreState → Type 0) where
   -- what it tells, where the history was the holder's look and images given back since
-  abbrev TellsAt : Hold → Know → List (ℕ × Option S) → Entry → Bool → List Entry → Type 0
-  TellsAt h k c e b l = (reads_of (state_at k l) e.call).unused ≡ b → Sees k l → Sees (know_after k l e) (l ++ e ∷ [])
-      → DecidesHolding k h e b (view k (Holding h), c) (view (know_after k l e) (Holding (hold_from h.ticket (l ++ e ∷ []))), c)
+  abbrev TellsAt : Hold → Know → Eyes → List (ℕ × Option S) → Entry → Bool → List Entry → Type 0
+  TellsAt h k y c e b l = (reads_of (state_at k l) e.call).unused ≡ b → Sees k l → Sees (know_after k l e) (l ++ e ∷ [])
+      → DecidesHolding k h e b (sight k (Holding h) y, c) (sight (know_after k l e) (Holding (hold_from h.ticket (l ++ e ∷ []))) y, c)
 
-  tells_at : (h : Hold) (k : Know) (c : List (ℕ × Option S)) (e : Entry) (b : Bool) (more : List Entry) → are_free more ≡ true → TellsAt h k c e b (h.look ++ more)
-  tells_at h k c e b more free found saw now = record { more = more; free = free; found = found; saw = saw; is = refl; sees = now }
+  tells_at : (h : Hold) (k : Know) (y : Eyes) (c : List (ℕ × Option S)) (e : Entry) (b : Bool) (more : List Entry) → are_free more ≡ true → TellsAt h k y c e b (h.look ++ more)
+  tells_at h k y c e b more free found saw now = record { more = more; free = free; found = found; saw = saw; is = refl; sees = now }
 
-  tells_so : (h : Hold) (k : Know) (c : List (ℕ × Option S)) (log : List Entry) (e : Entry) (b : Bool) → Grew h.look log → TellsAt h k c e b log
-  tells_so h k c log e b g = subst (TellsAt h k c e b) g.is (tells_at h k c e b g.more g.free)
+  tells_so : (h : Hold) (k : Know) (y : Eyes) (c : List (ℕ × Option S)) (log : List Entry) (e : Entry) (b : Bool) → Grew h.look log → TellsAt h k y c e b log
+  tells_so h k y c log e b g = subst (TellsAt h k y c e b) g.is (tells_at h k y c e b g.more g.free)
 
   claims_as : (h h' : Hold) (e : Entry) (late : Bool) (m n : Me (Option S) View) (r : ℕ) → Holding h ≡ Holding h' → Claimed e late m r n h → Claimed e late m r n h'
   claims_as h h' e late m n r is c = let same : h ≡ h' = cc in subst (Claimed e late m r n) same c
 
-  module _ (key id : ℕ) (h : Hold) (k : Know) (e : Entry) (i : Image) (late : Bool) (c : List (ℕ × Option S)) (may : MayClaim k h.look e i late) (s : Table (Option S) View) (r : FollowsRule stands key s) (at : get_elem? s.views id ≡ some (view k (Holding h)))
+  module _ (key id : ℕ) (h : Hold) (k : Know) (y : Eyes) (e : Entry) (i : Image) (late : Bool) (c : List (ℕ × Option S)) (may : MayClaim k h.look e i late) (s : Table (Option S) View) (r : FollowsRule stands key s) (at : get_elem? s.views id ≡ some (sight k (Holding h) y))
       (apps : k.apps ≡ key) (g : Grew h.look r.log) (w : WordsSay (moment_after (opening_moment key) r.log).state [] s.words) where
     abbrev found : ℕ
     found = get_or s.words (image_word i) 0
 
     abbrev Answer : Type 0
-    Answer = (n : View) × (a : Act (Option S)) × Valid s.homes c a × FollowsRule stands key (stepped s (image_word i) (either (found == 0) (2 ^ 32) found) id c n a) × ClaimsPlay e late (step 1 (image_word i) 0 (2 ^ 32) none) (view k (Holding h), c) found (n, carried_after c a)
+    Answer = (n : View) × (a : Act (Option S)) × Valid s.homes c a × FollowsRule stands key (stepped s (image_word i) (either (found == 0) (2 ^ 32) found) id c n a) × ClaimsPlay e late (step 1 (image_word i) 0 (2 ^ 32) none) (sight k (Holding h) y, c) found (n, carried_after c a)
 
     left : Leaves (moment_after (opening_moment k.apps) h.look) (moment_after (opening_moment k.apps) r.log)
     left = subst (λ (l : List Entry). Leaves (moment_after (opening_moment k.apps) h.look) (moment_after (opening_moment k.apps) l)) g.is (leaves_at (opening_moment k.apps) h.look g.more g.free)
@@ -184,7 +157,20 @@ module _ {S : Type 0} (stands : S → CoreState → Type 0) where
     here = subst (λ (a : ℕ). Claims (moment_after (opening_moment a) r.log).state.core e i) apps now
 
     abbrev decided : View
-    decided = view (know_after k r.log e) (Holding (hold_from h.ticket (r.log ++ e ∷ [])))
+    decided = sight (know_after k r.log e) (Holding (hold_from h.ticket (r.log ++ e ∷ []))) y
+
+    writes : (z : Eyes) → z ≡ y → is_writing z ≡ true
+    writes z is = ap is_writing is ∙ (r.fits id (sight k (Holding h) y) at).holds_eyes
+
+    here_placed : IsPlaced i
+    here_placed = (fits key r.log e i s.words r.history.legal here w).0
+
+    -- a wait publishes nothing
+    quiet : publishes e.call (machine_step (moment_after (opening_moment key) r.log).state e).1.reply.code ≡ false
+    quiet = subst (λ (x : Call). publishes x (machine_step (moment_after (opening_moment key) r.log).state e).1.reply.code ≡ false) (sym here.is) refl
+
+    shown : (ws : List ℕ) → ((j : ℕ) → front_word ≤ j → get_or ws j 0 ≡ get_or s.words j 0) → IsLegalAt (opening_moment key) (r.log ++ e ∷ []) → Shows front_word (published_words key (r.log ++ e ∷ [])) r.entered ws (set (eyes s) id y)
+    shown ws stay grown = subst (λ (p : List ℕ). Shows front_word p r.entered ws (set (eyes s) id y)) (sym (next_publishes_none key r.log e r.history.legal quiet)) (shows_still stands key s r ws id (sight k (Holding h) y) at stay)
 
     hits : found ≡ 0 → Answer
     hits hit =
@@ -192,14 +178,14 @@ module _ {S : Type 0} (stands : S → CoreState → Type 0) where
         let unused : (reads_of (state_at k r.log) e.call).unused ≡ true = subst (λ (a : ℕ). (reads_of (moment_after (opening_moment a) r.log).state e.call).unused ≡ true) (sym apps) unused_key in
         let decides : MayDecide k r.log e = claim_decides k h.look r.log e i late left may (gets (state_at k r.log).core (reads_of (state_at k r.log) e.call) e i now unused).is_ready in
         let ws : List ℕ = set s.words (image_word i) (2 ^ 32) in
-        let all = decides_so key id h k e s r ws at decides (length-set s.words (image_word i) (2 ^ 32) ∙ r.wide) (get_or-set_other s.words (image_word i) 0 (2 ^ 32) 0 (λ q. omega (arith, q))) (get_or-set_other s.words (image_word i) 1 (2 ^ 32) 0 (λ q. omega (arith, q)))
+        let all = decides_so stands key id h k y y e s r ws r.entered at decides (writes y refl) (shown ws (else_word i here_placed (2 ^ 32) s.words)) (length-set s.words (image_word i) (2 ^ 32) ∙ r.wide) (get_or-set_other s.words (image_word i) 0 (2 ^ 32) 0 (λ q. omega (arith, q))) (get_or-set_other s.words (image_word i) 1 (2 ^ 32) 0 (λ q. omega (arith, q)))
         (λ grown. got_words key r.log e i s.words r.history.legal here w grown r.wide unused_key) in (
           decided,
           keeps,
           tt,
           subst (λ (b : Bool). FollowsRule stands key record { words = set s.words (image_word i) (either b (2 ^ 32) found); homes = s.homes; views = set s.views id decided }) (sym (eq-eqb found 0 hit)) all.0,
-          λ h' is. claims_as h h' e late (view k (Holding h), c) (decided, c) found is record {
-            hit = λ _. tells_so h k c r.log e true g unused all.1 all.2;
+          λ h' is. claims_as h h' e late (sight k (Holding h) y, c) (decided, c) found is record {
+            hit = λ _. tells_so h k y c r.log e true g unused all.1 all.2;
             late_miss = λ left_over. absurd (left_over hit);
             miss = λ left_over. absurd (left_over hit);
           },
@@ -217,36 +203,36 @@ module _ {S : Type 0} (stands : S → CoreState → Type 0) where
         let nothing_is = expires (state_at k r.log).core (reads_of (state_at k r.log) e.call) e i now used up in
         let decides : MayDecide k r.log e = claim_decides k h.look r.log e i late left may nothing_is.is_ready in
         let nothing : did_at (moment_after (opening_moment key) r.log).state e ≡ nothing_done = subst (λ (a : ℕ). did_at (moment_after (opening_moment a) r.log).state e ≡ nothing_done) apps nothing_is.nothing in
-        let all = decides_so key id h k e s r s.words at decides r.wide refl refl (λ grown. kept_words key r.log e i s.words r.history.legal here w grown nothing) in (
+        let all = decides_so stands key id h k y y e s r s.words r.entered at decides (writes y refl) (shown s.words (λ i l. refl)) r.wide refl refl (λ grown. kept_words key r.log e i s.words r.history.legal here w grown nothing) in (
           decided,
           keeps,
           tt,
           same_word decided left_over all.0,
-          λ h' is. claims_as h h' e late (view k (Holding h), c) (decided, c) found is record {
+          λ h' is. claims_as h h' e late (sight k (Holding h) y, c) (decided, c) found is record {
             hit = λ none_found. absurd (left_over none_found);
-            late_miss = λ _ _. tells_so h k c r.log e false g used all.1 all.2;
+            late_miss = λ _ _. tells_so h k y c r.log e false g used all.1 all.2;
             miss = λ _ early. absurd (true≢false (sym is_late ∙ early));
           },
         )
     misses left_over false early = (
-      view k (Holding h),
+      sight k (Holding h) y,
       keeps,
       tt,
-      same_word (view k (Holding h)) left_over (subst (λ (vs : List View). FollowsRule stands key record { words = s.words; homes = s.homes; views = vs }) (sym (set_again s.views id (view k (Holding h)) at)) r),
-      λ h' is. claims_as h h' e late (view k (Holding h), c) (view k (Holding h), c) found is record {
+      same_word (sight k (Holding h) y) left_over (subst (λ (vs : List View). FollowsRule stands key record { words = s.words; homes = s.homes; views = vs }) (sym (set_again s.views id (sight k (Holding h) y) at)) r),
+      λ h' is. claims_as h h' e late (sight k (Holding h) y, c) (sight k (Holding h) y, c) found is record {
         hit = λ none_found. absurd (left_over none_found);
         late_miss = λ _ is_late. absurd (true≢false (sym is_late ∙ early));
         miss = λ _ _. refl;
       },
     )
 
-  pub claims : (key id : ℕ) (h : Hold) (k : Know) (e : Entry) (i : Image) (late : Bool) (c : List (ℕ × Option S)) → h.noted ≡ None → h.made ≡ [] → MayClaim k h.look e i late
-      → Allows (FollowsRule stands key) 1 id (view k (Holding h), c) (image_word i) (λ n. either (n == 0) (2 ^ 32) n) (ClaimsPlay e late (step 1 (image_word i) 0 (2 ^ 32) none) (view k (Holding h), c))
-  claims key id h k e i late c unnoted unmade may s r slots at small =
-      let there : get_elem? (turns s) id ≡ some (Holding h) = at_map turn_of s.views id (view k (Holding h)) at in
-      let known : get_elem? (knows s) id ≡ some k = at_map know_of s.views id (view k (Holding h)) at in
-      let fit = r.fits id (view k (Holding h)) at in
+  pub claims : (key id : ℕ) (h : Hold) (k : Know) (y : Eyes) (e : Entry) (i : Image) (late : Bool) (c : List (ℕ × Option S)) → h.noted ≡ None → h.made ≡ [] → MayClaim k h.look e i late
+      → Allows (FollowsRule stands key) 1 id (sight k (Holding h) y, c) (image_word i) (λ n. either (n == 0) (2 ^ 32) n) (ClaimsPlay e late (step 1 (image_word i) 0 (2 ^ 32) none) (sight k (Holding h) y, c))
+  claims key id h k y e i late c unnoted unmade may s r slots at small =
+      let there : get_elem? (turns s) id ≡ some (Holding h) = at_map turn_of s.views id (sight k (Holding h) y) at in
+      let known : get_elem? (knows s) id ≡ some k = at_map know_of s.views id (sight k (Holding h) y) at in
+      let fit = r.fits id (sight k (Holding h) y) at in
       let apps = apps_of key r.log k (r.history.each id k known) fit.numbered in
       let g = (r.slot.held id (Holding h) there).grew in
       let w : WordsSay (moment_after (opening_moment key) r.log).state [] s.words = subst (λ (l : List CellCall). WordsSay (moment_after (opening_moment key) r.log).state l s.words) unmade (r.images.held id (Holding h) there) in
-      dite (ℕ_discrete (get_or s.words (image_word i) 0) 0) (hits key id h k e i late c may s r at apps g w) (λ left_over. misses key id h k e i late c may s r at apps g w left_over late refl)
+      dite (ℕ_discrete (get_or s.words (image_word i) 0) 0) (hits key id h k y e i late c may s r at apps g w) (λ left_over. misses key id h k y e i late c may s r at apps g w left_over late refl)

@@ -1,5 +1,5 @@
 -- A holder pins, frees, stamps and looks at images.
-use Rattle.std.proofs.Common.{◌≡◌, ◌≢◌, ℕ, ◌+◌, ◌%◌, ◌^◌, ◌<◌, ◌==◌, Bool, true, false, List, [], ◌∷◌, ◌++◌, length, get_or, set, sym, refl, ap, ◌∙◌, subst, arith, Option, None, IfSome, length-set, get_or-set_same, get_or-set_other}
+use Rattle.std.proofs.Common.{◌≡◌, ◌≢◌, ℕ, ◌+◌, ◌%◌, ◌^◌, ◌<◌, ◌≤◌, ◌==◌, Bool, true, false, List, [], ◌∷◌, ◌++◌, length, get_or, set, sym, refl, ap, ◌∙◌, subst, arith, Option, None, IfSome, length-set, get_or-set_same, get_or-set_other}
 use Rattle.std.specs.Prelude.{if◌then◌else◌}
 use Rattle.std.proofs.lemmas.Bool.Decides.{nat_tests}
 use mathlib.Core.Option.{some, none}
@@ -17,8 +17,8 @@ use Rattle.xr_model.proofs.Rows.{same_key}
 use Rattle.xr_model.specs.laws.ImageWords.{word_of, stamp_of, word_by, word_after, stamp_by, stamp_after, FitsCall}
 use Rattle.xr_model.proofs.CallWords.{word_append, stamp_append, slot_within}
 use Rattle.xr_model.proofs.FittingCalls.{each_append}
-use Rattle.xr_rule.specs.View.{Know, Hold, View, Holding, view, know_of, turn_of}
-use Rattle.xr_rule.specs.Rule.{image_word, stamp_word, WordsSay, state_at, MayNote, FollowsRule, word_count, first_stamp, first_image}
+use Rattle.xr_rule.specs.View.{Know, Hold, View, Eyes, Holding, sight, know_of, turn_of}
+use Rattle.xr_rule.specs.Rule.{image_word, stamp_word, WordsSay, state_at, MayNote, FollowsRule, front_word, word_count, first_stamp, first_image}
 use Rattle.xr_rule.specs.Plays.{made_more, Makes, Peeks}
 use Rattle.xr_rule.proofs.Carrying.{leaves_at}
 use Rattle.xr_rule.proofs.Steps.{knows, apps_of, holds_on, unchanged}
@@ -91,17 +91,24 @@ peeked st made ws j v w = record {
   stamp = λ i placed. w.stamp i placed ∙ sym (stamp_append made (peek j v ∷ []) i (stamp_of st i));
 }
 
+-- no word of an image, and no stamp, is one of what is published
+pub else_word : (j : Image) → IsPlaced j → (v : ℕ) (ws : List ℕ) (i : ℕ) → front_word ≤ i → get_or (set ws (image_word j) v) i 0 ≡ get_or ws i 0
+else_word j there v ws i l = let low = slot_within j there in get_or-set_other ws (image_word j) i v 0 (λ e. omega (arith, low, l, e))
+
+else_stamp : (j : Image) → IsPlaced j → (v : ℕ) (ws : List ℕ) (i : ℕ) → front_word ≤ i → get_or (set ws (stamp_word j) v) i 0 ≡ get_or ws i 0
+else_stamp j there v ws i l = let low = slot_within j there in get_or-set_other ws (stamp_word j) i v 0 (λ e. omega (arith, low, l, e))
+
 -- ---- steps
 
-module _ {S : Type 0} (stands : S → CoreState → Type 0) where
+module _ {S : Type 0} (stands : List ℕ → S → CoreState → Type 0) where
   -- a holder that has noted nothing makes one call more
-  makes_so : (key id : ℕ) (h : Hold) (k : Know) (x : CellCall) (s : Table (Option S) View) (r : FollowsRule stands key s) (ws : List ℕ) → h.noted ≡ None → get_elem? s.views id ≡ some (view k (Holding h))
-      → length ws ≡ word_count → get_or ws 0 0 ≡ get_or s.words 0 0 → get_or ws 1 0 ≡ get_or s.words 1 0 → FitsCall (state_at k h.look).core x
+  makes_so : (key id : ℕ) (h : Hold) (k : Know) (y : Eyes) (x : CellCall) (s : Table (Option S) View) (r : FollowsRule stands key s) (ws : List ℕ) → h.noted ≡ None → get_elem? s.views id ≡ some (sight k (Holding h) y)
+      → length ws ≡ word_count → get_or ws 0 0 ≡ get_or s.words 0 0 → get_or ws 1 0 ≡ get_or s.words 1 0 → ((i : ℕ) → front_word ≤ i → get_or ws i 0 ≡ get_or s.words i 0) → FitsCall (state_at k h.look).core x
       → WordsSay (moment_after (opening_moment key) r.log).state (h.made ++ x ∷ []) ws
-      → FollowsRule stands key record { words = ws; homes = s.homes; views = set s.views id (made_more k h x) }
-  makes_so key id h k x s r ws unnoted at wide zero_is one_is fits says =
-      let fit = r.fits id (view k (Holding h)) at in
-      holds_on stands key id h (record h { made = h.made ++ x ∷ [] }) k s r ws at refl refl wide zero_is one_is says record {
+      → FollowsRule stands key record { words = ws; homes = s.homes; views = set s.views id (made_more k h y x) }
+  makes_so key id h k y x s r ws unnoted at wide zero_is one_is stay fits says =
+      let fit = r.fits id (sight k (Holding h) y) at in
+      holds_on stands key id h (record h { made = h.made ++ x ∷ [] }) k y s r ws at refl refl wide zero_is one_is stay says record {
         begins = fit.holds.begins;
         notes_own = none_noted h.noted unnoted;
         made_fits = each_append (FitsCall (state_at k h.look).core) h.made (x ∷ []) fit.holds.made_fits (fits, tt);
@@ -110,59 +117,59 @@ module _ {S : Type 0} (stands : S → CoreState → Type 0) where
       none_noted : (o : Option Entry) → o ≡ None → IfSome o (λ e. MayNote k h.look (h.made ++ x ∷ []) e)
       none_noted o is = subst (λ (p : Option Entry). IfSome p (λ e. MayNote k h.look (h.made ++ x ∷ []) e)) (sym is) tt
 
-  more_as : (k : Know) (c : List (ℕ × Option S)) (x : CellCall) (h h' : Hold) → Holding h ≡ Holding h' → ◌≡◌ {A = Me (Option S) View} (made_more k h x, c) (made_more k h' x, c)
-  more_as k c x h h' is = let same : h ≡ h' = cc in ap (λ (z : Hold). let m : Me (Option S) View = (made_more k z x, c) in m) same
+  more_as : (k : Know) (y : Eyes) (c : List (ℕ × Option S)) (x : CellCall) (h h' : Hold) → Holding h ≡ Holding h' → ◌≡◌ {A = Me (Option S) View} (made_more k h y x, c) (made_more k h' y x, c)
+  more_as k y c x h h' is = let same : h ≡ h' = cc in ap (λ (z : Hold). let m : Me (Option S) View = (made_more k z y x, c) in m) same
 
-  says_of : (key id : ℕ) (h : Hold) (k : Know) (s : Table (Option S) View) (r : FollowsRule stands key s) → get_elem? s.views id ≡ some (view k (Holding h)) → WordsSay (moment_after (opening_moment key) r.log).state h.made s.words
-  says_of key id h k s r at = r.images.held id (Holding h) (at_map turn_of s.views id (view k (Holding h)) at)
+  says_of : (key id : ℕ) (h : Hold) (k : Know) (y : Eyes) (s : Table (Option S) View) (r : FollowsRule stands key s) → get_elem? s.views id ≡ some (sight k (Holding h) y) → WordsSay (moment_after (opening_moment key) r.log).state h.made s.words
+  says_of key id h k y s r at = r.images.held id (Holding h) (at_map turn_of s.views id (sight k (Holding h) y) at)
 
-  pub pins : (key id : ℕ) (h : Hold) (k : Know) (j : Image) (c : List (ℕ × Option S)) → h.noted ≡ None → FitsCall (state_at k h.look).core (pin j)
-      → Allows (FollowsRule stands key) 1 id (view k (Holding h), c) (image_word j) (λ n. (n + 1) % 2 ^ 64) (Makes (pin j) (step 1 (image_word j) 1 0 none) (view k (Holding h), c))
-  pins key id h k j c unnoted fits s r slots at small =
+  pub pins : (key id : ℕ) (h : Hold) (k : Know) (y : Eyes) (j : Image) (c : List (ℕ × Option S)) → h.noted ≡ None → FitsCall (state_at k h.look).core (pin j)
+      → Allows (FollowsRule stands key) 1 id (sight k (Holding h) y, c) (image_word j) (λ n. (n + 1) % 2 ^ 64) (Makes (pin j) (step 1 (image_word j) 1 0 none) (sight k (Holding h) y, c))
+  pins key id h k y j c unnoted fits s r slots at small =
       let v : ℕ = (get_or s.words (image_word j) 0 + 1) % 2 ^ 64 in
       let wide = r.wide in (
-        made_more k h (pin j),
+        made_more k h y (pin j),
         keeps,
         tt,
-        makes_so key id h k (pin j) s r (set s.words (image_word j) v) unnoted at (length-set s.words (image_word j) v ∙ wide) (get_or-set_other s.words (image_word j) 0 v 0 (λ e. omega (arith, e))) (get_or-set_other s.words (image_word j) 1 v 0 (λ e. omega (arith, e))) fits
-            (pinned (moment_after (opening_moment key) r.log).state h.made s.words j wide fits (says_of key id h k s r at)),
-        λ h' is. more_as k c (pin j) h h' is,
+        makes_so key id h k y (pin j) s r (set s.words (image_word j) v) unnoted at (length-set s.words (image_word j) v ∙ wide) (get_or-set_other s.words (image_word j) 0 v 0 (λ e. omega (arith, e))) (get_or-set_other s.words (image_word j) 1 v 0 (λ e. omega (arith, e))) (else_word j fits v s.words) fits
+            (pinned (moment_after (opening_moment key) r.log).state h.made s.words j wide fits (says_of key id h k y s r at)),
+        λ h' is. more_as k y c (pin j) h h' is,
       )
 
-  pub frees : (key id : ℕ) (h : Hold) (k : Know) (j : Image) (c : List (ℕ × Option S)) → h.noted ≡ None → FitsCall (state_at k h.look).core (free j)
-      → Allows (FollowsRule stands key) 1 id (view k (Holding h), c) (image_word j) (λ _. 0) (λ _. Makes (free j) (step 1 (image_word j) 0 0 none) (view k (Holding h), c) 0)
-  frees key id h k j c unnoted fits s r slots at small =
+  pub frees : (key id : ℕ) (h : Hold) (k : Know) (y : Eyes) (j : Image) (c : List (ℕ × Option S)) → h.noted ≡ None → FitsCall (state_at k h.look).core (free j)
+      → Allows (FollowsRule stands key) 1 id (sight k (Holding h) y, c) (image_word j) (λ _. 0) (λ _. Makes (free j) (step 1 (image_word j) 0 0 none) (sight k (Holding h) y, c) 0)
+  frees key id h k y j c unnoted fits s r slots at small =
       let wide = r.wide in (
-        made_more k h (free j),
+        made_more k h y (free j),
         keeps,
         tt,
-        makes_so key id h k (free j) s r (set s.words (image_word j) 0) unnoted at (length-set s.words (image_word j) 0 ∙ wide) (get_or-set_other s.words (image_word j) 0 0 0 (λ e. omega (arith, e))) (get_or-set_other s.words (image_word j) 1 0 0 (λ e. omega (arith, e))) fits
-            (freed (moment_after (opening_moment key) r.log).state h.made s.words j wide fits.0 (says_of key id h k s r at)),
-        λ h' is. more_as k c (free j) h h' is,
+        makes_so key id h k y (free j) s r (set s.words (image_word j) 0) unnoted at (length-set s.words (image_word j) 0 ∙ wide) (get_or-set_other s.words (image_word j) 0 0 0 (λ e. omega (arith, e))) (get_or-set_other s.words (image_word j) 1 0 0 (λ e. omega (arith, e))) (else_word j fits.0 0 s.words) fits
+            (freed (moment_after (opening_moment key) r.log).state h.made s.words j wide fits.0 (says_of key id h k y s r at)),
+        λ h' is. more_as k y c (free j) h h' is,
       )
 
-  pub stamps : (key id : ℕ) (h : Hold) (k : Know) (j : Image) (v : ℕ) (c : List (ℕ × Option S)) → h.noted ≡ None → FitsCall (state_at k h.look).core (stamp j v)
-      → Allows (FollowsRule stands key) 1 id (view k (Holding h), c) (stamp_word j) (λ _. v) (λ _. Makes (stamp j v) (step 1 (stamp_word j) v 0 none) (view k (Holding h), c) v)
-  stamps key id h k j v c unnoted fits s r slots at small =
+  pub stamps : (key id : ℕ) (h : Hold) (k : Know) (y : Eyes) (j : Image) (v : ℕ) (c : List (ℕ × Option S)) → h.noted ≡ None → FitsCall (state_at k h.look).core (stamp j v)
+      → Allows (FollowsRule stands key) 1 id (sight k (Holding h) y, c) (stamp_word j) (λ _. v) (λ _. Makes (stamp j v) (step 1 (stamp_word j) v 0 none) (sight k (Holding h) y, c) v)
+  stamps key id h k y j v c unnoted fits s r slots at small =
       let wide = r.wide in (
-        made_more k h (stamp j v),
+        made_more k h y (stamp j v),
         keeps,
         tt,
-        makes_so key id h k (stamp j v) s r (set s.words (stamp_word j) v) unnoted at (length-set s.words (stamp_word j) v ∙ wide) (get_or-set_other s.words (stamp_word j) 0 v 0 (λ e. omega (arith, e))) (get_or-set_other s.words (stamp_word j) 1 v 0 (λ e. omega (arith, e))) fits
-            (stamped (moment_after (opening_moment key) r.log).state h.made s.words j v wide fits (says_of key id h k s r at)),
-        λ h' is. more_as k c (stamp j v) h h' is,
+        makes_so key id h k y (stamp j v) s r (set s.words (stamp_word j) v) unnoted at (length-set s.words (stamp_word j) v ∙ wide) (get_or-set_other s.words (stamp_word j) 0 v 0 (λ e. omega (arith, e))) (get_or-set_other s.words (stamp_word j) 1 v 0 (λ e. omega (arith, e))) (else_stamp j fits v s.words) fits
+            (stamped (moment_after (opening_moment key) r.log).state h.made s.words j v wide fits (says_of key id h k y s r at)),
+        λ h' is. more_as k y c (stamp j v) h h' is,
       )
 
-  pub peeks : (key id : ℕ) (h : Hold) (k : Know) (j : Image) (c : List (ℕ × Option S)) → h.noted ≡ None → ((n : ℕ) → FitsCall (state_at k h.look).core (peek j n))
-      → Allows (FollowsRule stands key) 1 id (view k (Holding h), c) (stamp_word j) (λ n. n) (Peeks j (step 1 (stamp_word j) 0 0 none) (view k (Holding h), c))
-  peeks key id h k j c unnoted fits s r slots at small =
+  pub peeks : (key id : ℕ) (h : Hold) (k : Know) (y : Eyes) (j : Image) (c : List (ℕ × Option S)) → h.noted ≡ None → ((n : ℕ) → FitsCall (state_at k h.look).core (peek j n))
+      → Allows (FollowsRule stands key) 1 id (sight k (Holding h) y, c) (stamp_word j) (λ n. n) (Peeks j (step 1 (stamp_word j) 0 0 none) (sight k (Holding h) y, c))
+  peeks key id h k y j c unnoted fits s r slots at small =
       let n : ℕ = get_or s.words (stamp_word j) 0 in
-      let w : View = made_more k h (peek j n) in
-      let says = says_of key id h k s r at in
-      let known : get_elem? (knows s) id ≡ some k = at_map know_of s.views id (view k (Holding h)) at in
-      let fit = r.fits id (view k (Holding h)) at in
+      let w : View = made_more k h y (peek j n) in
+      let says = says_of key id h k y s r at in
+      let known : get_elem? (knows s) id ≡ some k = at_map know_of s.views id (sight k (Holding h) y) at in
+      let fit = r.fits id (sight k (Holding h) y) at in
       let apps = apps_of key r.log k (r.history.each id k known) fit.numbered in
-      let held = r.slot.held id (Holding h) (at_map turn_of s.views id (view k (Holding h)) at) in
+      let held = r.slot.held id (Holding h) (at_map turn_of s.views id (sight k (Holding h) y) at) in
       let g = held.grew in
       let now : (moment_after (opening_moment k.apps) r.log).state.cells.stamps ≡ (state_at k h.look).cells.stamps = subst (λ (l : List Entry). (moment_after (opening_moment k.apps) l).state.cells.stamps ≡ (state_at k h.look).cells.stamps) g.is (leaves_at (opening_moment k.apps) h.look g.more g.free).stamps in
       let found : n ≡ stamp_after h.made j (stamp_of (state_at k h.look) j) = says.stamp j (fits 0)
@@ -170,9 +177,9 @@ module _ {S : Type 0} (stands : S → CoreState → Type 0) where
         w,
         keeps,
         tt,
-        unchanged stands key s (stamp_word j) s.homes (set s.views id w) (makes_so key id h k (peek j n) s r s.words unnoted at r.wide refl refl (fits n) (peeked (moment_after (opening_moment key) r.log).state h.made s.words j n says)),
+        unchanged stands key s (stamp_word j) s.homes (set s.views id w) (makes_so key id h k y (peek j n) s r s.words unnoted at r.wide refl refl (λ i l. refl) (fits n) (peeked (moment_after (opening_moment key) r.log).state h.made s.words j n says)),
         λ h' is. found_as n h h' is found,
       )
     where
-      found_as : (n : ℕ) (h h' : Hold) → Holding h ≡ Holding h' → n ≡ stamp_after h.made j (stamp_of (state_at k h.look) j) → (n ≡ stamp_after h'.made j (stamp_of (state_at k h'.look) j)) × (◌≡◌ {A = Me (Option S) View} (made_more k h (peek j n), c) (made_more k h' (peek j n), c))
-      found_as n h h' is found = let same : h ≡ h' = cc in (subst (λ (z : Hold). n ≡ stamp_after z.made j (stamp_of (state_at k z.look) j)) same found, more_as k c (peek j n) h h' is)
+      found_as : (n : ℕ) (h h' : Hold) → Holding h ≡ Holding h' → n ≡ stamp_after h.made j (stamp_of (state_at k h.look) j) → (n ≡ stamp_after h'.made j (stamp_of (state_at k h'.look) j)) × (◌≡◌ {A = Me (Option S) View} (made_more k h y (peek j n), c) (made_more k h' y (peek j n), c))
+      found_as n h h' is found = let same : h ≡ h' = cc in (subst (λ (z : Hold). n ≡ stamp_after z.made j (stamp_of (state_at k z.look) j)) same found, more_as k y c (peek j n) h h' is)

@@ -25,14 +25,17 @@ use Rattle.xr_model.proofs.CallWords.{word_more, slot_within}
 use Rattle.xr_model.proofs.FreeEntries.{stamps_left}
 use Rattle.xr_model.proofs.HeldReturns.{held_placed, held_unowned, done_returns, done_comes}
 use Rattle.xr_model.proofs.WordSteps.{word_returns}
-use Rattle.xr_rule.specs.View.{Know, Turn, View, Idle, Waiting, Holding, view, know_of, turn_of, number_in, calls_in, know_after, out}
-use Rattle.xr_rule.specs.Rule.{OneHistory, Tickets, Grew, HoldsIf, image_word, stamp_word, WordsSay, WordsSayIf, MayDecide, MayReturn, HoldFits, HoldFitsIf, FollowsRule, word_count, first_image}
+use Rattle.xr_rule.specs.Shows.{Shows}
+use Rattle.xr_rule.specs.View.{Know, Turn, View, Idle, Waiting, Holding, Out, view, know_of, turn_of, number_in, calls_in, know_after, out}
+use Rattle.xr_rule.specs.Rule.{OneHistory, Tickets, Grew, HoldsIf, image_word, stamp_word, WordsSay, WordsSayIf, MayDecide, MayReturn, HoldFits, HoldFitsIf, FollowsRule, front_word, word_count, first_image}
 use Rattle.xr_rule.specs.Plays.{Sees, done_entry, GivesBack}
 use Rattle.xr_rule.proofs.Sums.{at_in, at_unmap}
 use Rattle.xr_rule.proofs.Turning.{turns_keep}
 use Rattle.xr_rule.proofs.Carrying.{leaves_at, held_seen}
 use Rattle.xr_rule.proofs.Serving.{call_length, decides_own}
-use Rattle.xr_rule.proofs.Steps.{knows, turns, apps_of, sees, none_before, whole}
+use Rattle.xr_rule.proofs.HolderSteps.{else_word}
+use Rattle.xr_rule.proofs.Published.{same_published}
+use Rattle.xr_rule.proofs.Steps.{knows, turns, eyes, apps_of, sees, none_before, whole, shows_still}
 
 -- ---- words
 
@@ -52,7 +55,7 @@ module _ (key : ℕ) (log : List Entry) (i : Image) (rest : List Image) (legal :
   sound : StateIsSound s
   sound = sound_history (with_apps key) log legal
 
-  placed : IsPlaced i
+  pub placed : IsPlaced i
   placed = held_placed s i rest sound held
 
   -- one use less, of this image alone
@@ -92,7 +95,7 @@ module _ (key : ℕ) (log : List Entry) (i : Image) (rest : List Image) (legal :
 
 -- ---- the step
 
-module _ {S : Type 0} (stands : S → CoreState → Type 0) where
+module _ {S : Type 0} (stands : List ℕ → S → CoreState → Type 0) where
   pub returns : (key id : ℕ) (k : Know) (i : Image) (c : List (ℕ × Option S)) → 0 < length k.own → MayReturn k i
       → Allows (FollowsRule stands key) 1 id (view k Idle, c) (image_word i) (λ n. (n + (2 ^ 64 - 1)) % 2 ^ 64) (GivesBack (step 1 (image_word i) 1 0 none) (view k Idle, c))
   returns key id k i c some_own may s r slots at small =
@@ -110,23 +113,25 @@ module _ {S : Type 0} (stands : S → CoreState → Type 0) where
       let longer_own : 0 < length n.own = omega (arith, call_length (exchange_at (moment_after (opening_moment k.apps) r.log) e) k.own, some_own) in
       let now : Sees n log = sees key log (set (knows s) id n) id n r.few told (set_here (knows s) id n (at_in (knows s) id k known)) longer_own in
       let core_same : (moment_after (opening_moment key) log).state.core ≡ (moment_after (opening_moment key) r.log).state.core = core_is key r.log i may.rest r.history.legal told.legal held in
+      let here_placed : IsPlaced i = placed key r.log i may.rest r.history.legal told.legal held in
       let zero_is : get_or (set s.words (image_word i) v) 0 0 ≡ get_or s.words 0 0 = get_or-set_other s.words (image_word i) 0 v 0 (λ q. omega (arith, q)) in
       let one_is : get_or (set s.words (image_word i) v) 1 0 ≡ get_or s.words 1 0 = get_or-set_other s.words (image_word i) 1 v 0 (λ q. omega (arith, q)) in (
         view n Idle,
         keeps,
         tt,
-        whole stands key s (set s.words (image_word i) v) s.homes id (view n Idle) log r.drawn r.served r.fits (length-set s.words (image_word i) v ∙ wide) r.few told
+        whole stands key s (set s.words (image_word i) v) s.homes id (view n Idle) log r.drawn r.served r.entered r.fits (length-set s.words (image_word i) v ∙ wide) r.few told
             (subst (λ (x : ℕ × ℕ). Tickets x.0 x.1 r.drawn r.served (set (turns s) id Idle)) (λ q. (sym zero_is q, sym one_is q)) (turns_keep (get_or s.words 0 0) (get_or s.words 1 0) r.drawn r.served (turns s) id Idle Idle r.tickets there refl (λ m. refl)))
             record {
               held = λ j u q. ⊎_elim (λ (p : (j ≡ id) × (Idle ≡ u)). subst (HoldsIf log r.served) p.1 tt) (λ (p : (j ≢ id) × (get_elem? (turns s) j ≡ some u)). grows r.log r.served u (r.slot.held j u p.1)) (at_set (turns s) id j Idle u q);
-              free = λ none_holds. let home = r.slot.free (none_before (turns s) id Idle Idle there refl none_holds) in (home.0, home.1, subst (stands home.0) (sym core_same) home.2);
+              free = λ none_holds. let home = r.slot.free (none_before (turns s) id Idle Idle there refl none_holds) in (home.0, home.1, subst (stands r.entered home.0) (sym core_same) home.2);
             }
             record {
               held = λ j u q. ⊎_elim (λ (p : (j ≡ id) × (Idle ≡ u)). subst (WordsSayIf (moment_after (opening_moment key) log).state (set s.words (image_word i) v)) p.1 tt)
                   (λ (p : (j ≢ id) × (get_elem? (turns s) j ≡ some u)). given_if key s r j u held told.legal p.1 (r.slot.held j u p.1) (r.images.held j u p.1)) (at_set (turns s) id j Idle u q);
               free = λ none_holds. given_words key r.log i may.rest r.history.legal told.legal held [] s.words wide tt (r.images.free (none_before (turns s) id Idle Idle there refl none_holds));
             }
-            record { numbered = omega arith; holds = tt },
+            (subst (λ (p : List ℕ). Shows front_word p r.entered (set s.words (image_word i) v) (set (eyes s) id Out)) (sym (same_published key log r.log core_same)) (shows_still stands key s r (set s.words (image_word i) v) id (view k Idle) at (else_word i here_placed v s.words)))
+            record { numbered = omega arith; holds = tt; holds_eyes = refl; reads_own = omega arith },
         (r.log, record { is = refl; saw = before; sees = now }, refl),
       )
     where

@@ -5,6 +5,7 @@ use mathlib.Core.List.{IsPrefix}
 use lib.ListN.{get_elem?}
 use Rattle.atomic_table.specs.Table.{State as Table, step, gives, Allows}
 use Rattle.atomic_table.proofs.Lists.{at_set, at_map, set_here}
+use Rattle.xr_types.specs.CallKinds.{publishes}
 use Rattle.xr_model.specs.machine.Calls.{Entry, Exchange}
 use Rattle.xr_model.specs.machine.CellCalls.{CellCall}
 use Rattle.xr_model.specs.machine.Machine.{step as machine_step, reads_of, cell_calls, as_unused}
@@ -19,16 +20,19 @@ use Rattle.xr_model.specs.laws.ImageWords.{word_of, stamp_of, word_after, stamp_
 use Rattle.xr_model.proofs.FreeEntries.{told_as_unused}
 use Rattle.xr_model.proofs.CellsTold.{same_by}
 use Rattle.xr_model.proofs.WordSteps.{word_steps, stamp_steps, all_stamps}
-use Rattle.xr_rule.specs.View.{Own, Know, Hold, Turn, View, Idle, Waiting, Holding, view, know, know_of, turn_of, number_in, calls_in, out, has_ticket, with_call, history_with, know_after}
+use Rattle.xr_rule.specs.Shows.{Shows}
+use Rattle.xr_rule.specs.View.{Own, Know, Hold, Turn, View, Idle, Waiting, Holding, Out, Keeps, sight, view, know, know_of, turn_of, eyes_of, number_in, calls_in, out, has_ticket, with_call, history_with, know_after}
 use Rattle.xr_model.specs.laws.MomentLaws.{are_by_callers}
-use Rattle.xr_rule.specs.Rule.{OneHistory, Tickets, HoldsIf, SlotStands, Grew, WordsSay, state_at, MayDecide, MayNote, FollowsRule, word_count}
-use Rattle.xr_rule.specs.Plays.{Sees, Decides, DecidesBehind, Serves}
+use Rattle.xr_rule.specs.Rule.{OneHistory, Tickets, HoldsIf, SlotStands, Grew, WordsSay, state_at, MayDecide, MayNote, published_words, FollowsRule, front_word, word_count}
+use Rattle.xr_rule.specs.Plays.{Sees, Decides, DecidesBehind, PublishesNone, Serves}
 use Rattle.xr_rule.proofs.Sums.{at_in}
 use Rattle.xr_rule.proofs.Knowing.{history_decides}
 use Rattle.xr_rule.proofs.Turning.{yes_ticket, turns_serve}
 use Rattle.xr_rule.proofs.Carrying.{none_behind, NoteAt, note_at, leaves_at}
 use Rattle.xr_rule.proofs.Histories.{calls-between, none-between}
-use Rattle.xr_rule.proofs.Steps.{knows, turns, own_calls, apps_of, sees, holds_aside, words_else, images_given, whole, same_history, nobody_else}
+use Rattle.xr_rule.proofs.Published.{next_publishes_none, quiet_as}
+use Rattle.xr_rule.proofs.Showing.{shows_on}
+use Rattle.xr_rule.proofs.Steps.{knows, turns, eyes, own_calls, apps_of, sees, holds_aside, words_else, images_given, whole, same_history, nobody_else}
 
 -- the seat's own number is the first that its view names
 pub decides_own : (key : ℕ) (log look : List Entry) (ks : List Know) (id : ℕ) (k : Know) (e : Entry) → OneHistory key log ks → get_elem? ks id ≡ some k → 0 < length k.own → look ≡ log → MayDecide k look e
@@ -65,7 +69,7 @@ noted_at key log ks id k h e t at some_own begins g may = note_at k h.look log h
 -- ---- words once an entry is decided
 
 -- The calls that were made are the entry's, so once it is decided the words say what the state says.
-words_decided : (key : ℕ) (log : List Entry) (made : List CellCall) (e : Entry) (ws : List ℕ) → IsLegalAt (opening_moment key) (log ++ e ∷ []) → is_image_done e.call ≡ false
+pub words_decided : (key : ℕ) (log : List Entry) (made : List CellCall) (e : Entry) (ws : List ℕ) → IsLegalAt (opening_moment key) (log ++ e ∷ []) → is_image_done e.call ≡ false
     → made ≡ cell_calls (moment_after (opening_moment key) log).state.core (reads_of (moment_after (opening_moment key) log).state e.call) e
     → claimed_by (moment_after (opening_moment key) log).state.core (reads_of (moment_after (opening_moment key) log).state e.call) e ≡ []
     → WordsSay (moment_after (opening_moment key) log).state made ws → WordsSay (moment_after (opening_moment key) (log ++ e ∷ [])).state [] ws
@@ -78,7 +82,7 @@ words_decided key log made e ws legal other made_is unclaims w =
       stamp = λ i placed. w.stamp i placed ∙ (ap (λ (l : List CellCall). stamp_after l i (stamp_of s i)) made_is ∙ sym (stamp_steps (with_apps key) log e i legal placed (all_stamps (with_apps key) log)));
     }
 
-module _ {S : Type 0} (stands : S → CoreState → Type 0) where
+module _ {S : Type 0} (stands : List ℕ → S → CoreState → Type 0) where
   -- the words after a serve
   served_words : (key : ℕ) (s : Table (Option S) View) (r : FollowsRule stands key s) (id : ℕ) (u : Turn) → get_elem? (turns s) id ≡ some u → out u ≡ 1 → ((n : ℕ) → has_ticket n u ≡ has_ticket n (Waiting r.served))
       → (length (set s.words 1 ((get_or s.words 1 0 + 1) % 2 ^ 64)) ≡ word_count) × Tickets (get_or (set s.words 1 ((get_or s.words 1 0 + 1) % 2 ^ 64)) 0 0) (get_or (set s.words 1 ((get_or s.words 1 0 + 1) % 2 ^ 64)) 1 0) r.drawn (r.served + 1) (set (turns s) id Idle)
@@ -92,33 +96,40 @@ module _ {S : Type 0} (stands : S → CoreState → Type 0) where
       )
 
   -- the slot after the holder gave it back
-  slot_given : (key : ℕ) (s : Table (Option S) View) (r : FollowsRule stands key s) (log : List Entry) (id : ℕ) (v : Turn) (x : S) → get_elem? (turns s) id ≡ some v → has_ticket r.served v ≡ 1 → 0 < length s.homes → stands x (moment_after (opening_moment key) log).state.core
-      → SlotStands stands key log (r.served + 1) (set s.homes 0 (some (Some x))) (set (turns s) id Idle)
-  slot_given key s r log id v x at mine some_home ok = record {
+  slot_given : (cs : List ℕ) (key : ℕ) (s : Table (Option S) View) (r : FollowsRule stands key s) (log : List Entry) (id : ℕ) (v : Turn) (x : S) → get_elem? (turns s) id ≡ some v → has_ticket r.served v ≡ 1 → 0 < length s.homes → stands cs x (moment_after (opening_moment key) log).state.core
+      → SlotStands (stands cs) key log (r.served + 1) (set s.homes 0 (some (Some x))) (set (turns s) id Idle)
+  slot_given cs key s r log id v x at mine some_home ok = record {
     held = λ j u e. ⊎_elim (λ (q : (j ≡ id) × (Idle ≡ u)). subst (HoldsIf log (r.served + 1)) q.1 tt)
         (λ (q : (j ≢ id) × (get_elem? (turns s) j ≡ some u)). holds_aside log (r.served + 1) u (nobody_else stands key s r id v at mine j u q.0 q.1)) (at_set (turns s) id j Idle u e);
     free = λ _. (x, set_here s.homes 0 (some (Some x)) some_home, ok);
   }
 
-  -- the seat knows n afterwards, and the history is this
-  serves_so : (key id : ℕ) (h : Hold) (k n : Know) (x : S) (log : List Entry) (s : Table (Option S) View) (r : FollowsRule stands key s) → get_elem? s.views id ≡ some (view k (Holding h)) → length s.homes ≡ 1
-      → OneHistory key log (set (knows s) id n) → stands x (moment_after (opening_moment key) log).state.core → WordsSay (moment_after (opening_moment key) log).state [] s.words
+  -- the seat knows n afterwards, the history is this, and as much is published
+  serves_so : (key id : ℕ) (h : Hold) (k n : Know) (ks : List ℕ) (i : ℕ) (x : S) (log : List Entry) (s : Table (Option S) View) (r : FollowsRule stands key s) → get_elem? s.views id ≡ some (sight k (Holding h) (Keeps ks i)) → length s.homes ≡ 1
+      → OneHistory key log (set (knows s) id n) → published_words key log ≡ published_words key r.log → stands ks x (moment_after (opening_moment key) log).state.core → WordsSay (moment_after (opening_moment key) log).state [] s.words
       → FollowsRule stands key record { words = set s.words 1 ((get_or s.words 1 0 + 1) % 2 ^ 64); homes = set s.homes 0 (some (Some x)); views = set s.views id (view n Idle) }
-  serves_so key id h k n x log s r at slots told ok says =
+  serves_so key id h k n ks i x log s r at slots told as_much ok says =
       let u : Turn = Holding h in
-      let there : get_elem? (turns s) id ≡ some u = at_map turn_of s.views id (view k u) at in
+      let v : View = sight k u (Keeps ks i) in
+      let w : ℕ = (get_or s.words 1 0 + 1) % 2 ^ 64 in
+      let there : get_elem? (turns s) id ≡ some u = at_map turn_of s.views id v at in
+      let seen : get_elem? (eyes s) id ≡ some (Keeps ks i) = at_map eyes_of s.views id v at in
+      let well = r.shows.each id (Keeps ks i) seen in
+      let shown : Shows front_word (published_words key r.log) r.entered (set s.words 1 w) (set (eyes s) id Out) = shows_on front_word (published_words key r.log) r.entered s.words (set s.words 1 w) (eyes s) id (Keeps ks i) Out r.shows
+      (λ j l. get_or-set_other s.words 1 j w 0 (λ e. omega (arith, e, l))) seen (λ b. refl) (λ f k. refl) tt in
       let held = r.slot.held id u there in
       let mine = yes_ticket h.ticket r.served held.is_served in
       let words = served_words key s r id u there refl (λ i. ap (λ t. has_ticket i (Waiting t)) held.is_served) in
-      whole stands key s (set s.words 1 ((get_or s.words 1 0 + 1) % 2 ^ 64)) (set s.homes 0 (some (Some x))) id (view n Idle) log r.drawn (r.served + 1) r.fits words.0 r.few told words.1
-      (slot_given key s r log id u x there mine (omega arith) ok)
+      whole stands key s (set s.words 1 ((get_or s.words 1 0 + 1) % 2 ^ 64)) (set s.homes 0 (some (Some x))) id (view n Idle) log r.drawn (r.served + 1) r.entered r.fits words.0 r.few told words.1
+      (slot_given r.entered key s r log id u x there mine (omega arith) (subst (λ (cs : List ℕ). stands cs x (moment_after (opening_moment key) log).state.core) well.0 ok))
       (images_given (turns s) id (nobody_else stands key s r id u there mine) (moment_after (opening_moment key) log).state (set s.words 1 ((get_or s.words 1 0 + 1) % 2 ^ 64)) (words_else (moment_after (opening_moment key) log).state [] s.words 1 ((get_or s.words 1 0 + 1) % 2 ^ 64) (omega arith) says))
-      record { numbered = omega arith; holds = tt }
+      (subst (λ (p : List ℕ). Shows front_word p r.entered (set s.words 1 w) (set (eyes s) id Out)) (sym as_much) shown)
+      record { numbered = omega arith; holds = tt; holds_eyes = refl; reads_own = omega arith }
 
-  serves_none : (key id : ℕ) (h : Hold) (k : Know) (x : S) → h.noted ≡ None → h.made ≡ [] → stands x (state_at k h.look).core
-      → Allows (FollowsRule stands key) 1 id (view k (Holding h), (0, Some x) ∷ []) 1 (λ n. (n + 1) % 2 ^ 64) (Serves (step 1 1 1 0 none) (view k (Holding h), (0, Some x) ∷ []))
-  serves_none key id h k x none_noted none_made ok s r slots at small =
-      let v : View = view k (Holding h) in
+  serves_none : (key id : ℕ) (h : Hold) (k : Know) (ks : List ℕ) (j : ℕ) (x : S) → h.noted ≡ None → h.made ≡ [] → stands ks x (state_at k h.look).core
+      → Allows (FollowsRule stands key) 1 id (sight k (Holding h) (Keeps ks j), (0, Some x) ∷ []) 1 (λ n. (n + 1) % 2 ^ 64) (Serves (step 1 1 1 0 none) (sight k (Holding h) (Keeps ks j), (0, Some x) ∷ []))
+  serves_none key id h k ks j x none_noted none_made ok s r slots at small =
+      let v : View = sight k (Holding h) (Keeps ks j) in
       let known : get_elem? (knows s) id ≡ some k = at_map know_of s.views id v at in
       let there : get_elem? (turns s) id ≡ some (Holding h) = at_map turn_of s.views id v at in
       let held = r.slot.held id (Holding h) there in
@@ -128,8 +139,8 @@ module _ {S : Type 0} (stands : S → CoreState → Type 0) where
         view k Idle,
         gives,
         tt,
-        serves_so key id h k k x r.log s r at slots (same_history stands key s r.log id v at r.history)
-            (subst (λ (c : CoreState). stands x c) (sym left) (subst (λ (a : ℕ). stands x (moment_after (opening_moment a) h.look).state.core) apps ok))
+        serves_so key id h k k ks j x r.log s r at slots (same_history stands key s r.log id v at r.history) refl
+            (subst (λ (c : CoreState). stands ks x c) (sym left) (subst (λ (a : ℕ). stands ks x (moment_after (opening_moment a) h.look).state.core) apps ok))
             (subst (λ (l : List CellCall). WordsSay (moment_after (opening_moment key) r.log).state l s.words) none_made (r.images.held id (Holding h) there)),
         λ h' is. (refl, tells h' is),
       )
@@ -138,10 +149,11 @@ module _ {S : Type 0} (stands : S → CoreState → Type 0) where
       tells h' is = let same : h ≡ h' = cc in let none_is : h'.noted ≡ None = ap (λ (z : Hold). z.noted) (sym same) ∙ none_noted in
           subst (λ (o : Option Entry). MatchOption o (view k Idle ≡ view k Idle) (λ e. DecidesBehind k h'.look e (view k Idle))) (sym none_is) refl
 
-  serves_some : (key id : ℕ) (h : Hold) (k : Know) (e : Entry) (x : S) → h.noted ≡ Some e → stands x (state_at k (h.look ++ e ∷ [])).core
-      → Allows (FollowsRule stands key) 1 id (view k (Holding h), (0, Some x) ∷ []) 1 (λ n. (n + 1) % 2 ^ 64) (Serves (step 1 1 1 0 none) (view k (Holding h), (0, Some x) ∷ []))
-  serves_some key id h k e x noted ok s r slots at small =
-      let v : View = view k (Holding h) in
+  serves_some : (key id : ℕ) (h : Hold) (k : Know) (ks : List ℕ) (j : ℕ) (e : Entry) (x : S) → h.noted ≡ Some e → stands ks x (state_at k (h.look ++ e ∷ [])).core
+      → publishes e.call (machine_step (state_at k h.look) e).1.reply.code ≡ false
+      → Allows (FollowsRule stands key) 1 id (sight k (Holding h) (Keeps ks j), (0, Some x) ∷ []) 1 (λ n. (n + 1) % 2 ^ 64) (Serves (step 1 1 1 0 none) (sight k (Holding h) (Keeps ks j), (0, Some x) ∷ []))
+  serves_some key id h k ks j e x noted ok quiet s r slots at small =
+      let v : View = sight k (Holding h) (Keeps ks j) in
       let known : get_elem? (knows s) id ≡ some k = at_map know_of s.views id v at in
       let there : get_elem? (turns s) id ≡ some (Holding h) = at_map turn_of s.views id v at in
       let held = r.slot.held id (Holding h) there in
@@ -158,6 +170,7 @@ module _ {S : Type 0} (stands : S → CoreState → Type 0) where
       let now : Sees n log = sees key log (set (knows s) id n) id n r.few told (set_here (knows s) id n (at_in (knows s) id k known)) longer_own in
       let before : Sees k r.log = sees key r.log (knows s) id k r.few r.history known some_own in
       let core_is : (state_at k log).core ≡ (state_at k (h.look ++ e ∷ [])).core = ap (λ (t : State). t.core) (after_is_in_turn (opening_moment k.apps).state r.log (e ∷ [])) ∙ (here.core ∙ ap (λ (t : State). t.core) (sym (after_is_in_turn (opening_moment k.apps).state h.look (e ∷ [])))) in
+      let as_much : published_words key log ≡ published_words key r.log = next_publishes_none key r.log e r.history.legal (quiet_at key r.log apps here) in
       let says : WordsSay (moment_after (opening_moment key) log).state [] s.words = words_decided key r.log h.made e s.words told.legal may.returns_none
       (subst (λ (a : ℕ). h.made ≡ cell_calls (moment_after (opening_moment a) r.log).state.core (reads_of (moment_after (opening_moment a) r.log).state e.call) e) apps here.made_is)
       (subst (λ (a : ℕ). claimed_by (moment_after (opening_moment a) r.log).state.core (reads_of (moment_after (opening_moment a) r.log).state e.call) e ≡ []) apps here.claims_none)
@@ -165,10 +178,13 @@ module _ {S : Type 0} (stands : S → CoreState → Type 0) where
         view n Idle,
         gives,
         tt,
-        serves_so key id h k n x log s r at slots told (subst (λ (a : ℕ). stands x (moment_after (opening_moment a) log).state.core) apps (subst (λ (c : CoreState). stands x c) (sym core_is) ok)) says,
+        serves_so key id h k n ks j x log s r at slots told as_much (subst (λ (a : ℕ). stands ks x (moment_after (opening_moment a) log).state.core) apps (subst (λ (c : CoreState). stands ks x c) (sym core_is) ok)) says,
         λ h' is. (refl, tells h' is g here before now core_is),
       )
     where
+      quiet_at : (key : ℕ) (log : List Entry) → k.apps ≡ key → NoteAt k h.look log h.made e → publishes e.call (machine_step (moment_after (opening_moment key) log).state e).1.reply.code ≡ false
+      quiet_at key log apps here = subst (λ (a : ℕ). publishes e.call (machine_step (moment_after (opening_moment a) log).state e).1.reply.code ≡ false) apps (quiet_as (moment_after (opening_moment k.apps) h.look) (moment_after (opening_moment k.apps) log) e here.same quiet)
+
       behind : (log : List Entry) (g : Grew h.look log) → NoteAt k h.look log h.made e → Sees k log → Sees (know_after k log e) (log ++ e ∷ []) → (state_at k (log ++ e ∷ [])).core ≡ (state_at k (h.look ++ e ∷ [])).core → DecidesBehind k h.look e (view (know_after k log e) Idle)
       behind log g here before now core = record {
         more = g.more;
@@ -185,10 +201,11 @@ module _ {S : Type 0} (stands : S → CoreState → Type 0) where
           (subst (λ (o : Option Entry). MatchOption o (view (know_after k log e) Idle ≡ view k Idle) (λ y. DecidesBehind k h.look y (view (know_after k log e) Idle))) (sym noted) (behind log g here before now core))
 
   -- a holder with the slot's value, which stands for what a core keeps after what is decided by then
-  pub serves : (key id : ℕ) (h : Hold) (k : Know) (x : S) → (h.noted ≡ None → h.made ≡ []) → stands x (state_at k (history_with h.look h.noted)).core
-      → Allows (FollowsRule stands key) 1 id (view k (Holding h), (0, Some x) ∷ []) 1 (λ n. (n + 1) % 2 ^ 64) (Serves (step 1 1 1 0 none) (view k (Holding h), (0, Some x) ∷ []))
-  serves key id h k x unmade ok = by h.noted refl
+  pub serves : (key id : ℕ) (h : Hold) (k : Know) (ks : List ℕ) (j : ℕ) (x : S) → (h.noted ≡ None → h.made ≡ []) → stands ks x (state_at k (history_with h.look h.noted)).core → PublishesNone k h
+      → Allows (FollowsRule stands key) 1 id (sight k (Holding h) (Keeps ks j), (0, Some x) ∷ []) 1 (λ n. (n + 1) % 2 ^ 64) (Serves (step 1 1 1 0 none) (sight k (Holding h) (Keeps ks j), (0, Some x) ∷ []))
+  serves key id h k ks j x unmade ok quiet = by h.noted refl
     where
-      by : (o : Option Entry) → h.noted ≡ o → Allows (FollowsRule stands key) 1 id (view k (Holding h), (0, Some x) ∷ []) 1 (λ n. (n + 1) % 2 ^ 64) (Serves (step 1 1 1 0 none) (view k (Holding h), (0, Some x) ∷ []))
-      by None is = serves_none key id h k x is (unmade is) (subst (λ (o : Option Entry). stands x (state_at k (history_with h.look o)).core) is ok)
-      by (Some e) is = serves_some key id h k e x is (subst (λ (o : Option Entry). stands x (state_at k (history_with h.look o)).core) is ok)
+      by : (o : Option Entry) → h.noted ≡ o → Allows (FollowsRule stands key) 1 id (sight k (Holding h) (Keeps ks j), (0, Some x) ∷ []) 1 (λ n. (n + 1) % 2 ^ 64) (Serves (step 1 1 1 0 none) (sight k (Holding h) (Keeps ks j), (0, Some x) ∷ []))
+      by None is = serves_none key id h k ks j x is (unmade is) (subst (λ (o : Option Entry). stands ks x (state_at k (history_with h.look o)).core) is ok)
+      by (Some e) is = serves_some key id h k ks j e x is (subst (λ (o : Option Entry). stands ks x (state_at k (history_with h.look o)).core) is ok)
+          (subst (λ (o : Option Entry). IfSome o (λ y. publishes y.call (machine_step (state_at k h.look) y).1.reply.code ≡ false)) is quiet)

@@ -14,12 +14,15 @@ use Rattle.xr_model.specs.machine.CellCalls.{CellCall}
 use Rattle.xr_model.specs.machine.State.{CoreState, State, with_apps, opening}
 use Rattle.xr_model.specs.laws.Moments.{opening_moment, moment_after, IsLegalAt, calls_by}
 use Rattle.xr_rule.specs.Sums.{total}
-use Rattle.xr_rule.specs.View.{Own, Know, Hold, Turn, View, Idle, Waiting, Holding, view, hold_from, know_of, turn_of, number_in, calls_in, parts, out, has_ticket, is_holder}
-use Rattle.xr_rule.specs.Rule.{Knows, OneHistory, Tickets, Grew, Holds, HoldsIf, SlotStands, image_word, stamp_word, WordsSay, WordsSayIf, ImageWords, MayNote, HoldFits, Fits, FollowsRule, word_count}
+use Rattle.xr_rule.specs.Shows.{front_of, reads_some, is_writing, Shows}
+use Rattle.xr_rule.specs.View.{Own, Know, Hold, Turn, View, Eyes, Idle, Waiting, Holding, Out, Keeps, sight, view, hold_from, know_of, turn_of, eyes_of, number_in, calls_in, parts, out, has_ticket, is_holder}
+use Rattle.xr_rule.specs.Rule.{Knows, OneHistory, Tickets, Grew, Holds, HoldsIf, SlotStands, image_word, stamp_word, WordsSay, WordsSayIf, ImageWords, MayNote, HoldFits, Fits, published_words, FollowsRule, front_word, word_count}
 use Rattle.xr_rule.specs.Plays.{Sees, Draws, Looks, Notes}
-use Rattle.xr_rule.proofs.Sums.{at_in, at_one, totals_le, total-map}
+use Rattle.xr_rule.proofs.Sums.{at_in, at_one, at_unmap, totals_le, total-map}
 use Rattle.xr_rule.proofs.Histories.{none-between}
 use Rattle.xr_rule.proofs.Counts.{locked_fit}
+use Rattle.xr_rule.proofs.Readers.{app_parts, all_numbers_are, first_is_one}
+use Rattle.xr_rule.proofs.Showing.{searched_none, shows_on}
 use Rattle.xr_rule.proofs.Turning.{yes_ticket, turns_keep, turns_draw, is_served, one_ticket}
 
 abbrev pub knows : {S : Type 0} → Table (Option S) View → List Know
@@ -27,6 +30,9 @@ knows s = map know_of s.views
 
 abbrev pub turns : {S : Type 0} → Table (Option S) View → List Turn
 turns s = map turn_of s.views
+
+abbrev pub eyes : {S : Type 0} → Table (Option S) View → List Eyes
+eyes s = map eyes_of s.views
 
 -- ---- what a seat is told
 
@@ -120,23 +126,26 @@ module _ (us : List Turn) (id : ℕ) (nobody : (j : ℕ) (x : Turn) → j ≢ id
     free = λ none_holds. absurd (true≢false (none_holds id (Holding h) (set_here us id (Holding h) (at_in us id u at))));
   }
 
-module _ {S : Type 0} (stands : S → CoreState → Type 0) where
+module _ {S : Type 0} (stands : List ℕ → S → CoreState → Type 0) where
   -- The rule after a step of the seat id is put together from its parts, each of which speaks of one part of the views.
-  pub whole : (key : ℕ) (s : Table (Option S) View) (ws : List ℕ) (hs : List (Home (Option S))) (id : ℕ) (w : View) (log : List Entry) (drawn served : ℕ)
+  pub whole : (key : ℕ) (s : Table (Option S) View) (ws : List ℕ) (hs : List (Home (Option S))) (id : ℕ) (w : View) (log : List Entry) (drawn served : ℕ) (entered : List ℕ)
       → ((j : ℕ) (v : View) → get_elem? s.views j ≡ some v → Fits v) → length ws ≡ word_count → key ≤ 8
-      → OneHistory key log (set (knows s) id w.know) → Tickets (get_or ws 0 0) (get_or ws 1 0) drawn served (set (turns s) id w.turn) → SlotStands stands key log served hs (set (turns s) id w.turn)
-      → ImageWords (moment_after (opening_moment key) log).state ws (set (turns s) id w.turn) → Fits w
+      → OneHistory key log (set (knows s) id w.know) → Tickets (get_or ws 0 0) (get_or ws 1 0) drawn served (set (turns s) id w.turn) → SlotStands (stands entered) key log served hs (set (turns s) id w.turn)
+      → ImageWords (moment_after (opening_moment key) log).state ws (set (turns s) id w.turn)
+      → Shows front_word (published_words key log) entered ws (set (eyes s) id w.eyes) → Fits w
       → FollowsRule stands key record { words = ws; homes = hs; views = set s.views id w }
-  whole key s ws hs id w log drawn served fit wide few told turned slot images own = record {
+  whole key s ws hs id w log drawn served entered fit wide few told turned slot images shown own = record {
     log = log;
     drawn = drawn;
     served = served;
+    entered = entered;
     wide = wide;
     few = few;
     history = subst (OneHistory key log) (sym (map-set know_of s.views id w)) told;
     tickets = subst (Tickets (get_or ws 0 0) (get_or ws 1 0) drawn served) (sym (map-set turn_of s.views id w)) turned;
-    slot = subst (SlotStands stands key log served hs) (sym (map-set turn_of s.views id w)) slot;
+    slot = subst (SlotStands (stands entered) key log served hs) (sym (map-set turn_of s.views id w)) slot;
     images = subst (ImageWords (moment_after (opening_moment key) log).state ws) (sym (map-set turn_of s.views id w)) images;
+    shows = subst (Shows front_word (published_words key log) entered ws) (sym (map-set eyes_of s.views id w)) shown;
     fits = λ j v at. ⊎_elim (λ (q : (j ≡ id) × (w ≡ v)). subst Fits q.1 own) (λ (q : (j ≢ id) × (get_elem? s.views j ≡ some v)). fit j v q.1) (at_set s.views id j w v at);
   }
 
@@ -149,9 +158,9 @@ module _ {S : Type 0} (stands : S → CoreState → Type 0) where
       let few = r.few in omega (arith, total-map turn_of out s.views, total-map know_of parts s.views)
 
   -- the slot after a step of a seat that neither had nor gets it
-  slot_aside : (key : ℕ) (log : List Entry) (served : ℕ) (hs : List (Home (Option S))) (us : List Turn) (id : ℕ) (u w : Turn) → SlotStands stands key log served hs us → get_elem? us id ≡ some u → is_holder u ≡ false → is_holder w ≡ false
-      → HoldsIf log served w → SlotStands stands key log served hs (set us id w)
-  slot_aside key log served hs us id u w h at was now kept = record {
+  slot_aside : (cs : List ℕ) (key : ℕ) (log : List Entry) (served : ℕ) (hs : List (Home (Option S))) (us : List Turn) (id : ℕ) (u w : Turn) → SlotStands (stands cs) key log served hs us → get_elem? us id ≡ some u → is_holder u ≡ false → is_holder w ≡ false
+      → HoldsIf log served w → SlotStands (stands cs) key log served hs (set us id w)
+  slot_aside cs key log served hs us id u w h at was now kept = record {
     held = λ j x e. ⊎_elim (λ (q : (j ≡ id) × (w ≡ x)). subst (HoldsIf log served) q.1 kept) (λ (q : (j ≢ id) × (get_elem? us j ≡ some x)). h.held j x q.1) (at_set us id j w x e);
     free = λ none_holds. h.free (none_before us id u w at was none_holds);
   }
@@ -163,6 +172,30 @@ module _ {S : Type 0} (stands : S → CoreState → Type 0) where
   -- nobody but the seat that is served may hold the slot
   pub nobody_else : (key : ℕ) (s : Table (Option S) View) (r : FollowsRule stands key s) (id : ℕ) (v : Turn) → get_elem? (turns s) id ≡ some v → has_ticket r.served v ≡ 1 → (j : ℕ) (u : Turn) → j ≢ id → get_elem? (turns s) j ≡ some u → is_holder u ≡ false
   nobody_else key s r id v at mine j u apart e = holders_alone r.log r.served u (r.slot.held j u e) (one_ticket (get_or s.words 0 0) (get_or s.words 1 0) r.drawn r.served (turns s) id j v u r.served r.tickets apart at e mine)
+
+  -- few seats are in buffers
+  pub few_read : (key : ℕ) (s : Table (Option S) View) → FollowsRule stands key s → total reads_some (eyes s) ≤ 8
+  few_read key s r =
+      let few = r.few in
+      let all = r.history.all_parts in
+      let device = r.history.owners 0 (omega arith) in
+      let compositor = r.history.owners 1 (omega arith) in
+      let le = totals_le (λ (v : View). reads_some v.eyes) (λ (v : View). app_parts v.know) s.views (λ j v at. let own = (r.fits j v at).reads_own in omega (arith, first_is_one v.know.own)) in
+      omega (arith, all_numbers_are (knows s), total-map eyes_of reads_some s.views, total-map know_of app_parts s.views)
+
+  -- nobody but a holder writes
+  pub others_write_none : (key : ℕ) (s : Table (Option S) View) (r : FollowsRule stands key s) (id : ℕ) (v : Turn) → get_elem? (turns s) id ≡ some v → has_ticket r.served v ≡ 1 → (j : ℕ) (e : Eyes) → j ≢ id → get_elem? (eyes s) j ≡ some e → is_writing e ≡ false
+  others_write_none key s r id v at mine j e apart there =
+      let x = at_unmap eyes_of s.views j e there in
+      let w : View = x.0 in
+      ap is_writing (sym x.2) ∙ ((r.fits j w x.1).holds_eyes ∙ nobody_else key s r id v at mine j w.turn apart (at_map turn_of s.views j w x.1))
+
+  -- what is published after a step that changes none of its words, and leaves what its seat sees
+  pub shows_still : (key : ℕ) (s : Table (Option S) View) (r : FollowsRule stands key s) (ws : List ℕ) (id : ℕ) (v : View) → get_elem? s.views id ≡ some v → ((i : ℕ) → front_word ≤ i → get_or ws i 0 ≡ get_or s.words i 0)
+      → Shows front_word (published_words key r.log) r.entered ws (set (eyes s) id v.eyes)
+  shows_still key s r ws id v at stay =
+      let there : get_elem? (eyes s) id ≡ some v.eyes = at_map eyes_of s.views id v at in
+      shows_on front_word (published_words key r.log) r.entered s.words ws (eyes s) id v.eyes v.eyes r.shows stay there (λ b. refl) (λ f k. refl) (r.shows.each id v.eyes there)
 
   -- ---- draws
 
@@ -179,12 +212,13 @@ module _ {S : Type 0} (stands : S → CoreState → Type 0) where
         w,
         keeps,
         tt,
-        whole key s (set s.words 0 n) s.homes id w r.log (d + 1) r.served r.fits (length-set s.words 0 n ∙ wide) r.few
+        whole key s (set s.words 0 n) s.homes id w r.log (d + 1) r.served r.entered r.fits (length-set s.words 0 n ∙ wide) r.few
             (same_history key s r.log id (view k Idle) at r.history)
             (subst (λ (x : ℕ × ℕ). Tickets x.0 x.1 (d + 1) r.served (set (turns s) id (Waiting d))) (λ i. (sym zero_is i, sym one_is i)) (turns_draw (get_or s.words 0 0) (get_or s.words 1 0) d r.served (turns s) id r.tickets there))
-            (slot_aside key r.log r.served s.homes (turns s) id Idle (Waiting d) r.slot there refl refl tt)
+            (slot_aside r.entered key r.log r.served s.homes (turns s) id Idle (Waiting d) r.slot there refl refl tt)
             (images_aside (moment_after (opening_moment key) r.log).state s.words 0 n (turns s) id Idle (Waiting d) (omega arith) r.images there refl refl)
-            record { numbered = some_own; holds = tt },
+            (shows_still key s r (set s.words 0 n) id (view k Idle) at (λ i l. get_or-set_other s.words 0 i n 0 (λ e. omega (arith, e, l))))
+            record { numbered = some_own; holds = tt; holds_eyes = refl; reads_own = omega arith },
         (d, refl, r.tickets.ticket_is),
       )
 
@@ -213,23 +247,28 @@ module _ {S : Type 0} (stands : S → CoreState → Type 0) where
       let g = sees key r.log (knows s) id k r.few r.history known fit.numbered in
       let apps = apps_of key r.log k (r.history.each id k known) fit.numbered in
       let h : Hold = hold_from t r.log in
-      let w : View = view k (Holding h) in (
+      let y : Eyes = Keeps r.entered 0 in
+      let w : View = sight k (Holding h) y in
+      let outside : get_elem? (eyes s) id ≡ some Out = at_map eyes_of s.views id v at in
+      let shown = shows_on front_word (published_words key r.log) r.entered s.words s.words (eyes s) id Out y r.shows (λ i l. refl) outside (λ b. refl) (λ f j. refl) (refl, omega arith, searched_none (front_of front_word s.words) (eyes s) (few_read key s r)) in (
         w,
         takes 0 (Some home.0),
         home.1,
-        unchanged key s 1 (set s.homes 0 none) (set s.views id w) (whole key s s.words (set s.homes 0 none) id w r.log r.drawn r.served r.fits r.wide r.few
+        unchanged key s 1 (set s.homes 0 none) (set s.views id w) (whole key s s.words (set s.homes 0 none) id w r.log r.drawn r.served r.entered r.fits r.wide r.few
             (same_history key s r.log id v at r.history)
             (turns_keep (get_or s.words 0 0) found r.drawn r.served (turns s) id (Waiting t) (Holding h) r.tickets there refl (λ n. refl))
-            (slot_holding (turns s) id others stands key r.log r.served (set s.homes 0 none) (Waiting t) h there (record { is_served = now; grew = record { more = []; is = append-nil r.log; free = refl } }))
+            (slot_holding (turns s) id others (stands r.entered) key r.log r.served (set s.homes 0 none) (Waiting t) h there (record { is_served = now; grew = record { more = []; is = append-nil r.log; free = refl } }))
             (images_holding (turns s) id others (moment_after (opening_moment key) r.log).state s.words (Waiting t) h there (r.images.free nobody))
-            record { numbered = fit.numbered; holds = record { begins = begins_at key r.log (knows s) id k r.history known; notes_own = tt; made_fits = tt } }),
+            shown
+            record { numbered = fit.numbered; holds = record { begins = begins_at key r.log (knows s) id k r.history known; notes_own = tt; made_fits = tt }; holds_eyes = refl; reads_own = omega arith }),
         λ t' is. let same : t ≡ t' = cc in (
           (λ _. record {
             look = r.log;
             value = home.0;
-            is = ap (λ (n : ℕ). (view k (Holding (hold_from n r.log)), (0, Some home.0) ∷ [])) same;
+            counts = r.entered;
+            is = ap (λ (n : ℕ). (sight k (Holding (hold_from n r.log)) y, (0, Some home.0) ∷ [])) same;
             sees = g;
-            stands_now = subst (λ a. stands home.0 (moment_after (opening_moment a) r.log).state.core) (sym apps) home.2;
+            stands_now = subst (λ a. stands r.entered home.0 (moment_after (opening_moment a) r.log).state.core) (sym apps) home.2;
           }),
           λ miss. absurd (miss (hit ∙ ap (λ n. n % 2 ^ 64) same)),
         ),
@@ -245,44 +284,46 @@ module _ {S : Type 0} (stands : S → CoreState → Type 0) where
   -- ---- a holder that goes on holding
 
   -- Its ticket, its look and what it knows stay, and the words say what they say of what it has made by then.
-  pub holds_on : (key id : ℕ) (h n : Hold) (k : Know) (s : Table (Option S) View) (r : FollowsRule stands key s) (ws : List ℕ) → get_elem? s.views id ≡ some (view k (Holding h)) → n.ticket ≡ h.ticket → n.look ≡ h.look
-      → length ws ≡ word_count → get_or ws 0 0 ≡ get_or s.words 0 0 → get_or ws 1 0 ≡ get_or s.words 1 0 → WordsSay (moment_after (opening_moment key) r.log).state n.made ws → HoldFits k n
-      → FollowsRule stands key record { words = ws; homes = s.homes; views = set s.views id (view k (Holding n)) }
-  holds_on key id h n k s r ws at ticket look wide zero_is one_is says fits =
+  pub holds_on : (key id : ℕ) (h n : Hold) (k : Know) (y : Eyes) (s : Table (Option S) View) (r : FollowsRule stands key s) (ws : List ℕ) → get_elem? s.views id ≡ some (sight k (Holding h) y) → n.ticket ≡ h.ticket → n.look ≡ h.look
+      → length ws ≡ word_count → get_or ws 0 0 ≡ get_or s.words 0 0 → get_or ws 1 0 ≡ get_or s.words 1 0 → ((i : ℕ) → front_word ≤ i → get_or ws i 0 ≡ get_or s.words i 0)
+      → WordsSay (moment_after (opening_moment key) r.log).state n.made ws → HoldFits k n
+      → FollowsRule stands key record { words = ws; homes = s.homes; views = set s.views id (sight k (Holding n) y) }
+  holds_on key id h n k y s r ws at ticket look wide zero_is one_is stay says fits =
       let u : Turn = Holding h in
-      let v : View = view k u in
+      let v : View = sight k u y in
       let there : get_elem? (turns s) id ≡ some u = at_map turn_of s.views id v at in
       let fit = r.fits id v at in
       let held = r.slot.held id u there in
       let others : (j : ℕ) (x : Turn) → j ≢ id → get_elem? (turns s) j ≡ some x → is_holder x ≡ false = nobody_else key s r id u there (yes_ticket h.ticket r.served held.is_served) in
-      whole key s ws s.homes id (view k (Holding n)) r.log r.drawn r.served r.fits wide r.few
+      whole key s ws s.homes id (sight k (Holding n) y) r.log r.drawn r.served r.entered r.fits wide r.few
       (same_history key s r.log id v at r.history)
       (subst (λ (x : ℕ × ℕ). Tickets x.0 x.1 r.drawn r.served (set (turns s) id (Holding n))) (λ i. (sym zero_is i, sym one_is i))
       (turns_keep (get_or s.words 0 0) (get_or s.words 1 0) r.drawn r.served (turns s) id u (Holding n) r.tickets there refl (λ m. ap (λ (t : ℕ). has_ticket m (Waiting t)) ticket)))
-      (slot_holding (turns s) id others stands key r.log r.served s.homes u n there (record { is_served = ticket ∙ held.is_served; grew = subst (λ (l : List Entry). Grew l r.log) (sym look) held.grew }))
+      (slot_holding (turns s) id others (stands r.entered) key r.log r.served s.homes u n there (record { is_served = ticket ∙ held.is_served; grew = subst (λ (l : List Entry). Grew l r.log) (sym look) held.grew }))
       (images_holding (turns s) id others (moment_after (opening_moment key) r.log).state ws u n there says)
-      record { numbered = fit.numbered; holds = fits }
+      (shows_still key s r ws id v at stay)
+      record { numbered = fit.numbered; holds = fits; holds_eyes = fit.holds_eyes; reads_own = fit.reads_own }
 
   -- ---- second looks
 
-  pub notes : (key id : ℕ) (h : Hold) (k : Know) (e : Entry) (c : List (ℕ × Option S)) → MayNote k h.look h.made e
-      → Allows (FollowsRule stands key) 1 id (view k (Holding h), c) 1 (λ n. n) (Notes e (step 1 1 0 0 none) (view k (Holding h), c))
-  notes key id h k e c may s r slots at small =
+  pub notes : (key id : ℕ) (h : Hold) (k : Know) (y : Eyes) (e : Entry) (c : List (ℕ × Option S)) → MayNote k h.look h.made e
+      → Allows (FollowsRule stands key) 1 id (sight k (Holding h) y, c) 1 (λ n. n) (Notes e (step 1 1 0 0 none) (sight k (Holding h) y, c))
+  notes key id h k y e c may s r slots at small =
       let u : Turn = Holding h in
-      let v : View = view k u in
+      let v : View = sight k u y in
       let there : get_elem? (turns s) id ≡ some u = at_map turn_of s.views id v at in
       let fit = r.fits id v at in
       let n : Hold = record h { noted = Some e } in
-      let w : View = view k (Holding n) in (
+      let w : View = sight k (Holding n) y in (
         w,
         keeps,
         tt,
-        unchanged key s 1 s.homes (set s.views id w) (holds_on key id h n k s r s.words at refl refl r.wide refl refl (r.images.held id u there) record { begins = fit.holds.begins; notes_own = may; made_fits = fit.holds.made_fits }),
+        unchanged key s 1 s.homes (set s.views id w) (holds_on key id h n k y s r s.words at refl refl r.wide refl refl (λ i l. refl) (r.images.held id u there) record { begins = fit.holds.begins; notes_own = may; made_fits = fit.holds.made_fits }),
         λ h' is. noted_as h h' is,
       )
     where
       noted_view : Hold → Me (Option S) View
-      noted_view x = (view k (Holding (record x { noted = Some e })), c)
+      noted_view x = (sight k (Holding (record x { noted = Some e })) y, c)
 
       noted_as : (h h' : Hold) → Holding h ≡ Holding h' → noted_view h ≡ noted_view h'
       noted_as h h' is = let same : h ≡ h' = cc in ap noted_view same

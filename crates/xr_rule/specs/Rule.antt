@@ -1,4 +1,4 @@
--- The rule of the table: there is one history; what each seat knows of it, the two words and the slot fit it.
+-- The rule of the table: there is one history; what each seat knows of it, the words and the slot fit it.
 use Rattle.std.specs.Prelude.{◌≡◌, ◌≢◌, ℕ, ◌+◌, ◌%◌, ◌^◌, ◌<◌, ◌≤◌, ◌⊎◌, Bool, true, false, List, [], ◌∷◌, ◌++◌, map, length, slice_index, Option, Some, IfSome}
 use mathlib.Core.Option.{Option as Home, some}
 use mathlib.Core.List.{IsPrefix}
@@ -11,6 +11,8 @@ use Rattle.xr_model.specs.machine.CoreCalls.{asked}
 use Rattle.xr_model.specs.machine.Images.{slot_of, image_count}
 use Rattle.xr_model.specs.machine.History.{StartsAt, clock_of}
 use Rattle.xr_model.specs.machine.Machine.{IsPresent, reads_of, cell_calls}
+use Rattle.xr_model.specs.machine.Publication.{publication_of}
+use Rattle.xr_model.specs.machine.PublicationWords.{words}
 use Rattle.xr_model.specs.machine.Calls.{Entry}
 use Rattle.xr_model.specs.machine.Rule.{is_by}
 use Rattle.xr_model.specs.machine.State.{CoreState, State}
@@ -21,7 +23,8 @@ use Rattle.xr_model.specs.laws.MomentLaws.{IsByActors, are_by_callers}
 use Rattle.xr_model.specs.laws.FewCalls.{HasFew, MayAdd, how_many, tells_end}
 use Rattle.xr_model.specs.laws.ImageWords.{word_of, stamp_of, word_after, stamp_after, FitsCall, claimed_by, are_free, Claims, late_of}
 use Rattle.xr_rule.specs.Sums.{total}
-use Rattle.xr_rule.specs.View.{Own, Know, Hold, Turn, View, Idle, Waiting, Holding, know_of, turn_of, number_in, calls_in, owns, parts, out, has_ticket, is_holder}
+use Rattle.xr_rule.specs.Shows.{shown_words, Shows, is_writing, reads_some}
+use Rattle.xr_rule.specs.View.{Own, Know, Hold, Turn, View, Idle, Waiting, Holding, know_of, turn_of, eyes_of, number_in, calls_in, owns, parts, app_in, out, has_ticket, is_holder}
 
 -- ---- one history
 
@@ -80,15 +83,22 @@ pub record SlotStands {S : Type 0} (stands : S → CoreState → Type 0) (apps :
 
 -- ---- images
 
--- The words: the two of tickets, then one for each image of each place, and then their stamps.
+-- so many words are unused where no line of a cache may have words of both sides
+abbrev pub apart : ℕ
+apart = 8
+
+-- The words: the two of tickets, then one for each image of each place, then their stamps, and what is published.
 abbrev pub first_image : ℕ
-first_image = 2
+first_image = 2 + apart
 
 abbrev pub first_stamp : ℕ
 first_stamp = first_image + image_count
 
+abbrev pub front_word : ℕ
+front_word = first_stamp + image_count + apart
+
 abbrev pub word_count : ℕ
-word_count = first_stamp + image_count
+word_count = front_word + shown_words
 
 -- where the word of an image stands, and its stamp
 abbrev pub image_word : Image → ℕ
@@ -168,24 +178,33 @@ HoldFitsIf k Idle = Unit {0}
 HoldFitsIf k (Waiting t) = Unit {0}
 HoldFitsIf k (Holding h) = HoldFits k h
 
--- only a seat with a number has a ticket, and a holder's view is so
+-- only a seat with a number has a ticket, and a holder's view is so; the holder alone has counts, and applications alone read
 pub record Fits (v : View) : Type 0 where
   pub numbered : out v.turn ≤ length v.know.own
   pub holds : HoldFitsIf v.know v.turn
+  pub holds_eyes : is_writing v.eyes ≡ is_holder v.turn
+  pub reads_own : reads_some v.eyes ≤ app_in v.know.own
 
 -- ---- the whole
 
--- The key of a table is its run's number of applications.
-pub record FollowsRule {S : Type 0} (stands : S → CoreState → Type 0) (apps : ℕ) (s : Table (Option S) View) : Type 0 where
+-- the words of what is published behind a history
+unfoldable pub published_words : ℕ → List Entry → List ℕ
+published_words apps log = words (publication_of (moment_after (opening_moment apps) log).state.core)
+
+-- The key of a table is its run's number of applications. What is in the slot has the counts of entries of the buffers, and stands for
+-- what a core keeps.
+pub record FollowsRule {S : Type 0} (stands : List ℕ → S → CoreState → Type 0) (apps : ℕ) (s : Table (Option S) View) : Type 0 where
   pub log : List Entry
   pub drawn : ℕ
   pub served : ℕ
+  pub entered : List ℕ
   pub wide : length s.words ≡ word_count
   pub few : apps ≤ 8
   pub history : OneHistory apps log (map know_of s.views)
   pub tickets : Tickets (slice_index s.words 0) (slice_index s.words 1) drawn served (map turn_of s.views)
-  pub slot : SlotStands stands apps log served s.homes (map turn_of s.views)
+  pub slot : SlotStands (stands entered) apps log served s.homes (map turn_of s.views)
   pub images : ImageWords (moment_after (opening_moment apps) log).state s.words (map turn_of s.views)
+  pub shows : Shows front_word (published_words apps log) entered s.words (map eyes_of s.views)
   pub fits : (j : ℕ) (v : View) → get_elem? s.views j ≡ some v → Fits v
 
 -- A seat has all numbers: what it saw is the whole history, which is legal and by actors that there are, each entry by one who may ask

@@ -34,12 +34,25 @@ pub data Turn : Type 0 where
   Waiting : ℕ → Turn  -- ticket
   Holding : Hold → Turn
 
+-- What a seat sees of what is published: nothing; the buffer that it entered, and the words that are in it; as the holder, the counts
+-- of entries, and how many buffers it has looked at; or those, and the buffer that it writes with the words that it begins with.
+pub data Eyes : Type 0 where
+  Out : Eyes
+  Inside : ℕ → List ℕ → Eyes  -- buffer, words
+  Keeps : List ℕ → ℕ → Eyes  -- counts, looked at
+  Writes : List ℕ → ℕ → List ℕ → Eyes  -- counts, buffer, words so far
+
 pub record View : Type 0 where
   pub know : Know
   pub turn : Turn
+  pub eyes : Eyes
 
+abbrev pub sight : Know → Turn → Eyes → View
+sight k u e = record { know = k; turn = u; eyes = e }
+
+-- who sees nothing of what is published
 abbrev pub view : Know → Turn → View
-view k u = record { know = k; turn = u }
+view k u = sight k u Out
 
 abbrev pub know : ℕ → List Own → List Entry → Know
 know apps own seen = record { apps = apps; own = own; seen = seen }
@@ -56,6 +69,9 @@ know_of v = v.know
 
 abbrev pub turn_of : View → Turn
 turn_of v = v.turn
+
+abbrev pub eyes_of : View → Eyes
+eyes_of v = v.eyes
 
 -- ---- a seat's numbers
 
@@ -88,6 +104,14 @@ owns n k = total (is_of n) k.own
 
 abbrev pub parts : Know → ℕ
 parts k = length k.own
+
+-- whether the seat's own number is an application's
+abbrev pub is_app : Own → ℕ
+is_app o = if nat_le 2 o.number then 1 else 0
+
+abbrev pub app_in : List Own → ℕ
+app_in [] = 0
+app_in (o ∷ os) = is_app o
 
 -- ---- tickets
 
@@ -133,7 +157,7 @@ second_of (o ∷ []) = []
 second_of (o ∷ p ∷ os) = p ∷ []
 
 abbrev pub staying_view : View → View
-staying_view v = view (know v.know.apps (without_second v.know.own) v.know.seen) v.turn
+staying_view v = sight (know v.know.apps (without_second v.know.own) v.know.seen) v.turn v.eyes
 
 abbrev pub cut_view : View → View
 cut_view v = view (know v.know.apps (second_of v.know.own) v.know.seen) Idle
@@ -147,7 +171,7 @@ longer xs ys = if nat_le (length xs) (length ys) then ys else xs
 
 -- A seat takes another in: it has the longer of what both have seen, and the other's numbers with their calls behind its own.
 abbrev pub joined_view : View → View → View
-joined_view v w = view (know w.know.apps (v.know.own ++ with_seen w.know.seen w.know.own) (longer v.know.seen w.know.seen)) v.turn
+joined_view v w = sight (know w.know.apps (v.know.own ++ with_seen w.know.seen w.know.own) (longer v.know.seen w.know.seen)) v.turn v.eyes
 
 abbrev pub spent_know : Know
 spent_know = know 0 [] []

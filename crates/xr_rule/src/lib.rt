@@ -1,5 +1,5 @@
-//! The rule over the words: a ticket lock around a machine's value, a word and a stamp for each image, and one history of all calls, which the
-//! proofs alone keep. It knows the calls on cells and the wait for an image; when a call is ready it knows by laws of the model alone.
+//! The rule over the words: a ticket lock around a machine's value, a word and a stamp for each image, ten buffers for what is published, and
+//! one history of all calls, which the proofs alone keep. It knows the calls on cells and the wait for an image; when a call is ready it knows by laws of the model alone.
 #![tactic(auto)]
 
 mod held;
@@ -10,9 +10,9 @@ mod view;
 
 pub use held::Held;
 pub use plays::{
-    Claim, Claiming, Cut, Draw, GiveBack, Join, Keep, Look, Make, Making, Note, Noting, Peek,
-    Peeking, Serve,
+    Change, Claim, Claiming, Cut, Draw, Find, GiveBack, Join, Keep, Look, Make, Making, Note,
+    Noting, Peek, Peeking, Search, Serve, Swap,
 };
-pub use rule::{Layout, XrRule, XrSeat, XrTable};
+pub use rule::{BUFFERS, Layout, NO_COUNT, XrRule, XrSeat, XrTable};
 pub use table::Finished;
 pub use view::View;

@@ -3,7 +3,7 @@ ghost use Rattle.xr_model.specs.machine.Calls.{Entry};
 ghost use Rattle.std.specs.Prelude.{Bool, false};
 ghost use Rattle.xr_types.specs.declared.frames.Image.{Image};
 ghost use Rattle.xr_model.specs.machine.CellCalls.{CellCall, pin};
-ghost use Rattle.xr_rule.specs.Plays.{no_entry, Draws, Looks, Notes, Serves, Makes, Peeks, Claims, GivesBack};
+ghost use Rattle.xr_rule.specs.Plays.{no_entry, Draws, Looks, Notes, Serves, Makes, Peeks, Claims, GivesBack, Searches, Finds, Changes, Swaps};
 ghost use Rattle.xr_rule.specs.Seats.{stands_in};
 ghost use Rattle.xr_rule.specs.View.{staying_view, cut_view, keepsake, joined_view, spent_view};
 
@@ -115,6 +115,34 @@ pub struct GiveBack;
 
 impl<M: Machine> Play<Option<Held<M>>, View> for GiveBack {
     ghost then = { GivesBack };
+}
+
+/// The holder looks at a buffer's exits, whether a seat is in it.
+pub struct Search;
+
+impl<M: Machine> Play<Option<Held<M>>, View> for Search {
+    ghost then = { Searches };
+}
+
+/// The holder looks at the next word of the buffer that it writes, and leaves it.
+pub struct Find;
+
+impl<M: Machine> Play<Option<Held<M>>, View> for Find {
+    ghost then = { Finds };
+}
+
+/// The holder writes another word in its place.
+pub struct Change;
+
+impl<M: Machine> Play<Option<Held<M>>, View> for Change {
+    ghost then = { Changes };
+}
+
+/// The holder makes what it wrote the front. This decides its entry.
+pub struct Swap;
+
+impl<M: Machine> Play<Option<Held<M>>, View> for Swap {
+    ghost then = { Swaps };
 }
 
 /// A seat gives its second number away to a new one.

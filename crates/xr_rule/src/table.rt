@@ -1,18 +1,18 @@
 //! The table made, its seats joined, and finished.
-ghost use Rattle.std.specs.Prelude.{◌≡◌, ℕ, ◌+◌, ◌<◌, ◌≤◌, length, vec_len, vec_capacity, IfOk, []};
+ghost use Rattle.std.specs.Prelude.{◌≡◌, ℕ, ◌+◌, ◌<◌, ◌≤◌, length, slice_index, vec_len, vec_capacity, IfOk, []};
 ghost use Rattle.xr_model.specs.machine.History.{after};
 ghost use Rattle.xr_model.specs.machine.State.{Cells, with_apps, opening, opening_core};
-ghost use Rattle.xr_rule.specs.Rule.{HasAll};
+ghost use Rattle.xr_rule.specs.Rule.{HasAll, word_count};
 ghost use Rattle.xr_rule.specs.Seats.{AreFresh, IsBetween, IsIdle};
 ghost use Rattle.xr_rule.specs.View.{joined_view, keepsake, newcomer};
 
 use crate::held::Held;
 use crate::plays::{Cut, Join, Keep};
-use crate::rule::{WORDS, XrSeat, XrTable};
+use crate::rule::{NO_COUNT, WORDS, XrSeat, XrTable};
 use atomic_table::{Refused, Table};
 use std::alloc::Global;
 use xr_model::Machine;
-use xr_types::NoMemory;
+use xr_types::{NoMemory, View};
 
 /// What is left of a table: its value, which stands for the state after the whole history, and a seat that keeps this history.
 #[derive(Drop)]
@@ -21,6 +21,18 @@ pub struct Finished<M: Machine> {
     pub value: M,
     /// A seat without a number, which has seen the whole history.
     pub seat: XrSeat<M>,
+}
+
+// every word before any call is 0
+fn fill_zeros(words: &mut Vec<u64>)
+    requires none { words.old.items ≡ [] }
+    requires room { word_count ≤ vec_capacity words.old }
+    ensures count { length words.new.items ≡ word_count }
+    ensures zeros { (i : ℕ) → slice_index words.new.items i ≡ 0 }
+{
+    while words.len() < WORDS {
+        words.push_reserved(0);
+    }
 }
 
 impl<M: Machine + Drop> XrTable<M> {
@@ -37,11 +49,19 @@ impl<M: Machine + Drop> XrTable<M> {
         ensures seats { IfOk result (λ r. AreFresh r.0.table.shared.table_id apps r.1.items) }
     {
         let mut slots = Vec::with_capacity(alloc, 1)?;
-        slots.push_reserved(Some(Held { value }));
+        let room = Box::new(alloc, View::start())?;
+        let counts = [NO_COUNT, 0, 0, 0, 0, 0, 0, 0, 0, 0];
+        slots.push_reserved(Some(Held {
+            value,
+            counts,
+            room,
+        }));
         let count = apps as usize;
         let mut seats = Vec::with_capacity(alloc, count + 2)?;
+        let mut words = Vec::with_capacity(alloc, WORDS)?;
+        fill_zeros(&mut words);
         let apps = apps as u64;
-        let (table, root) = match Table::new(alloc, &[0; WORDS], slots, &apps) {
+        let (table, root) = match Table::new(alloc, &words, slots, &apps) {
             Ok(made) => made,
             Err(Refused { slots: _ }) => return Err(NoMemory),
         };
@@ -102,7 +122,7 @@ impl<M: Machine + Drop> XrTable<M> {
         let mut closed = table.close_with(seat);
         let slot = closed.take(0);
         closed.free();
-        let Held { value } = slot.unwrap();
+        let Held { value, .. } = slot.unwrap();
         Finished { value, seat: kept }
     }
 }

@@ -1,6 +1,7 @@
 pub mod Going
 pub mod OverWords
 pub mod Making
+pub mod Settling
 pub mod Returning
 pub mod Passing
 pub mod Gathering

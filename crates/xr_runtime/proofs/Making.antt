@@ -7,6 +7,8 @@ use Rattle.xr_types.specs.declared.calls.Reply.{Reply}
 use Rattle.xr_types.specs.declared.calls.Step.{Step}
 use Rattle.xr_types.specs.declared.calls.Step.TheVariants.{Done, NotReady}
 use Rattle.xr_types.specs.declared.frames.Image.{Image}
+use Rattle.xr_types.specs.CallKinds.{publishes}
+use Rattle.xr_types.specs.declared.code.Code.{Code}
 use Rattle.xr_types.specs.declared.code.Code.TheVariants.{Success, CallOrderInvalid}
 use Rattle.xr_model.specs.machine.CoreCalls as core
 use Rattle.xr_model.specs.machine.CoreCalls.{Lent, asked, MayAsk, left_in}
@@ -24,29 +26,27 @@ use Rattle.xr_model.specs.laws.PublicationLaws.{none_is_by}
 use Rattle.xr_rule.proofs.Carrying.{none_behind, held_seen}
 use Rattle.xr_rule.proofs.Histories.{none-between}
 use Rattle.xr_rule.specs.declared.held.Held.{Held}
-use Rattle.xr_rule.specs.Plays.{Decides, DecidesBehind}
+use Rattle.xr_rule.specs.Plays.{Decides, DecidesBehind, Publishes}
 use Rattle.xr_rule.specs.Rule.{state_at}
-use Rattle.xr_rule.specs.Seats.{stands_in, IsBetween}
-use Rattle.xr_rule.specs.View.{Know, Hold, View, Idle, view, number_in, calls_in, hold_from, know_after}
-use Rattle.xr_lock.specs.Holders.{noted_entry, holder, Taken, NotesCall, Noted, MayGive, Given}
+use Rattle.xr_rule.specs.Seats.{holder, stands_in, IsBetween}
+use Rattle.xr_rule.specs.View.{Know, Hold, View, Eyes, Idle, Keeps, sight, view, number_in, calls_in, hold_from, know_after}
+use Rattle.xr_lock.specs.Holders.{noted_entry, Taken, NotesCall, Noted, MayGive, Given}
+use Rattle.xr_snap.specs.Publishing.{HasPublished}
 use Rattle.xr_words.specs.Table.{wait_entry}
 use Rattle.xr_words.specs.Lent.{own_entry, Prepares, Decided, Waits, Tells}
 use Rattle.xr_runtime.specs.Calling.{Has, actor_of, behind, seen_by, HasRoom, MayMake, Called, Reads, Waited}
 use Rattle.xr_runtime.specs.Lending.{MayLend, IsTold}
+use Rattle.xr_runtime.specs.Settling.{keeps, MaySettle, SettlesBy, Settles}
 use Rattle.xr_runtime.proofs.Going.{here_at_look, clock_at_look}
 
--- a core stands for the states that keep what it keeps
-abbrev pub keeps : WholeCore → State → Type 0
-keeps c s = c.kept ≡ s.core
-
-abbrev pub stands : Held WholeCore → CoreState → Type 0
+abbrev pub stands : List ℕ → Held WholeCore → CoreState → Type 0
 stands = stands_in keeps
 
 pub at_rest : (m : Has) → IsBetween m → m ≡ (view m.0.know Idle, [])
-at_rest m b = λ i. (view m.0.know (b.idle i), b.carries i)
+at_rest m b = λ i. (sight m.0.know (b.idle i) (b.sees_none i), b.carries i)
 
 pub kept_is : (k : Know) (n : Has) (held : Held WholeCore) (taken : Taken stands k n held) → held.value.kept ≡ (state_at k taken.look).core
-kept_is k n held taken = taken.stands_now opening_cells
+kept_is k n held taken = taken.stands_now.1 opening_cells
 
 -- ---- what the core asks
 
@@ -71,6 +71,11 @@ asks_as_compositor (App k) ask.NextFrame by asks = absurd (true≢false (sym by)
 asks_as_compositor (App k) what by asks = absurd (true≢false (sym asks))
 asks_as_compositor Device ask.NextFrame by asks = absurd (true≢false (sym by))
 asks_as_compositor Device what by asks = absurd (true≢false (sym asks))
+
+-- a frame that is asked for publishes nothing
+frames_publish_none : (r : Call) (c : Code) → is_next_frame r ≡ true → publishes r c ≡ false
+frames_publish_none ask.NextFrame c is = refl
+frames_publish_none r c is = absurd (true≢false (sym is))
 
 only_one : (n : ℕ) → actor_at n ≡ Compositor → n ≡ 1
 only_one zero is = absurd (cc is)
@@ -117,6 +122,9 @@ module _ (m n : Has) (held : Held WholeCore) (core2 : WholeCore) (who : Actor) (
   abbrev look_hold : Hold
   look_hold = hold_from taken.ticket taken.look
 
+  abbrev its_eyes : Eyes
+  its_eyes = Keeps taken.counts 0
+
   here : IsPresent (seen_by k).state.core (actor_of k)
   here = subst (λ (a : Actor). IsPresent (seen_by k).state.core a) may.is_own may.here
 
@@ -147,18 +155,29 @@ module _ (m n : Has) (held : Held WholeCore) (core2 : WholeCore) (who : Actor) (
     frames = λ frame. (settled frame, none_held frame);
   }
 
-  module _ (new : Held WholeCore) (p : Has) (before after : Lent) where
-    tells_of : (answer : Step) (decided : Bool) → IsTold n core2 what new.value before after answer decided p → Tells k look_hold ((0, None) ∷ []) what new.value before after core2.kept answer decided p
+  module _ (new : Held WholeCore) (as_many : new.counts ≡ held.counts) (p : Has) (before after : Lent) where
+    counts_are : new.counts ≡ taken.counts
+    counts_are = as_many ∙ taken.stands_now.0
+
+    tells_of : (answer : Step) (decided : Bool) → IsTold n core2 what new.value before after answer decided p → Tells k look_hold its_eyes ((0, None) ∷ []) what new.value before after core2.kept answer decided p
     tells_of answer decided told = subst (λ (z : Has). IsTold z core2 what new.value before after answer decided p) taken.is told look_hold refl
 
     -- ---- it has to wait
 
     module _ (answer : Step) (decided : Bool) (told : IsTold n core2 what new.value before after answer decided p) (waits : answer ≡ NotReady) where
-      waits_told : (decided ≡ false) × Waits k look_hold ((0, None) ∷ []) what new.value before after core2.kept p
+      waits_told : (decided ≡ false) × Waits k look_hold its_eyes ((0, None) ∷ []) what new.value before after core2.kept p
       waits_told = tells_of NotReady decided (subst (λ (z : Step). IsTold n core2 what new.value before after z decided p) waits told)
 
       pub give_waiting : MayGive stands p new
-      give_waiting = subst (λ (z : Has). MayGive stands z new) (sym waits_told.1.same) record { hold = look_hold; is = refl; unmade = λ _. refl; stands_so = λ cells. waits_told.1.kept ∙ (same ∙ kept_is k n held taken) }
+      give_waiting = subst (λ (z : Has). MayGive stands z new) (sym waits_told.1.same) record {
+        hold = look_hold;
+        counts = taken.counts;
+        looked = 0;
+        is = refl;
+        publishes_none = tt;
+        unmade = λ _. refl;
+        stands_so = (counts_are, λ cells. waits_told.1.kept ∙ (same ∙ kept_is k n held taken));
+      }
 
       pub gave_waiting : (w : Has) → Given p w → Waited m before after w
       gave_waiting w given =
@@ -171,7 +190,7 @@ module _ (m n : Has) (held : Held WholeCore) (core2 : WholeCore) (who : Actor) (
 
       -- ---- it is noted
 
-      module _ (prepared : Prepares k look_hold ((0, None) ∷ []) what new.value before after reply p) where
+      module _ (prepared : Prepares k look_hold its_eyes ((0, None) ∷ []) what new.value before after reply p) where
         abbrev note_hold : Hold
         note_hold = record look_hold { made = prepared.made }
 
@@ -192,14 +211,30 @@ module _ (m n : Has) (held : Held WholeCore) (core2 : WholeCore) (who : Actor) (
             };
           };
           replies = comes_to now e reply prepared.answers.replies;
-          stands_next = λ cells. prepared.answers.leads ∙ sym (core_then k taken.look e);
+          counts = taken.counts;
+          stands_next = (counts_are, λ cells. prepared.answers.leads ∙ sym (core_then k taken.look e));
         }
 
-        noted_is : (q : Has) → Noted p (noted_entry p.0.know call reply) q → q ≡ holder k noted_hold
+        keeps_noted : p.0.eyes ≡ Keeps new.counts 0
+        keeps_noted = ap (λ (z : Has). z.0.eyes) prepared.is ∙ ap (λ (cs : List ℕ). Keeps cs 0) (sym counts_are)
+
+        pub noted_is : (q : Has) → Noted p (noted_entry p.0.know call reply) q → q ≡ holder k noted_hold its_eyes
         noted_is q noted = subst (λ (z : Has). Noted z (noted_entry z.0.know call reply) q) prepared.is noted note_hold refl
 
-        pub give_noted : (q : Has) → Noted p (noted_entry p.0.know call reply) q → MayGive stands q new
-        give_noted q noted = subst (λ (z : Has). MayGive stands z new) (sym (noted_is q noted)) record { hold = noted_hold; is = refl; unmade = λ unnoted. absurd (some_is_none e unnoted); stands_so = λ cells. prepared.answers.leads ∙ sym (core_then k taken.look e) }
+        -- its reply is the noted entry's
+        quiet : publishes call reply.code ≡ false → publishes what (step now.state e).1.reply.code ≡ false
+        quiet is = subst (λ (r : Reply). publishes what r.code ≡ false) prepared.answers.replies is
+
+        pub give_noted : (q : Has) (last : Held WholeCore) → last.value ≡ new.value → last.counts ≡ new.counts → publishes call reply.code ≡ false → Noted p (noted_entry p.0.know call reply) q → MayGive stands q last
+        give_noted q last value_is as_counted none noted = subst (λ (z : Has). MayGive stands z last) (sym (noted_is q noted)) record {
+          hold = noted_hold;
+          counts = taken.counts;
+          looked = 0;
+          is = refl;
+          publishes_none = quiet none;
+          unmade = λ unnoted. absurd (some_is_none e unnoted);
+          stands_so = (as_counted ∙ counts_are, λ cells. ap (λ (c : WholeCore). c.kept) value_is ∙ (prepared.answers.leads ∙ sym (core_then k taken.look e)));
+        }
           where
             some_is_none : (x : Entry) → ◌≡◌ {A = Option Entry} (Some x) None → ⊥
             some_is_none x bad = cc
@@ -240,9 +275,57 @@ module _ (m n : Has) (held : Held WholeCore) (core2 : WholeCore) (who : Actor) (
               },
             )
 
+        -- ---- it publishes
+
+        module _ (q u : Has) (last : Held WholeCore) (value_is : last.value ≡ new.value) (noted : Noted p (noted_entry p.0.know call reply) q) (published : HasPublished q u last.counts) where
+          shown : (u.1 ≡ (0, None) ∷ []) × Publishes k noted_hold e last.counts u.0
+          shown = subst (λ (z : Has). HasPublished z u last.counts) (noted_is q noted) published noted_hold e refl refl
+
+          abbrev behind_look : List Entry
+          behind_look = taken.look ++ shown.1.more
+
+          abbrev kept_hold : Hold
+          kept_hold = hold_from taken.ticket (behind_look ++ e ∷ [])
+
+          u_is : u ≡ holder (know_after k behind_look e) kept_hold (Keeps last.counts 0)
+          u_is = λ i. (shown.1.is i, shown.0 i)
+
+          leads_there : new.value.kept ≡ (state_at k (behind_look ++ e ∷ [])).core
+          leads_there = prepared.answers.leads ∙ sym (core_then k taken.look e) ∙ sym shown.1.core
+
+          pub give_published : MayGive stands u last
+          give_published = subst (λ (z : Has). MayGive stands z last) (sym u_is) record {
+            hold = kept_hold;
+            counts = last.counts;
+            looked = 0;
+            is = refl;
+            publishes_none = tt;
+            unmade = λ _. refl;
+            stands_so = (refl, λ cells. ap (λ (c : WholeCore). c.kept) value_is ∙ leads_there);
+          }
+
+          pub called_published : (w : Has) (clock : ℤ) (images : List Image) → Given u w → clock ≡ new.value.kept.device.clock → pos 0 ≤ℤ clock → publishes call reply.code ≡ true → Called m what reply before after w × Reads w.0.know what clock images
+          called_published w clock images given clock_is begun publishing =
+              let g = subst (λ (z : Has). Given z w) u_is given kept_hold refl in
+              let there : Moment = behind k behind_look in
+              let outcome : (step there.state e).1 ≡ (step now.state e).1 = outcome_same there now e shown.1.same in (
+                record {
+                  look = behind_look;
+                  decides = record { is = g.1; saw = shown.1.saw; sees = shown.1.sees };
+                  carries = g.0;
+                  replies = ap (λ (o : Outcome). o.reply) outcome ∙ sym prepared.answers.replies;
+                  writes = subst (λ (o : Outcome). after ≡ left_in o.text o.shown before) (sym outcome) prepared.answers.writes;
+                },
+                record {
+                  clock_is = clock_is ∙ (ap (λ (s : CoreState). s.device.clock) leads_there ∙ ap (λ (v : View). (seen_by v.know).state.core.device.clock) (sym g.1));
+                  begun = begun;
+                  images_are = λ frame. absurd (true≢false (sym publishing ∙ frames_publish_none what reply.code frame));
+                },
+              )
+
       -- ---- it was decided at a claim
 
-      module _ (decided : Decided k look_hold ((0, None) ∷ []) what new.value before after reply p) where
+      module _ (decided : Decided k look_hold its_eyes ((0, None) ∷ []) what new.value before after reply p) where
         abbrev x : Entry
         x = wait_entry k what
 
@@ -255,8 +338,19 @@ module _ (m n : Has) (held : Held WholeCore) (core2 : WholeCore) (who : Actor) (
         leads : new.value.kept ≡ (state_at k (there_look ++ x ∷ [])).core
         leads = decided.answers.leads ∙ (ap (λ (y : Entry). (step (state_at k there_look) y).0.core) decided.is_wait ∙ sym (core_then k there_look x))
 
-        pub give_decided : MayGive stands p new
-        give_decided = subst (λ (z : Has). MayGive stands z new) (sym decided.decides.is) record { hold = hold_from taken.ticket (there_look ++ x ∷ []); is = refl; unmade = λ _. refl; stands_so = λ cells. leads }
+        pub give_decided : (last : Held WholeCore) → last.value ≡ new.value → last.counts ≡ new.counts → MayGive stands p last
+        give_decided last value_is as_counted = subst (λ (z : Has). MayGive stands z last) (sym decided.decides.is) record {
+          hold = hold_from taken.ticket (there_look ++ x ∷ []);
+          counts = taken.counts;
+          looked = 0;
+          is = refl;
+          publishes_none = tt;
+          unmade = λ _. refl;
+          stands_so = (as_counted ∙ counts_are, λ cells. ap (λ (c : WholeCore). c.kept) value_is ∙ leads);
+        }
+
+        keeps_decided : p.0.eyes ≡ Keeps new.counts 0
+        keeps_decided = ap (λ (z : Has). z.0.eyes) decided.decides.is ∙ ap (λ (cs : List ℕ). Keeps cs 0) (sym counts_are)
 
         pub called_decided : (w : Has) (clock : ℤ) (images : List Image) → Given p w → clock ≡ new.value.kept.device.clock → pos 0 ≤ℤ clock → Called m what reply before after w × Reads w.0.know what clock images
         called_decided w clock images given clock_is begun =
@@ -274,19 +368,35 @@ module _ (m n : Has) (held : Held WholeCore) (core2 : WholeCore) (who : Actor) (
     -- ---- whichever it was
 
     module _ (answer : Step) (decided : Bool) (reply : Reply) (told : IsTold n core2 what new.value before after answer decided p) (is : answer ≡ Done reply) where
-      done_told : (b : Bool) → decided ≡ b → Tells k look_hold ((0, None) ∷ []) what new.value before after core2.kept (Done reply) b p
+      done_told : (b : Bool) → decided ≡ b → Tells k look_hold its_eyes ((0, None) ∷ []) what new.value before after core2.kept (Done reply) b p
       done_told b so = tells_of (Done reply) b (subst (λ (z : Step × Bool). IsTold n core2 what new.value before after z.0 z.1 p) (λ i. (is i, so i)) told)
 
-      pub note_done : decided ≡ false → NotesCall stands p new call reply
-      note_done undecided = note_so reply (done_told false undecided)
+      pub settle_done : MaySettle stands p new call reply decided
+      settle_done = record { keeps = by decided refl; notes = λ undecided. note_so reply (done_told false undecided) }
+        where
+          by : (b : Bool) → decided ≡ b → p.0.eyes ≡ Keeps new.counts 0
+          by false so = keeps_noted reply (done_told false so)
+          by true so = keeps_decided reply (done_told true so)
 
-      -- the seat noted the entry, or has it decided and is as it was
-      module _ (q : Has) (noted : decided ≡ false → Noted p (noted_entry p.0.know call reply) q) (stays : decided ≡ true → q ≡ p) where
-        pub give_done : (b : Bool) → decided ≡ b → MayGive stands q new
-        give_done false so = give_noted reply (done_told false so) q (noted so)
-        give_done true so = subst (λ (z : Has). MayGive stands z new) (sym (stays so)) (give_decided reply (done_told true so))
+      -- the seat noted the entry, published behind it, or had it decided and is as it was
+      module _ (q : Has) (last : Held WholeCore) (value_is : last.value ≡ new.value) where
+        abbrev Settled : Bool → Bool → Type 0
+        Settled b c = SettlesBy b c p new.counts call reply q last.counts
 
-        pub called_done : (w : Has) (clock : ℤ) (images : List Image) → Given q w → clock ≡ new.value.kept.device.clock → pos 0 ≤ℤ clock → (is_next_frame what ≡ true → images ≡ new.value.held) → (b : Bool) → decided ≡ b
+        give_by : (b c : Bool) → decided ≡ b → publishes call reply.code ≡ c → Settled b c → MayGive stands q last
+        give_by false false so is s = give_noted reply (done_told false so) q last value_is s.1 is s.0
+        give_by false true so is s = give_published reply (done_told false so) s.0 q last value_is s.1 s.2
+        give_by true c so is s = subst (λ (z : Has). MayGive stands z last) (sym s.0) (give_decided reply (done_told true so) last value_is s.1)
+
+        called_by : (w : Has) (clock : ℤ) (images : List Image) → Given q w → clock ≡ new.value.kept.device.clock → pos 0 ≤ℤ clock → (is_next_frame what ≡ true → images ≡ new.value.held) → (b c : Bool) → decided ≡ b → publishes call reply.code ≡ c → Settled b c
             → Called m what reply before after w × Reads w.0.know what clock images
-        called_done w clock images given clock_is begun images_are false so = called_noted reply (done_told false so) q w clock images (noted so) given clock_is begun images_are
-        called_done w clock images given clock_is begun images_are true so = called_decided reply (done_told true so) w clock images (subst (λ (z : Has). Given z w) (stays so) given) clock_is begun
+        called_by w clock images given clock_is begun images_are false false so is s = called_noted reply (done_told false so) q w clock images s.0 given clock_is begun images_are
+        called_by w clock images given clock_is begun images_are false true so is s = called_published reply (done_told false so) s.0 q last value_is s.1 s.2 w clock images given clock_is begun is
+        called_by w clock images given clock_is begun images_are true c so is s = called_decided reply (done_told true so) w clock images (subst (λ (z : Has). Given z w) s.0 given) clock_is begun
+
+        module _ (settled : Settles decided p new.counts call reply q last.counts) where
+          pub give_done : MayGive stands q last
+          give_done = give_by decided (publishes call reply.code) refl refl settled
+
+          pub called_done : (w : Has) (clock : ℤ) (images : List Image) → Given q w → clock ≡ new.value.kept.device.clock → pos 0 ≤ℤ clock → (is_next_frame what ≡ true → images ≡ new.value.held) → Called m what reply before after w × Reads w.0.know what clock images
+          called_done w clock images given clock_is begun images_are = called_by w clock images given clock_is begun images_are decided (publishes call reply.code) refl refl settled

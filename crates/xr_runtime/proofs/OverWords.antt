@@ -1,5 +1,5 @@
 -- A core over a table's words: what it asks of them, and what its clause says of the seat.
-use Rattle.std.proofs.Common.{◌≡◌, ℕ, ℤ, Bool, true, false, List, [], ◌∷◌, length, sym, refl, ap, ◌∙◌, subst, Option, true≢false}
+use Rattle.std.proofs.Common.{◌≡◌, ℕ, ℤ, Bool, true, false, List, [], ◌∷◌, length, sym, refl, ap, ◌∙◌, subst, true≢false}
 use Rattle.xr_types.specs.declared.calls.Actor.{Actor}
 use Rattle.xr_types.specs.declared.calls.Call.{Call}
 use Rattle.xr_types.specs.declared.calls.Reply.{Reply}
@@ -16,7 +16,7 @@ use Rattle.xr_model.specs.machine.State.{CoreState, CellReads, WholeCore, with_a
 use Rattle.xr_model.specs.laws.Moments.{actor_at}
 use Rattle.xr_model.proofs.SoundImages.{sound_history}
 use Rattle.xr_model.specs.laws.ImageWords.{Claims, claimed_by, late_of}
-use Rattle.xr_rule.specs.View.{Know, Hold, Holding, view, number_in}
+use Rattle.xr_rule.specs.View.{Know, Hold, Eyes, Holding, sight, number_in}
 use Rattle.xr_rule.specs.Rule.{state_at, MayClaim}
 use Rattle.xr_words.specs.declared.cells.TableCells.{TableCells}
 use Rattle.xr_words.specs.Table.{wait_entry, ClaimsIf, MayStep, MeMay, MeDoes}
@@ -106,12 +106,15 @@ module _ (m : Has) (core : WholeCore) (who : Actor) (call : Call) (size : ℕ) (
   abbrev what : Call
   what = call
 
+  abbrev y : Eyes
+  y = m.0.eyes
+
   abbrev kept : CoreState
   kept = (state_at k p.hold.look).core
 
   pub asks_cells : MayApply MayMakeOf MakesOf core c who what
   asks_cells = subst (λ (a : Actor). MayApply MayMakeOf MakesOf core c a what) (sym p.is_own)
-      (may_apply what late MayMakeOf MakesOf me_of decided_of (Same what late c) (asks what late c) (tells what late c) k p.hold m.1 core c same (at ∙ p.is) p.unnoted p.unmade
+      (may_apply what late MayMakeOf MakesOf me_of decided_of (Same what late c) (asks what late c) (tells what late c) k p.hold y m.1 core c same (at ∙ p.is) p.unnoted p.unmade
       (sound_history (with_apps k.apps) p.hold.look p.legal) p.kept p.other (may_claim m core who what size late p may late_is))
 
   late_now : late ≡ late_of kept.device.clock what
@@ -123,24 +126,24 @@ module _ (m : Has) (core : WholeCore) (who : Actor) (call : Call) (size : ℕ) (
     Says r reply z = (length r.stamps ≡ length (effect z.0 r (entry_of z.1 what reply)).did.taken) × Leads MakesOf c (cell_calls z.0 r (entry_of z.1 what reply)) d
         × AnswersBy (CoreAllows z.0 r (entry_of z.1 what reply)) (core_ready z.0 r (entry_of z.1 what reply)) (core_step z.0 r (entry_of z.1 what reply)) new.kept reply before after × (new.held ≡ held_after core.held (effect z.0 r (entry_of z.1 what reply)).did)
 
-    from_start : (xs : List CellCall) → Leads MakesOf c xs d → Same what late c d × MeLeads what late (view k (Holding p.hold), m.1) false xs (me_of d) (decided_of d)
+    from_start : (xs : List CellCall) → Leads MakesOf c xs d → Same what late c d × MeLeads what late (sight k (Holding p.hold) y, m.1) false xs (me_of d) (decided_of d)
     from_start xs leads =
         let led = leads_me what late MayMakeOf MakesOf me_of decided_of (Same what late c) (asks what late c) (tells what late c) c xs d same leads in
         (led.0, subst (λ (z : Has × Bool). MeLeads what late z.0 z.1 xs (me_of d) (decided_of d)) (λ i. ((at ∙ p.is) i, fresh i)) led.1)
 
     done_so : (r : CellReads) (reply : Reply) → r.held ≡ core.held → Says r reply (kept, actor_at (number_in k.own)) → (images : List Image) → claimed_by kept r (own_entry k what reply) ≡ images
-        → Same what late c d × Tells k p.hold m.1 what new before after core.kept (Done reply) (decided_of d) (me_of d)
+        → Same what late c d × Tells k p.hold y m.1 what new before after core.kept (Done reply) (decided_of d) (me_of d)
     done_so r reply own says [] none =
         let led = from_start (cell_calls kept r (own_entry k what reply)) says.1 in
-        let got = prepares k p.hold m.1 late r reply what (me_of d) (decided_of d) new before after p.unmade p.other (λ asks. let f = p.frames asks in (own ∙ f.0, f.1)) says.0 led.1 none says.2 (says.3 ∙ ap (λ (hs : List Image). held_after hs (effect kept r (own_entry k what reply)).did) (sym own)) in
-        (led.0, subst (λ (b : Bool). Tells k p.hold m.1 what new before after core.kept (Done reply) b (me_of d)) (sym got.0) got.1)
+        let got = prepares k p.hold y m.1 late r reply what (me_of d) (decided_of d) new before after p.unmade p.other (λ asks. let f = p.frames asks in (own ∙ f.0, f.1)) says.0 led.1 none says.2 (says.3 ∙ ap (λ (hs : List Image). held_after hs (effect kept r (own_entry k what reply)).did) (sym own)) in
+        (led.0, subst (λ (b : Bool). Tells k p.hold y m.1 what new before after core.kept (Done reply) b (me_of d)) (sym got.0) got.1)
     done_so r reply own says (i ∷ is) claimed =
         let led = from_start (cell_calls kept r (own_entry k what reply)) says.1 in
-        let got = decides k p.hold m.1 late r reply what i is (me_of d) (decided_of d) new before after late_now claimed led.1 says.2 in
-        (led.0, subst (λ (b : Bool). Tells k p.hold m.1 what new before after core.kept (Done reply) b (me_of d)) (sym got.0) got.1)
+        let got = decides k p.hold y m.1 late r reply what i is (me_of d) (decided_of d) new before after late_now claimed led.1 says.2 in
+        (led.0, subst (λ (b : Bool). Tells k p.hold y m.1 what new before after core.kept (Done reply) b (me_of d)) (sym got.0) got.1)
 
     pub told_so : (answer : Step) → AppliesOver MakesOf (record { core = core; cells = c; lent = before }) (record { core = new; cells = d; lent = after }) who call answer
-        → Same what late c d × Tells k p.hold m.1 what new before after core.kept answer (decided_of d) (me_of d)
+        → Same what late c d × Tells k p.hold y m.1 what new before after core.kept answer (decided_of d) (me_of d)
     told_so (Done reply) x =
         let says : Says x.reads reply (kept, actor_at (number_in k.own)) = subst (Says x.reads reply) (λ t. (p.kept t, p.is_own t)) (x.each, x.cells, x.applies, x.holds) in
         done_so x.reads reply x.own says (claimed_by kept x.reads (own_entry k what reply)) refl
@@ -149,7 +152,7 @@ module _ (m : Has) (core : WholeCore) (who : Actor) (call : Call) (size : ℕ) (
         let at_look : (core_ready kept x.reads (wait_entry k what) ≡ false) × Leads MakesOf c (cell_calls kept x.reads (wait_entry k what)) d = subst (λ (z : CoreState × Actor). (core_ready z.0 x.reads (record { actor = z.1; call = what; given = 0; short = false }) ≡ false) × Leads MakesOf c (cell_calls z.0 x.reads (record { actor = z.1; call = what; given = 0; short = false })) d)
         (λ t. (p.kept t, p.is_own t)) (w.not_ready, x.cells) in
         let led = from_start (cell_calls kept x.reads (wait_entry k what)) at_look.1 in
-        let got = waits k p.hold m.1 late x.reads what (me_of d) (decided_of d) late_now at_look.0 led.1 in
+        let got = waits k p.hold y m.1 late x.reads what (me_of d) (decided_of d) late_now at_look.0 led.1 in
         (led.0, (got.0, record { same = got.1; kept = w.same; unwritten = w.unwritten }))
 
 -- ---- what was told by one look of the holder's is told by any
@@ -158,8 +161,8 @@ same_hold : (g h : Hold) → Holding g ≡ Holding h → g ≡ h
 same_hold g h is = cc
 
 pub told_at : (m : Has) (core : WholeCore) (who : Actor) (call : Call) (p : MayLend m core who call) (new : WholeCore) (before after : Lent) (answer : Step) (decided : Bool) (n w : Has) → n ≡ w
-    → Tells m.0.know p.hold m.1 call new before after core.kept answer decided n → (h : Hold) → m ≡ (view m.0.know (Holding h), m.1) → Tells m.0.know h m.1 call new before after core.kept answer decided w
+    → Tells m.0.know p.hold m.0.eyes m.1 call new before after core.kept answer decided n → (h : Hold) → m ≡ (sight m.0.know (Holding h) m.0.eyes, m.1) → Tells m.0.know h m.0.eyes m.1 call new before after core.kept answer decided w
 told_at m core who call p new before after answer decided n w at told h is =
     let turns : Holding p.hold ≡ Holding h = ap (λ (z : Has). z.0.turn) (sym p.is ∙ is) in
-    subst (λ (z : Hold). Tells m.0.know z m.1 call new before after core.kept answer decided w) (same_hold p.hold h turns)
-    (subst (λ (z : Has). Tells m.0.know p.hold m.1 call new before after core.kept answer decided z) at told)
+    subst (λ (z : Hold). Tells m.0.know z m.0.eyes m.1 call new before after core.kept answer decided w) (same_hold p.hold h turns)
+    (subst (λ (z : Has). Tells m.0.know p.hold m.0.eyes m.1 call new before after core.kept answer decided z) at told)

@@ -58,7 +58,7 @@ module _ (m n : Has) (what : Call) (reply : Reply) (before after : Lent) (betwee
   seat_is = subst (λ (q : Know). OneMore (exchange_at (behind k c.look) e) k.own q.own) (sym knows_after) (one_more (exchange_at (behind k c.look) e) k.own between.numbered)
 
   pub rests_after : IsBetween n
-  rests_after = record { idle = ap (λ (v : View). v.turn) c.decides.is; carries = c.carries; numbered = let parts = seat_is.parts in let some = between.numbered in omega (arith, parts, some) }
+  rests_after = record { idle = ap (λ (v : View). v.turn) c.decides.is; carries = c.carries; sees_none = ap (λ (v : View). v.eyes) c.decides.is; numbered = let parts = seat_is.parts in let some = between.numbered in omega (arith, parts, some) }
 
   pub actor_stays : actor_of n.0.know ≡ actor_of k
   actor_stays = ap actor_at seat_is.number

@@ -51,7 +51,7 @@ one_more_is P (y ∷ ys) x all last (suc i) a at = one_more_is (λ j. P (suc j))
 rests_first : (table : TableId) (apps n : ℕ) (s : OfTable) → IsFresh table apps n s → Rests table s
 rests_first table apps n s fresh = record {
   own = fresh.0;
-  between = record { idle = ap (λ (z : Has). z.0.turn) fresh.1; carries = ap (λ (z : Has). z.1) fresh.1; numbered = subst (λ (z : Has). 0 < length z.0.know.own) (sym fresh.1) (omega arith) };
+  between = record { idle = ap (λ (z : Has). z.0.turn) fresh.1; carries = ap (λ (z : Has). z.1) fresh.1; sees_none = ap (λ (z : Has). z.0.eyes) fresh.1; numbered = subst (λ (z : Has). 0 < length z.0.know.own) (sym fresh.1) (omega arith) };
   alone = ap (λ (z : Has). length z.0.know.own) fresh.1;
 }
 

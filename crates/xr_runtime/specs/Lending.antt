@@ -11,7 +11,7 @@ use Rattle.xr_model.specs.laws.DecidedEntries.{is_image_done}
 use Rattle.xr_model.specs.laws.FewCalls.{MayAdd}
 use Rattle.xr_model.specs.laws.ImageLaws.{is_next_frame}
 use Rattle.xr_model.specs.laws.Moments.{opening_moment, moment_after, IsLegalAt, actor_at}
-use Rattle.xr_rule.specs.View.{Hold, View, Holding, view, number_in, calls_in}
+use Rattle.xr_rule.specs.View.{Hold, View, Holding, sight, number_in, calls_in}
 use Rattle.xr_rule.specs.Rule.{state_at}
 use Rattle.xr_words.specs.Table.{wait_entry}
 use Rattle.xr_words.specs.Lent.{Tells}
@@ -21,7 +21,7 @@ module _ {S : Type 0} where
   -- return, a wait begins at its clock and has room, and where a frame is asked for no image is held.
   pub record MayLend (m : Me (Option S) View) (core : WholeCore) (who : Actor) (what : Call) : Type 0 where
     pub hold : Hold
-    pub is : m ≡ (view m.0.know (Holding hold), m.1)
+    pub is : m ≡ (sight m.0.know (Holding hold) m.0.eyes, m.1)
     pub unnoted : hold.noted ≡ None
     pub unmade : hold.made ≡ []
     pub legal : IsLegalAt (opening_moment m.0.know.apps) hold.look
@@ -34,4 +34,4 @@ module _ {S : Type 0} where
 
   -- what it is told, by whichever look made it the holder
   abbrev pub IsTold : Me (Option S) View → WholeCore → Call → WholeCore → Lent → Lent → Step → Bool → Me (Option S) View → Type 0
-  IsTold m old what new before after answer decided n = (h : Hold) → m ≡ (view m.0.know (Holding h), m.1) → Tells m.0.know h m.1 what new before after old.kept answer decided n
+  IsTold m old what new before after answer decided n = (h : Hold) → m ≡ (sight m.0.know (Holding h) m.0.eyes, m.1) → Tells m.0.know h m.0.eyes m.1 what new before after old.kept answer decided n

@@ -2,14 +2,17 @@
 ghost use Rattle.std.specs.Prelude.{◌≡◌, true, [], length};
 ghost use Rattle.xr_model.specs.laws.ImageLaws.{is_next_frame};
 ghost use Rattle.xr_model.specs.machine.CoreCalls.{as_lent};
+ghost use Rattle.xr_rule.specs.Seats.{stands_in};
 ghost use Rattle.xr_runtime.specs.Calling.{MayMake, Called, CalledOrWaited, Reads};
+ghost use Rattle.xr_runtime.specs.Settling.{MaySettle, Settles, keeps};
 
 use crate::lending::{Told, lend};
 use arrayvec::ArrayVec;
 use std::sync::Wait;
 use xr_core::Core;
 use xr_lock::Lock;
-use xr_rule::{XrSeat, XrTable};
+use xr_rule::{Held, XrSeat, XrTable};
+use xr_snap::publish;
 use xr_types::{Actor, Call, Image, MOST_LAYERS, Reply, Shown, Step};
 
 /// A runtime that threads share: a core under a lock, and the words of images beside it.
@@ -47,7 +50,34 @@ fn taken_by(core: &Core, call: &Call<'_>) -> ArrayVec<Image, MOST_LAYERS>
 }
 
 impl Runtime {
-    // Takes the lock, makes the call where it is ready, notes it unless a claim decided it, and gives the value back.
+    // Notes a call that was made, unless a claim has decided it. Where the call publishes, what getters answer from is published behind
+    // it, and that decides it.
+    fn settle(
+        &self,
+        seat: &mut XrSeat<Core>,
+        held: &mut Held<Core>,
+        call: &Call<'_>,
+        reply: &Reply,
+        decided: bool,
+    )
+        requires own { seat.old.table_id ≡ self.now.table.table.shared.table_id }
+        requires may { MaySettle (stands_in keeps) seat.old.me held.old call.now reply.now decided }
+        ensures own { seat.new.table_id ≡ seat.old.table_id }
+        ensures kept { held.new.value ≡ held.old.value }
+        ensures settled { Settles decided seat.old.me held.old.counts call.now reply.now seat.new.me held.new.counts }
+    {
+        if decided {
+            return;
+        }
+        let lock = Lock { table: &self.table };
+        lock.note(seat, held, call, reply);
+        if call.publishes(reply.code) {
+            held.value.view(&mut held.room);
+            publish(&self.table, seat, held);
+        }
+    }
+
+    // Takes the lock, makes the call where it is ready, settles it, and gives the value back.
     pub(crate) fn make_once<R: Wait>(
         &self,
         rt: &R,
@@ -78,9 +108,7 @@ impl Runtime {
             Step::Done(reply) => {
                 let clock = held.value.clock();
                 let taken = taken_by(&held.value, call);
-                if !decided {
-                    lock.note(seat, &held, call, &reply);
-                }
+                self.settle(seat, &mut held, call, &reply, decided);
                 lock.give(seat, held);
                 Some(Answered {
                     reply,

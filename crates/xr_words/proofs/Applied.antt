@@ -25,7 +25,7 @@ use Rattle.xr_model.proofs.FittingCalls.{claims_alone}
 use Rattle.xr_model.proofs.CellsTold.{Told, agrees, same_by, allowed_by}
 use Rattle.xr_model.proofs.FreeEntries.{all_tell, calls_same, none_claimed_by, calls_of}
 use Rattle.xr_model.proofs.ImageWaits.{gets, expires, held_back}
-use Rattle.xr_rule.specs.View.{Know, Hold, View, Holding, view}
+use Rattle.xr_rule.specs.View.{Know, Hold, View, Eyes, Holding, sight}
 use Rattle.xr_rule.specs.Rule.{state_at}
 use Rattle.xr_rule.specs.Plays.{DecidesHolding}
 use Rattle.xr_rule.proofs.Carrying.{leaves_at}
@@ -106,12 +106,12 @@ still_call s r e = by e.call
 waiting_calls : (s : CoreState) (r : CellReads) (e : Entry) → core_ready s r e ≡ false → claimed_by s r e ≡ [] → cell_calls s r e ≡ []
 waiting_calls s r e not_ready none = let still = still_call s r e not_ready in rw (none, still.used, still.freed, still.stamped, still.taken, still.returned) refl
 
-module _ {S : Type 0} (k : Know) (h : Hold) (l : List (ℕ × Option S)) (late : Bool) where
+module _ {S : Type 0} (k : Know) (h : Hold) (y : Eyes) (l : List (ℕ × Option S)) (late : Bool) where
   abbrev s : State
   s = state_at k h.look
 
   abbrev start : Me (Option S) View
-  start = (view k (Holding h), l)
+  start = (sight k (Holding h) y, l)
 
   -- what a frame's looks found are the stamps that the state has
   frame_found : (r : CellReads) (e : Entry) (q : Bool) (n : Me (Option S) View) (p : Bool) → h.made ≡ [] → e.call ≡ ask.NextFrame → r.held ≡ [] → length r.stamps ≡ length (effect s.core r e).did.taken
@@ -120,7 +120,7 @@ module _ {S : Type 0} (k : Know) (h : Hold) (l : List (ℕ × Option S)) (late :
       → r.stamps ≡ stamps_at s.cells.stamps (first_images s.core.frames.pending)) (sym asks) by
     where
       by : length r.stamps ≡ length (effect s.core r (record e { call = ask.NextFrame })).did.taken → MeLeads ask.NextFrame late start q (cell_calls s.core r (record e { call = ask.NextFrame })) n p → r.stamps ≡ stamps_at s.cells.stamps (first_images s.core.frames.pending)
-      by each leads = leads_found ask.NextFrame late k h l (first_images s.core.frames.pending) r.stamps q n p (λ i w. ap (λ (m : List CellCall). stamp_after m i w) unmade) (rw none_held at each) (rw none_held at leads)
+      by each leads = leads_found ask.NextFrame late k h y l (first_images s.core.frames.pending) r.stamps q n p (λ i w. ap (λ (m : List CellCall). stamp_after m i w) unmade) (rw none_held at each) (rw none_held at leads)
 
   -- ---- an entry that is noted later
 
@@ -148,15 +148,15 @@ module _ {S : Type 0} (k : Know) (h : Hold) (l : List (ℕ × Option S)) (late :
   pub prepares : (r : CellReads) (reply : Reply) (what : Call) (n : Me (Option S) View) (p : Bool) (new : WholeCore) (before after : Lent) → h.made ≡ [] → is_image_done what ≡ false → (is_next_frame what ≡ true → (r.held ≡ []) × (s.cells.held ≡ []))
       → length r.stamps ≡ length (effect s.core r (own_entry k what reply)).did.taken → MeLeads what late start false (cell_calls s.core r (own_entry k what reply)) n p → claimed_by s.core r (own_entry k what reply) ≡ []
       → AnswersBy (CoreAllows s.core r (own_entry k what reply)) (core_ready s.core r (own_entry k what reply)) (core_step s.core r (own_entry k what reply)) new.kept reply before after
-      → new.held ≡ held_after r.held (effect s.core r (own_entry k what reply)).did → (p ≡ false) × Prepares k h l what new before after reply n
+      → new.held ≡ held_after r.held (effect s.core r (own_entry k what reply)).did → (p ≡ false) × Prepares k h y l what new before after reply n
   prepares r reply what n p new before after unmade other frames each leads none a hold =
       let e : Entry = own_entry k what reply in
       let x = same r e n p unmade other frames each leads none (is_compositor_call what) refl in
-      let led = leads_made what late k h l (cell_calls s.core r e) false n p (calls_set s.core r e other none) leads in (
+      let led = leads_made what late k h y l (cell_calls s.core r e) false n p (calls_set s.core r e other none) leads in (
         led.1,
         record {
           made = cell_calls s.core r e;
-          is = led.0 ∙ ap (λ (m : List CellCall). let o : Me (Option S) View = (view k (Holding (record h { made = m ++ cell_calls s.core r e })), l) in o) unmade;
+          is = led.0 ∙ ap (λ (m : List CellCall). let o : Me (Option S) View = (sight k (Holding (record h { made = m ++ cell_calls s.core r e })) y, l) in o) unmade;
           made_is = x.calls;
           claims_none = x.claims_none;
           answers = answers_at s s.core new.kept r e reply before after refl x.told a;
@@ -185,7 +185,7 @@ module _ {S : Type 0} (k : Know) (h : Hold) (l : List (ℕ × Option S)) (late :
 
   decides_at : (r : CellReads) (reply : Reply) (what : Call) (i : Image) (n : Me (Option S) View) (new : WholeCore) (before after : Lent) → Claims s.core (own_entry k what reply) i
       → AnswersBy (CoreAllows s.core r (own_entry k what reply)) (core_ready s.core r (own_entry k what reply)) (core_step s.core r (own_entry k what reply)) new.kept reply before after
-      → (b : Bool) → r.unused ≡ b → DecidesHolding k h (wait_entry k what) b start n → Decided k h l what new before after reply n
+      → (b : Bool) → r.unused ≡ b → DecidesHolding k h (wait_entry k what) b start n → Decided k h y l what new before after reply n
   decides_at r reply what i n new before after c a b unused d =
       let e : Entry = own_entry k what reply in
       let t : State = state_at k (h.look ++ d.more) in
@@ -202,14 +202,14 @@ module _ {S : Type 0} (k : Know) (h : Hold) (l : List (ℕ × Option S)) (late :
   pub decides : (r : CellReads) (reply : Reply) (what : Call) (i : Image) (is : List Image) (n : Me (Option S) View) (p : Bool) (new : WholeCore) (before after : Lent) → late ≡ late_of s.core.device.clock what → claimed_by s.core r (own_entry k what reply) ≡ i ∷ is
       → MeLeads what late start false (cell_calls s.core r (own_entry k what reply)) n p
       → AnswersBy (CoreAllows s.core r (own_entry k what reply)) (core_ready s.core r (own_entry k what reply)) (core_step s.core r (own_entry k what reply)) new.kept reply before after
-      → (p ≡ true) × Decided k h l what new before after reply n
+      → (p ≡ true) × Decided k h y l what new before after reply n
   decides r reply what i is n p new before after late_is claimed leads a =
       let e : Entry = own_entry k what reply in
       let alone = claims_alone s.core r e i is claimed in
       let led = subst (λ (cs : List CellCall). MeLeads what late start false cs n p) alone.calls leads in
       by alone.claims led.0 led.1 (led.2 h refl) led.3.0 led.3.1 r.unused refl late refl
     where
-      by : (c : Claims s.core (own_entry k what reply) i) (m : Me (Option S) View) (o : Bool) → ClaimTells (wait_entry k what) late h start false r.unused m o → n ≡ m → p ≡ o → (b : Bool) → r.unused ≡ b → (u : Bool) → late ≡ u → (p ≡ true) × Decided k h l what new before after reply n
+      by : (c : Claims s.core (own_entry k what reply) i) (m : Me (Option S) View) (o : Bool) → ClaimTells (wait_entry k what) late h start false r.unused m o → n ≡ m → p ≡ o → (b : Bool) → r.unused ≡ b → (u : Bool) → late ≡ u → (p ≡ true) × Decided k h y l what new before after reply n
       by c m o tells at same true unused u is_late =
           let got = tells.hit unused in
           (same ∙ got.0, decides_at r reply what i n new before after c a true unused (subst (DecidesHolding k h (wait_entry k what) true start) (sym at) got.1))

@@ -18,7 +18,7 @@ use Rattle.xr_model.specs.laws.Moments.{actor_at}
 use Rattle.xr_model.proofs.Rows.{both_of}
 use Rattle.xr_model.specs.laws.ImageWords.{FitsCall, claimed_by, Claims}
 use Rattle.xr_model.proofs.FittingCalls.{calls_fit, claims_alone, returned_none}
-use Rattle.xr_rule.specs.View.{Know, Hold, View, Holding, view, number_in}
+use Rattle.xr_rule.specs.View.{Know, Hold, View, Eyes, Holding, sight, number_in}
 use Rattle.xr_rule.specs.Rule.{state_at, MayClaim}
 use Rattle.xr_words.specs.Table.{wait_entry, ClaimsIf, MeMay, MeDoes}
 use Rattle.xr_words.proofs.Leading.{is_set, MeLeads, made, leads_made}
@@ -78,20 +78,20 @@ module _ {S C : Type 0} (what : Call) (late : Bool) (may : C → CellCall → Ty
   none_claimed k h (give_back i) set = tt
 
   -- calls that fit, for an entry that is noted later
-  may_set : (k : Know) (h : Hold) (l : List (ℕ × Option S)) (xs : List CellCall) (c : C) → Same c → me c ≡ (view k (Holding h), l) → h.noted ≡ None → list_all is_set xs ≡ true → Each (FitsCall (state_at k h.look).core) xs → MayCall may does c xs
-  may_set k h l [] c same is unnoted sets fits = tt
-  may_set k h l (x ∷ xs) c same is unnoted sets fits =
+  may_set : (k : Know) (h : Hold) (y : Eyes) (l : List (ℕ × Option S)) (xs : List CellCall) (c : C) → Same c → me c ≡ (sight k (Holding h) y, l) → h.noted ≡ None → list_all is_set xs ≡ true → Each (FitsCall (state_at k h.look).core) xs → MayCall may does c xs
+  may_set k h y l [] c same is unnoted sets fits = tt
+  may_set k h y l (x ∷ xs) c same is unnoted sets fits =
       let two = both_of (is_set x) (list_all is_set xs) sets in (
         asks c x same (subst (λ (m : Me (Option S) View). MeMay what late m x) (sym is) record { hold = h; is = refl; unnoted = unnoted; fits = fits.0; claims = none_claimed k h x two.0 }),
         λ d done. let one = tells c x d same done in
-            let led = leads_made what late k h l (x ∷ []) (decided c) (me d) (decided d) (both (is_set x) true two.0 refl) (me d, decided d, subst (λ (m : Me (Option S) View). MeDoes what late m (decided c) x (me d) (decided d)) is one.1, (refl, refl)) in
-            may_set k (record h { made = h.made ++ x ∷ [] }) l xs d one.0 led.0 unnoted two.1 fits.1,
+            let led = leads_made what late k h y l (x ∷ []) (decided c) (me d) (decided d) (both (is_set x) true two.0 refl) (me d, decided d, subst (λ (m : Me (Option S) View). MeDoes what late m (decided c) x (me d) (decided d)) is one.1, (refl, refl)) in
+            may_set k (record h { made = h.made ++ x ∷ [] }) y l xs d one.0 led.0 unnoted two.1 fits.1,
       )
 
   -- a claim, which is an entry's only call
-  may_claim : (k : Know) (h : Hold) (l : List (ℕ × Option S)) (i : Image) (b : Bool) (c : C) → Same c → me c ≡ (view k (Holding h), l) → h.noted ≡ None → h.made ≡ [] → FitsCall (state_at k h.look).core (claim i b) → MayClaim k h.look (wait_entry k what) i late
+  may_claim : (k : Know) (h : Hold) (y : Eyes) (l : List (ℕ × Option S)) (i : Image) (b : Bool) (c : C) → Same c → me c ≡ (sight k (Holding h) y, l) → h.noted ≡ None → h.made ≡ [] → FitsCall (state_at k h.look).core (claim i b) → MayClaim k h.look (wait_entry k what) i late
       → MayCall may does c (claim i b ∷ [])
-  may_claim k h l i b c same is unnoted unmade fits claims =
+  may_claim k h y l i b c same is unnoted unmade fits claims =
       (asks c (claim i b) same (subst (λ (m : Me (Option S) View). MeMay what late m (claim i b)) (sym is) record { hold = h; is = refl; unnoted = unnoted; fits = fits; claims = (claims, unmade) }), λ d done. tt)
 
   abbrev asked_by : Know → ℕ → Bool → Entry
@@ -100,19 +100,19 @@ module _ {S C : Type 0} (what : Call) (late : Bool) (may : C → CellCall → Ty
   as_wait : (k : Know) (s : CoreState) (given : ℕ) (short : Bool) (i : Image) → Claims s (asked_by k given short) i → Claims s (wait_entry k what) i
   as_wait k s given short i x = record { chain = x.chain; timeout = x.timeout; start = x.start; is = x.is; image = x.image; may = x.may }
 
-  may_all : (k : Know) (h : Hold) (l : List (ℕ × Option S)) (c : C) (reads : CellReads) (given : ℕ) (short : Bool) → Same c → me c ≡ (view k (Holding h), l) → h.noted ≡ None → h.made ≡ [] → StateIsSound (state_at k h.look) → is_image_done what ≡ false
+  may_all : (k : Know) (h : Hold) (y : Eyes) (l : List (ℕ × Option S)) (c : C) (reads : CellReads) (given : ℕ) (short : Bool) → Same c → me c ≡ (sight k (Holding h) y, l) → h.noted ≡ None → h.made ≡ [] → StateIsSound (state_at k h.look) → is_image_done what ≡ false
       → ((i : Image) → Claims (state_at k h.look).core (wait_entry k what) i → MayClaim k h.look (wait_entry k what) i late)
       → (images : List Image) → claimed_by (state_at k h.look).core reads (asked_by k given short) ≡ images → MayCall may does c (cell_calls (state_at k h.look).core reads (asked_by k given short))
-  may_all k h l c reads given short same is unnoted unmade sound other claims [] none =
-      may_set k h l (cell_calls (state_at k h.look).core reads (asked_by k given short)) c same is unnoted (calls_set (state_at k h.look).core reads (asked_by k given short) other none) (calls_fit (state_at k h.look) reads (asked_by k given short) sound other)
-  may_all k h l c reads given short same is unnoted unmade sound other claims (i ∷ images) some =
+  may_all k h y l c reads given short same is unnoted unmade sound other claims [] none =
+      may_set k h y l (cell_calls (state_at k h.look).core reads (asked_by k given short)) c same is unnoted (calls_set (state_at k h.look).core reads (asked_by k given short) other none) (calls_fit (state_at k h.look) reads (asked_by k given short) sound other)
+  may_all k h y l c reads given short same is unnoted unmade sound other claims (i ∷ images) some =
       let alone = claims_alone (state_at k h.look).core reads (asked_by k given short) i images some in
       let fits = subst (Each (FitsCall (state_at k h.look).core)) alone.calls (calls_fit (state_at k h.look) reads (asked_by k given short) sound other) in
-      subst (MayCall may does c) (sym alone.calls) (may_claim k h l i reads.unused c same is unnoted unmade fits.0 (claims i (as_wait k (state_at k h.look).core given short i alone.claims)))
+      subst (MayCall may does c) (sym alone.calls) (may_claim k h y l i reads.unused c same is unnoted unmade fits.0 (claims i (as_wait k (state_at k h.look).core given short i alone.claims)))
 
   -- what the core asks of the cells that it is lent
-  pub may_apply : (k : Know) (h : Hold) (l : List (ℕ × Option S)) (core : WholeCore) (c : C) → Same c → me c ≡ (view k (Holding h), l) → h.noted ≡ None → h.made ≡ [] → StateIsSound (state_at k h.look) → core.kept ≡ (state_at k h.look).core → is_image_done what ≡ false
+  pub may_apply : (k : Know) (h : Hold) (y : Eyes) (l : List (ℕ × Option S)) (core : WholeCore) (c : C) → Same c → me c ≡ (sight k (Holding h) y, l) → h.noted ≡ None → h.made ≡ [] → StateIsSound (state_at k h.look) → core.kept ≡ (state_at k h.look).core → is_image_done what ≡ false
       → ((i : Image) → Claims (state_at k h.look).core (wait_entry k what) i → MayClaim k h.look (wait_entry k what) i late) → MayApply may does core c (actor_at (number_in k.own)) what
-  may_apply k h l core c same is unnoted unmade sound kept other claims reads given short held =
+  may_apply k h y l core c same is unnoted unmade sound kept other claims reads given short held =
       subst (λ (s : CoreState). MayCall may does c (cell_calls s reads (asked_by k given short))) (sym kept)
-      (may_all k h l c reads given short same is unnoted unmade sound other claims (claimed_by (state_at k h.look).core reads (asked_by k given short)) refl)
+      (may_all k h y l c reads given short same is unnoted unmade sound other claims (claimed_by (state_at k h.look).core reads (asked_by k given short)) refl)

@@ -13,7 +13,7 @@ use Rattle.xr_model.specs.machine.State.{CoreState, State, WholeCore}
 use Rattle.xr_model.specs.laws.ImageLaws.{is_next_frame}
 use Rattle.xr_model.specs.laws.Moments.{actor_at}
 use Rattle.xr_model.specs.laws.ImageWords.{claimed_by}
-use Rattle.xr_rule.specs.View.{Know, Hold, View, Holding, view, number_in}
+use Rattle.xr_rule.specs.View.{Know, Hold, View, Eyes, Holding, sight, number_in}
 use Rattle.xr_rule.specs.Rule.{state_at}
 use Rattle.xr_rule.specs.Plays.{DecidesHolding}
 use Rattle.xr_words.specs.Table.{wait_entry}
@@ -27,15 +27,15 @@ own_entry k what reply = entry_of (actor_at (number_in k.own)) what reply
 abbrev pub AnswersAt : State → Entry → CoreState → Reply → Lent → Lent → Type 0
 AnswersAt s e new reply before after = AnswersBy (IsAllowed s e) (ready s e) ((step s e).0.core, (step s e).1) new reply before after
 
-module _ {S : Type 0} (k : Know) (h : Hold) (l : List (ℕ × Option S)) (what : Call) (new : WholeCore) (before after : Lent) where
+module _ {S : Type 0} (k : Know) (h : Hold) (y : Eyes) (l : List (ℕ × Option S)) (what : Call) (new : WholeCore) (before after : Lent) where
   abbrev holder_at : Me (Option S) View
-  holder_at = (view k (Holding h), l)
+  holder_at = (sight k (Holding h) y, l)
 
   -- The entry is yet to be noted: the calls on cells that the seat made are the entry's, and it is answered as the machine would answer it
   -- at the seat's look. Behind a frame the core's own list of images is the machine's.
   pub record Prepares (reply : Reply) (n : Me (Option S) View) : Type 0 where
     pub made : List CellCall
-    pub is : n ≡ (view k (Holding (record h { made = made })), l)
+    pub is : n ≡ (sight k (Holding (record h { made = made })) y, l)
     pub made_is : made ≡ cell_calls (state_at k h.look).core (reads_of (state_at k h.look) what) (own_entry k what reply)
     pub claims_none : claimed_by (state_at k h.look).core (reads_of (state_at k h.look) what) (own_entry k what reply) ≡ []
     pub answers : AnswersAt (state_at k h.look) (own_entry k what reply) new.kept reply before after

@@ -9,7 +9,7 @@ use Rattle.xr_model.specs.machine.Calls.{Entry}
 use Rattle.xr_types.specs.declared.calls.Call.{Call}
 use Rattle.xr_model.specs.laws.Moments.{actor_at}
 use Rattle.xr_model.specs.laws.ImageWords.{stamp_of, stamp_after, FitsCall}
-use Rattle.xr_rule.specs.View.{Know, Hold, View, Holding, view, number_in}
+use Rattle.xr_rule.specs.View.{Know, Hold, View, Holding, sight, number_in}
 use Rattle.xr_rule.specs.Rule.{state_at, MayClaim}
 use Rattle.xr_rule.specs.Plays.{made_more, DecidesHolding}
 
@@ -27,14 +27,14 @@ module _ {S : Type 0} where
   pub record MaySet (table : TableId) (s : Seat (Option S) View) (x : CellCall) : Type 0 where
     pub own : s.table_id ≡ table
     pub hold : Hold
-    pub is : s.me ≡ (view s.me.0.know (Holding hold), s.me.1)
+    pub is : s.me ≡ (sight s.me.0.know (Holding hold) s.me.0.eyes, s.me.1)
     pub unnoted : hold.noted ≡ None
     pub fits : FitsCall (state_at s.me.0.know hold.look).core x
 
   -- The same of what a seat knows and carries, whichever table it is of.
   pub record MeMay (what : Call) (late : Bool) (m : Me (Option S) View) (x : CellCall) : Type 0 where
     pub hold : Hold
-    pub is : m ≡ (view m.0.know (Holding hold), m.1)
+    pub is : m ≡ (sight m.0.know (Holding hold) m.0.eyes, m.1)
     pub unnoted : hold.noted ≡ None
     pub fits : FitsCall (state_at m.0.know hold.look).core x
     pub claims : ClaimsIf m.0.know hold what late x
@@ -51,11 +51,11 @@ module _ {S : Type 0} where
 
   -- a call more was made
   abbrev pub SetsMore : CellCall → Me (Option S) View → Me (Option S) View → Type 0
-  SetsMore x m n = (h : Hold) → m.0.turn ≡ Holding h → n ≡ (made_more m.0.know h x, m.1)
+  SetsMore x m n = (h : Hold) → m.0.turn ≡ Holding h → n ≡ (made_more m.0.know h m.0.eyes x, m.1)
 
   -- a stamp was looked at
   abbrev pub Finds : Image → Me (Option S) View → ℕ → Me (Option S) View → Type 0
-  Finds i m v n = (h : Hold) → m.0.turn ≡ Holding h → (v ≡ stamp_after h.made i (stamp_of (state_at m.0.know h.look) i)) × (n ≡ (made_more m.0.know h (peek i v), m.1))
+  Finds i m v n = (h : Hold) → m.0.turn ≡ Holding h → (v ≡ stamp_after h.made i (stamp_of (state_at m.0.know h.look) i)) × (n ≡ (made_more m.0.know h m.0.eyes (peek i v), m.1))
 
   -- What a claim that was answered so makes of a seat, and of whether its entry is decided.
   pub record ClaimTells (e : Entry) (late : Bool) (h : Hold) (m : Me (Option S) View) (q b : Bool) (n : Me (Option S) View) (p : Bool) : Type 0 where

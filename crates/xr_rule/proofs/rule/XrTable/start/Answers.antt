@@ -1,11 +1,19 @@
-use Rattle.std.proofs.Common.{rules, ◌≡◌, ◌∷◌, [], Some, sym, subst, refl, replicate}
+use Rattle.std.proofs.Common.{rules, ◌≡◌, ◌∷◌, [], Some, sym, subst, refl}
 use Rattle.atomic_table.specs.Table.{opening}
-use Rattle.xr_rule.specs.Rule.{FollowsRule, word_count}
+use Rattle.xr_rule.specs.Rule.{FollowsRule}
 use Rattle.xr_rule.specs.Seats.{stands_in}
 use Rattle.xr_rule.specs.View.{newcomer}
-use Rattle.xr_rule.proofs.Moves.{opens, none_set}
+use Rattle.xr_rule.specs.declared.held.Held.{Held}
+use Rattle.xr_rule.proofs.Moves.{opens}
+use Rattle.xr_rule.proofs.Opening.{no_counts}
 use Rattle.xr_rule.proofs.rule.XrTable.start.Goals as goal
 
-pub new-requires : goal.new-requires
-new-requires g c = let is : c.push_reserved.new.self.items ≡ Some (record { value = c.args.value }) ∷ [] = search rules in
-    subst (λ l. FollowsRule (stands_in g.M.Machine.stands) c.args.apps (opening (replicate word_count 0) l (newcomer c.args.apps))) (sym is) (opens (stands_in g.M.Machine.stands) c.args.apps (record { value = c.args.value }) (replicate word_count 0) c.requires.apps.1 refl (none_set 98) c.requires.value)
+pub new-requires-2 : goal.new-requires-2
+new-requires-2 g c =
+    let x : Held _ = record { value = c.args.value; counts = no_counts; room = c.in_ok-room.room } in
+    let is : c.push_reserved.new.self.items ≡ Some x ∷ [] = search rules in
+    let filled = c.fill_zeros.ensures in
+    let same : c.deref.result.now ≡ c.fill_zeros.new.words.items = search rules in
+    subst (λ l. FollowsRule (stands_in g.M.Machine.stands) c.args.apps (opening c.deref.result.now l (newcomer c.args.apps))) (sym is)
+    (subst (λ l. FollowsRule (stands_in g.M.Machine.stands) c.args.apps (opening l (Some x ∷ []) (newcomer c.args.apps))) (sym same)
+    (opens (stands_in g.M.Machine.stands) c.args.apps x c.fill_zeros.new.words.items c.requires.apps.1 filled.count filled.zeros (refl, c.requires.value)))

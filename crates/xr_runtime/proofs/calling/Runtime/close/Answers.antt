@@ -24,7 +24,7 @@ loop-pass-init c =
     let one : c.join.new.seat.me ≡ (joined_view (keepsake x.me.0) x.me.0, []) = c.join.ensures.joined ∙ (λ i. (joined_view (kept i).0 (same i).0, [])) in
     let both : c.join-2.new.seat.me ≡ (joined_view (joined_view (keepsake x.me.0) x.me.0) y.me.0, []) = c.join-2.ensures.joined ∙ (λ i. (joined_view (one i).0 y.me.0, [])) in (
       c.join-2.ensures.own ∙ (c.join.ensures.own ∙ (c.keep-closer.ensures.new.0 ∙ p.compositor.own)),
-      (ap (λ (z : Has). z.0.turn) both, ap (λ (z : Has). z.1) both),
+      (ap (λ (z : Has). z.0.turn) both, ap (λ (z : Has). z.1) both, ap (λ (z : Has). z.0.eyes) both),
       subst (Gathered (apps_of c.args.self) c.args.passes.apps.items c.args.passes.apps.items x.me.0.know y.me.0.know) (sym (ap (λ (z : Has). z.0.know.own) both))
           (gathers_two (apps_of c.args.self) c.args.passes.apps.items x.me.0.know y.me.0.know p.count p.compositor.alone p.device.alone),
     )
@@ -48,7 +48,7 @@ loop-pass-preserved c =
     let more = gathers (apps_of c.args.self) c.args.passes.apps.items c.loop-pass.apps.items c.pop.new.self.items c.args.passes.compositor.seat.me.0.know c.args.passes.device.seat.me.0.know c.loop-pass.closer.me.0.know.own c.in-Some.pass i.2 c.in-Some.ensures.items x.alone in
     let both : c.join-in-Some.new.seat.me ≡ (joined_view c.loop-pass.closer.me.0 c.in-Some.pass.seat.me.0, []) = c.join-in-Some.ensures.joined in (
       c.join-in-Some.ensures.own ∙ i.0,
-      (ap (λ (z : Has). z.0.turn) both ∙ i.1.0, ap (λ (z : Has). z.1) both),
+      (ap (λ (z : Has). z.0.turn) both ∙ i.1.0, ap (λ (z : Has). z.1) both, ap (λ (z : Has). z.0.eyes) both ∙ i.1.2),
       subst (Gathered (apps_of c.args.self) c.args.passes.apps.items c.pop.new.self.items c.args.passes.compositor.seat.me.0.know c.args.passes.device.seat.me.0.know) (sym (ap (λ (z : Has). z.0.know.own) both)) more,
     )
 

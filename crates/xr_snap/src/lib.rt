@@ -1,0 +1,6 @@
+//! What is published, as words that are read without the lock: the holder writes a buffer that no seat is in, and makes it the front.
+#![tactic(auto)]
+
+mod publishing;
+
+pub use publishing::publish;
