@@ -33,6 +33,7 @@ class Words(argparse.ArgumentParser):
     """The words of a tool, whose faults are one line."""
 
     def __init__(self, name: str, about: str) -> None:
+        about = f"{about.rstrip()} Where a file is named, - is standard input."
         super().__init__(f"tools/{name}", description=about, formatter_class=argparse.RawDescriptionHelpFormatter, allow_abbrev=False)
 
     def error(self, message: str) -> NoReturn:

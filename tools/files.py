@@ -4,9 +4,12 @@ from __future__ import annotations
 import errno
 import os
 import stat
+import sys
 import tempfile
 
 MOST_NAME = 4095
+# what stands for standard input among the words of a tool, and the file that it is
+INPUT, INPUT_FILE = "-", "/dev/stdin"
 FIFO = "it is a FIFO: the program waits for its writer and reads it, and its text can be read once only"
 REASONS = {
     errno.ENOENT: "there is no such file",
@@ -38,6 +41,9 @@ def reason_of(e: Exception) -> str:
 def open_to_read(name: str) -> int:
     """Opens a file as the program does, whose words have no form with some names. A FIFO is opened only where its text is standard input's or
     stands behind another open descriptor, since a text that is taken from it here is lost for the program."""
+    if name == INPUT and sys.stdin is None:
+        raise FileFault("open", "it is closed")
+    name = INPUT_FILE if name == INPUT else name
     as_bytes = os.fsencode(name)
     if not as_bytes:
         raise FileFault("words", "the name is empty")

@@ -7,8 +7,8 @@ from dataclasses import replace
 from checking import prediction
 from checking.hanging import cannot_hang
 from checking.prediction import Answer
-from ends import Refused, shown
-from files import FileFault, text_of
+from ends import Refused, named
+from files import INPUT, FileFault, text_of
 from scenarios.devices import FAILED_DEVICE, MOST_TEXT, NO_DEVICE, DeviceText, device_in, read_device
 from scenarios.reading import MOST_BYTES, Scripts, read_scenario
 from scenarios.schema import NoSchema, Schema
@@ -40,7 +40,7 @@ def device_named(name: str | None) -> DeviceText:
     """The device of a file, which may be one that can be opened and not read, as a folder is."""
     text, fault = read(name, MOST_TEXT + 1) if name is not None else (b"", None)
     if fault and fault.part != "read":
-        raise Refused(f"{shown(name or '')} can't be read: {fault.why}")
+        raise Refused(f"{named(name or '')} can't be read: {fault.why}")
     return FAILED_DEVICE if fault else device_in(text) if name is not None else NO_DEVICE
 
 
@@ -48,6 +48,8 @@ class Texts:
     """What stands in the files of these names. The scenario's is None where its file can't be read, and a device's is empty then."""
 
     def __init__(self, name: str, device_name: str | None, schema: Schema) -> None:
+        if name == device_name == INPUT:
+            raise Refused("standard input can't be the scenario and the device's text too")
         self.names = [name, *([device_name] if device_name is not None else [])]
         text, self.fault = read(name, MOST_BYTES + 1)
         self.events, self.device_fault = read(device_name, MOST_TEXT + 1) if device_name is not None else (b"", None)
@@ -77,9 +79,9 @@ class Texts:
         found = self.scenario
         for name, fault in self.faults:
             if fault is self.fault or fault.part != "read":
-                raise Refused(f"{shown(name)} can't be read: {fault.why}")
+                raise Refused(f"{named(name)} can't be read: {fault.why}")
         if found is None or found.refusal is not None:
-            raise Refused(f"{shown(self.names[0])} is no scenario: {found.refusal if found else ''}; tools/check says more")
+            raise Refused(f"{named(self.names[0])} is no scenario: {found.refusal if found else ''}; tools/check says more")
         return found.scripts
 
     def answer(self) -> Answer | None:

@@ -7,8 +7,8 @@ from drawing import text
 from drawing.columns import ASIDE, BIN_WIDTH, LEFT, Column, Piece
 from drawing.owners import OWNERS, Owners
 from drawing.replay import Arrow, Change, Session, Wait, in_units, is_bad, is_fault
-from drawing.scene import AXIS_HEIGHT, BOLD, CLOCK_HEIGHT, HEAD_HEIGHT, MORE_SIZE, NAME_SIZE, WHAT, Lane, Node, Scene
-from drawing.scene import faults_of, label_of, reach, said_of, way_of
+from drawing.scene import AXIS_HEIGHT, BOLD, CLOCK_HEIGHT, HEAD_HEIGHT, INSIDE, MORE_SIZE, NAME_SIZE, WHAT, Lane, Node, Scene
+from drawing.scene import faults_of, label_of, reach, said_of
 from drawing.text import escaped
 from reports.reading import Call
 
@@ -116,8 +116,9 @@ class Chart:
         for lane, nodes in self.nodes:
             plain = (node for node in nodes[-NEAR_EDGE:] if not self.scene.columns[node.column].is_bin)
             ends += [self._x(node) + reach(label_of(node.calls[0]))[1] for node in plain]
-            near = (change for session in lane.sessions for change in session.changes[-NEAR_EDGE:])
-            ends += [self.x_of(it.place) + reach((way_of(it.told), ""))[1] for it in near if self._is_here(it.place)]
+            near = [(it, *bar) for it in lane.sessions for bar in self.scene.bars_of(it)[-NEAR_EDGE:] if self._is_here(bar[0][0].place)]
+            told = [(its[0].place, *self.scene.words_of_bar(lane, it, its, end)) for it, its, end in near]
+            ends += [self.x_of(place) + reach((words, ""))[1] for place, words, is_inside in told if not is_inside]
         open_waits = [wait for wait in self.scene.waits if wait.end is None and self._is_last()]
         return max([*ends, *(self.piece.right + 44 + text.width_of(wait.text, NAME_SIZE) * BOLD for wait in open_waits)])
 
@@ -235,27 +236,32 @@ class Chart:
 
     def session(self, lane: Lane, session: Session) -> list[str]:
         """The bar of a session, divided where its state changes, and a line below it while it runs."""
-        groups: dict[int, list[Change]] = {}
-        for change in session.changes:
-            groups.setdefault(self.scene.index[change.place], []).append(change)
-        ends = [changes[0].place for changes in groups.values()][1:] + [session.ended or len(self.scene.ordered) + 1]
         out: list[str] = []
         state = ""
-        for changes, end in zip(groups.values(), ends):
+        for changes, end in self.scene.bars_of(session):
             state, start, last = next((it.states[-1] for it in reversed(changes) if it.states), state), changes[0].place, changes[-1]
             if end < self.piece.first or start > self.piece.last:
                 continue
-            label = way_of([it for change in changes for it in change.told]) if self._is_here(start) else "" if out else state
-            front = f"{session.ordinal} " if label and len(lane.sessions) > 1 else ""
+            words = self.words(lane, session, changes, end, "" if out else state)
             flags = ["running"] * last.is_running + ["device lost"] * last.is_lost
             is_open = session.ended is None and end > len(self.scene.ordered)
             said = f"session {session.ordinal}: {', '.join([state] + flags)}\nfrom place {start} {'on' if is_open else f'to {end}'}"
             said += "".join(f"\nat place {it.place}: {', then '.join(it.told[:9])}" for it in changes[:6] if it.told)
             x = self.x_of(start)
             bar = state_bar(state, max(self.x_of(end) - x, 2), last.is_running, last.is_lost)
-            words = f'<g transform="translate(0 -6)">{slanted((front + label, ""))}</g>' if front + label else ""
             out.append(group("state", x, lane.line, f"{titled(said)}{bar}{words}"))
         return out
+
+    def words(self, lane: Lane, session: Session, changes: list[Change], end: int, state: str) -> str:
+        """What stands at a part of a bar; at one that goes on from another piece its state, where that has room."""
+        is_here = self._is_here(changes[0].place)
+        words, is_inside = self.scene.words_of_bar(lane, session, changes, end)
+        if not is_here:
+            words = f"{session.ordinal} {state}" if state and len(lane.sessions) > 1 else state
+            is_inside = text.width_of(words, MORE_SIZE) + 2 * INSIDE <= self.x_of(end)
+        if is_inside and words:
+            return f'<text class="in" x="{INSIDE}" y="3">{escaped(words)}</text>'
+        return f'<g transform="translate(0 -6)">{slanted((words, ""))}</g>' if words and is_here else ""
 
     def owners(self, lane: Lane, chain: Owners) -> list[str]:
         """A bar for each time that an image of a swapchain is somebody's: one row an image."""

@@ -15,6 +15,8 @@ from scenarios.reading import Scripts
 SLANT = 40
 SIN, COS = sin(radians(SLANT)), cos(radians(SLANT))
 NAME_SIZE, MORE_SIZE, BOLD = 11.5, 10.5, 1.08
+# what stands before and behind a word in a session's bar, and how high a lane is at least above its line
+INSIDE, LEAST_ABOVE = 5, 24
 MOST_SESSION_LANES = 6
 MOST_CHAIN_LANES = 6
 MOST_PATHS = 4
@@ -152,6 +154,31 @@ class Scene:
         self.pieces = cols.pieces_of(self.columns, self._lines_of_labels())
         self.height = self._place_lanes()
 
+    def bars_of(self, session: replay.Session) -> list[tuple[list[replay.Change], int]]:
+        """The parts of a session's bar: the changes of a column, and the place where the next part begins."""
+        groups: dict[int, list[replay.Change]] = {}
+        for change in session.changes:
+            groups.setdefault(self.index[change.place], []).append(change)
+        starts = [changes[0].place for changes in groups.values()]
+        return list(zip(groups.values(), [*starts[1:], session.ended or len(self.ordered) + 1]))
+
+    def is_inside(self, words: str, first: int, end: int) -> bool:
+        """Whether words have room in a part of a bar, from a place to another, as far as it goes in the piece of the first one."""
+        piece = next((it for it in self.pieces if first <= it.last), self.pieces[-1])
+        start = 0.0 if first < piece.first else self.columns[self.index[first]].x
+        right = self.columns[self.index[end]].x if end <= piece.last else piece.right
+        return start + text.width_of(words, MORE_SIZE) + 2 * INSIDE <= right
+
+    def words_of_bar(self, lane: Lane, session: replay.Session, changes: list[replay.Change], end: int) -> tuple[str, bool]:
+        """What stands at a part of a bar, and whether it stands in it: the states on the way where they have room, else the last one, which leans
+        above the bar where that has none either."""
+        told = [it for change in changes for it in change.told]
+        front = f"{session.ordinal} " if told and len(lane.sessions) > 1 else ""
+        for words in (way_of(told), way_of(told[-1:])):
+            if self.is_inside(front + words, changes[0].place, end):
+                return front + words, True
+        return front + way_of(told[-1:]), False
+
     def _note_calls(self) -> None:
         """Says of each await how long it waited and what released it, and of each frame where it comes from."""
         starts = {(wait.actor, wait.end): wait.start for wait in self.waits}
@@ -204,13 +231,17 @@ class Scene:
                 lines[self.index[change.place]].append((number, 1))
         return lines
 
+    def words_of_lane(self, lane: Lane) -> list[tuple[str, bool]]:
+        """What stands at the bars of a lane, and whether it stands in them."""
+        return [self.words_of_bar(lane, it, *bar) for it in lane.sessions for bar in self.bars_of(it)]
+
     def _place_lanes(self) -> float:
         top: float = HEAD_HEIGHT
         for lane in self.lanes:
             heights = [40.0 if self.columns[n.column].is_bin else reach(label_of(n.calls[0]))[0] for n in lane.nodes]
-            heights += [reach((way_of(change.told), ""))[0] + 12 for session in lane.sessions for change in session.changes]
+            heights += [reach((words, ""))[0] + 12 for words, is_inside in self.words_of_lane(lane) if not is_inside]
             lane.top = top
-            lane.line = round(top + max([24, *heights]) + 12)
+            lane.line = round(top + max([LEAST_ABOVE, *heights]) + 12)
             lane.height = lane.line + 20 - top
             top += lane.height
         return top

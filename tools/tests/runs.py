@@ -9,13 +9,26 @@ from helpers import CASES, EXAMPLES, Ops, scenario_of, with_device
 
 import by_chance
 from checking import orders
+from checking.prediction import answer_of
 from judging.replay import NotLegal, has_places, judge
 from machine import reporting
 from reports.reading import FIRST_LINE, NoReport, read_lines
-from scenarios.devices import FAILED_DEVICE, NO_DEVICE, DeviceText, device_in
-from scenarios.reading import Scripts, scripts_in
+from scenarios.devices import FAILED_DEVICE, NO_DEVICE, DeviceText, device_in, read_device
+from scenarios.reading import Scripts, read_scenario, scripts_in
+from scenarios.schema import Schema
 
 Lines = list[str]
+SCHEMA = Schema.of_file()
+# the statuses under which a report is written
+REPORTED = (0, *reporting.STATUSES.values(), reporting.STUCK)
+
+
+class Ran(NamedTuple):
+    """How a run ended: its status, which a run that hangs hasn't, what it printed, and its line on standard error."""
+
+    status: int | None
+    output: bytes
+    line: str
 
 
 class Text(NamedTuple):
@@ -97,6 +110,14 @@ def spoilt_by_chance(number: int) -> tuple[list[Ops], list[str] | None]:
 def in_rounds(text: Text) -> Lines:
     """The report of the round robin."""
     return reporting.in_rounds(text.scripts, text.device.all)
+
+
+def due_of(scenario: bytes, device: bytes | None) -> Ran:
+    """What `serial --places` answers to these bytes, by the tools' machine."""
+    found, told = read_scenario(scenario, SCHEMA), device or b""
+    answer = answer_of(found, read_device(told))
+    report = reporting.in_rounds(found.scripts, device_in(told).all) if answer.status in REPORTED else []
+    return Ran(answer.status, joined(report), f"{answer.line}\n" if answer.line else "")
 
 
 def in_any_order(text: Text, chance: random.Random) -> Lines:

@@ -27,10 +27,10 @@ from collections import Counter
 from collections.abc import Iterator
 from concurrent.futures import ThreadPoolExecutor
 from pathlib import Path
-from typing import Any, NamedTuple
+from typing import Any
 
 from helpers import Tally, filled, main, ops_of, rows_of, run
-from runs import Text, in_any_order, in_rounds, judged, lines_of, made_text, stored_runs
+from runs import Ran, Text, in_any_order, in_rounds, judged, lines_of, made_text, stored_runs
 
 import by_chance
 from changes import CALL, changed_reports
@@ -49,14 +49,6 @@ MOST_LINES, MOST_TEXTS = 450, 400
 TIMES = 6
 CHANGES = 120
 LINES = {5: "xrsim: device failed\n", 6: "xrsim: device line {} garbled\n"}
-
-
-class Ran(NamedTuple):
-    """How a run ended: its status, which a run that hangs hasn't, what it printed, and its line on standard error."""
-
-    status: int | None
-    output: bytes
-    line: str
 
 
 def ran(program: str, form: str, text: Text, *more: str, **child: Any) -> Ran:

@@ -25,7 +25,8 @@ from drawing.page import page
 from drawing.picture import picture
 from drawing.replay import STATES
 from drawing.report import Unreadable, join_scenario, read_report, read_scenario
-from drawing.scene import Scene
+from drawing.scene import INSIDE, MORE_SIZE, Scene
+from drawing.text import width_of
 from machine.answers import HeldBack
 from machine.reporting import Run
 from reports.values import GETTERS
@@ -33,6 +34,8 @@ from scenarios.devices import FAILED_DEVICE
 
 # the stored pictures, the last of which is of a stored run on threads
 PICTURES = ("life", "frames", "handover", "stuck", "threads")
+# the most heights of a session's lane in which no word leans, and in which some do
+PLAIN_LANE, LEANING = 56, 125
 BY_CHANCE = 150
 MUTATIONS = 400
 MOST_ROWS = 20_000
@@ -362,6 +365,38 @@ def colours(tally: Tally, program: str, room: Path) -> None:
         tally.check(len(points) == 8 and not near, f"colours: in {theme} {near} are too near to each other")
 
 
+def drawn_scene(room: Path, name: str) -> Scene:
+    """The scene of an example."""
+    file = next(it for it in (EXAMPLES / f"{name}.places", room / f"{name}.report") if it.exists())
+    report, scripts = read_report(file.read_bytes()), read_scenario((EXAMPLES / f"{name}.json").read_bytes())
+    join_scenario(report, scripts)
+    return Scene(report, scripts, name)
+
+
+def state_words(tally: Tally, program: str, room: Path) -> None:
+    """A state's word stands in its bar where that has room, and leans above it else; a lane is no higher than leaning words need."""
+    count = 0
+    for name in PICTURES:
+        scene = drawn_scene(room, name)
+        for lane in (it for it in scene.lanes if it.sessions):
+            most = PLAIN_LANE if all(is_inside for _, is_inside in scene.words_of_lane(lane)) else LEANING
+            tally.check(lane.height <= most, f"{name}: the lane of {lane.name} is {lane.height} high, and {most} are enough")
+        for bar in having([xml.fromstring(picture(scene))], "state"):
+            count += 1
+            rect, inside, leaning = bar.find(f"{SVG}rect"), having([bar], "in"), having([bar], "l")
+            words, wide = [it.text or "" for it in (*inside, *leaning)], float(rect.get("width", 0))
+            state = rect.get("class", "").partition("s-")[2]
+            # where only whether it runs or is lost changes, no state is told
+            due = [state] if "\nat place " in title_of(bar) else []
+            tally.same([it[-len(state) :] for it in words], due, f"{name}: the words of a bar of {state}")
+            tally.check(all(width_of(it.text or "", MORE_SIZE) <= wide for it in inside), f"{name}: {words} is wider than its bar, {wide}")
+            # a bar that goes on has as much room as what stands above it needs
+            is_open = title_of(bar).split("\n")[1].endswith(" on")
+            has_room = not is_open and width_of(state, MORE_SIZE) + 2 * INSIDE <= wide
+            tally.check(inside or not (due and has_room), f"{name}: {state} leans above a bar of {wide}")
+    tally.check(count > 12, f"only {count} bars were looked at")
+
+
 def legend_states(tally: Tally, program: str, room: Path) -> None:
     """The legend has each state of the run by its own colour and word, the stripes of a pending loss, and a lost device."""
     seen: dict[str, str] = {}
@@ -437,5 +472,5 @@ def fuzz(tally: Tally, program: str, room: Path) -> None:
 
 
 if __name__ == "__main__":
-    trials = examples, pictures, filters, owners, held_back, by_hand, eight_stuck, pieces, long_runs, rows, colours, legend_states
+    trials = examples, pictures, filters, owners, held_back, by_hand, eight_stuck, pieces, long_runs, rows, colours, state_words, legend_states
     main("timeline", *trials, refuses, fuzz, browser)
