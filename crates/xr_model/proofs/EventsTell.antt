@@ -70,7 +70,7 @@ input_plain row = by (nat_le row 40) refl
     by true few = under_each is_plain 41 row rows_plain (grind (arith, nat_tests, few))
     by false few = let some : nat_le 1 row ≡ true = grind (arith, nat_tests, few) in rw (some, few) refl
 
-line_plain : (e : DeviceEvent) → Free 64 (device_line e)
+pub line_plain : (e : DeviceEvent) → Free 64 (device_line e)
 line_plain (event.Clock time) = signed_plain time
 line_plain (event.Grid base period) = search (free_both, signed_plain) depth 12
 line_plain (event.Wish w) = wish_plain w
@@ -88,7 +88,7 @@ line_plain (event.Garbled line) = refl
 
 -- ---- a line
 
-text_is : (number : ℕ) (e : DeviceEvent) → is_of_line e ≡ true → event_text number e ≡ (decimal number ++ codes " ") ++ device_line e
+pub text_is : (number : ℕ) (e : DeviceEvent) → is_of_line e ≡ true → event_text number e ≡ (decimal number ++ codes " ") ++ device_line e
 text_is number event.Fault line = absurd (true≢false (sym line))
 text_is number (event.Garbled at) line = absurd (true≢false (sym line))
 text_is number _ line = refl
@@ -96,7 +96,7 @@ text_is number _ line = refl
 spread : (number line place : List ℕ) → ((number ++ codes " ") ++ line) ++ (codes " @" ++ place) ≡ number ++ 32 ∷ ((line ++ 32 ∷ []) ++ 64 ∷ place)
 spread number line place = simp append_assoc refl
 
-same_event : (e f : DeviceEvent) → IsTold e → IsTold f → device_line e ≡ device_line f → e ≡ f
+pub same_event : (e f : DeviceEvent) → IsTold e → IsTold f → device_line e ≡ device_line f → e ≡ f
 same_event e f first second same = one (sym (lines_read_back e first.line first.good) ∙ ap event_of same ∙ lines_read_back f second.line second.good)
   where
     one : Some e ≡ Some f → e ≡ f

@@ -106,10 +106,10 @@ counted : (b : Bool) (n : ℕ) → (if b then n + 1 else n) ≡ n + cond b 1 0
 counted true n = refl
 counted false n = omega arith
 
-step_counts : (s : State) (e : Entry) → (step s e).0.core.locked ≡ s.core.locked + cond (is_locked e.call) 1 0
+pub step_counts : (s : State) (e : Entry) → (step s e).0.core.locked ≡ s.core.locked + cond (is_locked e.call) 1 0
 step_counts s e = counted (is_locked e.call) s.core.locked
 
-one_more : (e : Entry) (es : List Entry) → count_locked (e ∷ es) ≡ count_locked es + cond (is_locked e.call) 1 0
+pub one_more : (e : Entry) (es : List Entry) → count_locked (e ∷ es) ≡ count_locked es + cond (is_locked e.call) 1 0
 one_more e es = counted (is_locked e.call) (count_locked es)
 
 pub entries_are_counted : EntriesAreCounted

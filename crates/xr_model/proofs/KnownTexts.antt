@@ -32,7 +32,7 @@ at_atom atoms k o is = let less : (k + 1) - 1 ≡ k = omega arith in rw (some k)
     some : (n : ℕ) → (n + 1 == 0) ≡ false
     some n = grind (arith, nat_tests)
 
-known_text : (atoms : List (List ℕ)) (text : List ℕ) → text_at (with_text atoms text) (atom_of atoms text) ≡ Some text
+pub known_text : (atoms : List (List ℕ)) (text : List ℕ) → text_at (with_text atoms text) (atom_of atoms text) ≡ Some text
 known_text atoms text = by (index_of atoms text) refl
   where
     by : (o : Option ℕ) → index_of atoms text ≡ o → text_at (if is_none o then atoms ++ text ∷ [] else atoms) (unwrap_or o (length atoms) + 1) ≡ Some text

@@ -25,6 +25,8 @@ pub mod LostSessions
 pub mod DeviceLines
 pub mod DeviceInputs
 pub mod LinesBack
+pub mod FirstMalformed
+pub mod LinesOfText
 pub mod StandOnce
 pub mod DestroyingTakes
 pub mod SessionAnswers
@@ -95,6 +97,13 @@ pub mod Locations
 pub mod KnownTexts
 pub mod PathTexts
 pub mod Conditions
+pub mod Limits
+pub mod AskedConditions
+pub mod TakenNames
+pub mod AttachedItems
+pub mod ActionSpaces
+pub mod NewBindings
+pub mod GetterTypes
 pub mod PickRanges
 pub mod GetterSteps
 pub mod UserAtoms
@@ -117,6 +126,13 @@ pub mod ReportsTell
 pub mod ValuesTell
 pub mod FramesTell
 pub mod EventsTell
+pub mod ScriptNames
+pub mod LoadCounts
+pub mod FrameBlocks
+pub mod EventBlocks
+pub mod StuckBlocks
+pub mod EndNumbers
+pub mod ReturnPlaces
 pub mod GrowingHistories
 pub mod OthersEntries
 pub mod FewCalls

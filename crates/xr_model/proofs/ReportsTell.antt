@@ -147,7 +147,7 @@ values_plain m none = by m.reply.code
 
 -- ---- names
 
-name_free : (c : CallName) → Free 32 (name_of_call c)
+pub name_free : (c : CallName) → Free 32 (name_of_call c)
 name_free call.CreateInstance = refl
 name_free _ = refl
 
@@ -268,7 +268,7 @@ report_spread : (head threads frames ended device stuck status : List ℕ)
 report_spread head threads frames ended device stuck status = simp append_assoc refl
 
 -- a report behind its first line
-abbrev report_behind : Lists → List ℕ
+abbrev pub report_behind : Lists → List ℕ
 report_behind lists =
     frames_from true lists.shown 0 lists.compositor ++ (ended_line true lists.ended ++ (device_block true lists.events lists.device
     ++ (stuck_block lists.next ++ status_line lists)))
@@ -278,7 +278,7 @@ report_is lists =
     report_spread (codes "xrsim report 1\n") (threads_from true 1 lists.apps) (frames_from true lists.shown 0 lists.compositor) (ended_line true lists.ended)
     (device_block true lists.events lists.device) (stuck_block lists.next) (status_line lists)
 
-reports_tell : (lists others : Lists) → Each (Each IsPrintable) lists.apps → Each (Each IsPrintable) others.apps → report_of lists true ≡ report_of others true
+pub reports_tell : (lists others : Lists) → Each (Each IsPrintable) lists.apps → Each (Each IsPrintable) others.apps → report_of lists true ≡ report_of others true
     → ScriptsAnsweredAlike lists.apps others.apps × (codes "compositor\n" ++ report_behind lists ≡ codes "compositor\n" ++ report_behind others)
 reports_tell lists others first second e =
     threads_tell 1 lists.apps others.apps _ _ first second

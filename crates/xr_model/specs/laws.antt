@@ -3,6 +3,7 @@ pub mod Laws
 pub mod StateLaws
 pub mod SessionLaws
 pub mod DeviceLaws
+pub mod LineLaws
 pub mod DeviceStateLaws
 pub mod AnswerLaws
 pub mod HandleLaws
@@ -18,6 +19,8 @@ pub mod SpaceLaws
 pub mod LocationLaws
 pub mod PathLaws
 pub mod ConditionLaws
+pub mod LimitLaws
+pub mod AskedLaws
 pub mod FrameLaws
 pub mod FrameCallLaws
 pub mod DecidedEntries
@@ -33,8 +36,12 @@ pub mod PublicationLaws
 pub mod WordLaws
 pub mod NameLaws
 pub mod ReadingLaws
+pub mod ScriptLaws
+pub mod LoadLaws
 pub mod RobinLaws
 pub mod ReportLaws
+pub mod BlockLaws
+pub mod EndLaws
 pub mod Moments
 pub mod MomentLaws
 pub mod FewCalls

@@ -38,8 +38,11 @@ pub mod getter_laws;
 pub mod image_laws;
 pub mod image_words;
 pub mod input_laws;
+pub mod limit_laws;
 mod machine;
 pub mod path_laws;
+pub mod report_laws;
+pub mod script_laws;
 pub mod space_laws;
 pub mod state_laws;
 
