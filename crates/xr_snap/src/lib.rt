@@ -1,4 +1,4 @@
-//! What is published, as words that are read without the lock: the holder writes a buffer that no seat is in, and makes it the front.
+//! What is published, as words beside the lock: the holder writes a buffer that no seat is in, and makes it the front.
 #![tactic(auto)]
 
 mod publishing;
