@@ -22,7 +22,8 @@ from shown import clipped, visible  # noqa: E402
 
 REFUSED = 2
 INTERRUPTED = 130
-FRONT = 1 << 20
+# what is read of a file before its front is looked at is more than a scenario may have
+FRONT, REPORT = (1 << 20) + 1, b"xrsim report "
 
 
 class Refused(Exception):
@@ -33,8 +34,11 @@ class Words(argparse.ArgumentParser):
     """The words of a tool, whose faults are one line."""
 
     def __init__(self, name: str, about: str) -> None:
-        about = f"{about.rstrip()} Where a file is named, - is standard input."
-        super().__init__(f"tools/{name}", description=about, formatter_class=argparse.RawDescriptionHelpFormatter, allow_abbrev=False)
+        """Its usage stands behind the first sentence of what is said about it, a line a form."""
+        first, usage, rest = about.rstrip().split("\n\n", 2)
+        about, forms = f"{first}\n\n{rest} Where a file is named, - is standard input.", "\n       ".join(usage.split("\n  "))
+        shape = argparse.RawDescriptionHelpFormatter
+        super().__init__(f"tools/{name}", usage=forms.strip(), description=about, formatter_class=shape, allow_abbrev=False)
 
     def error(self, message: str) -> NoReturn:
         raise Refused(f"{visible(message)}; {self.prog} --help has the words")
@@ -76,6 +80,12 @@ def write(name: str, data: bytes) -> None:
         put(name, data)
     except (OSError, ValueError) as e:
         raise Refused(f"{shown(name)} can't be written: {reason_of(e)}") from None
+
+
+def report_last(names: list[str], texts: list[bytes]) -> list[tuple[str, bytes]]:
+    """The names and texts of a report, and of the scenario before it if one is named. The other order is taken too: a report is told by its front."""
+    both = list(zip(names, texts))
+    return both[::-1] if [it.startswith(REPORT) for it in texts] == [True, False] else both
 
 
 def is_same_file(one: str, other: str) -> bool:

@@ -1,4 +1,4 @@
-"""Which runs end whatever the order of calls, as it may be on threads."""
+"""Which runs end, and which hang, whatever the order of calls, as it may be on threads."""
 from __future__ import annotations
 
 from collections.abc import Iterable
@@ -17,7 +17,7 @@ from scenarios.reading import Op, Scripts
 #   finds the frame waited for, and begins it; or it finds none, the session gone, lost, or in another running period, and in each
 #   of these nothing is waited for, or a wait is refused. And the waits of a run are so many and no more.
 # - An `await` waits for its mark, and a mark that is set stays set. So which awaits end doesn't depend on the order: one order in
-#   which all come to their ends, as the round robin, shows it of all.
+#   which all come to their ends, as the round robin, shows it of all; and where frames come, one that is stuck does so too.
 
 
 def begins(wait: Op, behind: Iterable[Op]) -> bool:
@@ -31,8 +31,12 @@ def begins(wait: Op, behind: Iterable[Op]) -> bool:
     return False
 
 
-def cannot_hang(scripts: Scripts, is_stuck: bool) -> bool:
-    """Whether each wait for a frame ends, of which one that is alone has none before it that isn't begun, and each for a mark: nobody is
-    stuck in the order of the round robin."""
+def frames_come(scripts: Scripts) -> bool:
+    """Whether each wait for a frame ends whatever the order. One that is alone has none before it that isn't begun."""
     waits = [begins(it, ops[at:]) for ops in scripts for at, it in enumerate(ops, 1) if it.name == "wait_frame"]
-    return (len(waits) == 1 or all(waits)) and not is_stuck
+    return len(waits) == 1 or all(waits)
+
+
+def cannot_hang(scripts: Scripts, is_stuck: bool) -> bool:
+    """Whether each wait for a frame ends, and each for a mark: nobody is stuck in the order of the round robin."""
+    return frames_come(scripts) and not is_stuck

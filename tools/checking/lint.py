@@ -105,6 +105,14 @@ class Lint:
             words = f"mark {mark} is set by op {setters[0][1]} of this script alone, which stands behind this one"
         self.warn(op, place, words, ("mark",))
 
+    def look_at_name(self, op: Op, place: int) -> None:
+        """Whether a name is given again while it alone stands for a handle that is live: one that was made, and neither destroyed nor handed over."""
+        old = self.named(op.fields["as"])
+        is_made = old and old.made and old.made.name.startswith("create_") and (self.number, old.made_at) not in self.expected
+        if old and is_made and not old.is_handed and not old.gone():
+            words = f"{quoted(op.fields['as'])} is given again, and nothing names the {old.kind} of op {old.made_at} any longer"
+            self.warn(op, place, words, ("as",))
+
     def named(self, name: object) -> Thing | None:
         """What a name stands for."""
         return self.names.get(name) if isinstance(name, str) else None
@@ -133,8 +141,9 @@ class Lint:
         parent = self.thing(op, MADE_FROM.get(kind or "", ""))
         is_await = op.name == "await" and op.fields["mark"] <= MOST_HANDLE_MARK
         is_none = is_await and op.fields["mark"] not in self.valued
-        new = Thing(kind, op, parent, is_handed=op.name == "await", is_none=is_none)
+        new = Thing(kind, op, place, parent, is_handed=op.name == "await", is_none=is_none)
         if "as" in op.fields:
+            self.look_at_name(op, place)
             self.names[op.fields["as"]] = new
         for it in names_of(op) if parent else []:
             if it not in parent.beside or parent.beside[it].gone():

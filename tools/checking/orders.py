@@ -69,3 +69,11 @@ class Tried:
     def differing(self) -> list[tuple[str, int, Counter[str]]]:
         """The lines that weren't the same in each order, with how often each came."""
         return [(head, number, found) for (head, number), found in self.lines.items() if len(found) > 1]
+
+
+def tried(scripts: Scripts, events: list[str], many: int, seed: int = 1) -> Tried:
+    """So many orders by chance; the same seed has the same ones."""
+    orders, chance = Tried(scripts, events), random.Random(seed)
+    for _ in range(many):
+        orders.try_one(chance)
+    return orders

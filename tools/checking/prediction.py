@@ -27,10 +27,10 @@ NOTHING = "(?!)"
 
 @dataclass
 class Answer:
-    """What the program answers: its exit status, its line on standard error where it has one, lines that say why, and what holds of the order of
-    calls on threads."""
+    """What the program answers: its exit status, which a run that hangs hasn't, its line on standard error where it has one, lines that say why, and
+    what holds of the order of calls on threads."""
 
-    status: int
+    status: int | None
     line: str = ""
     more: tuple[str, ...] = ()
     order: str = ""

@@ -28,12 +28,13 @@ Path = tuple[Any, ...]
 
 @dataclass(eq=False)
 class Thing:
-    """What a name stands for: its kind where that is known, the op that made it, what it is made from, the op that destroys it, the op that begins
-    it where it is a session, whether it goes from script to script or stands for no handle, what was made from it last by its names, whether an image
-    of it is waited for, and the op that attached it or attached sets to it."""
+    """What a name stands for: its kind where that is known, the op that made it and its place, what it is made from, the op that destroys it, the op
+    that begins it where it is a session, whether it goes from script to script or stands for no handle, what was made from it last by its names,
+    whether an image of it is waited for, and the op that attached it or attached sets to it."""
 
     kind: str | None
     made: Op | None = None
+    made_at: int = 0
     parent: Thing | None = None
     destroyed: str = ""
     begun: Op | None = None

@@ -43,6 +43,8 @@ DEFS = """<defs>
 </defs>"""
 NEAR_EDGE = 12
 MOST_TOLD = 8
+# of a session's changes in one part of its bar so many are told, and so many states of each
+MOST_CHANGES, MOST_STATES = 6, 9
 IMAGE_HEIGHT = 13
 PATTERNS = {"STOPPING": "stopping", "LOSS_PENDING": "loss", "EXITING": "exiting"}
 
@@ -97,6 +99,16 @@ def state_bar(state: str | None, width: float, is_running: bool = False, is_lost
     if is_lost:
         bar += f'<rect class="lost" {size}/>'
     return bar + (f'<path class="running" d="M0 10h{num(width)}"/>' if is_running else "")
+
+
+def ways(changes: list[Change]) -> list[str]:
+    """What a session goes through at each place, and how many places and states are left out of many."""
+    lines = []
+    for it in changes[:MOST_CHANGES]:
+        more = len(it.told) - MOST_STATES
+        lines.append(f"at place {it.place}: {', then '.join(it.told[:MOST_STATES])}" + (f", and {text.counted(more, 'state')} more" if more > 0 else ""))
+    left = len(changes) - MOST_CHANGES
+    return lines + ([f"and at {text.counted(left, 'other place')}"] if left > 0 else [])
 
 
 class Chart:
@@ -229,7 +241,7 @@ class Chart:
         place = f"places {column.first:,} to {column.last:,} \u00b7 {lane.name}"
         said = titled(f"{place}\n{', '.join([words] + bad)}\n{summed(node.calls)}")
         back = f'<rect class="shape" x="{num(-width / 2)}" y="-9" width="{width}" height="18" rx="4"/>'
-        above = f'<text class="sum-name" y="-14">{escaped(text.cut(name, 21))}</text>'
+        above = f'<text class="sum-name" y="-14">{escaped(text.cut_inside(name, 21))}</text>'
         warn = f'<text class="sum-bad" y="-27">\u25b2 {", ".join(bad)}</text>' if bad else ""
         inside = f'{back}<text class="sum-count" y="4">{words}</text>{above}{warn}'
         return group("call sum", column.x, lane.line, f"{said}{inside}")
@@ -246,7 +258,7 @@ class Chart:
             flags = ["running"] * last.is_running + ["device lost"] * last.is_lost
             is_open = session.ended is None and end > len(self.scene.ordered)
             said = f"session {session.ordinal}: {', '.join([state] + flags)}\nfrom place {start} {'on' if is_open else f'to {end}'}"
-            said += "".join(f"\nat place {it.place}: {', then '.join(it.told[:9])}" for it in changes[:6] if it.told)
+            said += "".join(f"\n{it}" for it in ways([it for it in changes if it.told]))
             x = self.x_of(start)
             bar = state_bar(state, max(self.x_of(end) - x, 2), last.is_running, last.is_lost)
             out.append(group("state", x, lane.line, f"{titled(said)}{bar}{words}"))

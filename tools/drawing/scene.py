@@ -20,6 +20,8 @@ INSIDE, LEAST_ABOVE = 5, 24
 MOST_SESSION_LANES = 6
 MOST_CHAIN_LANES = 6
 MOST_PATHS = 4
+# how many letters of an event or of a path stand at a call, and of other values
+MOST_LABEL, MOST_VALUES = 37, 24
 AXIS_HEIGHT, CLOCK_HEIGHT = 24, 24
 HEAD_HEIGHT = AXIS_HEIGHT + CLOCK_HEIGHT
 
@@ -76,13 +78,14 @@ def label_of(call: Call) -> tuple[str, str]:
     elif name == "frame":
         return f"frame {call.number}", replay.in_units(call.values["time"])
     elif call.who in WHAT:
-        return text.cut_inside(f"{name} {call.text}".strip(), 30), ""
+        return text.cut_paths(f"{name} {call.text}".strip(), MOST_LABEL), ""
     if call.code != "XR_SUCCESS":
         return name, call.code.removeprefix("XR_").removeprefix("ERROR_")
     if name == "wait_frame":
         return name, f"for {replay.in_units(call.values['time'])}"
     given = "".join(f"{it} " for it in GIVEN if it in call.values)
-    return name, text.cut(f"{given}{call.text}", 24) if call.name not in UNTOLD else ""
+    most = MOST_LABEL if "/" in call.text else MOST_VALUES
+    return name, text.cut_paths(f"{given}{call.text}", most) if call.name not in UNTOLD else ""
 
 
 def reach(lines: tuple[str, str]) -> tuple[float, float]:

@@ -32,7 +32,20 @@ def cut(text: str, most: int = MOST) -> str:
 
 def cut_inside(text: str, most: int) -> str:
     """The text, or its front and its end with a sign that something is left out between them. Ends tell names apart."""
-    return text if len(text) <= most else f"{text[: most // 3]}\u2026{text[len(text) - most + most // 3 + 1 :]}"
+    front = most * 2 // 5
+    return text if len(text) <= most else f"{text[:front]}\u2026{text[len(text) - most + front + 1 :]}"
+
+
+# what is the same of many paths, which is left out of a label first
+_SAME = re.compile(r"/user/(?:hand/)?"), re.compile(r"/input/"), re.compile(r"(?<= )\w+/(?=\w+_controller)|/interaction_profiles/\w+/")
+
+
+def cut_paths(text: str, most: int) -> str:
+    """The text, or what tells it apart: its paths without what many have, so that the hand and the end stay; and with something left out inside where
+    that is too long still."""
+    for same in _SAME:
+        text = text if len(text) <= most else same.sub("\u2026", text)
+    return cut_inside(text, most).replace("\u2026\u2026", "\u2026")
 
 
 def names_in(args: dict[str, Any] | None) -> list[str]:

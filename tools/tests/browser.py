@@ -7,14 +7,18 @@ import shutil
 import struct
 import subprocess
 import zlib
+from itertools import product
 from pathlib import Path
 
 from helpers import TABLES, Ended, Tally, run
 
 CHROMIUMS = ("chromium", "chromium-browser", "google-chrome")
 FLAGS = ("--headless=new", "--no-sandbox", "--disable-gpu", "--disable-dev-shm-usage", "--enable-logging=stderr", "--v=0")
-SIZES = (400, 1280, 1920)
-HIGHEST = {400: 480, 1280: 330, 1920: 330}
+# the widths of pages, and how far down their picture begins at most
+HIGHEST = {500: 440, 1280: 330, 1920: 330}
+# how a page is asked for in light and in dark
+THEMES = {"light": "--blink-settings=preferredColorScheme=1", "dark": "--blink-settings=preferredColorScheme=0"}
+PAGES = "eight.html", "frames.html", "images.html"
 
 
 def pixels_of(png: bytes) -> bytes:
@@ -74,13 +78,16 @@ def browser(tally: Tally, program: str, room: Path) -> None:
 
 
 def looks(tally: Tally, chromium: Chromium) -> None:
-    """Of eight who are stuck, narrow and wide: the picture is near the top, and its places stay in sight."""
-    for width in SIZES:
-        told = found_in(chromium.opened("eight.html", "look.js", f"{width},800", "--dump-dom"))
+    """Pages, narrow and wide, in light and in dark: the picture is near the top, its places stay in sight, and no word of it is cut or stands on
+    another one."""
+    for name, width, theme in product(PAGES, HIGHEST, THEMES):
+        told, what = found_in(chromium.opened(name, "look.js", f"{width},800", THEMES[theme], "--dump-dom")), f"{name}, {width} pixels, {theme}"
         if not told:
-            tally.check(False, f"{width} pixels: the page wasn't looked at")
+            tally.check(False, f"{what}: the page wasn't looked at")
             continue
-        tally.check(told["top"] <= HIGHEST[width], f"{width} pixels: the picture begins at {told['top']}")
-        tally.check(told["inside"], f"{width} pixels: the places go out of sight where one scrolls in the picture")
-        tally.check(told["above"], f"{width} pixels: the places go out of sight where one scrolls the page")
-        tally.check(told["wide"], f"{width} pixels: the page is wider than its window")
+        tally.check(told["top"] <= HIGHEST[width], f"{what}: the picture begins at {told['top']}")
+        tally.check(told["inside"], f"{what}: the places go out of sight where one scrolls in the picture")
+        tally.check(told["above"] or name != PAGES[0], f"{what}: the places go out of sight where one scrolls the page")
+        tally.check(told["wide"], f"{what}: the page is wider than its window")
+        tally.same((told["cut"], told["over"]), ([], []), f"{what}: words that are cut, and names that stand on each other")
+        tally.same(told["dark"], theme == "dark", f"{what}: whether its background is dark")

@@ -11,7 +11,7 @@ import subprocess
 import sys
 from pathlib import Path
 
-from helpers import EXAMPLES, TOOLS, Tally, fake_program, main, rows_of, sessions, tool
+from helpers import EXAMPLES, TOOLS, Tally, fake_program, main, rows_of, scenario_of, sessions, tool
 
 # tools with words by which they read all of standard input; tools/expect reads what the program says instead
 READING = (
@@ -31,7 +31,14 @@ READING = (
 # what is said of an output that is full, and of one that is closed
 UNWRITTEN = "standard output can't be written: "
 OUTPUTS = {"timeline": ("cannot write: ", "cannot write: it is closed"), "check": (UNWRITTEN, UNWRITTEN)}
+ALL_TOOLS = ("run", "check", "why", "orders", "dump", "coverage", "reduce", "expect", "report", "timeline", "legal")
 TOOLS_WITH_WORDS = ("timeline", ""), ("timeline", "--png"), ("report", ""), ("legal", ""), ("expect", ""), ("check", "")
+# a first frame whose begin waits for the other script: it hangs where its wait comes first, or in each order
+FIRST = "await mark=9; {INSTANCE}; {SESSION}; {RUN}; mark mark=1 value=s"
+HANGING = (
+    ("some", f"{FIRST}; wait_frame session=s; await mark=2; begin_frame session=s / await mark=1 as=s; {{BEGIN}}; mark mark=2"),
+    ("each", f"{FIRST}; wait_frame session=s; await mark=3; begin_frame session=s / await mark=1 as=s; {{BEGIN}}; mark mark=2"),
+)
 
 
 def named(room: Path) -> dict[str, Path]:
@@ -58,13 +65,48 @@ def checked(tally: Tally, program: str, room: Path) -> None:
     waits = '{"op":"wait_frame","session":0}'
     awaits = '[{"op":"await","mark":1}]'
     texts = {"a.json": "[]", "serial": "[],[]", "awaits.json": awaits, "beside.json": awaits, "frames.json": f"[{waits},{waits}]"}
-    for name, text in texts.items():
-        (room / name).write_text(f'{{"version":1,"scripts":[{text}]}}')
-    (room / "a.device").write_text("mark 65\n")
-    (room / "beside.device").write_text("mark 1\n")
+    texts["long.json"] = f"[{','.join([waits] * 20_000)}],{texts['frames.json']}"
+    scenarios = {name: f'{{"version":1,"scripts":[{text}]}}' for name, text in texts.items()}
+    scenarios.update((f"{name}.json", scenario_of(text)) for name, text in HANGING)
+    for name, text in scenarios.items():
+        (room / name).write_text(text)
+    for name, text in (("a", "mark 65"), ("beside", "mark 1"), ("ready", "wish ready\nmark 9"), ("garbled", "wish ready\nmark 9\nmark 65")):
+        (room / f"{name}.device").write_text(f"{text}\n")
     (room / "full").mkdir()
     for words, status, said in rows_of("checked_words"):
         tally.ends(f"check {words}", tool("check", words.split(), cwd=room), status, said)
+
+
+def forgotten(tally: Tally, program: str, room: Path) -> None:
+    """A device that isn't given is told where it is what a run waits for."""
+    (room / "awaits.json").write_text(scenario_of("await mark=1"), encoding="utf-8")
+    (room / "crossed.json").write_text(scenario_of("await mark=1; mark mark=2 / await mark=2; mark mark=1"), encoding="utf-8")
+    for words, status, said in rows_of("forgotten"):
+        name, *given = words.format(examples=EXAMPLES, room=room).split(" ")
+        ran, wanted = tool(name, given), said.format(examples=EXAMPLES, room=room)
+        told = (ran.stdout + ran.stderr).decode()
+        is_good = wanted[1:] not in told if wanted[0] == "!" else wanted in told
+        tally.check(is_good and ran.returncode == int(status), f"{words}: status {ran.returncode}, {told[-600:]!r}")
+
+
+def same_words(tally: Tally, program: str, room: Path) -> None:
+    """Each tool's help shows its words, files before options, and examples in that order; a report is taken before its scenario too."""
+    for name in ALL_TOOLS:
+        lines = [it.replace("usage: ", "").strip() for it in tool(name, ["--help"]).stdout.decode().split("\n")]
+        shown = [it.split(" ") for it in lines if it.startswith(f"tools/{name} ")]
+        tally.check(len(shown) > 1, f"{name} --help has no usage or no example")
+        # `legal --strip REPORT` has no other file
+        wrong = [it for it in shown if it[1].lstrip("[").startswith("--") and it[1] != "--strip"]
+        tally.check(not wrong and not shown[0][1].startswith("-"), f"{name} --help has options before files: {wrong}")
+    files = EXAMPLES / "threads.json", EXAMPLES / "threads.places"
+    device = ["--device", EXAMPLES / "threads.device"]
+    for name, more in (("timeline", []), ("timeline", ["--svg"]), ("report", []), ("report", ["--json"])):
+        printed = [tool(name, words).stdout for words in ([*files, *more], [*more, *files[::-1]], [files[1], *more, files[0]])]
+        tally.check(printed[0] and len(set(printed)) == 1, f"{name} {more}: the order of its words changes what is printed")
+    named = tool("report", [files[1], "--scenario", files[0]]).stdout
+    tally.same(named, tool("report", files).stdout, "report --scenario")
+    for words in ([*files, *device], [files[0], *device, files[1]], [*device, *files]):
+        tally.same(tool("legal", words).stdout, b"legal: 55 calls, 2 frames\n", f"legal {words}")
 
 
 def from_input(tally: Tally, program: str, room: Path) -> None:
@@ -81,7 +123,7 @@ def outputs(tally: Tally, program: str, room: Path) -> None:
             tally.complains(f"{what} {redirection}", tool(name, given, shell=f'"$@" {redirection}'), front)
         for redirection in ("2>&-", "2>/dev/full", "<&-"):
             ran = tool(name, given, shell=f'"$@" {redirection}')
-            has_words = b"examples:" in ran.stdout if words == "--help" and name != "check" else ran.stdout
+            has_words = b"examples:" in ran.stdout if words == "--help" else ran.stdout
             is_good = ran.returncode == 0 and has_words and not ran.stderr
             tally.check(is_good, f"{what} {redirection}: status {ran.returncode}, {ran.stderr!r}")
         reader, writer = os.pipe()
@@ -121,4 +163,4 @@ def interrupted(tally: Tally, program: str, room: Path) -> None:
 
 
 if __name__ == "__main__":
-    main("endings", wrong_words, checked, from_input, outputs, interrupted)
+    main("endings", wrong_words, checked, forgotten, same_words, from_input, outputs, interrupted)

@@ -1,9 +1,16 @@
-"""memory PROGRAM [WORD]: tries that no call of the core takes memory but string_to_path of a new text and suggest_bindings.
+"""memory PROGRAM [WORD]: tries that no call of the core takes memory but string_to_path of a new text and suggest_bindings, and that all
+memory is given back.
 
-A row of tables/memory.json (those whose name has WORD, where it is given) repeats ops and device lines on a machine that is
-full. Its text is run twice, as far as the gate before the repeated calls and through it: the gate is an await, and only its
-mark differs, which is set or never set. So all that is read is the same, and what is taken more is taken by the calls. It is
-counted by a small library of C (allocations.py).
+A row of tables/memory.json (those whose name has WORD, where it is given) repeats ops and device lines on a machine that is full.
+
+1. On one thread its text is run twice, as far as the gate before the repeated calls and through it: the gate is an await, and only its
+   mark differs, which is set or never set. So all that is read is the same, and what is taken more is taken by the calls.
+2. On threads it is run with its ops and without them, and what the first thread takes, which reads the texts, isn't counted; and so with
+   its lines and without them, where all is counted, as only the device's text differs.
+3. `leave` comes once a script: eight scripts leave, or wait for ever.
+4. At the end of each run as much memory is left as at the end of a run of no calls.
+
+It is counted by a small library of C (allocations.py).
 """
 from __future__ import annotations
 
@@ -15,7 +22,7 @@ from collections import namedtuple
 from concurrent.futures import ThreadPoolExecutor
 from functools import lru_cache
 
-from allocations import counted_in, make_shim, outside
+from allocations import counts_in, make_shim, outside
 from helpers import NAMED, TABLES, calls_of, filled, main, ops_of, run, scenario_of
 
 REPEATS, ATOMS, LONGEST = 400, 1024, 600
@@ -23,7 +30,11 @@ REPEATS, ATOMS, LONGEST = 400, 1024, 600
 # device's events and calls, and the compositor's frames, replies and give-backs. A list of 8,192 has doubled 14 times at
 # most, a report of 1,048,576 bytes 21 times: 119 in all, where a call that takes memory each second time takes it 200 times.
 BOUND = 119
-SHUT, OPEN, TOLD, FILLED, READY = 64, 63, 62, 61, 60
+STUCK = 7
+SHUT, OPEN, TOLD, FILLED, READY, BEGUN = 64, 63, 62, 61, 60, 59
+SERIAL, THREADS = "serial", "threads"
+# On threads a stack that another thread had is used again with what was taken for it, or is not; so one of ten threads may leave more.
+MOST_LEFT = 40
 CHAINS = [f"c{number:x}" for number in range(16)]
 
 
@@ -52,9 +63,10 @@ NAMED["LATE"] = filled(LATE)
 # What is repeated: ops of the first script (as calls_of in helpers.py reads them) and lines of the device, in which @ is the
 # number of the repetition. A repetition takes memory `takes` times, and is seen to. The full machine is first brought into another
 # state, by the device's lines `earlier` and then by the ops `before`; beside what is repeated so many `frames` are made. For
-# path_to_string the core takes none: the run keeps the bytes that were written to the one buffer that it lends.
-Row = namedtuple("Row", "name ops lines result takes earlier before frames atoms repeats",
-                 defaults=("", "", "+SUCCESS", 0, "", "", 30, ATOMS, REPEATS))
+# path_to_string the core takes none: the run keeps the bytes that were written to the one buffer that it lends. Where results depend on
+# whose turn is next (`races`) they aren't looked at on threads.
+Row = namedtuple("Row", "name ops lines result takes earlier before frames atoms repeats races",
+                 defaults=("", "", "+SUCCESS", 0, "", "", 30, ATOMS, REPEATS, False))
 
 
 def rows_in(file):
@@ -99,39 +111,43 @@ def filling(atoms):
     return ops_of("; ".join(texts + [f"mark mark={mark} value={given.get(mark, 0)}" for mark in range(1, READY)]))
 
 
-def scripts_of(row, gate):
+def scripts_of(row, gate, repeats, last):
     """The scripts of a row, and how many ops stand before the repeated ones. The first script fills the machine and repeats
-    ops, the second makes frames beside it, so that three are pending and one is held, and six wait for ever."""
-    first = [*filling(row.atoms), *ops_of(f"await mark={TOLD}; mark mark={FILLED}; await mark={READY}; {row.before}; "
-                                          f"mark mark={OPEN}; await mark={gate}")]
+    ops, the second makes frames beside it, so that three are pending and one is held, and six wait for the last mark."""
+    begun = ops_of(f"await mark={BEGUN}")
+    first = [*begun, *filling(row.atoms), *ops_of(f"await mark={TOLD}; mark mark={FILLED}; await mark={READY}; {row.before}; "
+                                                  f"mark mark={OPEN}; await mark={gate}")]
     frame = f"{{BEGIN}}; {{END}} time=t layers={compact(quads(CHAINS[1:]) + [VIEWS])}"
     shared = "; ".join(f"await mark={mark} as={name}" for mark, name in enumerate(["s", "o", *CHAINS], 1))
     second = ops_of(f"{shared}; await mark={gate}") + ops_of(frame) * row.frames
-    repeated = [op for number in range(row.repeats) for op in ops_of(row.ops.replace("@", str(1000 + number)))]
-    return [first + repeated, second, *[ops_of(f"await mark={SHUT}")] * 6], len(first)
+    repeated = [op for number in range(repeats) for op in ops_of(row.ops.replace("@", str(1000 + number)))]
+    return [first + repeated, second, *[ops_of(f"await mark={last}")] * 6], len(first)
 
 
-def device_of(row, gate):
+def device_of(row, gate, repeats):
     """The lines of the device: those that fill a machine, and those that are repeated."""
-    told = ["stage on", "wish focused", *(f"pose {origin} {101 + time} 7" for origin in ORIGINS for time in range(16))]
+    told = ["stage on", "wish focused", f"mark {BEGUN}", *(f"pose {origin} {101 + time} 7" for origin in ORIGINS for time in range(16))]
     told += ["await 1", *NAMED["WISHES"].split("; ") * 20, f"mark {TOLD}", f"await {FILLED}", row.earlier, f"mark {READY}"]
-    repeated = [line.replace("@", str(1000 + number)) for number in range(row.repeats) for line in row.lines.split("; ")]
+    repeated = [line.replace("@", str(1000 + number)) for number in range(repeats) for line in row.lines.split("; ")]
     return list(filter(None, [*told, f"await {gate}", *repeated]))
 
 
-def count_of(program, room, row, gate):
-    """How often memory was taken in a run of a row as far as its gate, or through it, and what was printed."""
-    scenario, device, count = (room / f"{ROWS.index(row)}-{gate}.{kind}" for kind in ("json", "device", "count"))
-    scenario.write_text(scenario_of(scripts_of(row, gate)[0]), encoding="utf-8")
-    device.write_text("\n".join(device_of(row, gate)), encoding="utf-8")
-    environment = outside(f"{room}/shim.so", count=str(count))
-    ran = run([program, "serial", scenario, "--device", device], env=environment, timeout=LONGEST)
-    if ran.returncode != 7:
-        raise RuntimeError(f"the run ends with {ran.returncode} and not stuck: {ran.stderr.decode(errors='replace')}")
-    found = counted_in(str(count))
-    if found == 0:
-        raise RuntimeError("no malloc, calloc or realloc was counted, so nothing is known of the memory that it takes")
-    return found, ran.stdout.decode()
+# how often memory was taken in a run, of how much it wasn't given back, and what was printed
+Counted = namedtuple("Counted", "taken left report")
+
+
+def counted(program, room, name, form, scripts, device, status, beside=False):
+    """What a run takes, which ends with this status."""
+    scenario, told, count = (room / f"{name}.{kind}" for kind in ("json", "device", "count"))
+    scenario.write_text(scenario_of(scripts), encoding="utf-8")
+    told.write_text("\n".join(device), encoding="utf-8")
+    ran = run([program, form, scenario, "--device", told], env=outside(f"{room}/shim.so", count=str(count), beside=beside), timeout=LONGEST)
+    if ran.returncode != status:
+        raise RuntimeError(f"{form}: the run ends with {ran.returncode} and not {status}: {ran.stderr.decode(errors='replace')}")
+    taken, left = counts_in(str(count))
+    if taken == 0:
+        raise RuntimeError(f"{form}: no malloc, calloc or realloc was counted, so nothing is known of the memory that it takes")
+    return Counted(taken, left, ran.stdout.decode())
 
 
 def unlike(row, report):
@@ -139,35 +155,73 @@ def unlike(row, report):
     head, _, device = report.partition("\ndevice\n")
     made = {line.split(" ")[0]: line for line in head.partition("\nthread 2\n")[0].splitlines()}
     wanted = [said for _, said in calls_of(row.ops, row.result)] * row.repeats
-    for place, said in enumerate(wanted, scripts_of(row, OPEN)[1] + 1):
+    for place, said in enumerate(wanted, scripts_of(row, OPEN, 0, SHUT)[1] + 1):
         if not f"{made.get(str(place))} ".startswith(f"{place} {said} "):
             return f"{said} is awaited, and there is {made.get(str(place))}"
-    last = len(device_of(row, OPEN))
+    last = len(device_of(row, OPEN, row.repeats))
     return "" if f"\n{last} " in device else f"line {last} of the device isn't told"
 
 
-def wrong_in(program, room, row):
+def amount(row, more, least=0):
+    """What is wrong where so much more was taken by the repeated calls, which take at least so much."""
+    is_fit = more <= least + BOUND and (more >= least or not row.takes)
+    return "" if is_fit else f"memory was taken {more} times in {row.repeats} repetitions, and not {least} to {least + BOUND} times"
+
+
+def wrong_on_one(program, room, row, left):
+    """What is wrong of a row on one thread, where so much memory is left at the end of a run of no calls."""
+    tries = [counted(program, room, f"{ROWS.index(row)}-{gate}", SERIAL, scripts_of(row, gate, row.repeats, SHUT)[0],
+                     device_of(row, gate, row.repeats), STUCK) for gate in (SHUT, OPEN)]
+    yield unlike(row, tries[1].report)
+    yield amount(row, tries[1].taken - tries[0].taken, row.takes * row.repeats)
+    yield from (f"memory is left {it.left} times, and {left} is due" for it in tries if it.left != left)
+
+
+def wrong_on_threads(program, room, row, left):
+    """What is wrong of a row on threads, where so much memory is left at the end of a run of no calls."""
+    name, last = f"{ROWS.index(row)}-threads", READY
+
+    def made(ops, lines, beside):
+        return counted(program, room, name, THREADS, scripts_of(row, OPEN, ops, last)[0], device_of(row, OPEN, lines), 0, beside)
+
+    whole = made(row.repeats, row.repeats, True)
+    yield "" if row.races else unlike(row, whole.report)
+    yield amount(row, whole.taken - made(0, row.repeats, True).taken, row.takes * row.repeats)
+    if row.lines:
+        yield amount(row, made(row.repeats, row.repeats, False).taken - made(row.repeats, 0, False).taken)
+    yield "" if abs(whole.left - left) <= MOST_LEFT else f"memory is left {whole.left} times, and {left} is due"
+
+
+def wrong_in(program, room, left, row):
     """What is wrong in a row, if anything is."""
     try:
-        before, _ = count_of(program, room, row, SHUT)
-        behind, report = count_of(program, room, row, OPEN)
+        found = [*wrong_on_one(program, room, row, left[SERIAL])]
+        found += [f"threads: {it}" for it in wrong_on_threads(program, room, row, left[THREADS]) if it]
     except (RuntimeError, OSError, subprocess.TimeoutExpired) as why:
         return f"{row.name}: {str(why)[:400]}"
-    least, taken = row.takes * row.repeats, behind - before
-    other = unlike(row, report)
-    if not other and (taken > least + BOUND or row.takes and taken < least):
-        other = f"memory was taken {taken} times in {row.repeats} repetitions, and not {least} to {least + BOUND} times"
-    return other and f"{row.name}: {other}"
+    return "; ".join(f"{row.name}: {it}" for it in found if it)
+
+
+def left_of(program, room):
+    """How much memory is left at the end of a run of no calls but eight leaves, in each form."""
+    return {form: counted(program, room, f"none-{form}", form, [[]] * 8, [], 0).left for form in (SERIAL, THREADS)}
 
 
 def rows(tally, program, room):
-    """Each row takes memory as often as it says."""
+    """Each row takes memory as often as it says, and gives all of it back."""
     make_shim("memory", str(room))
-    chosen = [row for row in ROWS if "".join(sys.argv[2:]) in row.name]
+    left, chosen = left_of(program, room), [row for row in ROWS if "".join(sys.argv[2:]) in row.name]
     with ThreadPoolExecutor(os.cpu_count()) as pool:
-        for wrong in pool.map(lambda row: wrong_in(program, room, row), chosen):
+        for wrong in pool.map(lambda row: wrong_in(program, room, left, row), chosen):
             tally.check(not wrong, wrong)
 
 
+def leaves(tally, program, room):
+    """Eight scripts leave, or wait for ever: what is taken more is less than once a script."""
+    scripts = [ops_of(f"5 mark mark=1; await mark={OPEN}")] * 8
+    taken = [counted(program, room, f"leaves-{mark}", SERIAL, scripts, [f"mark {mark}"], status).taken for mark, status in ((SHUT, STUCK), (OPEN, 0))]
+    tally.check(taken[1] - taken[0] < len(scripts), f"leave: memory was taken {taken[1] - taken[0]} times by {len(scripts)} scripts")
+
+
 if __name__ == "__main__":
-    main("memory", rows, more="[WORD]")
+    main("memory", rows, leaves, more="[WORD]")

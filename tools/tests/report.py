@@ -80,7 +80,7 @@ def reports(tally: Tally, program: str, room: Path) -> None:
         tally.same(came, due, "a record")
         tally.check(not is_valid or is_valid(json.loads(due)), f"the schema doesn't take {due}")
     tally.same(len(found), len(JSON_LINES), "how many lines have a record")
-    beside = tool("report", ["--json", EXAMPLES / "stuck.report", "--scenario", EXAMPLES / "stuck.json"])
+    beside = tool("report", [EXAMPLES / "stuck.json", EXAMPLES / "stuck.report"])
     due = b'{"what":"stuck","actor":"script","script":1,"number":2,"op":"await","arguments":{"mark":2}}\n'
     tally.check(due in beside.stdout, f"a stuck script has no arguments: {beside.stdout!r}")
 
@@ -109,7 +109,7 @@ def bad_reports(tally: Tally, program: str, room: Path) -> None:
         scenario.write_bytes(replaced(GOOD_SCENARIO, old, new))
         ran = tool("report", ["--json", report, "--scenario", scenario])
         tally.complains(why, ran, f"report: {report} is no report of {scenario}: {why}")
-        ran = tool("timeline", [report, scenario])
+        ran = tool("timeline", [scenario, report])
         tally.complains(own, ran, f"timeline: the report is another scenario's: {own or why}")
     scenario.write_bytes(b'{"version":1,"scripts":[[0]]}')
     ran = tool("report", ["--json", report, "--scenario", scenario])

@@ -1,7 +1,8 @@
 """run PROGRAM [RUNS]: tries tools/run, which has to print what PROGRAM prints, and to end as it does.
 
 1. Cases and examples by their words, some of them by the command line: output, status, and the line on standard error.
-2. So many scenarios by chance (2,000, if not said), each beside a device or none.
+2. Each row of the cases' tables: the same, with places.
+3. So many scenarios by chance (2,000, if not said), each beside a device or none.
 
 What differs is told, and the last line counts.
 """
@@ -12,7 +13,7 @@ from concurrent.futures import ThreadPoolExecutor
 from pathlib import Path
 
 from helpers import CASES, EXAMPLES, Ended, Tally, main, rows_of, run, seconds_of, tool, with_device
-from runs import content, in_rounds, lines_of, made_text, spoilt_by_chance
+from runs import Ran, content, due_of, in_rounds, lines_of, made_text, rows_in, spoilt_by_chance
 
 import by_chance
 
@@ -22,6 +23,8 @@ SIDE_BY_SIDE = 4
 EACH = 6
 # an example takes half a second; a busy machine has three times as much
 LONGEST = 1.5
+# the words of a table whose rows are texts, and how many rows there are at least
+TABLE_WORDS, LEAST_ROWS = b"serial\nscenario.json\n--device\ndevice.txt\n", 4_000
 UNPROVED = b"run: unproved: "
 
 
@@ -56,6 +59,27 @@ def by_words(tally: Tally, program: str, room: Path) -> None:
     tally.check(took < LONGEST, f"tools/run takes {took:.1f} s for an example")
 
 
+def tables(tally: Tally, program: str, room: Path) -> None:
+    """Each row of the tables: the whole report with places, the status, and the line on standard error."""
+    found = [file.parent for file in sorted(CASES.glob("*/rows")) if content(file.parent / "args") == TABLE_WORDS]
+    rows = [(folder.name, *it[1:]) for folder in found for it in rows_in(folder)]
+
+    def printed(number: int) -> Ran:
+        files = room / f"row{number}.json", room / f"row{number}.device"
+        for file, text in zip(files, rows[number][2:]):
+            file.write_bytes(text)
+        ran = run([program, "serial", "--places", files[0], "--device", files[1]])
+        for file in files:
+            file.unlink()
+        return Ran(ran.returncode, ran.stdout, ran.stderr.decode(errors="replace"))
+
+    with ThreadPoolExecutor(SIDE_BY_SIDE) as pool:
+        for (name, text, *texts), its in zip(rows, pool.map(printed, range(len(rows)))):
+            own = due_of(*texts)
+            tally.check(own == its, f"{name}: of {text[:100]!r} the machine says {str(own)[:300]}, and the program {str(its)[:300]}")
+    tally.check(len(rows) > LEAST_ROWS, f"only {len(rows)} rows of tables were looked at")
+
+
 def chance(tally: Tally, program: str, room: Path) -> None:
     """Scenarios by chance, of which every fourth is spoilt, so that somebody mostly waits for ever."""
     runs = int(sys.argv[2]) if len(sys.argv) > 2 else RUNS
@@ -70,4 +94,4 @@ def chance(tally: Tally, program: str, room: Path) -> None:
 
 
 if __name__ == "__main__":
-    main("run", by_words, chance, more="[RUNS]")
+    main("run", by_words, tables, chance, more="[RUNS]")

@@ -48,6 +48,15 @@ def content(path: Path) -> bytes:
     return path.read_bytes() if path.is_file() else b""
 
 
+def rows_in(folder: Path) -> Iterator[tuple[str, bytes, bytes, bytes]]:
+    """The rows of a table: what is said, the text, and the scenario and the device that it makes."""
+    scenario, device = content(folder / "scenario.json"), content(folder / "device.txt")
+    for row in content(folder / "rows").split(b"\n"):
+        if row and not row.startswith(b"#"):
+            said, _, text = row.partition(b"\t")
+            yield said.decode(), text, scenario.replace(b"%", text), device.replace(b"%", text)
+
+
 def text_of(name: str, folder: Path, words: list[str]) -> Text:
     """The texts that a run's words name."""
     words = [it for it in words if it != "--places"]

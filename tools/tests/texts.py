@@ -21,7 +21,7 @@ from concurrent.futures import ThreadPoolExecutor
 from pathlib import Path
 
 from helpers import CASES, EXAMPLES, ROOT, TOOLS, Tally, linked, main, places_of, rows_of, run, scenario_of, validator
-from runs import content, in_rounds, made_text, marks_by_chance, spoilt_by_chance
+from runs import content, in_rounds, made_text, marks_by_chance, rows_in, spoilt_by_chance
 
 from checking.prediction import answer_of
 from scenarios.devices import read_device
@@ -50,15 +50,6 @@ def told_of_files(name: str | None, device: str | None) -> tuple[int, str]:
 
 
 # ---- cases
-
-
-def rows_in(folder: Path) -> Iterator[tuple[str, bytes, bytes, bytes]]:
-    """The rows of a table: what is said, the text, and the scenario and the device that it makes."""
-    scenario, device = content(folder / "scenario.json"), content(folder / "device.txt")
-    for row in content(folder / "rows").split(b"\n"):
-        if row and not row.startswith(b"#"):
-            said, _, text = row.partition(b"\t")
-            yield said.decode(), text, scenario.replace(b"%", text), device.replace(b"%", text)
 
 
 def cases(tally: Tally, program: str, room: Path) -> None:

@@ -20,17 +20,20 @@ from pathlib import Path
 from helpers import EXAMPLES, ROOT, TABLES, TOOLS, Tally, main, rows_of, run, spoilt_text, tool, with_device
 from runs import Text, content, in_rounds, joined, made_text, marks_by_chance, spoilt_by_chance, stored_runs
 
+import by_chance
 from browser import browser
+from drawing.chart import MOST_CHANGES, ways
+from drawing.columns import ASIDE, IN_A_PIECE
 from drawing.page import page
 from drawing.picture import picture
-from drawing.replay import STATES
+from drawing.replay import STATES, Change
 from drawing.report import Unreadable, join_scenario, read_report, read_scenario
-from drawing.scene import INSIDE, MORE_SIZE, Scene
+from drawing.scene import INSIDE, MORE_SIZE, MOST_LABEL, Scene, label_of
 from drawing.text import width_of
 from machine.answers import HeldBack
 from machine.reporting import Run
 from reports.values import GETTERS
-from scenarios.devices import FAILED_DEVICE
+from scenarios.devices import CONTROLLERS, FAILED_DEVICE, HANDS, POSES, PROFILES, USERS
 
 # the stored pictures, the last of which is of a stored run on threads
 PICTURES = ("life", "frames", "handover", "stuck", "threads")
@@ -43,6 +46,21 @@ EXTERNAL = re.compile(r"""(?:src|href)=(?!["']?(?:#|data:,))|url\((?!#)|@import|
 SVG = "{http://www.w3.org/2000/svg}"
 # what an actor waits for
 WAITS = {"next_frame": "the next frame", "wait_frame": "the frames before its own", "wait_image": "an image", "await": "mark {}"}
+# paths that calls give, and how they are shown at them
+PATHS = {
+    "/user/hand/left": "size 16 /user/hand/left",
+    "/user/hand/left/input/trigger/value": "size 36 \u2026left/input/trigger/value",
+    "/user/hand/right/input/trigger/value": "size 37 \u2026right/input/trigger/value",
+    "/interaction_profiles/oculus/touch_controller": "size 46 \u2026touch_controller",
+}
+WORDS_OF_INPUTS = [f"input {user}/input/{it}" for (_, user), (inputs, _) in CONTROLLERS.items() for it in inputs if it not in POSES]
+# calls that a sum has many kinds of
+DULL = (
+    "string_to_path instance=i text=/user as=p", "path_to_string instance=i path=p capacity=9", "poll_event instance=i",
+    "{SET} name=a localized=a as=d", "{ACTION} name=a localized=a subactions=[]", "create_action set=d type=pose name=p localized=p subactions=[]",
+    "{SET} name=b localized=b as=e", "destroy_action_set set=e",
+)
+FRAMES = 2_500
 # a bar of an await, whose mark isn't known without the scenario
 WITHOUT = re.compile(r"^(script \d waits for )mark \d+")
 
@@ -110,7 +128,7 @@ def examples(tally: Tally, program: str, room: Path) -> None:
     for scenario in sorted(EXAMPLES.glob("*.json")):
         report, output = room / f"{scenario.stem}.report", room / f"{scenario.stem}.html"
         report.write_bytes(run([program, "serial", *with_device(scenario), "--places"]).stdout)
-        ran = tool("timeline", [report, scenario, "-o", output])
+        ran = tool("timeline", [scenario, report, "-o", output])
         tally.same((ran.returncode, ran.stdout, ran.stderr), (0, b"", b""), f"{scenario.stem}: how drawing it ends")
         if output.exists():
             check_page(tally, scenario.stem, output.read_text(encoding="utf-8"), report.read_bytes())
@@ -122,7 +140,7 @@ def pictures(tally: Tally, program: str, room: Path) -> None:
     """The stored pictures are what is drawn today."""
     for name in PICTURES:
         report = next(it for it in (EXAMPLES / f"{name}.places", room / f"{name}.report") if it.exists())
-        drawn = tool("timeline", [report, EXAMPLES / f"{name}.json", "--svg"]).stdout
+        drawn = tool("timeline", [EXAMPLES / f"{name}.json", report, "--svg"]).stdout
         is_stored = drawn == content(ROOT / f"docs/pictures/{name}.svg")
         tally.check(is_stored, f"docs/pictures/{name}.svg isn't what tools/timeline draws with --svg")
         is_small = len(drawn) < 60_000 and not EXTERNAL.search(drawn.decode())
@@ -235,6 +253,78 @@ def by_hand(tally: Tally, program: str, room: Path) -> None:
             tally.check(bool(re.search(pattern, html, re.S)) == is_due, f"{words!r} of {scripts[:99]!r} beside {told!r}")
 
 
+class Published(Run):
+    """A run that keeps the places of the calls that publish what getters answer from."""
+
+    def __init__(self, text: Text) -> None:
+        super().__init__(text.scripts, text.device.all)
+        self.publications = {0}
+        self.in_rounds()
+
+    def note(self, actor: str, line: str) -> None:
+        super().note(actor, line)
+        self.publications.add(self.machine.published)
+
+
+def getters_between(tally: Tally, text: Text) -> int:
+    """How many getters a run has. Each is drawn and listed behind the publication that it read, and before the next one; and all calls are listed in
+    the order of their places."""
+    run = Published(text)
+    scene = scene_of(joined(run.report()), None)
+    last = len(scene.ordered) + 1
+    behind = {it: min(filter(lambda other: other > it, run.publications), default=last) for it in run.publications}
+    found = [(bracket, int(it)) for bracket, it in re.findall(r"<tr[^>]*><td class=n>(\(?)(\d+)", page(scene))]
+    at = {place: row for row, (bracket, place) in enumerate(found) if not bracket}
+    tally.same([place for bracket, place in found if not bracket], [*range(1, last)], f"{text.name}: the rows in order of place")
+    rows = [(row, place) for row, (bracket, place) in enumerate(found) if bracket]
+    is_listed = all(at.get(it, -1) < row < at.get(behind[it], len(found)) for row, it in rows)
+    tally.check(is_listed, f"{text.name}: a getter isn't listed behind its publication and before the next")
+    for node in (it for lane in scene.lanes for it in lane.nodes if it.is_aside):
+        place, piece = node.calls[-1].place, node.column // IN_A_PIECE
+        here = piece, scene.columns[node.column].x + ASIDE
+        edges = {it: (scene.index[it] // IN_A_PIECE, scene.columns[scene.index[it]].x) for it in (place, behind[place]) if 0 < it < last}
+        is_drawn = edges.get(place, here[:1]) < here < edges.get(behind[place], (piece + 1,))
+        tally.check(is_drawn, f"{text.name}: getters of {place} are drawn elsewhere than behind it and before {behind[place]}")
+    return len(rows)
+
+
+def getters(tally: Tally, program: str, room: Path) -> None:
+    """Getters of cases, of examples and by chance."""
+    texts = [text for text, _, stored in stored_runs() if b" get_" in stored and len(stored) < 20_000]
+    texts += [made_text(room, f"getters{number}", *by_chance.scenario(number)) for number in range(BY_CHANCE // 3)]
+    count = sum(getters_between(tally, it) for it in texts)
+    tally.check(count > 300, f"only {count} getters were looked at")
+
+
+def labels(tally: Tally, program: str, room: Path) -> None:
+    """The label of each input tells whose it is, which and what came, and no two are the same."""
+    lines = [f"{line} {value}" for line in WORDS_OF_INPUTS for value in (-32768, 0, 24000)]
+    lines += [f"profile {user} {name}" for user in USERS for name in (*PROFILES, "none")]
+    lines += [f"pose {user}/input/{pose} {time} 21" for user in HANDS for pose in POSES for time in (0, 1_000_000)]
+    report = read_report(joined(in_rounds(made_text(room, "labels", "", lines))))
+    shown = [label_of(it)[0] for it in report.device]
+    for line, label in zip(lines, shown):
+        _, path, *rest = line.split(" ")
+        wanted = path.split("/")[2 + ("/hand/" in path)], path.rpartition("/")[2], rest[-1].rpartition("/")[2]
+        tally.check(len(label) <= MOST_LABEL and all(it in label for it in wanted), f"{line} is shown as {label}")
+    tally.same(len(set(shown)), len(set(lines)), "labels: how many differ")
+    ops = [f"string_to_path instance=i text={it} as=p; path_to_string instance=i path=p capacity=99" for it in PATHS]
+    report = read_report(joined(in_rounds(made_text(room, "labels", "; ".join(["{INSTANCE}", *ops]), None))))
+    shown = [label_of(it)[1] for it in report.scripts[0] if it.name == "path_to_string"]
+    tally.same(shown, [*PATHS.values()], "labels: the paths that calls give")
+
+
+def tips(tally: Tally, program: str, room: Path) -> None:
+    """A tip that leaves something out says so and how much."""
+    changes = [Change(place, [], ["VISIBLE", "FOCUSED"] * (1 + 5 * (place == 2))) for place in range(1, 10)]
+    told = ways(changes)
+    tally.check(told[1].endswith("FOCUSED, then VISIBLE, and 3 states more"), f"tips: {told[1]!r}")
+    tally.same((len(told), told[-1]), (MOST_CHANGES + 1, "and at 3 other places"), "tips: the changes of a session")
+    html = drawn_of(room, f"{{INSTANCE}}; {'; '.join(DULL)}; 400 get_system instance=i form=head; 12 get_boolean session=0 action=0 sub=0", "")
+    nodes = [title_of(it) for it in having(svgs_of(html), "sum")]
+    tally.check(any(it.endswith("and 2 other kinds") for it in nodes), f"tips: {nodes}")
+
+
 def eight_stuck(tally: Tally, program: str, room: Path) -> None:
     """Eight who are stuck are a folded list, with each of them in it."""
     scripts = " / ".join(f"mark mark={10 + i}; await mark={i}; mark mark={i % 8 + 1}" for i in range(1, 9))
@@ -323,6 +413,14 @@ def long_runs(tally: Tally, program: str, room: Path) -> None:
             tally.check(kind != "polls" or len(nodes) < 5, f"{count} {kind}: they are drawn as {len(nodes)} and not as one")
 
 
+def long_frames(tally: Tally, program: str, room: Path) -> None:
+    """The frames of a long run are told as frames."""
+    html = drawn_of(room, f"{{INSTANCE}}; await mark=1; {{SESSION}}; {{RUN}}; {'; '.join(['{FRAME}'] * FRAMES)}", "wish focused, mark 1")
+    told = [title_of(it) for it in having(svgs_of(html), "sum") if "\u00b7 compositor" in title_of(it)]
+    frames = [int(it.replace(",", "")) for it in re.findall(r"\n([\d,]+) frames?\n", "\n\n".join(told))]
+    tally.check(FRAMES - 20 < sum(frames) <= FRAMES, f"{sum(frames)} of {FRAMES} frames are summed up as frames: {told[:1]}")
+
+
 def node_count(node: xml.Element) -> int:
     """How many calls a drawn node stands for."""
     found = re.search(r"\n([\d,]+) (?:call|event|frame|turn)s?(?:,|\n)", title_of(node))
@@ -381,6 +479,7 @@ def state_words(tally: Tally, program: str, room: Path) -> None:
         for lane in (it for it in scene.lanes if it.sessions):
             most = PLAIN_LANE if all(is_inside for _, is_inside in scene.words_of_lane(lane)) else LEANING
             tally.check(lane.height <= most, f"{name}: the lane of {lane.name} is {lane.height} high, and {most} are enough")
+            tally.check(lane.height < scene.height * 0.4, f"{name}: the lane of {lane.name} is {lane.height} of {scene.height}")
         for bar in having([xml.fromstring(picture(scene))], "state"):
             count += 1
             rect, inside, leaning = bar.find(f"{SVG}rect"), having([bar], "in"), having([bar], "l")
@@ -472,5 +571,6 @@ def fuzz(tally: Tally, program: str, room: Path) -> None:
 
 
 if __name__ == "__main__":
-    trials = examples, pictures, filters, owners, held_back, by_hand, eight_stuck, pieces, long_runs, rows, colours, state_words, legend_states
-    main("timeline", *trials, refuses, fuzz, browser)
+    trials = examples, pictures, filters, owners, held_back, by_hand, getters, labels, tips, eight_stuck
+    more = pieces, long_runs, long_frames, rows, colours, state_words, legend_states
+    main("timeline", *trials, *more, refuses, fuzz, browser)

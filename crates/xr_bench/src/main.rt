@@ -1,10 +1,12 @@
-//! `xr_bench` measures calls on a core, the reading of scenarios and of a device's text, runs, and turns of threads under the lock.
+//! `xr_bench` measures calls on a core, the reading of scenarios and of a device's text, runs, turns of threads under the lock, and
+//! getters of threads beside it.
 //! It is a measure and no test. It touches the clock, threads and standard output.
 #![tactic(auto)]
 
 ghost use Rattle.std.specs.Prelude.{◌≤◌, IfSome};
 
 mod calls;
+mod getters;
 mod lines;
 mod reading;
 mod runs;
@@ -12,6 +14,7 @@ mod texts;
 mod turns;
 
 use calls::measure_each;
+use getters::{Reading, measure_getters};
 use lines::{read_lines, text_of_lines};
 use reading::{CALLS, read_rounds};
 use runs::{TURNS, text_of_frame_waits, text_of_passes, text_of_waits, time_runs};
@@ -43,6 +46,13 @@ names that differ at their ends alone.
 xr_bench turns THREADS TURNS ROUNDS
 Has 1 to 8 threads take TURNS turns together at a counter under the lock, each with ROUNDS rounds of work inside,
 and prints how long they took.
+xr_bench getters THREADS CALLS
+xr_bench getters-beside THREADS CALLS
+xr_bench locked THREADS CALLS
+xr_bench locked-beside THREADS CALLS
+Has 1 to 7 threads ask CALLS times each for an action's state, or for the system under the lock; beside one more thread
+that syncs without pause, where the word says so. Prints how many calls succeeded, how long they took, and how many
+syncs there were.
 ";
 
 /// So many things in so many microseconds, a second.
@@ -187,6 +197,32 @@ fn number(word: &String) -> u64 {
     word.as_str().parse::<u64>().unwrap_or(0)
 }
 
+/// The calls on threads that the words ask for.
+fn reading_of(words: &[String]) -> Option<Reading>
+    ensures { IfSome result (λ reading. reading.threads ≤ 7) }
+{
+    if words.len() != 3 {
+        return None;
+    }
+    let (locked, beside) = match words[0].as_str() {
+        "getters" => (false, false),
+        "getters-beside" => (false, true),
+        "locked" => (true, false),
+        "locked-beside" => (true, true),
+        _ => return None,
+    };
+    let threads = number(&words[1]);
+    if threads < 1 || threads > 7 {
+        return None;
+    }
+    Some(Reading {
+        threads: threads as u8,
+        calls: number(&words[2]),
+        locked,
+        beside,
+    })
+}
+
 /// The turns that the words ask for.
 fn turns_of(words: &[String]) -> Option<Work>
     ensures { IfSome result (λ work. (1 ≤ work.threads) × (work.threads ≤ 8)) }
@@ -216,6 +252,8 @@ fn main(rt: HostRuntime) -> ExitCode {
     };
     let done = if let Some(work) = turns_of(words.as_slice()) {
         measure_turns(&rt, alloc, work)
+    } else if let Some(reading) = reading_of(words.as_slice()) {
+        measure_getters(&rt, alloc, reading)
     } else if let Some(rounds) = rounds_of(words.as_slice()) {
         measure(&rt, alloc, rounds)
     } else {

@@ -1,5 +1,5 @@
 // What is suggested for one profile, and what an action that goes takes from all of them.
-ghost use Rattle.std.specs.Prelude.{◌≡◌, ◌≤◌, ◌==◌, [], true, nat_le, not, map, take, length, IfOk};
+ghost use Rattle.std.specs.Prelude.{◌≡◌, ◌≤◌, ◌==◌, ◌||◌, [], true, nat_le, not, map, take, length, IfOk};
 ghost use Rattle.std.specs.List.{filter, list_all, list_any};
 ghost use Rattle.xr_types.specs.declared.limits.TheConstants.{MOST_SUGGESTED};
 ghost use Rattle.xr_model.specs.machine.Bindings.{without_suggestions_of};
@@ -90,7 +90,8 @@ impl Suggestions {
 
 /// The action of these that was created last, or 0 where there is none.
 fn last_of(list: &[Bound]) -> u64
-    ensures { list_all (λ b. nat_le b.action result) list.now ≡ true }
+    ensures most { list_all (λ b. nat_le b.action result) list.now ≡ true }
+    ensures of_these { ((result == 0) || list_any (λ b. b.action == result) list.now) ≡ true }
 {
     let mut last = 0;
     for bound in list {

@@ -23,9 +23,9 @@ pub struct Ran {
     pub closed: Option<Closed>,
 }
 
-/// Runs the words `threads FILE`, with `--device FILE` and `--places` where these are wanted: opens the scenario's file and the
-/// device's, reads the scenario, runs it on threads beside the device, over one runtime, and writes its report. Every source that was
-/// opened is closed. The gate is called round each call of a script and of the device, and round each turn of the compositor.
+/// Runs the words `threads FILE`, with `--device FILE` and `--places` where these are wanted: opens the scenario's file and the device's,
+/// reads the scenario, runs it on threads beside the device, over one runtime, and writes its report. Every source that was opened is
+/// closed. The gate is called round each call of a script and of the device, and each turn of the compositor; no clause here says so.
 ///
 /// Whatever the threads' interleaving, the report is that of one legal history of the written machine of one thread, for which the closed
 /// runtime stands. Under `Done`, `DeviceFailed` and `DeviceGarbled` the whole report is written, and under `WriteFault` a first part of

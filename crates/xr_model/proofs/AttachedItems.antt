@@ -113,11 +113,11 @@ sets_are_attached_once s reads e session handles = record {
 }
 
 -- a condition that isn't met is one whose test passes
-passes : (b : Bool) → (not b ≡ false) ↔ (b ≡ true)
+pub passes : (b : Bool) → (not b ≡ false) ↔ (b ≡ true)
 passes true = (λ e. refl, λ e. refl)
 passes false = (λ e. absurd (true≢false e), λ e. absurd (true≢false (sym e)))
 
-attached_is : (attached : Option (List ℕ)) (set : ℕ) → (is_attached attached set ≡ true) ↔ HasAttached attached set
+pub attached_is : (attached : Option (List ℕ)) (set : ℕ) → (is_attached attached set ≡ true) ↔ HasAttached attached set
 attached_is None set = (λ e. absurd (true≢false (sym e)), λ none. absurd none)
 attached_is (Some sets) set = among (λ (x : ℕ). x == set) (λ x. x ≡ set) (λ x is. same_key x set is) (λ x is. ap (λ (n : ℕ). n == set) is ∙ itself set) sets
 

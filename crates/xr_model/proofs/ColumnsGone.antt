@@ -68,7 +68,7 @@ columns_go_with_the_session s e ends = by e.call ends
 
 -- ---- actions
 
-got_from : {T : Type 0} (f : ℕ → T → T) (n : ℕ) (xs : List T) (k m : ℕ) → m ≡ n + k → slice_get (each_from f n xs) k ≡ option_map (f m) (slice_get xs k)
+pub got_from : {T : Type 0} (f : ℕ → T → T) (n : ℕ) (xs : List T) (k m : ℕ) → m ≡ n + k → slice_get (each_from f n xs) k ≡ option_map (f m) (slice_get xs k)
 got_from f n [] k m is = refl
 got_from f n (x ∷ xs) zero m is = let same : n ≡ m = omega (arith, is) in ap (λ (i : ℕ). Some (f i x)) same
 got_from f n (x ∷ xs) (suc k) m is = got_from f (n + 1) xs k m (omega (arith, is))

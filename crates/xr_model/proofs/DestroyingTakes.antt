@@ -44,7 +44,7 @@ slot_parent (s ∷ ss) p there = by (s.handle == p) there (slot_parent ss p)
     by false there more = more there
 
 -- the parent of a live handle stands in the row above
-under_parent : (above row : List Slot) (p : ℕ) → (p == 0) ≡ false → is_under above row ≡ true → has row p ≡ true → ((parent_in row p == 0) ≡ false) × (has above (parent_in row p) ≡ true)
+pub under_parent : (above row : List Slot) (p : ℕ) → (p == 0) ≡ false → is_under above row ≡ true → has row p ≡ true → ((parent_in row p == 0) ≡ false) × (has above (parent_in row p) ≡ true)
 unfolding parent_in
 under_parent above [] p nz under there = absurd (true≢false (sym there))
 under_parent above (s ∷ ss) p nz under there =

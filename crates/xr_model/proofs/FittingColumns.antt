@@ -82,7 +82,7 @@ amount_small inputs who (part.Analogue row) small = value_small inputs who row s
 amount_small inputs who _ small = refl
 
 axes_small : (inputs : Inputs) (who : User) (where_ : Part) → AreSmall inputs → (is_small (axes inputs who where_).0 ≡ true) × (is_small (axes inputs who where_).1 ≡ true)
-axes_small inputs who (part.Both x y) small = (value_small inputs who x small, value_small inputs who y small)
+axes_small inputs who (part.Both x y) small = (value_small inputs who _ small, value_small inputs who _ small)
 axes_small inputs who _ small = (refl, refl)
 
 kind_fits : (inputs : Inputs) (kind : ActionType) (found : Found) (pick : Pick) → AreSmall inputs → FoundFits found → FoundFits (with_kind kind inputs found pick)

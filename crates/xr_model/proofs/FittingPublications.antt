@@ -25,7 +25,7 @@ use Rattle.xr_model.specs.machine.Rule.{Effect, refusal, unless_refused, told_on
 use Rattle.xr_model.specs.machine.Rules.Device.{behind_event, later_of}
 use Rattle.xr_model.specs.machine.Rules.Session.{life_of}
 use Rattle.xr_model.specs.machine.Rules.Sets.{user_at, with_user, declared_by}
-use Rattle.xr_model.specs.machine.Rules.Sync.{columns_synced, heard_by, bindings_of}
+use Rattle.xr_model.specs.machine.Rules.Sync.{columns_synced}
 use Rattle.xr_model.specs.machine.SessionLife.{is_state}
 use Rattle.xr_model.specs.machine.Sets.{Action, no_users}
 use Rattle.xr_model.specs.machine.State.{CoreState, CellReads, Settings, State, opening}
@@ -106,7 +106,7 @@ module _ (s : CoreState) (reads : CellReads) (e : Entry) (fits : Fits s) where
   events _ good = fits
 
   synced : (is_focused : Bool) (active : List _) → ColumnsFit (columns_synced s is_focused active)
-  synced true active = synced_fit (map (heard_by s) active) (bindings_of s) s.device.inputs s.device.clock s.columns fits.1 fits.2 fits.0
+  synced true active = let small = fits.1 in let now = fits.2 in let fit = fits.0 in search (synced_fit, small, now, fit)
   synced false active = no_columns_fit
 
   fits_step : has_good_numbers e.call ≡ true → Fits (core_step s reads e).0

@@ -1,5 +1,6 @@
 -- Entries that are decided without the lock leave what a core keeps, and others come to the same behind them.
-use Rattle.std.proofs.Common.{◌≡◌, ℕ, ℤ, Bool, true, false, List, [], ◌∷◌, ◌++◌, refl, sym, ap, subst, ◌∙◌, true≢false}
+use Rattle.std.proofs.Common.{◌≡◌, ◌||◌, ◌⊎◌, inl, inr, ⊎_elim, ℕ, ℤ, Bool, true, false, List, [], ◌∷◌, ◌++◌, refl, sym, ap, subst, ◌∙◌, true≢false}
+use Rattle.xr_types.specs.CallKinds.{is_getter, is_locked}
 use Rattle.xr_types.specs.declared.frames.Image.{Image}
 use Rattle.xr_model.specs.machine.CellCalls.{CellCall, claim_calls, pin_calls, free_calls, stamp_calls, peek_calls, return_calls}
 use Rattle.xr_model.specs.machine.Chains.{oldest_image}
@@ -15,10 +16,11 @@ use Rattle.xr_model.specs.laws.DecidedEntries.{is_image_done}
 use Rattle.xr_model.specs.laws.ImageLaws.{is_compositor_call}
 use Rattle.xr_model.specs.laws.Moments.{Moment, moment_after, MayCome, exchange_at}
 use Rattle.xr_model.specs.laws.ImageWordLaws.{Leaves, FreeEntriesLeave, Carried, EntriesAreCarried}
+use Rattle.xr_model.proofs.GetterSteps.{getters_change_nothing}
 use Rattle.xr_model.proofs.GivingBack.{giving_back_leaves_the_core}
 use Rattle.xr_model.proofs.HeldFits.{did_kept}
 use Rattle.xr_model.proofs.Rows.{both_of}
-use Rattle.xr_model.specs.laws.ImageWords.{claimed_by, is_free, are_free}
+use Rattle.xr_model.specs.laws.ImageWords.{claimed_by, is_free, are_free, are_getters}
 use Rattle.xr_model.proofs.CellsTold.{IsTold, AreTold, HoldTold, Told, agrees, same_by, allowed_by}
 use Rattle.xr_model.proofs.ImageWaits.{wait_claims}
 
@@ -95,14 +97,19 @@ module _ (s : CoreState) (r q : CellReads) (e : Entry) (aside : is_compositor_ca
       let here = none_claimed_by in
       calls_by (claimed_by s r e) (claimed_by s q e) r q (effect s r e).did (effect s q e).did none here taken taken2 (ap (λ (x : Effect). x.did) effects)
 
--- ---- entries that give images back
+-- ---- entries that are decided without the lock
 
 asks_done : (r : Call) → is_image_done r ≡ true → r ≡ ask.ImageDone
 asks_done ask.ImageDone is = refl
 asks_done r is = absurd (true≢false (sym is))
 
-pub free_is : (e : Entry) → is_free e ≡ true → e.call ≡ ask.ImageDone
-free_is e is = asks_done e.call is
+-- what is decided without the lock gives an image back, or reads
+pub free_is : (e : Entry) → is_free e ≡ true → (e.call ≡ ask.ImageDone) ⊎ (is_getter e.call ≡ true)
+free_is e is = by (is_image_done e.call) refl
+  where
+    by : (b : Bool) → is_image_done e.call ≡ b → (e.call ≡ ask.ImageDone) ⊎ (is_getter e.call ≡ true)
+    by true done = inl (asks_done e.call done)
+    by false other = inr (ap (λ (b : Bool). b || is_getter e.call) (sym other) ∙ is)
 
 clock_left : (clocks : List ℤ) (e : Entry) (s : State) → e.call ≡ ask.ImageDone → clocks_after clocks e s ≡ clocks
 clock_left clocks e s is = rw is refl
@@ -111,17 +118,39 @@ pub stamps_left : (s : State) (e : Entry) → e.call ≡ ask.ImageDone → (step
 stamps_left s e is = ap (λ (l : List Stamped). with_stamps l s.cells.stamps) (subst (λ (what : Call). (effect s.core (reads_of s what) (record e { call = what })).did.stamped ≡ []) (sym is)
     (did_kept (λ d. d.stamped ≡ []) s.core e.short (rule s.core (reads_of s ask.ImageDone) (record e { call = ask.ImageDone })) refl refl))
 
+uncounted : (r : Call) → is_getter r ≡ true → is_locked r ≡ false
+uncounted (ask.GetBoolean session action sub) is = refl
+uncounted (ask.GetFloat session action sub) is = refl
+uncounted (ask.GetVector session action sub) is = refl
+uncounted (ask.GetPoseActive session action sub) is = refl
+uncounted r is = absurd (true≢false (sym is))
+
+clock_read : (clocks : List ℤ) (e : Entry) (s : State) → is_getter e.call ≡ true → clocks_after clocks e s ≡ clocks
+clock_read clocks e s is = rw (uncounted e.call is) refl
+
+-- getters leave the whole moment
+pub getters_leave : (s : State) (clocks : List ℤ) (es : List Entry) → are_getters es ≡ true → moment_after (record { state = s; clocks = clocks }) es ≡ record { state = s; clocks = clocks }
+getters_leave s clocks [] all = refl
+getters_leave s clocks (e ∷ es) all =
+    let two = both_of (is_getter e.call) (are_getters es) all in
+    let t : State = (step s e).0 in
+    getters_leave t (clocks_after clocks e t) es two.1 ∙ (λ i. record { state = getters_change_nothing s e two.0 i; clocks = clock_read clocks e t two.0 i })
+
+free_step : (s : State) (clocks : List ℤ) (e : Entry) → is_free e ≡ true → Leaves (record { state = s; clocks = clocks }) (record { state = (step s e).0; clocks = clocks_after clocks e (step s e).0 })
+free_step s clocks e free = ⊎_elim
+    (λ (is : e.call ≡ ask.ImageDone). record { core = giving_back_leaves_the_core s e is; clocks = clock_left clocks e (step s e).0 is; stamps = stamps_left s e is })
+    (λ (is : is_getter e.call ≡ true).
+    let same = getters_change_nothing s e is in
+    record { core = ap (λ (t : State). t.core) same; clocks = clock_read clocks e (step s e).0 is; stamps = ap (λ (t : State). t.cells.stamps) same })
+    (free_is e free)
+
 pub free_leaves : (s : State) (clocks : List ℤ) (es : List Entry) → are_free es ≡ true → Leaves (record { state = s; clocks = clocks }) (moment_after (record { state = s; clocks = clocks }) es)
 free_leaves s clocks [] free = record { core = refl; clocks = refl; stamps = refl }
 free_leaves s clocks (e ∷ es) free =
     let two = both_of (is_free e) (are_free es) free in
-    let is = free_is e two.0 in
+    let one = free_step s clocks e two.0 in
     let more = free_leaves (step s e).0 (clocks_after clocks e (step s e).0) es two.1 in
-    record {
-      core = more.core ∙ giving_back_leaves_the_core s e is;
-      clocks = more.clocks ∙ clock_left clocks e (step s e).0 is;
-      stamps = more.stamps ∙ stamps_left s e is;
-    }
+    record { core = more.core ∙ one.core; clocks = more.clocks ∙ one.clocks; stamps = more.stamps ∙ one.stamps }
 
 -- ---- entries behind them
 

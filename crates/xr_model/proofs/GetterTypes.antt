@@ -11,7 +11,7 @@ use Rattle.xr_model.specs.laws.AskedLaws.{IsOfType, GettersAreOfTheirTypes}
 use Rattle.xr_model.proofs.ActionSpaces.{same_action, no_action}
 
 -- what is published of an action is found where the action is
-found_as : (f : Action → PublishedAction) → ((x : Action) → (f x).handle ≡ x.handle) → (xs : List Action) (k : ℕ)
+pub found_as : (f : Action → PublishedAction) → ((x : Action) → (f x).handle ≡ x.handle) → (xs : List Action) (k : ℕ)
     → find (λ (a : PublishedAction). a.handle == k) (map f xs) ≡ option_map f (find (λ (x : Action). x.handle == k) xs)
 found_as f same [] k = refl
 found_as f same (x ∷ xs) k =

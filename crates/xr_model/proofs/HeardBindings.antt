@@ -3,7 +3,6 @@ use Rattle.std.proofs.Common.{◌≡◌, ◌≤◌, ◌==◌, ◌&&◌, ◌||◌
 use Rattle.std.specs.Prelude.{flat_map, nat_lt, option_and_then, option_map, unwrap_or, if◌then◌else◌}
 use Rattle.std.specs.List.{filter, list_any}
 use Rattle.std.proofs.lemmas.Bool.Decides.{nat_tests}
-use Rattle.xr_types.specs.Printed.{all_users}
 use Rattle.xr_types.specs.Users.{user_place}
 use Rattle.xr_types.specs.declared.input.Bound.{Bound}
 use Rattle.xr_types.specs.declared.input.Heard.{Heard}
@@ -30,13 +29,13 @@ among_both P (y ∷ xs) ys left right zero x found = left zero x found
 among_both P (y ∷ xs) ys left right (suc k) x found = among_both P xs ys (λ n z there. left (suc n) z there) right k x found
 
 -- and of a list made of the lists of others
-among_each : {S T : Type 0} (P : T → Type 0) (f : S → List T) (ss : List S) → ((n : ℕ) (s : S) → slice_get ss n ≡ Some s → (k : ℕ) (x : T) → slice_get (f s) k ≡ Some x → P x)
+pub among_each : {S T : Type 0} (P : T → Type 0) (f : S → List T) (ss : List S) → ((n : ℕ) (s : S) → slice_get ss n ≡ Some s → (k : ℕ) (x : T) → slice_get (f s) k ≡ Some x → P x)
     → (k : ℕ) (x : T) → slice_get (flat_map f ss) k ≡ Some x → P x
 among_each P f [] each k x found = cc
 among_each P f (s ∷ ss) each k x found = among_both P (f s) (flat_map f ss) (each zero s refl) (among_each P f ss (λ n t there. each (suc n) t there)) k x found
 
 -- what is left of a list was there, and meets the test
-among_left : {T : Type 0} (p : T → Bool) (xs : List T) (k : ℕ) (x : T) → slice_get (filter p xs) k ≡ Some x → (p x ≡ true) × (n : ℕ) × (slice_get xs n ≡ Some x)
+pub among_left : {T : Type 0} (p : T → Bool) (xs : List T) (k : ℕ) (x : T) → slice_get (filter p xs) k ≡ Some x → (p x ≡ true) × (n : ℕ) × (slice_get xs n ≡ Some x)
 among_left p [] k x found = cc
 among_left p (y ∷ xs) k x found = by (p y) refl k found (λ n there. among_left p xs n x there)
   where
@@ -89,8 +88,11 @@ module _ (s : CoreState) where
           let is = among_left (λ (x : Bound). is_same_user x.pick.user who) (suggestions_of s.suggestions which) n b found in
           of_action b who which is.1 eo is.2 is.0
 
+  of_users : (users : List User) (k : ℕ) (b : Ranked) → slice_get (flat_map (λ who. flat_map (ranked s.inputs s.handles) (connected_at s who)) users) k ≡ Some b → IsOfTheConnected s b
+  of_users users = among_each (IsOfTheConnected s) (λ who. flat_map (ranked s.inputs s.handles) (connected_at s who)) users (λ n who there. at_user who)
+
   pub of_the_connected : (k : ℕ) (b : Ranked) → slice_get (bindings_of s) k ≡ Some b → IsOfTheConnected s b
-  of_the_connected = among_each (IsOfTheConnected s) (λ who. flat_map (ranked s.inputs s.handles) (connected_at s who)) all_users (λ n who there. at_user who)
+  of_the_connected k b found = search (of_users)
 
 pub bindings_are_of_the_connected : BindingsAreOfTheConnected
 bindings_are_of_the_connected = of_the_connected

@@ -34,7 +34,7 @@ use Rattle.xr_model.specs.machine.Machine.{reads_of, rule, step}
 use Rattle.xr_model.specs.machine.History.{after}
 use Rattle.xr_model.specs.laws.DeviceStateLaws.{events_of, events_from, with_event, are_checked, pressed_from, released_below, value_told, press_told}
 use Rattle.xr_model.specs.laws.WordLaws.{has_good_numbers}
-use Rattle.xr_model.specs.laws.InputLaws.{GivesFromNow, named, InputsGiveFromTheirEvents, TellsTheChange, ChangesAreTold, is_in_focus, SyncsInFocus, UnfocusedSyncsAreInactive, names_user, ActionsDeclareTheirAtoms}
+use Rattle.xr_model.specs.laws.InputLaws.{GivesFromNow, named, InputsGiveFromTheirEvents, VectorsAreTheirAxes, TellsTheChange, ChangesAreTold, is_in_focus, SyncsInFocus, UnfocusedSyncsAreInactive, names_user, ActionsDeclareTheirAtoms}
 use Rattle.xr_model.specs.laws.SyncLaws.{is_row}
 use Rattle.xr_model.proofs.DeviceTold.{inputs_are_as_told, presses_last, set_get, set_long, user_below}
 use Rattle.xr_model.proofs.FrameCalls.{where_done}
@@ -141,6 +141,9 @@ module _ (settings : Settings) (es : List Entry) (e : Entry) (who : User) (row :
 pub inputs_give_from_their_events : InputsGiveFromTheirEvents
 inputs_give_from_their_events settings es e who row told checked here is call = gives_from_now settings es e who row told checked here is call
 
+pub vectors_are_their_axes : VectorsAreTheirAxes
+vectors_are_their_axes settings es who across up checked one two = rw (inputs_are_as_told settings es who across checked one, inputs_are_as_told settings es who up checked two) refl
+
 -- ---- changes
 
 both_same : (a b : Bool) → not (a && b) ≡ false → (a ≡ true) × (b ≡ true)
@@ -190,7 +193,7 @@ in_focus Stopping = refl
 in_focus LossPending = refl
 in_focus Exiting = refl
 
-items_fail : (s : CoreState) (session : ℕ) (items : List ActiveSet) → all_fail (flat_map (item_checks s session) items) ≡ true
+pub items_fail : (s : CoreState) (session : ℕ) (items : List ActiveSet) → all_fail (flat_map (item_checks s session) items) ≡ true
 items_fail s session [] = refl
 items_fail s session (item ∷ items) = items_fail s session items
 

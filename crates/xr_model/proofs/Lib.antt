@@ -92,7 +92,11 @@ pub mod SyncFinds
 pub mod SyncColumns
 pub mod HeardBindings
 pub mod InputsGive
+pub mod SyncedColumns
+pub mod SyncBindings
 pub mod ColumnsGone
+pub mod ColumnsKept
+pub mod GetterColumns
 pub mod Locations
 pub mod KnownTexts
 pub mod PathTexts
@@ -104,7 +108,9 @@ pub mod AttachedItems
 pub mod ActionSpaces
 pub mod NewBindings
 pub mod GetterTypes
+pub mod GetterSets
 pub mod PickRanges
+pub mod PickNames
 pub mod GetterSteps
 pub mod UserAtoms
 pub mod NothingLeft

@@ -1,7 +1,8 @@
 -- What a new space is, and what a location tells.
 use Rattle.std.proofs.Common.{◌≡◌, ◌≢◌, ◌+◌, ◌==◌, ◌++◌, inl, inr, ℕ, Bool, true, false, not, List, [], ◌∷◌, Option, Some, None, pos, unwrap_or, refl, sym, ap, subst, ◌∙◌, true≢false}
-use Rattle.std.specs.Prelude.{int_le, is_none, is_some, option_and_then, if◌then◌else◌}
+use Rattle.std.specs.Prelude.{codes, int_le, is_none, is_some, option_and_then, if◌then◌else◌}
 use Rattle.xr_types.specs.Code.{is_success}
+use Rattle.xr_types.specs.Printed.{kind_name, origin_name, user_path}
 use Rattle.xr_types.specs.Users.{user_place}
 use Rattle.xr_types.specs.declared.code.Code.TheVariants.{ActionTypeMismatch, PathUnsupported, PoseInvalid, TimeInvalid}
 use Rattle.xr_types.specs.declared.calls.Call.{Call}
@@ -9,9 +10,13 @@ use Rattle.xr_types.specs.declared.calls.Call.TheVariants as ask
 use Rattle.xr_types.specs.declared.calls.Gives.TheVariants as gives
 use Rattle.xr_types.specs.declared.handles.Kind.TheVariants as kind
 use Rattle.xr_types.specs.declared.input.User.{User}
+use Rattle.xr_types.specs.declared.input.User.TheVariants as user
 use Rattle.xr_types.specs.declared.spaces.Location.{Location}
 use Rattle.xr_types.specs.declared.spaces.Location.TheVariants.{Missing}
+use Rattle.xr_types.specs.declared.spaces.Origin.{Origin}
+use Rattle.xr_types.specs.declared.spaces.Origin.TheVariants as origin
 use Rattle.xr_types.specs.declared.spaces.RefKind.{RefKind}
+use Rattle.xr_types.specs.declared.spaces.RefKind.TheVariants as ref
 use Rattle.xr_types.specs.declared.spaces.Root.{Root}
 use Rattle.xr_types.specs.declared.spaces.Root.TheVariants.{Fixed}
 use Rattle.xr_model.specs.machine.Calls.{Entry}
@@ -20,11 +25,11 @@ use Rattle.xr_model.specs.machine.Refusals.{when}
 use Rattle.xr_model.specs.machine.Rules.Sets.{user_at}
 use Rattle.xr_model.specs.machine.Rules.Sync.{action_root, column_named, is_of_poses}
 use Rattle.xr_model.specs.machine.Sets.{action_declares}
-use Rattle.xr_model.specs.machine.Spaces.{Space, space_at, factors, location, located, pose_at, pose_of, samples_of}
+use Rattle.xr_model.specs.machine.Spaces.{Space, space_at, origin_of_kind, factors, location, located, pose_at, pose_of, samples_of}
 use Rattle.xr_model.specs.machine.State.{CoreState, Settings, State, opening}
 use Rattle.xr_model.specs.machine.Machine.{IsAllowed, IsGiven, reads_of, rule, step}
 use Rattle.xr_model.specs.machine.History.{after, opening_clocks, IsLegal}
-use Rattle.xr_model.specs.laws.LocationLaws.{ReferenceSpacesAreAsAsked, IsColumnOf, MovesWithColumn, ActionSpacesFollowTheirColumns, PosesFollowColumns, IsLocated, LocationsAreFactors}
+use Rattle.xr_model.specs.laws.LocationLaws.{ReferenceSpacesAreAsAsked, IsColumnOf, MovesWithColumn, ActionSpacesFollowTheirColumns, ReferenceSpacesHaveTheirOrigins, PosesFollowColumns, IsLocated, LocationsAreFactors}
 use Rattle.xr_model.proofs.ChainOrder.{chains_history, given_nonzero, new_given}
 use Rattle.xr_model.proofs.DestroyedForGood.{legal_behind}
 use Rattle.xr_model.proofs.FrameCalls.{where_done}
@@ -138,6 +143,50 @@ poses_follow_columns s time x place column c root at = rw (root, at) (by c.activ
         ≡ (if b then option_and_then (λ o. pose_at time (samples_of s.room.samples o)) c.origin else None)
     by true = refl
     by false = refl
+
+abbrev starts : List ℕ → Bool
+starts [] = false
+starts (b ∷ bs) = b == 47
+
+differ : (n m : ℕ) → (n == m) ≡ false → n ≡ m → ⊥
+differ n m e same = true≢false (sym (itself m) ∙ subst (λ (k : ℕ). (k == m) ≡ false) same e)
+
+-- a path is the name of no kind
+no_path : (who : User) (tail : List ℕ) (what : RefKind) → user_path who ++ tail ≡ kind_name what → ⊥
+no_path who tail what e = true≢false (sym (slash who) ∙ ap starts e ∙ none what)
+  where
+    slash : (w : User) → starts (user_path w ++ tail) ≡ true
+    slash user.Left = refl
+    slash user.Right = refl
+    slash user.Head = refl
+    slash user.Gamepad = refl
+    slash user.Treadmill = refl
+
+    none : (k : RefKind) → starts (kind_name k) ≡ false
+    none ref.View = refl
+    none ref.Local = refl
+    none ref.Stage = refl
+
+abbrev letter : List ℕ → ℕ
+letter [] = 0
+letter (b ∷ bs) = b
+
+-- no two names of kinds and origins are one
+kind_named : (what : RefKind) (o : Origin) → origin_name o ≡ kind_name what → origin_of_kind what ≡ o
+kind_named ref.View origin.View e = refl
+kind_named ref.Local origin.Local e = refl
+kind_named ref.Stage origin.Stage e = refl
+kind_named ref.View origin.Local e = absurd (differ 108 118 refl (ap letter e))
+kind_named ref.View origin.Stage e = absurd (differ 115 118 refl (ap letter e))
+kind_named ref.Local origin.View e = absurd (differ 118 108 refl (ap letter e))
+kind_named ref.Local origin.Stage e = absurd (differ 115 108 refl (ap letter e))
+kind_named ref.Stage origin.View e = absurd (differ 118 115 refl (ap letter e))
+kind_named ref.Stage origin.Local e = absurd (differ 108 115 refl (ap letter e))
+kind_named what (origin.Grip who) e = absurd (no_path who (codes "/input/grip/pose") what e)
+kind_named what (origin.Aim who) e = absurd (no_path who (codes "/input/aim/pose") what e)
+
+pub reference_spaces_have_their_origins : ReferenceSpacesHaveTheirOrigins
+reference_spaces_have_their_origins s time x what o root e = rw root (ap (λ (p : Origin). pose_at time (samples_of s.room.samples p)) (kind_named what o e))
 
 is_located : (x base : Space) (pose base_pose : Option ℕ) → IsLocated x base pose base_pose (factors x base pose base_pose)
 is_located x base (Some a) (Some b) = (refl, refl, refl, refl)

@@ -91,7 +91,7 @@ set_other (x ∷ xs) zero (suc j) v other = refl
 set_other (x ∷ xs) (suc k) zero v other = refl
 set_other (x ∷ xs) (suc k) (suc j) v other = set_other xs k j v (suc_apart k j ∙ other)
 
-same_user : (own who : User) → (user_place own == user_place who) ≡ true → own ≡ who
+pub same_user : (own who : User) → (user_place own == user_place who) ≡ true → own ≡ who
 same_user user.Left user.Left same = refl
 same_user user.Right user.Right same = refl
 same_user user.Head user.Head same = refl

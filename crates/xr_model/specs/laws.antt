@@ -31,6 +31,7 @@ pub mod TurnLaws
 pub mod ImageUseLaws
 pub mod SyncLaws
 pub mod InputLaws
+pub mod SyncedLaws
 pub mod ColumnLaws
 pub mod PublicationLaws
 pub mod WordLaws

@@ -49,12 +49,12 @@ pub fn waits_come_to_one_of_three()
     ensures { WaitsComeToOneOfThree }
 {}
 
-/// Images that are given back leave what the core keeps, the clocks and the stamps.
+/// Images that are given back, and getters, leave what the core keeps, the clocks and the stamps.
 pub fn free_entries_leave()
     ensures { FreeEntriesLeave }
 {}
 
-/// An entry that is none of the compositor's and claims no image comes to the same behind images that were given back.
+/// An entry that is none of the compositor's and claims no image comes to the same behind images that were given back and getters.
 pub fn entries_are_carried()
     ensures { EntriesAreCarried }
 {}

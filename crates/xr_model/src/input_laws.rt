@@ -1,12 +1,32 @@
 //! The laws of what a sync hears, what inputs give, and what columns show.
-ghost use Rattle.xr_model.specs.laws.ColumnLaws.{GettersReadTheNamedColumn, ColumnsGoWithTheSession, ColumnsGoWithTheAction};
-ghost use Rattle.xr_model.specs.laws.InputLaws.{BindingsAreOfTheConnected, HeardAreListed, LiveHaveTheLargestPriority, InputsGiveFromTheirEvents, ChangesAreTold, UnfocusedSyncsAreInactive, ActionsDeclareTheirAtoms};
+ghost use Rattle.xr_model.specs.laws.ColumnLaws.{GettersReadTheNamedColumn, GettersTellTheirColumns, ColumnsGoWithTheSession, ColumnsGoWithTheAction, OthersKeepWhatTheyShow};
+ghost use Rattle.xr_model.specs.laws.InputLaws.{BindingsAreOfTheConnected, HeardAreListed, LiveHaveTheLargestPriority, InputsGiveFromTheirEvents, VectorsAreTheirAxes, ChangesAreTold, UnfocusedSyncsAreInactive, ActionsDeclareTheirAtoms};
+ghost use Rattle.xr_model.specs.laws.SyncLaws.{PicksAreNamed};
+ghost use Rattle.xr_model.specs.laws.SyncedLaws.{SuggestionsAreBindings, BindingsAreRanked, SyncsHearTheirItems, ColumnsHaveTheirBindings, SyncsShowWhatIsFound};
+
+/// What a suggested path picks is what it names, in whole or without its component: an input of its user path, both axes of one, the grip
+/// or the aim of a hand, or an output.
+pub fn picks_are_named()
+    ensures { PicksAreNamed }
+{}
 
 /// Each binding of a sync was suggested for the profile that is connected at its own user path, and is told its action's set, type and
 /// user paths.
 #[tactic(auto, using(crate::proofs::HeardBindings::bindings_are_of_the_connected))]
 pub fn bindings_are_of_the_connected()
     ensures { BindingsAreOfTheConnected }
+{}
+
+/// What is suggested at a user path for the profile that is connected there is a binding of a sync, as long as its action is listed.
+#[tactic(auto, using(crate::proofs::SyncBindings::suggestions_are_bindings))]
+pub fn suggestions_are_bindings()
+    ensures { SuggestionsAreBindings }
+{}
+
+/// After a legal history each binding of a sync has the place in which its action's handle stands, and the priority of its set.
+#[tactic(auto, using(crate::proofs::SyncBindings::bindings_are_ranked))]
+pub fn bindings_are_ranked()
+    ensures { BindingsAreRanked }
 {}
 
 /// A binding is heard exactly where the call lists its set, for all user paths or for the binding's own.
@@ -21,10 +41,36 @@ pub fn live_have_the_largest_priority()
     ensures { LiveHaveTheLargestPriority }
 {}
 
+/// A sync that succeeds hears just the bindings whose sets its items name, with 0 or with the atom of the binding's user path.
+#[tactic(auto, using(crate::proofs::SyncedColumns::syncs_hear_their_items))]
+pub fn syncs_hear_their_items()
+    ensures { SyncsHearTheirItems }
+{}
+
+/// A column has just the live bindings of its action, in their order: the first one all of them, and that of a user path which the action
+/// declares those at that user path.
+#[tactic(auto, using(crate::proofs::SyncedColumns::columns_have_their_bindings))]
+pub fn columns_have_their_bindings()
+    ensures { ColumnsHaveTheirBindings }
+{}
+
+/// Behind a sync that succeeds of a focused session, each column shows the numbers and the pose that its live bindings come to, and tells
+/// the change from what it showed, at the time of the device's clock.
+#[tactic(auto, using(crate::proofs::SyncedColumns::syncs_show_what_is_found))]
+pub fn syncs_show_what_is_found()
+    ensures { SyncsShowWhatIsFound }
+{}
+
 /// From its event on, a click or a touch is down from the value 1 up and is the whole of a float, a value isn't below 0, an axis is as it
 /// was told, and an analogue input is down from the upper threshold up and not below the lower one.
 pub fn inputs_give_from_their_events()
     ensures { InputsGiveFromTheirEvents }
+{}
+
+/// After every history whose events have their numbers in range, a vector has both its axes as they were told last, the first in front.
+#[tactic(auto, using(crate::proofs::InputsGive::vectors_are_their_axes))]
+pub fn vectors_are_their_axes()
+    ensures { VectorsAreTheirAxes }
 {}
 
 /// An active column has changed exactly where it shows another number than before, an inactive one counting as zero; the time is that of
@@ -52,6 +98,13 @@ pub fn getters_read_the_named_column()
     ensures { GettersReadTheNamedColumn }
 {}
 
+/// After a legal history whose events have their numbers in range, a getter that succeeds tells the column of the user path that it names,
+/// or of all by 0, in the place of its action: its numbers, whether it has changed and since when, and whether it is active.
+#[tactic(auto, using(crate::proofs::GetterColumns::getters_tell_their_columns))]
+pub fn getters_tell_their_columns()
+    ensures { GettersTellTheirColumns }
+{}
+
 /// Where a session is destroyed, no column is active behind it.
 #[tactic(auto, using(crate::proofs::ColumnsGone::columns_go_with_the_session))]
 pub fn columns_go_with_the_session()
@@ -62,4 +115,11 @@ pub fn columns_go_with_the_session()
 #[tactic(auto, using(crate::proofs::ColumnsGone::columns_go_with_the_action))]
 pub fn columns_go_with_the_action()
     ensures { ColumnsGoWithTheAction }
+{}
+
+/// Where an action or a set is destroyed in a legal history, the actions that are left show what they showed, and a space that is left is as
+/// it was, but where it moved with an action that went.
+#[tactic(auto, using(crate::proofs::ColumnsKept::others_keep_what_they_show))]
+pub fn others_keep_what_they_show()
+    ensures { OthersKeepWhatTheyShow }
 {}

@@ -1,5 +1,5 @@
 //! The laws of what refuses calls by limits, names, versions and times, in the standard's words.
-ghost use Rattle.xr_model.specs.laws.AskedLaws.{InstancesAreOfOneVersion, SessionsAreOfTheOneSystem, LocationsAreAtTimes, TextsFitTheirBuffers, NamesOfSetsAreTaken, NamesOfActionsAreTaken, UserPathsAreNamedOnce, NamesAreOfForms, SetsAreAttachedOnce, SyncedSetsAreAttached, ActionSpacesAreOfPoses, BindingsAreOfNewSets, GettersAreOfTheirTypes};
+ghost use Rattle.xr_model.specs.laws.AskedLaws.{InstancesAreOfOneVersion, SessionsAreOfTheOneSystem, LocationsAreAtTimes, TextsFitTheirBuffers, NamesOfSetsAreTaken, NamesOfActionsAreTaken, UserPathsAreNamedOnce, NamesAreOfForms, SetsAreAttachedOnce, SyncedSetsAreAttached, ActionSpacesAreOfPoses, BindingsAreOfNewSets, GettersAreOfTheirTypes, GettersAreOfAttachedSets};
 ghost use Rattle.xr_model.specs.laws.LimitLaws.{LimitsAreOfTheLive};
 
 /// After every history the last condition that refuses a creation is that as many handles of its kind are live as may be.
@@ -74,4 +74,9 @@ pub fn bindings_are_of_new_sets()
 /// A getter takes, behind its handles and its action's set, an action of its own type.
 pub fn getters_are_of_their_types()
     ensures { GettersAreOfTheirTypes }
+{}
+
+/// A getter whose session is a live one takes, behind its handles, an action whose set that session has attached.
+pub fn getters_are_of_attached_sets()
+    ensures { GettersAreOfAttachedSets }
 {}

@@ -1,5 +1,5 @@
 //! The laws of where spaces are: what a new space is, and what a location tells.
-ghost use Rattle.xr_model.specs.laws.LocationLaws.{ReferenceSpacesAreAsAsked, ActionSpacesFollowTheirColumns, PosesFollowColumns, LocationsAreFactors};
+ghost use Rattle.xr_model.specs.laws.LocationLaws.{ReferenceSpacesAreAsAsked, ActionSpacesFollowTheirColumns, ReferenceSpacesHaveTheirOrigins, PosesFollowColumns, LocationsAreFactors};
 
 /// In a legal history a reference space that is created moves with the origin of its kind, and has the offset that was asked for.
 #[tactic(auto, using(crate::proofs::Locations::reference_spaces_are_as_asked))]
@@ -12,6 +12,12 @@ pub fn reference_spaces_are_as_asked()
 #[tactic(auto, using(crate::proofs::Locations::action_spaces_follow_their_columns))]
 pub fn action_spaces_follow_their_columns()
     ensures { ActionSpacesFollowTheirColumns }
+{}
+
+/// A reference space has the pose of the origin that has the name of its kind: the view's, the local one's, or the stage's.
+#[tactic(auto, using(crate::proofs::Locations::reference_spaces_have_their_origins))]
+pub fn reference_spaces_have_their_origins()
+    ensures { ReferenceSpacesHaveTheirOrigins }
 {}
 
 /// A space that moves with a column has the pose of the origin which the column has, where that is active, and else none.

@@ -10,15 +10,16 @@ use Rattle.xr_model.specs.machine.PublicationWords.{words}
 use Rattle.xr_model.specs.laws.ImageWords.{FitsCall}
 use Rattle.xr_model.specs.machine.State.{CoreState}
 use Rattle.xr_rule.specs.Shows.{buffers, buffer_words, exit_word, state_word}
-use Rattle.xr_rule.specs.View.{Know, Hold, View, Turn, Eyes, Idle, Waiting, Holding, Keeps, Writes, sight, view, history_with}
-use Rattle.xr_rule.specs.Rule.{image_word, stamp_word, state_at, MayNote, MayClaim, MayReturn, front_word, FollowsRule}
-use Rattle.xr_rule.specs.Plays.{PublishesNone, published_by, Draws, Looks, Notes, Serves, Makes, Peeks, Claims, GivesBack, Searches, Finds, Changes, Swaps}
+use Rattle.xr_rule.specs.View.{Know, Hold, View, Turn, Eyes, Idle, Waiting, Holding, Inside, Keeps, Writes, sight, view, history_with}
+use Rattle.xr_rule.specs.Rule.{image_word, stamp_word, state_at, MayNote, MayClaim, MayReturn, MayRead, front_word, FollowsRule}
+use Rattle.xr_rule.specs.Plays.{PublishesNone, published_by, Draws, Looks, Notes, Serves, Makes, Peeks, Claims, GivesBack, Searches, Finds, Changes, Swaps, EntersFor, Reads, Leaves}
 use Rattle.xr_rule.proofs.Steps.{draws, looks, notes}
 use Rattle.xr_rule.proofs.Serving.{serves}
 use Rattle.xr_rule.proofs.HolderSteps.{pins, frees, stamps, peeks}
 use Rattle.xr_rule.proofs.ClaimSteps.{claims}
 use Rattle.xr_rule.proofs.Returning.{returns}
 use Rattle.xr_rule.proofs.Publishing.{searches, finds, changes, swaps}
+use Rattle.xr_rule.proofs.Reading.{enters, reads, leaves}
 
 module _ {S : Type 0} (stands : List ℕ → S → CoreState → Type 0) (key n id : ℕ) (m : Me (Option S) View) (one : n ≡ 1) where
   pub draws_at : (k : Know) (c : List (ℕ × Option S)) → m ≡ (view k Idle, c) → 0 < length k.own → Allows (FollowsRule stands key) n id m 0 (λ x. (x + 1) % 2 ^ 64) (Draws (step n 0 1 0 none) m)
@@ -66,3 +67,12 @@ module _ {S : Type 0} (stands : List ℕ → S → CoreState → Type 0) (key n 
   pub swaps_at : (k : Know) (h : Hold) (e : Entry) (cs : List ℕ) (b word x : ℕ) (xs : List ℕ) (c : List (ℕ × Option S)) → m ≡ (sight k (Holding h) (Writes cs b xs), c) → h.noted ≡ Some e → xs ≡ words (published_by k (h.look ++ e ∷ [])) → word ≡ front_word → x ≡ b + 16 * get_or cs b 0
       → Allows (FollowsRule stands key) n id m word (λ _. x) (Swaps (step n word x 0 none) m)
   swaps_at k h e cs b word x xs c is noted whole front at = subst (λ (z : ℕ × ℕ × Me (Option S) View). Allows (FollowsRule stands key) z.0 id z.2 z.1 (λ _. x) (Swaps (step z.0 z.1 x 0 none) z.2)) (λ i. (sym one i, sym front i, sym is i)) (swaps stands key id k h e cs b x xs c noted whole at)
+
+  pub enters_at : (k : Know) (e : Entry) (word : ℕ) (c : List (ℕ × Option S)) → m ≡ (view k Idle, c) → word ≡ front_word → MayRead k e → Allows (FollowsRule stands key) n id m word (λ x. (x + 16) % 2 ^ 64) (EntersFor e (step n word 16 0 none) m)
+  enters_at k e word c is front may = subst (λ (z : ℕ × ℕ × Me (Option S) View). Allows (FollowsRule stands key) z.0 id z.2 z.1 (λ x. (x + 16) % 2 ^ 64) (EntersFor e (step z.0 z.1 16 0 none) z.2)) (λ i. (sym one i, sym front i, sym is i)) (enters stands key id k e c may)
+
+  pub reads_at : (k : Know) (u : Turn) (b i word : ℕ) (p : List ℕ) (c : List (ℕ × Option S)) → m ≡ (sight k u (Inside b p), c) → word ≡ state_word front_word b i → i < length p → Allows (FollowsRule stands key) n id m word (λ x. x) (Reads (step n word 0 0 none) m)
+  reads_at k u b i word p c is at inside = subst (λ (z : ℕ × Me (Option S) View). Allows (FollowsRule stands key) z.0 id z.1 word (λ x. x) (Reads (step z.0 word 0 0 none) z.1)) (λ i. (sym one i, sym is i)) (reads stands key id k u b i word p c at inside)
+
+  pub leaves_at : (k : Know) (u : Turn) (b word : ℕ) (p : List ℕ) (c : List (ℕ × Option S)) → m ≡ (sight k u (Inside b p), c) → word ≡ exit_word front_word b → Allows (FollowsRule stands key) n id m word (λ x. (x + 1) % 2 ^ 64) (Leaves (step n word 1 0 none) m)
+  leaves_at k u b word p c is at = subst (λ (z : ℕ × Me (Option S) View). Allows (FollowsRule stands key) z.0 id z.1 word (λ x. (x + 1) % 2 ^ 64) (Leaves (step z.0 word 1 0 none) z.1)) (λ i. (sym one i, sym is i)) (leaves stands key id k u b word p c at)

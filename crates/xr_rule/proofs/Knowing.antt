@@ -6,7 +6,11 @@ use mathlib.Core.List.{IsPrefix}
 use native.Mathlib.Decide.{ℕ_discrete, dec_le}
 use lib.ListN.{get_elem?}
 use Rattle.atomic_table.proofs.Lists.{at_set, at_snoc, at_longer, set_here, set_else}
+use Rattle.xr_types.specs.declared.calls.Actor.{Actor}
+use Rattle.xr_types.specs.declared.calls.Call.{Call}
+use Rattle.xr_types.specs.declared.calls.Call.TheVariants as ask
 use Rattle.xr_model.specs.machine.CoreCalls.{asked}
+use Rattle.xr_model.specs.laws.WordLaws.{has_good_numbers}
 use Rattle.xr_model.specs.machine.Calls.{Entry, Exchange}
 use Rattle.xr_model.specs.machine.Rule.{is_by}
 use Rattle.xr_model.specs.laws.FewCalls.{HasFew}
@@ -17,7 +21,7 @@ use Rattle.xr_model.proofs.Rows.{both_of}
 use Rattle.xr_rule.specs.Sums.{total}
 use Rattle.xr_rule.specs.View.{Own, Know, know, own_of, with_call, with_seen, is_of, owns, parts, numbers_from, all_numbers, spent_know, longer, know_after}
 use Rattle.xr_model.specs.laws.MomentLaws.{are_by_callers}
-use Rattle.xr_rule.specs.Rule.{Knows, OneHistory, MayDecide, HasAll}
+use Rattle.xr_rule.specs.Rule.{have_good_numbers, Knows, OneHistory, MayDecide, HasAll}
 use Rattle.xr_rule.proofs.Histories.{IsBy, calls-mine, calls-other, calls-between}
 use Rattle.xr_rule.proofs.Prefixes.{prefix_self, prefix_more, prefix_trans, prefix_whole, prefix_length, longer_is}
 use Rattle.xr_rule.proofs.Sums.{at_in, at_one, at_append, empty_list, total-append, total-set, term_le, terms_le}
@@ -67,6 +71,16 @@ callers_more (x ∷ xs) e all one =
     let two = both_of (is_by (asked x.actor x.call).caller x.actor) (are_by_callers xs) all in
     rw two.0 (callers_more xs e two.1 one)
 
+numbers_are_good : (who : Actor) (what : Call) → (asked who what).in_range ≡ true → has_good_numbers what ≡ true
+numbers_are_good who (ask.Device what) is = is
+numbers_are_good who what is = refl
+
+good_more : (log : List Entry) (e : Entry) → have_good_numbers log ≡ true → has_good_numbers e.call ≡ true → have_good_numbers (log ++ e ∷ []) ≡ true
+good_more [] e all one = rw one refl
+good_more (x ∷ xs) e all one =
+    let two = both_of (has_good_numbers x.call) (have_good_numbers xs) all in
+    rw two.0 (good_more xs e two.1 one)
+
 pub history_decides : (key : ℕ) (log : List Entry) (ks : List Know) (id : ℕ) (e : Entry) (o : Own) (os : List Own) (s : List Entry) → OneHistory key log ks → get_elem? ks id ≡ some (know key (o ∷ os) s)
     → MayDecide (know key (o ∷ os) s) log e → OneHistory key (log ++ e ∷ []) (set ks id (know_after (know key (o ∷ os) s) log e))
 history_decides key log ks id e o os s t at may =
@@ -82,6 +96,7 @@ history_decides key log ks id e o os s t at may =
     record {
       legal = legal_grows (opening_moment key) log e t.legal may.comes;
       by_callers = callers_more log e t.by_callers may.caller;
+      good = good_more log e t.good (numbers_are_good e.actor e.call may.numbers);
       each = λ j u h. ⊎_elim
           (λ (q : (j ≡ id) × (w ≡ u)). subst (λ (x : Know). Knows key (log ++ e ∷ []) x) q.1 record {
             apps_are = inr refl;
@@ -127,6 +142,7 @@ history_splits key log ks id a o p os s t at =
     record {
       legal = t.legal;
       by_callers = t.by_callers;
+      good = t.good;
       each = λ j u h. ⊎_elim
           (λ (h₁ : get_elem? (set ks id l) j ≡ some u). ⊎_elim (λ (q : (j ≡ id) × (l ≡ u)). subst (λ (x : Know). Knows key log x) q.1 left) (λ (q : (j ≢ id) × (get_elem? ks j ≡ some u)). t.each j u q.1) (at_set ks id j l u h₁))
           (λ (q : r ≡ u). subst (λ (x : Know). Knows key log x) q right) (at_snoc (set ks id l) r u j h);
@@ -215,6 +231,7 @@ history_joins key log ks id other k u t at apart there some_own =
     record {
       legal = t.legal;
       by_callers = t.by_callers;
+      good = t.good;
       each = λ j x h. ⊎_elim (λ (q : (j ≡ other) × (spent_know ≡ x)). subst (λ (z : Know). Knows key log z) q.1 (spent_knows key log))
           (λ (q : (j ≢ other) × (get_elem? vs j ≡ some x)). ⊎_elim (λ (y : (j ≡ id) × (w ≡ x)). subst (λ (z : Know). Knows key log z) y.1 joins) (λ (y : (j ≢ id) × (get_elem? ks j ≡ some x)). t.each j x y.1) (at_set ks id j w x q.1))
           (at_set vs other j (spent_know) x h);
@@ -249,6 +266,7 @@ history_keeps key log ks id k t at =
     record {
       legal = t.legal;
       by_callers = t.by_callers;
+      good = t.good;
       each = λ j u h. ⊎_elim (λ (q : get_elem? ks j ≡ some u). t.each j u q) (λ (q : r ≡ u). subst (λ (x : Know). Knows key log x) q right) (at_snoc ks r u j h);
       owners = λ n h. omega (arith, total-append (owns n) ks (r ∷ []), t.owners n h);
       nobody = λ n h. omega (arith, total-append (owns n) ks (r ∷ []), t.nobody n h);
@@ -323,6 +341,7 @@ pub history_opens : (key : ℕ) → OneHistory key [] (know key (all_numbers key
 history_opens key = let k : Know = know key (all_numbers key) [] in record {
   legal = tt;
   by_callers = refl;
+  good = refl;
   each = λ j u h. first_only j u h;
   owners = λ n l. omega (arith, all_once key n l);
   nobody = λ n l. omega (arith, all_none key n l);

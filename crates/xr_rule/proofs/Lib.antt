@@ -16,6 +16,9 @@ pub mod HolderSteps
 pub mod Returning
 pub mod ClaimSteps
 pub mod Publishing
+pub mod Getters
+pub mod Reading
+pub mod Resting
 pub mod Opening
 pub mod Moves
 pub mod Starts

@@ -56,12 +56,16 @@ says_far st ws n v Idle far w = tt
 says_far st ws n v (Waiting t) far w = tt
 says_far st ws n v (Holding h) far w = words_far st h.made ws n v far w
 
-images_far : (st : State) (ws : List ℕ) (n v : ℕ) (us : List Turn) → front_word ≤ n → ImageWords st ws us → ImageWords st (set ws n v) us
+pub images_far : (st : State) (ws : List ℕ) (n v : ℕ) (us : List Turn) → front_word ≤ n → ImageWords st ws us → ImageWords st (set ws n v) us
 images_far st ws n v us far i = record { held = λ j u e. says_far st ws n v u far (i.held j u e); free = λ none_holds. words_far st [] ws n v far (i.free none_holds) }
+
+-- a look leaves every word
+pub same_words : (ws : List ℕ) (n i : ℕ) → get_or (set ws n (get_or ws n 0)) i 0 ≡ get_or ws i 0
+same_words ws n i = ap (λ (us : List ℕ). get_or us i 0) (set-get_or ws n 0)
 
 module _ {S : Type 0} (stands : List ℕ → S → CoreState → Type 0) where
   -- a seat sees anew, by a step on a word of what is published
-  sees_anew : (key id : ℕ) (k : Know) (u : Turn) (y z : Eyes) (n v : ℕ) (s : Table (Option S) View) (r : FollowsRule stands key s) → get_elem? s.views id ≡ some (sight k u y) → front_word ≤ n
+  pub sees_anew : (key id : ℕ) (k : Know) (u : Turn) (y z : Eyes) (n v : ℕ) (s : Table (Option S) View) (r : FollowsRule stands key s) → get_elem? s.views id ≡ some (sight k u y) → front_word ≤ n
       → Shows front_word (published_words key r.log) r.entered (set s.words n v) (set (eyes s) id z) → is_writing z ≡ is_writing y → reads_some z ≤ reads_some y
       → FollowsRule stands key record { words = set s.words n v; homes = s.homes; views = set s.views id (sight k u z) }
   sees_anew key id k u y z n v s r at far shown same less =
@@ -78,10 +82,6 @@ module _ {S : Type 0} (stands : List ℕ → S → CoreState → Type 0) where
       (subst (λ (us : List Turn). ImageWords (moment_after (opening_moment key) r.log).state ws us) (sym (set_again (turns s) id u there)) (images_far (moment_after (opening_moment key) r.log).state s.words n v (turns s) far r.images))
       shown
       record { numbered = fit.numbered; holds = fit.holds; holds_eyes = same ∙ fit.holds_eyes; reads_own = omega (arith, less, fit.reads_own) }
-
-  -- a look leaves every word
-  same_words : (ws : List ℕ) (n i : ℕ) → get_or (set ws n (get_or ws n 0)) i 0 ≡ get_or ws i 0
-  same_words ws n i = ap (λ (us : List ℕ). get_or us i 0) (set-get_or ws n 0)
 
   -- ---- the search
 

@@ -1,5 +1,5 @@
 -- The compositor gives an image back without the lock, also while another seat holds.
-use Rattle.std.proofs.Common.{◌≡◌, ◌≢◌, ℕ, ◌+◌, ◌-◌, ◌%◌, ◌^◌, ◌<◌, ◌==◌, Bool, true, false, List, [], ◌∷◌, ◌++◌, length, get_or, set, sym, refl, ap, ◌∙◌, subst, ⊎_elim, arith, Option, length-set, get_or-set_same, get_or-set_other, append_assoc, true≢false}
+use Rattle.std.proofs.Common.{◌≡◌, ◌≢◌, ℕ, ◌+◌, ◌-◌, ◌%◌, ◌^◌, ◌<◌, ◌==◌, Bool, true, false, List, [], ◌∷◌, ◌++◌, length, get_or, set, sym, refl, ap, ◌∙◌, subst, ⊎_elim, arith, Option, length-set, get_or-set_same, get_or-set_other, true≢false}
 use mathlib.Core.Option.{some, none}
 use lib.ListN.{get_elem?}
 use Rattle.atomic_table.specs.Table.{State as Table, step, keeps, Allows}
@@ -18,20 +18,20 @@ use Rattle.xr_model.specs.laws.ImageLaws.{IsPlaced, is_had}
 use Rattle.xr_model.specs.laws.Moments.{Moment, opening_moment, moment_after, IsLegalAt, exchange_at, actor_at}
 use Rattle.xr_model.proofs.GivingBack.{giving_back_leaves_the_core}
 use Rattle.xr_model.proofs.Histories.{after_is_in_turn}
-use Rattle.xr_model.proofs.Rows.{same_key, itself, both_of}
+use Rattle.xr_model.proofs.Rows.{same_key, itself}
 use Rattle.xr_model.proofs.SoundImages.{sound_history}
-use Rattle.xr_model.specs.laws.ImageWords.{word_of, word_after, stamp_after, FitsCall, is_free, are_free}
+use Rattle.xr_model.specs.laws.ImageWords.{word_of, word_after, stamp_after, FitsCall}
 use Rattle.xr_model.proofs.CallWords.{word_more, slot_within}
 use Rattle.xr_model.proofs.FreeEntries.{stamps_left}
 use Rattle.xr_model.proofs.HeldReturns.{held_placed, held_unowned, done_returns, done_comes}
 use Rattle.xr_model.proofs.WordSteps.{word_returns}
 use Rattle.xr_rule.specs.Shows.{Shows}
 use Rattle.xr_rule.specs.View.{Know, Turn, View, Idle, Waiting, Holding, Out, view, know_of, turn_of, number_in, calls_in, know_after, out}
-use Rattle.xr_rule.specs.Rule.{OneHistory, Tickets, Grew, HoldsIf, image_word, stamp_word, WordsSay, WordsSayIf, MayDecide, MayReturn, HoldFits, HoldFitsIf, FollowsRule, front_word, word_count, first_image}
+use Rattle.xr_rule.specs.Rule.{OneHistory, Tickets, HoldsIf, image_word, stamp_word, WordsSay, WordsSayIf, MayDecide, MayReturn, HoldFits, HoldFitsIf, FollowsRule, front_word, word_count, first_image}
 use Rattle.xr_rule.specs.Plays.{Sees, done_entry, GivesBack}
 use Rattle.xr_rule.proofs.Sums.{at_in, at_unmap}
 use Rattle.xr_rule.proofs.Turning.{turns_keep}
-use Rattle.xr_rule.proofs.Carrying.{leaves_at, held_seen}
+use Rattle.xr_rule.proofs.Carrying.{leaves_at, held_seen, holds_more}
 use Rattle.xr_rule.proofs.Serving.{call_length, decides_own}
 use Rattle.xr_rule.proofs.HolderSteps.{else_word}
 use Rattle.xr_rule.proofs.Published.{same_published}
@@ -122,7 +122,7 @@ module _ {S : Type 0} (stands : List ℕ → S → CoreState → Type 0) where
         whole stands key s (set s.words (image_word i) v) s.homes id (view n Idle) log r.drawn r.served r.entered r.fits (length-set s.words (image_word i) v ∙ wide) r.few told
             (subst (λ (x : ℕ × ℕ). Tickets x.0 x.1 r.drawn r.served (set (turns s) id Idle)) (λ q. (sym zero_is q, sym one_is q)) (turns_keep (get_or s.words 0 0) (get_or s.words 1 0) r.drawn r.served (turns s) id Idle Idle r.tickets there refl (λ m. refl)))
             record {
-              held = λ j u q. ⊎_elim (λ (p : (j ≡ id) × (Idle ≡ u)). subst (HoldsIf log r.served) p.1 tt) (λ (p : (j ≢ id) × (get_elem? (turns s) j ≡ some u)). grows r.log r.served u (r.slot.held j u p.1)) (at_set (turns s) id j Idle u q);
+              held = λ j u q. ⊎_elim (λ (p : (j ≡ id) × (Idle ≡ u)). subst (HoldsIf log r.served) p.1 tt) (λ (p : (j ≢ id) × (get_elem? (turns s) j ≡ some u)). holds_more r.log r.served done_entry u refl (r.slot.held j u p.1)) (at_set (turns s) id j Idle u q);
               free = λ none_holds. let home = r.slot.free (none_before (turns s) id Idle Idle there refl none_holds) in (home.0, home.1, subst (stands r.entered home.0) (sym core_same) home.2);
             }
             record {
@@ -146,22 +146,6 @@ module _ {S : Type 0} (stands : List ℕ → S → CoreState → Type 0) where
         comes = done_comes (moment_after (opening_moment k.apps) look);
         few = may_add (number_in k.own) (moment_after (opening_moment k.apps) look) (calls_in k.own) is unended;
       }
-
-      grew_more : (log look : List Entry) → Grew look log → Grew look (log ++ done_entry ∷ [])
-      grew_more log look g = record {
-        more = g.more ++ done_entry ∷ [];
-        is = sym (append_assoc look g.more (done_entry ∷ [])) ∙ ap (λ (l : List Entry). l ++ done_entry ∷ []) g.is;
-        free = free_more g.more g.free;
-      }
-        where
-          free_more : (es : List Entry) → are_free es ≡ true → are_free (es ++ done_entry ∷ []) ≡ true
-          free_more [] free = refl
-          free_more (f ∷ es) free = let two = both_of (is_free f) (are_free es) free in rw (two.0, free_more es two.1) refl
-
-      grows : (log : List Entry) (served : ℕ) (u : Turn) → HoldsIf log served u → HoldsIf (log ++ done_entry ∷ []) served u
-      grows log served Idle h = tt
-      grows log served (Waiting n) h = tt
-      grows log served (Holding x) h = record { is_served = h.is_served; grew = grew_more log x.look h.grew }
 
       given_if : (key : ℕ) (s : Table (Option S) View) (r : FollowsRule stands key s) (j : ℕ) (u : Turn) (held : (moment_after (opening_moment key) r.log).state.cells.held ≡ i ∷ may.rest) → IsLegalAt (opening_moment key) (r.log ++ done_entry ∷ [])
           → get_elem? (turns s) j ≡ some u → HoldsIf r.log r.served u → WordsSayIf (moment_after (opening_moment key) r.log).state s.words u

@@ -16,7 +16,7 @@ use Rattle.xr_model.specs.laws.ImageLaws.{did_at}
 use Rattle.xr_model.specs.laws.Moments.{opening_moment, moment_after, IsLegalAt, exchange_at, actor_at, calls_by}
 use Rattle.xr_model.specs.laws.PublicationLaws.{none_is_by}
 use Rattle.xr_model.proofs.Histories.{after_is_in_turn}
-use Rattle.xr_model.specs.laws.ImageWords.{word_of, stamp_of, word_after, stamp_after, claimed_by}
+use Rattle.xr_model.specs.laws.ImageWords.{word_of, stamp_of, word_after, stamp_after, claimed_by, are_getters}
 use Rattle.xr_model.proofs.FreeEntries.{told_as_unused}
 use Rattle.xr_model.proofs.CellsTold.{same_by}
 use Rattle.xr_model.proofs.WordSteps.{word_steps, stamp_steps, all_stamps}
@@ -28,7 +28,7 @@ use Rattle.xr_rule.specs.Plays.{Sees, Decides, DecidesBehind, PublishesNone, Ser
 use Rattle.xr_rule.proofs.Sums.{at_in}
 use Rattle.xr_rule.proofs.Knowing.{history_decides}
 use Rattle.xr_rule.proofs.Turning.{yes_ticket, turns_serve}
-use Rattle.xr_rule.proofs.Carrying.{none_behind, NoteAt, note_at, leaves_at}
+use Rattle.xr_rule.proofs.Carrying.{getters_behind, NoteAt, note_at, leaves_at}
 use Rattle.xr_rule.proofs.Histories.{calls-between, none-between}
 use Rattle.xr_rule.proofs.Published.{next_publishes_none, quiet_as}
 use Rattle.xr_rule.proofs.Showing.{shows_on}
@@ -51,8 +51,8 @@ call_length x (o ∷ os) = refl
 
 -- ---- what is noted, at the history's end
 
--- since its look none of a holder's own entries came, so behind the compositor's look nothing came
-alone_behind : (key : ℕ) (log : List Entry) (ks : List Know) (id : ℕ) (k : Know) (look : List Entry) → OneHistory key log ks → get_elem? ks id ≡ some k → 0 < length k.own → IsPrefix k.seen look → (g : Grew look log) → number_in k.own ≡ 1 → g.more ≡ []
+-- since its look none of a holder's own entries came, so behind the compositor's look getters alone came
+alone_behind : (key : ℕ) (log : List Entry) (ks : List Know) (id : ℕ) (k : Know) (look : List Entry) → OneHistory key log ks → get_elem? ks id ≡ some k → 0 < length k.own → IsPrefix k.seen look → (g : Grew look log) → number_in k.own ≡ 1 → are_getters g.more ≡ true
 alone_behind key log ks id k look t at some_own begins g is =
     let known = t.each id k at in
     let n : ℕ = number_in k.own in
@@ -61,7 +61,7 @@ alone_behind key log ks id k look t at some_own begins g is =
     let p : IsPrefix look log = (g.more, g.is) in
     let then : calls_by n (opening_moment key) look ≡ calls_in k.own = calls-between n (opening_moment key) k.seen look log (calls_in k.own) begins p earlier now in
     let none = none-between n (opening_moment key) look log p (then ∙ sym now) in
-    none_behind look g.more (subst (λ (l : List Entry). are_by_callers l ≡ true) (sym g.is) t.by_callers) g.free (subst (λ (m : ℕ). none_is_by (actor_at m) g.more ≡ true) is none)
+    getters_behind look g.more (subst (λ (l : List Entry). are_by_callers l ≡ true) (sym g.is) t.by_callers) g.free (subst (λ (m : ℕ). none_is_by (actor_at m) g.more ≡ true) is none)
 
 pub noted_at : (key : ℕ) (log : List Entry) (ks : List Know) (id : ℕ) (k : Know) (h : Hold) (e : Entry) → OneHistory key log ks → get_elem? ks id ≡ some k → 0 < length k.own → IsPrefix k.seen h.look → Grew h.look log → MayNote k h.look h.made e → NoteAt k h.look log h.made e
 noted_at key log ks id k h e t at some_own begins g may = note_at k h.look log h.made e g (alone_behind key log ks id k h.look t at some_own begins g) may

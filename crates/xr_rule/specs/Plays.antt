@@ -1,5 +1,5 @@
 -- What each step tells its caller.
-use Rattle.std.specs.Prelude.{◌≡◌, ◌≢◌, ℕ, ◌+◌, ◌/◌, ◌%◌, ◌^◌, ◌<◌, Bool, true, false, List, [], ◌∷◌, ◌++◌, slice_index, slice_set, Option, Some, IfSome, MatchOption}
+use Rattle.std.specs.Prelude.{◌≡◌, ◌≢◌, ℕ, ◌+◌, ◌/◌, ◌%◌, ◌^◌, ◌<◌, ◌≤◌, Bool, true, false, List, [], ◌∷◌, ◌++◌, length, slice_index, slice_set, Option, Some, IfSome, MatchOption}
 use Rattle.atomic_table.specs.Table.{Me, Step}
 use Rattle.xr_types.specs.declared.calls.Actor.TheVariants.{Compositor}
 use Rattle.xr_types.specs.declared.frames.Image.{Image}
@@ -15,9 +15,11 @@ use Rattle.xr_model.specs.laws.Moments.{opening_moment, moment_after, IsLegalAt,
 use Rattle.xr_model.specs.laws.PublicationLaws.{none_is_by}
 use Rattle.xr_model.specs.laws.ImageWords.{stamp_of, stamp_after, are_free}
 use Rattle.xr_model.specs.laws.MomentLaws.{are_by_callers}
-use Rattle.xr_rule.specs.Rule.{state_at}
-use Rattle.xr_rule.specs.Shows.{buffers, no_count}
-use Rattle.xr_rule.specs.View.{Know, Hold, View, Eyes, Idle, Waiting, Holding, Keeps, Writes, sight, view, hold_from, number_in, calls_in, know_after}
+use Rattle.xr_model.specs.machine.PublicationWords.{words}
+use Rattle.xr_model.specs.laws.WordLaws.{PublicationFits}
+use Rattle.xr_rule.specs.Rule.{state_at, front_word}
+use Rattle.xr_rule.specs.Shows.{buffers, buffer_words, state_word, no_count}
+use Rattle.xr_rule.specs.View.{Know, Hold, View, Eyes, Idle, Waiting, Holding, Inside, Keeps, Writes, sight, view, hold_from, number_in, calls_in, know_after}
 
 -- What a look tells a seat of the history: it begins with what the seat has seen, what has come since is by others, it is legal, each
 -- entry is by one who may ask for it, it has just those calls of the seat's actor that the seat keeps, and fewer than 2^44 of its calls
@@ -46,7 +48,7 @@ pub record Decides (k : Know) (look : List Entry) (e : Entry) (n : View) : Type 
   pub saw : Sees k look
   pub sees : Sees (know_after k look e) (look ++ e ∷ [])
 
--- Since the holder's look images were given back, and nothing else was decided. The entry came behind that, and comes to what it would
+-- Since the holder's look images were given back and getters read, and nothing else was decided. The entry came behind that, and comes to what it would
 -- have come to at the look.
 pub record DecidesBehind (k : Know) (look : List Entry) (e : Entry) (n : View) : Type 0 where
   pub more : List Entry
@@ -72,6 +74,16 @@ published_by k look = publication_of (state_at k look).core
 -- the holder's counts once its buffer is the front, where this number was found there
 abbrev pub counts_with : List ℕ → ℕ → ℕ → List ℕ
 counts_with cs b found = slice_set (slice_set cs b no_count) (found % 16) (found / 16)
+
+-- A seat enters the front, which decides its getter: the buffer has the words of what is published at that place.
+pub record Enters (k : Know) (e : Entry) (r : ℕ) (n : View) : Type 0 where
+  pub look : List Entry
+  pub saw : Sees k look
+  pub sees : Sees (know_after k look e) (look ++ e ∷ [])
+  pub is : n ≡ sight (know_after k look e) Idle (Inside (r % 16) (words (published_by k look)))
+  pub near : r % 16 < buffers
+  pub short : length (words (published_by k look)) ≤ buffer_words
+  pub fits : PublicationFits (published_by k look)
 
 -- The holder has decided its entry, which published, and holds on with these counts: its look is the history with the entry, and it has
 -- noted nothing. What came since its look comes before the entry, and the entry comes to what it would have come to at the look.
@@ -142,6 +154,16 @@ module _ {S : Type 0} where
   GivesBack st m r n = (look : List Entry) × Decides m.0.know look done_entry n.0 × (n.1 ≡ m.1)
 
   -- ---- words of what is published
+
+  abbrev pub EntersFor : Entry → Step (Option S) → Me (Option S) View → ℕ → Me (Option S) View → Type 0
+  EntersFor e st m r n = (n.1 ≡ m.1) × Enters m.0.know e r n.0
+
+  -- a word of the buffer that the seat is in is that of what was published
+  abbrev pub Reads : Step (Option S) → Me (Option S) View → ℕ → Me (Option S) View → Type 0
+  Reads st m r n = (n ≡ m) × ((b : ℕ) (p : List ℕ) (i : ℕ) → m.0.eyes ≡ Inside b p → st.word ≡ state_word front_word b i → i < length p → r ≡ slice_index p i)
+
+  abbrev pub Leaves : Step (Option S) → Me (Option S) View → ℕ → Me (Option S) View → Type 0
+  Leaves st m r n = n ≡ (view m.0.know m.0.turn, m.1)
 
   -- The holder looks at a buffer's exits: where they are as many as its entries, no seat is in it. The last buffer is never one that
   -- has seats in it, where all before it had.

@@ -4,6 +4,8 @@ use mathlib.Core.Option.{Option as Home, some}
 use mathlib.Core.List.{IsPrefix}
 use lib.ListN.{get_elem?}
 use Rattle.atomic_table.specs.Table.{State as Table}
+use Rattle.std.specs.List.{list_all}
+use Rattle.xr_types.specs.CallKinds.{is_getter}
 use Rattle.xr_types.specs.declared.frames.Image.{Image}
 use Rattle.xr_model.specs.scenario.InRange.{Each}
 use Rattle.xr_model.specs.machine.CellCalls.{CellCall}
@@ -20,6 +22,7 @@ use Rattle.xr_model.specs.laws.DecidedEntries.{is_image_done}
 use Rattle.xr_model.specs.laws.ImageLaws.{IsPlaced}
 use Rattle.xr_model.specs.laws.Moments.{opening_moment, moment_after, MayCome, IsLegalAt, actor_at, calls_by}
 use Rattle.xr_model.specs.laws.MomentLaws.{IsByActors, are_by_callers}
+use Rattle.xr_model.specs.laws.WordLaws.{has_good_numbers}
 use Rattle.xr_model.specs.laws.FewCalls.{HasFew, MayAdd, how_many, tells_end}
 use Rattle.xr_model.specs.laws.ImageWords.{word_of, stamp_of, word_after, stamp_after, FitsCall, claimed_by, are_free, Claims, late_of}
 use Rattle.xr_rule.specs.Sums.{total}
@@ -27,6 +30,10 @@ use Rattle.xr_rule.specs.Shows.{shown_words, Shows, is_writing, reads_some}
 use Rattle.xr_rule.specs.View.{Own, Know, Hold, Turn, View, Idle, Waiting, Holding, know_of, turn_of, eyes_of, number_in, calls_in, owns, parts, app_in, out, has_ticket, is_holder}
 
 -- ---- one history
+
+-- the numbers of each of these are in range
+abbrev pub have_good_numbers : List Entry → Bool
+have_good_numbers es = list_all (λ e. has_good_numbers e.call) es
 
 -- What one seat knows: what it has seen is the history's front, each of its numbers has the calls that it keeps, and these are few.
 pub record Knows (apps : ℕ) (log : List Entry) (k : Know) : Type 0 where
@@ -37,10 +44,12 @@ pub record Knows (apps : ℕ) (log : List Entry) (k : Know) : Type 0 where
   pub saw : (i : ℕ) (o : Own) → get_elem? k.own i ≡ some o → IsPrefix o.saw k.seen
   pub few : (i : ℕ) (o : Own) → get_elem? k.own i ≡ some o → HasFew o.number o.calls
 
--- The history is legal, each entry is by one who may ask for it, one seat has seen all of it, and each number is one seat's.
+-- The history is legal, each entry is by one who may ask for it and has its numbers in range, one seat has seen all of it, and each number
+-- is one seat's.
 pub record OneHistory (apps : ℕ) (log : List Entry) (knows : List Know) : Type 0 where
   pub legal : IsLegalAt (opening_moment apps) log
   pub by_callers : are_by_callers log ≡ true
+  pub good : have_good_numbers log ≡ true
   pub each : (j : ℕ) (k : Know) → get_elem? knows j ≡ some k → Knows apps log k
   pub owners : (n : ℕ) → n < apps + 2 → total (owns n) knows ≡ 1
   pub nobody : (n : ℕ) → apps + 2 ≤ n → total (owns n) knows ≡ 0
@@ -60,7 +69,7 @@ pub record Tickets (ticket serving drawn served : ℕ) (turns : List Turn) : Typ
 
 -- ---- the slot
 
--- since a look, the history grew by images that were given back alone
+-- since a look, the history grew by images that were given back and getters alone
 pub record Grew (look log : List Entry) : Type 0 where
   pub more : List Entry
   pub is : look ++ more ≡ log
@@ -159,6 +168,17 @@ pub record MayClaim (k : Know) (look : List Entry) (e : Entry) (i : Image) (late
   pub starts : StartsAt (clock_of (moment_after (opening_moment k.apps) look).clocks e.actor) e.call
   pub few : MayAdd (number_in k.own) (moment_after (opening_moment k.apps) look) e (calls_in k.own)
   pub late_is : late ≡ late_of (state_at k look).core.device.clock e.call
+
+-- An application's seat may read by a getter: it is the seat's own, gives and takes nothing, and the application was there when its seat last
+-- saw the history.
+pub record MayRead (k : Know) (e : Entry) : Type 0 where
+  pub is_own : e.actor ≡ actor_at (number_in k.own)
+  pub is_app : 2 ≤ number_in k.own
+  pub getter : is_getter e.call ≡ true
+  pub gives_none : e.given ≡ 0
+  pub not_short : e.short ≡ false
+  pub here : IsPresent (state_at k k.seen).core e.actor
+  pub few : length (calls_in k.own) < 2 ^ 40
 
 -- The compositor's seat may give this image back: it is the first of those that it knows as held, and it wasn't told the end.
 pub record MayReturn (k : Know) (i : Image) : Type 0 where

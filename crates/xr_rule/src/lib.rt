@@ -10,8 +10,8 @@ mod view;
 
 pub use held::Held;
 pub use plays::{
-    Change, Claim, Claiming, Cut, Draw, Find, GiveBack, Join, Keep, Look, Make, Making, Note,
-    Noting, Peek, Peeking, Search, Serve, Swap,
+    Change, Claim, Claiming, Cut, Draw, Enter, Find, GiveBack, Join, Keep, Leave, Look, Make,
+    Making, Note, Noting, Peek, Peeking, Read, Search, Serve, Swap,
 };
 pub use rule::{BUFFERS, Layout, NO_COUNT, XrRule, XrSeat, XrTable};
 pub use table::Finished;

@@ -3,7 +3,7 @@ ghost use Rattle.xr_model.specs.machine.Calls.{Entry};
 ghost use Rattle.std.specs.Prelude.{Bool, false};
 ghost use Rattle.xr_types.specs.declared.frames.Image.{Image};
 ghost use Rattle.xr_model.specs.machine.CellCalls.{CellCall, pin};
-ghost use Rattle.xr_rule.specs.Plays.{no_entry, Draws, Looks, Notes, Serves, Makes, Peeks, Claims, GivesBack, Searches, Finds, Changes, Swaps};
+ghost use Rattle.xr_rule.specs.Plays.{no_entry, Draws, Looks, Notes, Serves, Makes, Peeks, Claims, GivesBack, Searches, Finds, Changes, Swaps, EntersFor, Reads, Leaves};
 ghost use Rattle.xr_rule.specs.Seats.{stands_in};
 ghost use Rattle.xr_rule.specs.View.{staying_view, cut_view, keepsake, joined_view, spent_view};
 
@@ -143,6 +143,29 @@ pub struct Swap;
 
 impl<M: Machine> Play<Option<Held<M>>, View> for Swap {
     ghost then = { Swaps };
+}
+
+/// An application's seat enters the front, which decides its getter.
+pub struct Enter<J> {
+    of: PhantomData<J>,
+}
+
+impl<M: Machine, J: Noting> Play<Option<Held<M>>, View> for Enter<J> {
+    ghost then = { EntersFor J.entry };
+}
+
+/// A seat looks at a word of the buffer that it is in.
+pub struct Read;
+
+impl<M: Machine> Play<Option<Held<M>>, View> for Read {
+    ghost then = { Reads };
+}
+
+/// A seat leaves the buffer that it is in: it adds one to the buffer's exits.
+pub struct Leave;
+
+impl<M: Machine> Play<Option<Held<M>>, View> for Leave {
+    ghost then = { Leaves };
 }
 
 /// A seat gives its second number away to a new one.

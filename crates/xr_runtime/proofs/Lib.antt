@@ -4,6 +4,7 @@ pub mod Making
 pub mod Settling
 pub mod Returning
 pub mod Passing
+pub mod Reading
 pub mod Gathering
 pub mod Starting
 pub mod Begun

@@ -1,5 +1,5 @@
 -- A call under the lock: what is taken, lent, noted or decided, and given back, put together.
-use Rattle.std.proofs.Common.{◌≡◌, ℕ, zero, suc, ℤ, ◌<◌, ◌≤ℤ◌, pos, ◌^◌, Bool, true, false, List, [], ◌∷◌, ◌++◌, sym, refl, ap, ◌∙◌, subst, Option, Some, None, true≢false, append-nil}
+use Rattle.std.proofs.Common.{◌≡◌, ℕ, zero, suc, ℤ, ◌<◌, ◌≤ℤ◌, pos, ◌^◌, Bool, true, false, List, [], ◌∷◌, ◌++◌, sym, refl, ap, ◌∙◌, subst, Option, Some, None, true≢false}
 use Rattle.xr_types.specs.declared.calls.Actor.{Actor}
 use Rattle.xr_types.specs.declared.calls.Actor.TheVariants.{App, Compositor, Device}
 use Rattle.xr_types.specs.declared.calls.Call.{Call}
@@ -22,14 +22,16 @@ use Rattle.xr_model.specs.laws.FewCalls.{MayAdd}
 use Rattle.xr_model.specs.laws.ImageLaws.{is_next_frame}
 use Rattle.xr_model.specs.laws.Moments.{Moment, opening_moment, exchange_at, actor_at}
 use Rattle.xr_model.proofs.Histories.{after_is_in_turn}
+use Rattle.xr_model.specs.laws.ImageWords.{are_getters}
 use Rattle.xr_model.specs.laws.PublicationLaws.{none_is_by}
-use Rattle.xr_rule.proofs.Carrying.{none_behind, held_seen}
+use Rattle.xr_rule.proofs.Carrying.{getters_behind, moments_stay, held_seen}
 use Rattle.xr_rule.proofs.Histories.{none-between}
+use Rattle.xr_rule.proofs.Resting.{at_rest}
 use Rattle.xr_rule.specs.declared.held.Held.{Held}
 use Rattle.xr_rule.specs.Plays.{Decides, DecidesBehind, Publishes}
 use Rattle.xr_rule.specs.Rule.{state_at}
-use Rattle.xr_rule.specs.Seats.{holder, stands_in, IsBetween}
-use Rattle.xr_rule.specs.View.{Know, Hold, View, Eyes, Idle, Keeps, sight, view, number_in, calls_in, hold_from, know_after}
+use Rattle.xr_rule.specs.Seats.{holder, stands_in}
+use Rattle.xr_rule.specs.View.{Know, Hold, View, Eyes, Keeps, number_in, calls_in, hold_from, know_after}
 use Rattle.xr_lock.specs.Holders.{noted_entry, Taken, NotesCall, Noted, MayGive, Given}
 use Rattle.xr_snap.specs.Publishing.{HasPublished}
 use Rattle.xr_words.specs.Table.{wait_entry}
@@ -41,9 +43,6 @@ use Rattle.xr_runtime.proofs.Going.{here_at_look, clock_at_look}
 
 abbrev pub stands : List ℕ → Held WholeCore → CoreState → Type 0
 stands = stands_in keeps
-
-pub at_rest : (m : Has) → IsBetween m → m ≡ (view m.0.know Idle, [])
-at_rest m b = λ i. (sight m.0.know (b.idle i) (b.sees_none i), b.carries i)
 
 pub kept_is : (k : Know) (n : Has) (held : Held WholeCore) (taken : Taken stands k n held) → held.value.kept ≡ (state_at k taken.look).core
 kept_is k n held taken = taken.stands_now.1 opening_cells
@@ -239,20 +238,20 @@ module _ (m n : Has) (held : Held WholeCore) (core2 : WholeCore) (who : Actor) (
             some_is_none : (x : Entry) → ◌≡◌ {A = Option Entry} (Some x) None → ⊥
             some_is_none x bad = cc
 
-        -- where a frame was asked for, nothing came between
-        none_came : (v : View) (d : DecidesBehind k taken.look e v) → is_next_frame what ≡ true → d.more ≡ []
-        none_came v d frame =
+        -- where a frame was asked for, getters alone came between
+        getters_came : (v : View) (d : DecidesBehind k taken.look e v) → is_next_frame what ≡ true → are_getters d.more ≡ true
+        getters_came v d frame =
             let n : ℕ = number_in k.own in
             let none = none-between n (opening_moment k.apps) taken.look (taken.look ++ d.more) (d.more, refl) (taken.sees.own ∙ sym d.decides.saw.own) in
-            none_behind taken.look d.more d.decides.saw.by_callers d.free (subst (λ (z : ℕ). none_is_by (actor_at z) d.more ≡ true) (its_number frame) none)
+            getters_behind taken.look d.more d.decides.saw.by_callers d.free (subst (λ (z : ℕ). none_is_by (actor_at z) d.more ≡ true) (its_number frame) none)
 
         -- and the images that are held are those of the frame that was taken
         held_now : (v : View) (d : DecidesBehind k taken.look e v) → is_next_frame what ≡ true → new.value.held ≡ (seen_by v.know).state.cells.held
         held_now v d frame =
-            let there : taken.look ++ d.more ≡ taken.look = ap (λ (l : List Entry). taken.look ++ l) (none_came v d frame) ∙ append-nil taken.look in
+            let there : behind k (taken.look ++ d.more) ≡ now = moments_stay (opening_moment k.apps) taken.look d.more (getters_came v d frame) in
             prepared.holds frame
-            ∙ (ap (λ (s : State). s.cells.held) (sym (after_is_in_turn (opening_moment k.apps).state taken.look (e ∷ [])))
-            ∙ (ap (λ (l : List Entry). (state_at k (l ++ e ∷ [])).cells.held) (sym there) ∙ ap (λ (u : View). (seen_by u.know).state.cells.held) (sym d.decides.is)))
+            ∙ (ap (λ (x : Moment). (step x.state e).0.cells.held) (sym there)
+            ∙ (ap (λ (s : State). s.cells.held) (sym (after_is_in_turn (opening_moment k.apps).state (taken.look ++ d.more) (e ∷ []))) ∙ ap (λ (u : View). (seen_by u.know).state.cells.held) (sym d.decides.is)))
 
         pub called_noted : (q w : Has) (clock : ℤ) (images : List Image) → Noted p (noted_entry p.0.know call reply) q → Given q w → clock ≡ new.value.kept.device.clock → pos 0 ≤ℤ clock → (is_next_frame what ≡ true → images ≡ new.value.held)
             → Called m what reply before after w × Reads w.0.know what clock images

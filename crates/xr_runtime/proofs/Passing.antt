@@ -162,16 +162,15 @@ module _ (table : TableId) (old new : AppPass) (what : Call) (reply : Reply) (be
       let is : clock ≡ time = r.clock_is ∙ ap (λ (z : Moment). z.state.core.device.clock) is_seen in
       sym (ap (λ (z : Moment). clock_of z.clocks (App old.app)) is_seen ∙ (clock_here ∙ (λ i. if is_locked what then sym is i else clock_now i)))
 
-  pub app_called : (clock : ℤ) (images : List Image) → new.seat.table_id ≡ old.seat.table_id → Reads n.0.know what clock images → new.app ≡ old.app → new.calls ≡ old.calls + 1 → new.left ≡ is_leave what
-      → new.clock ≡ (if is_locked what then clock else old.clock) → AppCalls table old what before after reply new
-  app_called clock images id r app_is calls_are left_is clock_is =
+  app_goes_on : new.seat.table_id ≡ old.seat.table_id → new.app ≡ old.app → new.calls ≡ old.calls + 1 → new.left ≡ is_leave what → new.clock ≡ clock_of (seen_by n.0.know).clocks (App old.app) → pos 0 ≤ℤ new.clock → AppCalls table old what before after reply new
+  app_goes_on id app_is calls_are left_is clock_is begun =
       let more = seat_is m n what reply before after between c in record {
         is = record {
           rests = record { own = id ∙ may.is.rests.own; between = rests_after m n what reply before after between c; alone = more.parts ∙ may.is.rests.alone };
           is_own = actor_stays m n what reply before after between c ∙ (may.is.is_own ∙ ap App (sym app_is));
           here = λ stays. subst (λ (k : ℕ). IsPresent (seen_by n.0.know).state.core (App k)) (sym app_is) (stays_there (sym left_is ∙ stays));
-          clock_is = clock_is ∙ (clock_after clock images r ∙ ap (λ (k : ℕ). clock_of (seen_by n.0.know).clocks (App k)) (sym app_is));
-          begun = subst (λ (z : ℤ). pos 0 ≤ℤ z) (sym clock_is) (begun_still (is_locked what) clock old.clock r.begun may.is.begun);
+          clock_is = clock_is ∙ ap (λ (k : ℕ). clock_of (seen_by n.0.know).clocks (App k)) (sym app_is);
+          begun = begun;
           counts = calls_are ∙ (ap (λ (z : ℕ). z + 1) may.is.counts ∙ sym (calls_more m n what reply before after between c));
         };
         same = app_is;
@@ -179,6 +178,18 @@ module _ (table : TableId) (old new : AppPass) (what : Call) (reply : Reply) (be
         left_is = left_is;
         called = c;
       }
+
+  pub app_called : (clock : ℤ) (images : List Image) → new.seat.table_id ≡ old.seat.table_id → Reads n.0.know what clock images → new.app ≡ old.app → new.calls ≡ old.calls + 1 → new.left ≡ is_leave what
+      → new.clock ≡ (if is_locked what then clock else old.clock) → AppCalls table old what before after reply new
+  app_called clock images id r app_is calls_are left_is clock_is =
+      app_goes_on id app_is calls_are left_is (clock_is ∙ clock_after clock images r) (subst (λ (z : ℤ). pos 0 ≤ℤ z) (sym clock_is) (begun_still (is_locked what) clock old.clock r.begun may.is.begun))
+
+  -- a call that isn't counted leaves the clock
+  clock_stays : is_locked what ≡ false → old.clock ≡ clock_of (seen_by n.0.know).clocks (App old.app)
+  clock_stays free = sym (ap (λ (z : Moment). clock_of z.clocks (App old.app)) is_seen ∙ (clock_here ∙ (ap (λ (b : Bool). if b then time else clock_of now.clocks (App old.app)) free ∙ clock_now)))
+
+  pub app_read : new.seat.table_id ≡ old.seat.table_id → new.app ≡ old.app → new.calls ≡ old.calls + 1 → new.left ≡ is_leave what → is_locked what ≡ false → new.clock ≡ old.clock → AppCalls table old what before after reply new
+  app_read id app_is calls_are left_is free clock_is = app_goes_on id app_is calls_are left_is (clock_is ∙ clock_stays free) (subst (λ (z : ℤ). pos 0 ≤ℤ z) (sym clock_is) may.is.begun)
 
 -- ---- the compositor and the device
 

@@ -132,99 +132,63 @@ impl Runtime {
         self.call(rt, pass, &Call::SyncActions { session, active }, &mut [])
     }
 
-    /// Asks for a boolean action's state (chapter 11, xrGetActionStateBoolean).
-    pub fn get_boolean<R: Wait>(
-        &self,
-        rt: &R,
-        pass: &mut AppPass,
-        session: u64,
-        action: u64,
-        sub: u64,
-    ) -> Reply
+    /// Asks for a boolean action's state (chapter 11, xrGetActionStateBoolean). It never waits.
+    pub fn get_boolean(&self, pass: &mut AppPass, session: u64, action: u64, sub: u64) -> Reply
         requires may { MayCall (table_of self.now) pass.old }
         ensures called { AppAnswers (table_of self.now) pass.old (ask.GetBoolean session action sub) result pass.new }
     {
-        self.call(
-            rt,
+        self.getter(
             pass,
             &Call::GetBoolean {
                 session,
                 action,
                 sub,
             },
-            &mut [],
         )
     }
 
-    /// Asks for a float action's state (chapter 11, xrGetActionStateFloat).
-    pub fn get_float<R: Wait>(
-        &self,
-        rt: &R,
-        pass: &mut AppPass,
-        session: u64,
-        action: u64,
-        sub: u64,
-    ) -> Reply
+    /// Asks for a float action's state (chapter 11, xrGetActionStateFloat). It never waits.
+    pub fn get_float(&self, pass: &mut AppPass, session: u64, action: u64, sub: u64) -> Reply
         requires may { MayCall (table_of self.now) pass.old }
         ensures called { AppAnswers (table_of self.now) pass.old (ask.GetFloat session action sub) result pass.new }
     {
-        self.call(
-            rt,
+        self.getter(
             pass,
             &Call::GetFloat {
                 session,
                 action,
                 sub,
             },
-            &mut [],
         )
     }
 
-    /// Asks for a vector action's state (chapter 11, xrGetActionStateVector2f).
-    pub fn get_vector<R: Wait>(
-        &self,
-        rt: &R,
-        pass: &mut AppPass,
-        session: u64,
-        action: u64,
-        sub: u64,
-    ) -> Reply
+    /// Asks for a vector action's state (chapter 11, xrGetActionStateVector2f). It never waits.
+    pub fn get_vector(&self, pass: &mut AppPass, session: u64, action: u64, sub: u64) -> Reply
         requires may { MayCall (table_of self.now) pass.old }
         ensures called { AppAnswers (table_of self.now) pass.old (ask.GetVector session action sub) result pass.new }
     {
-        self.call(
-            rt,
+        self.getter(
             pass,
             &Call::GetVector {
                 session,
                 action,
                 sub,
             },
-            &mut [],
         )
     }
 
-    /// Asks whether a pose action is active (chapter 11, xrGetActionStatePose).
-    pub fn get_pose_active<R: Wait>(
-        &self,
-        rt: &R,
-        pass: &mut AppPass,
-        session: u64,
-        action: u64,
-        sub: u64,
-    ) -> Reply
+    /// Asks whether a pose action is active (chapter 11, xrGetActionStatePose). It never waits.
+    pub fn get_pose_active(&self, pass: &mut AppPass, session: u64, action: u64, sub: u64) -> Reply
         requires may { MayCall (table_of self.now) pass.old }
         ensures called { AppAnswers (table_of self.now) pass.old (ask.GetPoseActive session action sub) result pass.new }
     {
-        self.call(
-            rt,
+        self.getter(
             pass,
             &Call::GetPoseActive {
                 session,
                 action,
                 sub,
             },
-            &mut [],
         )
     }
 }

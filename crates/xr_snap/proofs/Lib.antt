@@ -1,1 +1,5 @@
 pub mod Writing
+pub mod Entering
+pub mod Seen
+pub mod UserColumns
+pub mod Replies

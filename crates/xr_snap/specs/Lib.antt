@@ -1,1 +1,3 @@
 pub mod Publishing
+pub mod Reading
+pub mod Answering

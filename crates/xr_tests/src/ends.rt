@@ -81,7 +81,7 @@ fn device_of(row: &Row) -> Failing<'static> {
 }
 
 /// Whether this is said of a status on standard error.
-fn says(alloc: Global, status: Status, line: &str) -> Result<bool, AllocError> {
+pub(super) fn says(alloc: Global, status: Status, line: &str) -> Result<bool, AllocError> {
     let mut errors = MemorySink::new(alloc, MOST, &[], &[])?;
     explain(&mut errors, status);
     Ok(errors.bytes() == line.as_bytes())

@@ -1,14 +1,13 @@
-// Runs over files in memory whose opening, reading or writing fails.
+// Runs of both top calls over files in memory whose opening, reading or writing fails.
+use crate::files::{FORMS, Files, NOTHING, REPORT, TEXT, ended, sound};
+use crate::slow::SlowSink;
 use std::alloc::{AllocError, Global};
+use std::sync::Wait;
 use std::test::Fail;
-use xr_drive::{exit_of, explain, run_serial};
-use xr_io::{Failing, MemoryFile, MemoryOpener, MemorySink};
+use std::thread::Threads;
+use xr_drive::{exit_of, explain};
+use xr_io::{Failing, MemorySink};
 use xr_types::{FieldName, Refusal, Status, What};
-
-const NOTHING: Failing<'static> = Failing {
-    open: false,
-    reads: &[],
-};
 
 const OPENING: Failing<'static> = Failing {
     open: true,
@@ -25,34 +24,8 @@ const SECOND_READ: Failing<'static> = Failing {
     reads: &[1],
 };
 
-/// The number that a run of a script with no op ends with, where this of the scenario and of the device fails.
-fn ended(
-    alloc: Global,
-    scenario: Failing<'_>,
-    device: Failing<'_>,
-    text: &str,
-    sink: &mut MemorySink<'_>,
-) -> Result<u8, AllocError> {
-    let files = [
-        MemoryFile {
-            name: "scenario.json",
-            bytes: br#"{"version":1,"scripts":[[]]}"#,
-        },
-        MemoryFile {
-            name: "device.txt",
-            bytes: text.as_bytes(),
-        },
-    ];
-    let words = vec![in alloc;
-        "serial".to_string(alloc)?,
-        "scenario.json".to_string(alloc)?,
-        "--device".to_string(alloc)?,
-        "device.txt".to_string(alloc)?,
-    ]?;
-    let mut opener = MemoryOpener::new(&files, scenario, device);
-    let status = run_serial(alloc, words.as_slice(), &mut opener, sink);
-    Ok(exit_of(status))
-}
+/// A script with no op.
+const NO_OP: &str = r#"{"version":1,"scripts":[[]]}"#;
 
 /// What of the scenario and of the device fails, the device's text, the number of the status, and what stands in the
 /// report behind `LEFT`, where there is one.
@@ -114,40 +87,134 @@ fn behind_left(written: &[u8]) -> &[u8] {
     written.strip_prefix(LEFT.as_bytes()).unwrap_or(written)
 }
 
-/// Whether a run ends with its number and its report.
-fn ends_so(alloc: Global, run: &Run) -> Result<bool, AllocError> {
-    let (scenario, device, text, number, lines) = *run;
+/// Whether a run ends with its number and its report, by the top call of this first word.
+fn ends_so<R: Threads + Wait + Sync>(
+    rt: &R,
+    alloc: Global,
+    form: &str,
+    run: &Run,
+) -> Result<bool, AllocError> {
+    let (scenario_fails, device_fails, text, number, lines) = *run;
+    let files = Files {
+        scenario: NO_OP.as_bytes(),
+        scenario_fails,
+        device: text.as_bytes(),
+        device_fails,
+    };
     let mut sink = MemorySink::new(alloc, 1000, &[], &[])?;
-    let ended = ended(alloc, scenario, device, text, &mut sink)?;
-    Ok(ended == number && behind_left(sink.bytes()) == lines.as_bytes())
+    let status = ended(rt, alloc, form, &files, &mut sink)?;
+    Ok(exit_of(status) == number && behind_left(sink.bytes()) == lines.as_bytes())
 }
 
 #[test]
 fn a_fault_of_a_file_is_told_by_its_status_and_the_report(rt: HostRuntime) -> Result<(), Fail> {
-    for run in RUNS {
-        assert!(rt; ends_so(rt.alloc(), run)?, "{} of {:?}", run.3, run.2);
+    for form in FORMS {
+        for run in RUNS {
+            assert!(rt;
+                ends_so(&rt, rt.alloc(), form, run)?,
+                "{form}: {} of {:?}",
+                run.3,
+                run.2
+            );
+        }
+    }
+    Ok(())
+}
+
+/// How many reads a scenario takes that has 9,000 blanks more, up to the one that meets its end.
+const READS: u64 = 4;
+
+/// The number that the run of this text ends with, the read of whose scenario of this number fails, and how much is written.
+fn read_but_one<R: Threads + Wait + Sync>(
+    rt: &R,
+    alloc: Global,
+    form: &str,
+    text: &[u8],
+    number: u64,
+) -> Result<(u8, usize), AllocError> {
+    let failing = [number];
+    let files = Files {
+        scenario_fails: Failing {
+            open: false,
+            reads: &failing,
+        },
+        ..sound(text)
+    };
+    let mut sink = MemorySink::new(alloc, 1000, &[], &[])?;
+    let status = ended(rt, alloc, form, &files, &mut sink)?;
+    Ok((exit_of(status), sink.bytes().len()))
+}
+
+#[test]
+fn each_read_of_a_scenario_may_fail(rt: HostRuntime) -> Result<(), Fail> {
+    let mut text = vec![in rt.alloc(); b' '; 9000]?;
+    text.extend_from_slice(TEXT.as_bytes())?;
+    for form in FORMS {
+        for number in 0..READS {
+            let ended = read_but_one(&rt, rt.alloc(), form, text.as_slice(), number)?;
+            assert_eq!(rt; ended, (3, 0), "{form}: read {number}");
+        }
+        let ended = read_but_one(&rt, rt.alloc(), form, text.as_slice(), READS)?;
+        assert_eq!(rt; ended, (0, REPORT.len()), "{form}");
     }
     Ok(())
 }
 
 /// Whether a run over this output ends with a fault of writing, and these bytes are written.
-fn writes(alloc: Global, sink: MemorySink<'_>, written: &[u8]) -> Result<bool, AllocError> {
+fn writes<R: Threads + Wait + Sync>(
+    rt: &R,
+    alloc: Global,
+    form: &str,
+    sink: MemorySink<'_>,
+    written: &[u8],
+) -> Result<bool, AllocError> {
     let mut sink = sink;
-    let number = ended(alloc, NOTHING, NOTHING, "", &mut sink)?;
-    Ok(number == 8 && sink.bytes() == written)
+    let status = ended(rt, alloc, form, &sound(NO_OP.as_bytes()), &mut sink)?;
+    Ok(exit_of(status) == 8 && sink.bytes() == written)
 }
 
 #[test]
 fn a_fault_of_the_output_leaves_a_first_part(rt: HostRuntime) -> Result<(), Fail> {
     let alloc = rt.alloc();
-    let fails = writes(alloc, MemorySink::new(alloc, 1000, &[0], &[])?, b"")?;
-    let takes_nothing = writes(alloc, MemorySink::new(alloc, 1000, &[], &[0])?, b"")?;
-    let is_short = writes(
-        alloc,
-        MemorySink::new(alloc, 15, &[], &[])?,
-        b"xrsim report 1\n",
-    )?;
-    assert!(rt; fails && takes_nothing && is_short);
+    for form in FORMS {
+        let failing = MemorySink::new(alloc, 1000, &[0], &[])?;
+        let idle = MemorySink::new(alloc, 1000, &[], &[0])?;
+        let short = MemorySink::new(alloc, 15, &[], &[])?;
+        let fails = writes(&rt, alloc, form, failing, b"")?;
+        let takes_nothing = writes(&rt, alloc, form, idle, b"")?;
+        let is_short = writes(&rt, alloc, form, short, b"xrsim report 1\n")?;
+        assert!(rt; fails && takes_nothing && is_short);
+    }
+    Ok(())
+}
+
+/// Whether a run over an output that takes a byte at a time, whose write of this number fails, ends with its fault behind so many bytes;
+/// or whole, where there is no such write.
+fn stops_behind<R: Threads + Wait + Sync>(
+    rt: &R,
+    alloc: Global,
+    form: &str,
+    number: usize,
+) -> Result<bool, AllocError> {
+    let failing = [number as u64];
+    let mut sink = SlowSink::new(alloc, 1000, &failing)?;
+    let status = ended(rt, alloc, form, &sound(TEXT.as_bytes()), &mut sink)?;
+    let whole = REPORT.as_bytes();
+    let number_due = if number < whole.len() { 8 } else { 0 };
+    let most = number.min(whole.len());
+    Ok(exit_of(status) == number_due && sink.bytes() == &whole[..most])
+}
+
+#[test]
+fn each_write_of_a_byte_may_fail(rt: HostRuntime) -> Result<(), Fail> {
+    for form in FORMS {
+        for number in 0..REPORT.len().saturating_add(1) {
+            assert!(rt;
+                stops_behind(&rt, rt.alloc(), form, number)?,
+                "{form}: write {number}"
+            );
+        }
+    }
     Ok(())
 }
 

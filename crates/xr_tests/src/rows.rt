@@ -68,6 +68,34 @@ fn worked_runs_end_as_they_should(rt: HostRuntime) -> Result<(), Fail> {
     Ok(())
 }
 
+/// A run of one thread as one on threads. Its texts are there.
+fn on_threads(row: &Row) -> Row {
+    Row {
+        words: if row.words.len() > 2 {
+            &["threads", "scenario.json", "--device", "device.txt"]
+        } else {
+            &["threads", "scenario.json"]
+        },
+        on_threads: true,
+        ..*row
+    }
+}
+
+#[test]
+fn wrong_texts_end_alike_on_threads(rt: HostRuntime) -> Result<(), Fail> {
+    for rows in [scenarios::rows(), devices::rows()] {
+        for row in rows {
+            let is_there = row.status != 2;
+            assert!(rt;
+                !is_there || passes(&rt, rt.alloc(), &on_threads(row))?,
+                "{}",
+                row.name
+            );
+        }
+    }
+    Ok(())
+}
+
 /// Two applications that go on only once both have come: no run on one thread ends so, in whatever order it makes the calls.
 #[test]
 fn two_applications_meet(rt: HostRuntime) -> Result<(), Fail> {

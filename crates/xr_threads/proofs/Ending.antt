@@ -30,7 +30,7 @@ use Rattle.xr_runtime.specs.Closing.{Holds, history_of, IsClosed}
 use Rattle.xr_runtime.specs.Passes.{apps_of, IsCompositor, IsDevice}
 use Rattle.xr_workers.specs.declared.compositor.Composed.{Composed}
 use Rattle.xr_workers.specs.declared.device.DeviceMade.{DeviceMade}
-use Rattle.xr_workers.specs.Workers.{Adds, IsGated, turns_in, RanCompositor, RanDevice}
+use Rattle.xr_workers.specs.Workers.{Adds, IsGated, FollowsFront, TellsSoFar, turns_in, RanCompositor, RanDevice}
 use Rattle.xr_threads.specs.declared.app.AppWorker.{AppWorker}
 use Rattle.xr_threads.specs.Threads.{RanOnThreads, ClosesRun}
 use Rattle.xr_threads.specs.inside.Working.{pass_of, calls_made, HasWorked, HaveWorked, list_of, is_listed, Parted}
@@ -84,21 +84,28 @@ module _ (came went : Actor → ℕ → Type 0) (table : TableId) (r : Runtime) 
   device_calls_are old calls is none own adds =
       calls_are Device p.device.seat.me.0.know (ap actor_at own) k.device ∙ all_calls (calls_in old.seat.me.0.know.own) (calls_in p.device.seat.me.0.know.own) calls (sym is.counts ∙ none) adds
 
-  -- the closed runtime stands for a legal history, round whose calls the gate was called
-  pub closes : (c_old : CompositorPass) (d_old : DevicePass) → IsCompositor table c_old → c_old.calls ≡ 0 → number_in p.compositor.seat.me.0.know.own ≡ 1
+  -- the closed runtime stands for a legal history, which has so much of what each actor does
+  pub closes : (c_old : CompositorPass) (d_old : DevicePass) (composed : Result Composed NoMemory) (told : Result DeviceMade NoMemory) (start now : Prospect)
+      → IsCompositor table c_old → c_old.calls ≡ 0 → RanCompositor table c_old p.compositor composed
       → (calls : List Exchange) × Adds c_old.seat.me.0.know p.compositor.seat.me.0.know calls × IsGated came went Compositor 0 (turns_in calls)
-      → IsDevice table d_old → d_old.calls ≡ 0 → IsDevice table p.device → IsGated came went Device d_old.calls p.device.calls → ClosesRun came went scenario c
-  closes c_old d_old is_c none_c own_c gated_c is_d none_d now_d gated_d = record {
+      → IsDevice table d_old → d_old.calls ≡ 0 → RanDevice table start now d_old p.device told → IsGated came went Device d_old.calls p.device.calls → ClosesRun came went scenario start now c
+  closes c_old d_old composed told start now is_c none_c ran_c gated_c is_d none_d ran_d gated_d = record {
     legal = subst (λ (n : ℕ). IsLegal (with_apps n) history) apps k.legal;
     places_are = k.places_are;
+    follow = λ place within.
+        let some : 0 < length ws = omega (arith, within, count) in
+        let here : place < length ws = omega (arith, within, count) in
+        subst (FollowsFront (get_or scenario.scripts place [])) (sym (app_calls place (some_worker some) here)) (have place (some_worker some) here).front;
+    ends = subst IsEnd (sym (compositor_calls c_old ran_c.calls is_c none_c ran_c.is.is_own ran_c.made)) ran_c.ends;
+    tells = subst (TellsSoFar start now) (sym (device_calls_are d_old ran_d.calls is_d none_d ran_d.is.is_own ran_d.made)) ran_d.so_far;
     apps_gated = λ place within.
         let some : 0 < length ws = omega (arith, within, count) in
         let here : place < length ws = omega (arith, within, count) in
         subst (λ (l : List Exchange). IsGated came went (App (place + 1)) 0 (length l)) (sym (app_calls place (some_worker some) here)) (have place (some_worker some) here).gated;
-    compositor_gated = subst (λ (l : List Exchange). IsGated came went Compositor 0 (turns_in l)) (sym (compositor_calls c_old gated_c.0 is_c none_c own_c gated_c.1)) gated_c.2;
+    compositor_gated = subst (λ (l : List Exchange). IsGated came went Compositor 0 (turns_in l)) (sym (compositor_calls c_old gated_c.0 is_c none_c ran_c.is.is_own gated_c.1)) gated_c.2;
     device_gated =
-        let all : calls_of (settings_of scenario) Device history ≡ calls_in p.device.seat.me.0.know.own = calls_are Device p.device.seat.me.0.know (ap actor_at now_d.is_own) k.device in
-        subst (λ (z : ℕ × ℕ). IsGated came went Device z.0 z.1) (λ i. (none_d i, (now_d.counts ∙ ap length (sym all)) i)) gated_d;
+        let all : calls_of (settings_of scenario) Device history ≡ calls_in p.device.seat.me.0.know.own = calls_are Device p.device.seat.me.0.know (ap actor_at ran_d.is.is_own) k.device in
+        subst (λ (z : ℕ × ℕ). IsGated came went Device z.0 z.1) (λ i. (none_d i, (ran_d.is.counts ∙ ap length (sym all)) i)) gated_d;
   }
 
   module _ (listed : list_all is_listed ws ≡ true) where

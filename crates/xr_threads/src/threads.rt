@@ -66,7 +66,7 @@ pub fn run<R: Threads + Wait + Sync, G: Gate + Sync, D: Device>(
     device: &mut D,
 ) -> Result<Ended, NoMemory>
     requires runs { CanBeRun scenario.now }
-    ensures closed { IfOk result (λ e. ClosesRun (G.came gate.now) (G.went gate.now) scenario.now e.closed) }
+    ensures closed { IfOk result (λ e. ClosesRun (G.came gate.now) (G.went gate.now) scenario.now (D.prospect device.old) (D.prospect device.new) e.closed) }
     ensures ran { IfOk result (λ e. IfOk e.lists (λ lists. RanBeside e.closed scenario.now (D.prospect device.old) (D.prospect device.new) lists)) }
     ensures fault { IfOk result (λ e. IfOk e.lists (λ lists. list_any is_fault lists.events ≡ true → Rose (D.prospect device.old).faults (D.prospect device.new).faults)) }
     ensures unfailed { IfOk result (λ e. IfOk e.lists (λ lists. list_any is_fault lists.events ≡ false → (D.prospect device.new).faults ≡ (D.prospect device.old).faults)) }

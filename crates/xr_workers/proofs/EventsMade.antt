@@ -28,7 +28,7 @@ use Rattle.xr_runtime.specs.declared.passes.DevicePass.{DevicePass}
 use Rattle.xr_runtime.proofs.Passing.{seat_is}
 use Rattle.xr_device.specs.Told.{Comes}
 use Rattle.xr_workers.specs.declared.device.DeviceMade.{DeviceMade}
-use Rattle.xr_workers.specs.Workers.{RanDevice}
+use Rattle.xr_workers.specs.Workers.{WasAsked, TellsSoFar, RanDevice}
 use Rattle.xr_workers.specs.inside.Telling.{MadeEvent, MadeEvents, side_of}
 use Rattle.xr_workers.proofs.CallsMade.{fits_at, none_written, is_none, text_at}
 use Rattle.xr_runs.specs.Sides.{exchange_of, GivesMore, DeviceKept, SideState, side_asked}
@@ -73,6 +73,7 @@ none_told table start p is few = record {
     lines = λ h. absurd (true≢false (sym h));
   };
   few = λ h. omega (arith, few);
+  ends = λ h. absurd (true≢false (sym h));
   reads = record { which = refl; begun = refl; text = refl; late = λ h. h };
 }
   where
@@ -92,19 +93,45 @@ fewer_then : (now now2 : Prospect) (event : DeviceEvent) (over : Bool) → Comes
 fewer_then now now2 event false f is = let less = f.2 in omega (arith, less)
 fewer_then now now2 event true f is = absurd (true≢false is)
 
+-- where more may come and an event was told, it was given
+asked_by : (events : List DeviceEvent) (list : List Made) (calls : List Exchange) (start now : Prospect) (over : Bool) → (k : DeviceKept (side_of events list over) calls start now) → (over ≡ true → now.over ≡ true) → (over ≡ false → 0 < length events)
+    → WasAsked over now k.given
+asked_by events list calls start now true k ends some = ends refl
+asked_by events list calls start now false k ends some =
+    let all = ap length (k.begun ∙ append-nil (events_in calls)) in
+    let none = ap length k.came.1 in
+    let told = ap length k.events_are in
+    let more = some refl in
+    omega (arith, all, none, told, more, length-append k.given k.closing)
+
+-- what was made and told so far
+told_so_far : (table : TableId) (start now : Prospect) (old new : DevicePass) (events : List DeviceEvent) (list : List Made) (over : Bool) → (t : MadeEvents table start now old new events list over) → (over ≡ false → 0 < length events)
+    → TellsSoFar start now t.calls
+told_so_far table start now old new events list over t some =
+    let k = t.kept in record {
+      given = k.given;
+      closing = k.closing;
+      over = over;
+      asks = sym (k.begun ∙ append-nil (events_in t.calls));
+      came = k.came;
+      counted = k.counted;
+      asked = asked_by events list t.calls start now over k t.ends some;
+    }
+
 module _ (table : TableId) (start now now2 : Prospect) (old mid : DevicePass) (events : List DeviceEvent) (list : List Made) (t : MadeEvents table start now old mid events list false) (grew : now.faults ≤ now2.faults) (on : ReadsOn now now2) where
-  pub told_none : (event : Option DeviceEvent) (over : Bool) → event ≡ None → Comes now now2 event over → MadeEvents table start now2 old mid events list over × (over ≡ true)
-  told_none event over none f = by over (subst (λ (e : Option DeviceEvent). Comes now now2 e over) none f)
+  pub told_none : (event : Option DeviceEvent) (over : Bool) → event ≡ None → Comes now now2 event over → (over ≡ true → now2.over ≡ true) → MadeEvents table start now2 old mid events list over × (over ≡ true)
+  told_none event over none f ends = by over (subst (λ (e : Option DeviceEvent). Comes now now2 e over) none f) ends
     where
-      by : (o : Bool) → Comes now now2 None o → MadeEvents table start now2 old mid events list o × (o ≡ true)
-      by false g = absurd g
-      by true g = (
+      by : (o : Bool) → Comes now now2 None o → (o ≡ true → now2.over ≡ true) → MadeEvents table start now2 old mid events list o × (o ≡ true)
+      by false g is = absurd g
+      by true g is = (
         record {
           is = t.is;
           calls = t.calls;
           adds = t.adds;
           kept = asked_kept (side_of events list false) t.calls start now now2 None true grew g t.kept;
           few = λ h. absurd (true≢false h);
+          ends = is;
           reads = reads_on start now now2 t.reads on;
         },
         refl,
@@ -118,9 +145,9 @@ module _ (table : TableId) (start now now2 : Prospect) (old mid : DevicePass) (e
       let more = ap length t.adds in
       omega (arith, few, before, here, more, none, length-append (calls_in old.seat.me.0.know.own) t.calls)
 
-  pub told_event : (event : DeviceEvent) (over : Bool) (new : DevicePass) (reply : Reply) (made : Made) → Comes now now2 (Some event) over → MadeEvent table mid event reply new
+  pub told_event : (event : DeviceEvent) (over : Bool) (new : DevicePass) (reply : Reply) (made : Made) → Comes now now2 (Some event) over → (over ≡ true → now2.over ≡ true) → MadeEvent table mid event reply new
       → made ≡ record { op = length list + 1; name = Device; mark = 0; start = pos 0; reply = reply; text = [] } → MadeEvents table start now2 old new (events ++ event ∷ []) (list ++ made ∷ []) over
-  told_event event over new reply made f m is =
+  told_event event over new reply made f ends m is =
       let x : Exchange = exchange_of (ask.Device event) m.outcome in
       let asked = asked_kept (side_of events list false) t.calls start now now2 (Some event) over grew f t.kept in
       let next = event_kept (side_asked (side_of events list false) (Some event) over) t.calls start now2 event m.outcome refl asked in
@@ -130,14 +157,25 @@ module _ (table : TableId) (start now now2 : Prospect) (old mid : DevicePass) (e
         adds = m.adds ∙ (ap (λ (ts : List Exchange). ts ++ x ∷ []) t.adds ∙ append_assoc (calls_in old.seat.me.0.know.own) t.calls (x ∷ []));
         kept = subst (λ (z : Made). DeviceKept (side_of (events ++ event ∷ []) (list ++ z ∷ []) over) (t.calls ++ x ∷ []) start now2) same next;
         few = λ more. let few = t.few refl in let less = fewer_then now now2 event over f more in omega (arith, few, less, length-append t.calls (x ∷ []));
+        ends = ends;
         reads = reads_on start now now2 t.reads on;
       }
 
   -- the call was made, and memory was short for its list
-  pub short_event : (event : DeviceEvent) (over : Bool) (new : DevicePass) (reply : Reply) (short : NoMemory) → Comes now now2 (Some event) over → MadeEvent table mid event reply new → RanDevice table start now2 old new (Err short)
-  short_event event over new reply short f m =
-      let told = told_event event over new reply (record { op = length list + 1; name = Device; mark = 0; start = pos 0; reply = reply; text = [] }) f m refl in
-      record { is = told.is; calls = told.calls; made = told.adds; lists = tt; later = told.kept.later; reads = told.reads }
+  pub short_event : (event : DeviceEvent) (over : Bool) (new : DevicePass) (reply : Reply) (short : NoMemory) → Comes now now2 (Some event) over → (over ≡ true → now2.over ≡ true) → MadeEvent table mid event reply new
+      → RanDevice table start now2 old new (Err short)
+  short_event event over new reply short f ends m =
+      let made : Made = record { op = length list + 1; name = Device; mark = 0; start = pos 0; reply = reply; text = [] } in
+      let told = told_event event over new reply made f ends m refl in
+      record {
+        is = told.is;
+        calls = told.calls;
+        made = told.adds;
+        so_far = told_so_far table start now2 old new (events ++ event ∷ []) (list ++ made ∷ []) over told (λ h. omega (arith, length-append events (event ∷ [])));
+        lists = tt;
+        later = told.kept.later;
+        reads = told.reads;
+      }
 
 -- the same of an equal pass and equal lists
 pub told_at : (table : TableId) (start now : Prospect) (old p q : DevicePass) (es fs : List DeviceEvent) (ls ms : List Made) (over : Bool) → p ≡ q → es ≡ fs → ls ≡ ms → MadeEvents table start now old q fs ms over → MadeEvents table start now old p es ls over
@@ -179,6 +217,7 @@ module _ (table : TableId) (start now : Prospect) (old new : DevicePass) (list :
     is = t.is;
     calls = t.calls;
     made = t.adds;
+    so_far = told_so_far table start now old new list.events list.calls over t (λ h. absurd (true≢false (sym is ∙ h)));
     lists = record {
       told = k.given;
       ending = k.came.ending;

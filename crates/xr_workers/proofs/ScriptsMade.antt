@@ -188,11 +188,12 @@ module _ (table : TableId) (ops : List Op) (old mid new : AppPass) (listed : Opt
     has_left = c.left_is;
     calls = all_calls;
     made = c.made ∙ (ap (λ (ts : List Exchange). ts ++ c.exchange ∷ []) s.made.adds ∙ append_assoc (calls_in old.seat.me.0.know.own) s.calls (c.exchange ∷ []));
+    front = (s.count, follows_leave 1 (no_values (length ops)) (take s.count ops) s.calls s.values c.exchange s.made.leads c.asks);
     lists = lists;
   }
 
   pub ran_short : (short : NoMemory) → RanScript table ops old new (Err short)
-  ran_short short = ran_with (Err short) (s.count, follows_leave 1 (no_values (length ops)) (take s.count ops) s.calls s.values c.exchange s.made.leads c.asks)
+  ran_short short = ran_with (Err short) tt
 
   pub ran_whole : (list : List Made) (last : Made) → listed ≡ Some list → last ≡ listed_as ask.Leave (length ops + 1) reply [] → RanScript table ops old new (Ok (list ++ last ∷ []))
   ran_whole list last some is =

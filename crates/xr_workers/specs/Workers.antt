@@ -1,5 +1,5 @@
 -- What the workers of a run do: the calls that each makes by its pass, and what it lists of them.
-use Rattle.std.specs.Prelude.{◌≡◌, ◌<◌, ◌≤◌, ◌+◌, ℕ, true, false, List, [], ◌∷◌, ◌++◌, length, take, Option, Some, Result, Ok, Err}
+use Rattle.std.specs.Prelude.{◌≡◌, ◌<◌, ◌≤◌, ◌+◌, ℕ, Bool, true, false, List, [], ◌∷◌, ◌++◌, length, take, Option, Some, Result, Ok, Err}
 use Rattle.std.specs.List.{list_any}
 use Rattle.atomic_table.specs.Seated.{TableId}
 use Rattle.xr_types.specs.declared.calls.Actor.{Actor}
@@ -28,30 +28,37 @@ use Rattle.xr_runtime.specs.Passes.{IsApp, IsCompositor, IsDevice}
 use Rattle.xr_workers.specs.declared.compositor.Composed.{Composed}
 use Rattle.xr_workers.specs.declared.device.DeviceMade.{DeviceMade}
 use Rattle.xr_runs.specs.Runs.{Gave, FailsBehind, AreSound, IsEnd}
+use Rattle.xr_runs.specs.Sides.{Came}
 
 -- of its own calls a pass has these more
 abbrev pub Adds : Know → Know → List Exchange → Type 0
 Adds old new calls = calls_in new.own ≡ calls_in old.own ++ calls
 
--- the gate was called before and behind each call of an actor from behind one number up to another
+-- Both calls of the gate were made with the number of each call of an actor from behind one number up to another. That they lie round that
+-- call is not said.
 abbrev pub IsGated : (Actor → ℕ → Type 0) → (Actor → ℕ → Type 0) → Actor → ℕ → ℕ → Type 0  -- came, went
 IsGated came went who from to = (n : ℕ) → from < n → n ≤ to → came who n × went who n
 
 -- ---- an application
 
+-- these are the calls of a first part of a script, and then `leave`
+abbrev pub FollowsFront : List Op → List Exchange → Type 0
+FollowsFront ops calls = (n : ℕ) × FollowsFrom true 1 (no_values (length ops)) (take n ops) calls
+
 -- What an application's worker lists: the calls of its script, all of them and then `leave`, each with its reply. Where memory was
--- short there is no list, and the calls are those of a first part of its script, and then `leave`.
+-- short there is no list.
 abbrev pub ListsScript : List Op → List Exchange → Result (List Made) NoMemory → Type 0
 ListsScript ops calls (Ok list) = Follows ops calls × (list ≡ made_from 1 calls)
-ListsScript ops calls (Err short) = (n : ℕ) × FollowsFrom true 1 (no_values (length ops)) (take n ops) calls
+ListsScript ops calls (Err short) = Unit {0}
 
--- It ran: its pass has made these calls and no others, and has left.
+-- It ran: its pass has made these calls and no others, those of a first part of its script at least, and has left.
 pub record RanScript (table : TableId) (ops : List Op) (old new : AppPass) (list : Result (List Made) NoMemory) : Type 0 where
   pub is : IsApp table new
   pub same : new.app ≡ old.app
   pub has_left : new.left ≡ true
   pub calls : List Exchange
   pub made : Adds old.seat.me.0.know new.seat.me.0.know calls
+  pub front : FollowsFront ops calls
   pub lists : ListsScript ops calls list
 
 -- ---- the device
@@ -71,15 +78,33 @@ pub record ListsDevice (start now : Prospect) (calls : List Exchange) (list : De
   pub unfailed : list_any is_fault list.events ≡ false → now.faults ≡ start.faults
   pub failed : list_any is_fault list.events ≡ true → FailsBehind start now list.events
 
--- Where memory was short there is no list, and the device may have more to tell.
+-- where memory was short there is no list
 abbrev pub ListsDeviceIf : Prospect → Prospect → List Exchange → Result DeviceMade NoMemory → Type 0
 ListsDeviceIf start now calls (Ok list) = ListsDevice start now calls list
 ListsDeviceIf start now calls (Err short) = Unit {0}
 
+-- a device was asked that has nothing more to tell, as it says, or that gave an event
+abbrev pub WasAsked : Bool → Prospect → List DeviceEvent → Type 0  -- whether nothing more comes
+WasAsked true now given = now.over ≡ true
+WasAsked false now given = 0 < length given
+
+-- The device was asked, and these are the calls of the events that it has given so far, in their order, a fault or a malformed line last
+-- where nothing more comes.
+pub record TellsSoFar (start now : Prospect) (calls : List Exchange) : Type 0 where
+  pub given : List DeviceEvent
+  pub closing : List DeviceEvent
+  pub over : Bool
+  pub asks : events_in calls ≡ given ++ closing
+  pub came : Came start now given closing over
+  pub counted : now.given ≡ start.given + length given
+  pub asked : WasAsked over now given
+
+-- It ran: its pass has made these calls and no others, also where memory was short.
 pub record RanDevice (table : TableId) (start now : Prospect) (old new : DevicePass) (list : Result DeviceMade NoMemory) : Type 0 where
   pub is : IsDevice table new
   pub calls : List Exchange
   pub made : Adds old.seat.me.0.know new.seat.me.0.know calls
+  pub so_far : TellsSoFar start now calls
   pub lists : ListsDeviceIf start now calls list
   pub later : start.faults ≤ now.faults
   pub reads : ReadsOn start now
@@ -111,6 +136,6 @@ pub record RanCompositor (table : TableId) (old new : CompositorPass) (list : Re
 abbrev pub turns_in : List Exchange → ℕ
 turns_in calls = how_many (λ t. is_next_frame t.call) calls
 
--- The gate was called round each turn of a compositor's pass that came from knowing this to knowing that.
+-- So they were with the number of each turn of a compositor's pass that came from knowing this to knowing that.
 abbrev pub ComposesGated : (Actor → ℕ → Type 0) → (Actor → ℕ → Type 0) → Know → Know → Type 0  -- came, went
 ComposesGated came went old new = (calls : List Exchange) × Adds old new calls × IsGated came went Compositor 0 (turns_in calls)

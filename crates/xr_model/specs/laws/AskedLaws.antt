@@ -18,6 +18,7 @@ use Rattle.xr_model.specs.machine.LiveSessions.{attached_in, session_at}
 use Rattle.xr_model.specs.machine.Machine.{rule}
 use Rattle.xr_model.specs.machine.Paths.{text_at}
 use Rattle.xr_model.specs.machine.Refusals.{Refusal}
+use Rattle.xr_model.specs.machine.Rule.{Rule}
 use Rattle.xr_model.specs.machine.Rules.Bindings.{profile_at}
 use Rattle.xr_model.specs.machine.Rules.Sets.{user_at}
 use Rattle.xr_model.specs.machine.Sets.{Set, Action, set_at, action_at, is_declared}
@@ -261,3 +262,24 @@ pub record GettersTakeTheirType (s : CoreState) (reads : CellReads) (e : Entry) 
 abbrev pub GettersAreOfTheirTypes : Type 0
 GettersAreOfTheirTypes =
     (s : CoreState) (reads : CellReads) (e : Entry) (session action sub : ℕ) → GettersTakeTheirType s reads e session action sub
+
+-- an action has this handle, and this session has attached its set
+pub record IsOfAttached (s : CoreState) (session action : ℕ) : Type 0 where
+  pub it : Action
+  pub is : action_at s.inputs action ≡ Some it
+  pub attached : HasAttached (attached_in (session_at s.sessions session)) it.set
+
+-- what a getter asks of its session, and first behind that
+abbrev pub TakesAttached : CoreState → ℕ → ℕ → Rule → Type 0
+TakesAttached s session action r = holds_behind 0 r.handles ≡ false → (holds_behind 0 r.behind ≡ false) ↔ IsOfAttached s session action
+
+-- The getters of a state take, once their session is a live one, actions whose sets that session has attached.
+pub record GettersTakeAttached (s : CoreState) (reads : CellReads) (e : Entry) (session action sub : ℕ) : Type 0 where
+  pub booleans : TakesAttached s session action (rule s reads (asking e (ask.GetBoolean session action sub)))
+  pub floats : TakesAttached s session action (rule s reads (asking e (ask.GetFloat session action sub)))
+  pub vectors : TakesAttached s session action (rule s reads (asking e (ask.GetVector session action sub)))
+  pub poses : TakesAttached s session action (rule s reads (asking e (ask.GetPoseActive session action sub)))
+
+abbrev pub GettersAreOfAttachedSets : Type 0
+GettersAreOfAttachedSets =
+    (s : CoreState) (reads : CellReads) (e : Entry) (session action sub : ℕ) → GettersTakeAttached s reads e session action sub

@@ -1,18 +1,25 @@
--- Which column a getter reads, and that columns and spaces don't outlive their action or their session.
-use Rattle.std.specs.Prelude.{◌≡◌, ◌+◌, not, ℕ, Bool, true, false, List, Some, slice_get}
+-- Which column a getter reads, what it tells of it, and that columns and spaces don't outlive their action or their session.
+use Rattle.std.specs.Prelude.{◌≡◌, ◌↔◌, ◌+◌, not, pos, ℕ, Bool, true, false, List, Option, Some, None, slice_get}
 use Rattle.std.proofs.Common.{◌⊎◌}
 use Rattle.std.specs.List.{list_all}
 use Rattle.xr_types.specs.Code.{is_success}
 use Rattle.xr_types.specs.declared.calls.Call.{Call}
 use Rattle.xr_types.specs.declared.calls.Call.TheVariants as ask
+use Rattle.xr_types.specs.declared.calls.Gives.{Gives}
+use Rattle.xr_types.specs.declared.calls.Gives.TheVariants as gives
+use Rattle.xr_types.specs.declared.handles.Slot.{Slot}
 use Rattle.xr_types.specs.declared.input.Column.{Column}
-use Rattle.xr_types.specs.declared.spaces.Root.TheVariants.{Action}
+use Rattle.xr_types.specs.declared.spaces.Root.{Root}
+use Rattle.xr_types.specs.declared.spaces.Root.TheVariants.{Fixed, Action}
 use Rattle.xr_model.specs.machine.Calls.{Entry}
 use Rattle.xr_model.specs.machine.Destroyed.{has_action}
 use Rattle.xr_model.specs.machine.Publication.{Publication, PublishedAction, column_by}
-use Rattle.xr_model.specs.machine.Spaces.{Space}
-use Rattle.xr_model.specs.machine.State.{State}
+use Rattle.xr_model.specs.machine.Spaces.{Space, space_at}
+use Rattle.xr_model.specs.machine.State.{CoreState, Settings, State, opening}
 use Rattle.xr_model.specs.machine.Machine.{step}
+use Rattle.xr_model.specs.machine.History.{after, IsLegal}
+use Rattle.xr_model.specs.laws.DeviceStateLaws.{are_checked}
+use Rattle.xr_model.specs.laws.LocationLaws.{IsColumnOf}
 
 -- ---- the column that a getter reads
 
@@ -23,6 +30,48 @@ IsNamedBy p a sub k = ((sub ≡ 0) × (k ≡ 0)) ⊎ ((place : ℕ) × (k ≡ pl
 
 abbrev pub GettersReadTheNamedColumn : Type 0
 GettersReadTheNamedColumn = (p : Publication) (a : PublishedAction) (sub k : ℕ) → column_by p a sub ≡ Some k → IsNamedBy p a sub k
+
+-- ---- what a getter tells
+
+-- the action of a getter, and the number that it has for a user path
+abbrev pub asked_of : Call → Option (ℕ × ℕ)
+asked_of (ask.GetBoolean session action sub) = Some (action, sub)
+asked_of (ask.GetFloat session action sub) = Some (action, sub)
+asked_of (ask.GetVector session action sub) = Some (action, sub)
+asked_of (ask.GetPoseActive session action sub) = Some (action, sub)
+asked_of _ = None
+
+-- What each getter tells of a column: a boolean is false where the column shows 0, a float is its first number, a vector both. All but
+-- that of a pose tell whether it has changed and since when, and all whether it is active.
+abbrev pub TellsOf : Column → Call → Gives → Type 0
+TellsOf c (ask.GetBoolean session action sub) (gives.Boolean told) =
+    ((told.value ≡ false) ↔ (c.x ≡ pos 0)) × (told.changed ≡ c.changed) × (told.time ≡ c.time) × (told.active ≡ c.active)
+TellsOf c (ask.GetFloat session action sub) (gives.Float told) = (told.value ≡ c.x) × (told.changed ≡ c.changed) × (told.time ≡ c.time) × (told.active ≡ c.active)
+TellsOf c (ask.GetVector session action sub) (gives.Vector told) =
+    (told.x ≡ c.x) × (told.y ≡ c.y) × (told.changed ≡ c.changed) × (told.time ≡ c.time) × (told.active ≡ c.active)
+TellsOf c (ask.GetPoseActive session action sub) (gives.Active active) = active ≡ c.active
+TellsOf c _ _ = ⊥
+
+-- it tells of the column of that number, in the place in which the action's handle stands
+pub record TellsItsColumn (s : CoreState) (action sub : ℕ) (what : Call) (told : Gives) : Type 0 where
+  pub place : ℕ
+  pub slot : Slot
+  pub stands : slice_get s.handles.actions place ≡ Some slot
+  pub own : slot.handle ≡ action
+  pub row : List Column
+  pub there : slice_get s.columns place ≡ Some row
+  pub column : ℕ
+  pub asked : IsColumnOf s.atoms sub column
+  pub shown : Column
+  pub stood : slice_get row column ≡ Some shown
+  pub tells : TellsOf shown what told
+
+-- So it is with each getter that succeeds after a legal history, where the device told numbers in range.
+abbrev pub GettersTellTheirColumns : Type 0
+GettersTellTheirColumns =
+    (settings : Settings) (es : List Entry) (e : Entry) (action sub : ℕ) → IsLegal settings es → are_checked es ≡ true → asked_of e.call ≡ Some (action, sub)
+    → is_success (step (after (opening settings) es) e).1.reply.code ≡ true
+    → TellsItsColumn (after (opening settings) es).core action sub e.call (step (after (opening settings) es) e).1.reply.gives
 
 -- ---- what goes with a session
 
@@ -54,3 +103,22 @@ pub record LeavesNoColumn (s : State) (e : Entry) : Type 0 where
 
 abbrev pub ColumnsGoWithTheAction : Type 0
 ColumnsGoWithTheAction = (s : State) (e : Entry) → is_action_end e.call ≡ true → is_success (step s e).1.reply.code ≡ true → LeavesNoColumn s e
+
+-- ---- what stays where an action goes
+
+-- what a space moves with is there: an origin of its own, nothing, or the place of an action that stands
+abbrev pub moves_on : CoreState → Option Root → Bool
+moves_on s None = true
+moves_on s (Some (Fixed what)) = true
+moves_on s (Some (Action place column)) = has_action s.handles.actions place
+
+-- a place in which an action stands shows what it showed, and a space that is left, and whose place is so, is as it was
+pub record KeepsOthers (s new : CoreState) : Type 0 where
+  pub columns : (place : ℕ) → has_action new.handles.actions place ≡ true → slice_get new.columns place ≡ slice_get s.columns place
+  pub spaces : (handle : ℕ) (old x : Space) → space_at s.room.spaces handle ≡ Some old → space_at new.room.spaces handle ≡ Some x → moves_on new old.root ≡ true → x ≡ old
+
+-- So it is in a legal history where an action or a set is destroyed.
+abbrev pub OthersKeepWhatTheyShow : Type 0
+OthersKeepWhatTheyShow =
+    (settings : Settings) (es : List Entry) (e : Entry) → IsLegal settings es → is_action_end e.call ≡ true → is_success (step (after (opening settings) es) e).1.reply.code ≡ true
+    → KeepsOthers (after (opening settings) es).core (step (after (opening settings) es) e).0.core

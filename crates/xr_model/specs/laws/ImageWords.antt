@@ -1,8 +1,9 @@
 -- The word and the stamp of an image, as a state says them, what a core's calls on cells make of them and ask for, which wait claims
 -- an image, and which entries are decided without the lock.
-use Rattle.std.specs.Prelude.{◌≡◌, ℕ, ℤ, ◌+◌, ◌^◌, ◌==◌, Bool, false, true, List, [], ◌∷◌, if◌then◌else◌}
+use Rattle.std.specs.Prelude.{◌≡◌, ℕ, ℤ, ◌+◌, ◌^◌, ◌==◌, ◌||◌, Bool, false, true, List, [], ◌∷◌, if◌then◌else◌}
 use Rattle.std.specs.List.{list_all, list_any}
 use Rattle.xr_types.specs.declared.frames.Image.{Image}
+use Rattle.xr_types.specs.CallKinds.{is_getter}
 use Rattle.xr_model.specs.machine.CellCalls.{CellCall, pin, claim, free, stamp, peek, give_back}
 use Rattle.xr_model.specs.machine.Images.{slot_of, stamp_in}
 use Rattle.xr_types.specs.declared.handles.Kind.TheVariants.{Swapchain}
@@ -92,12 +93,15 @@ late_of clock _ = false
 
 -- ---- entries that are decided without the lock
 
--- an image that is given back
+-- an image that is given back, or what a getter reads
 abbrev pub is_free : Entry → Bool
-is_free e = is_image_done e.call
+is_free e = is_image_done e.call || is_getter e.call
 
 abbrev pub are_free : List Entry → Bool
 are_free es = list_all is_free es
+
+abbrev pub are_getters : List Entry → Bool
+are_getters es = list_all (λ e. is_getter e.call) es
 
 -- an image of these stands there
 abbrev pub is_at : Image → List Image → Bool

@@ -26,10 +26,10 @@ use Rattle.xr_model.specs.machine.Rules.Sync.{bindings_of}
 use Rattle.xr_model.specs.machine.Sets as sets
 use Rattle.xr_model.specs.machine.Sets.{action_at, is_declared, no_users}
 use Rattle.xr_model.specs.machine.State.{CoreState, Settings, State, opening}
-use Rattle.xr_model.specs.machine.Sync.{is_heard, is_live, is_down, amount, column_after, is_same_user}
+use Rattle.xr_model.specs.machine.Sync.{is_heard, is_live, is_down, amount, axes, column_after, is_same_user}
 use Rattle.xr_model.specs.machine.Machine.{step}
 use Rattle.xr_model.specs.machine.History.{after}
-use Rattle.xr_model.specs.laws.DeviceStateLaws.{are_checked, pressed_from, released_below}
+use Rattle.xr_model.specs.laws.DeviceStateLaws.{are_checked, events_of, pressed_from, released_below, value_told}
 use Rattle.xr_model.specs.laws.WordLaws.{has_good_numbers}
 use Rattle.xr_model.specs.laws.SyncLaws.{is_row}
 
@@ -96,6 +96,12 @@ abbrev pub InputsGiveFromTheirEvents : Type 0
 InputsGiveFromTheirEvents =
     (settings : Settings) (es : List Entry) (e : Entry) (who : User) (row : ℕ) (value : ℤ) → are_checked es ≡ true → has_good_numbers e.call ≡ true → is_row row ≡ true
     → e.call ≡ ask.Device (event.Input who row value) → GivesFromNow (step (after (opening settings) es) e).0 who row value
+
+-- A vector has both axes as they were told last, the one that its part names first in front.
+abbrev pub VectorsAreTheirAxes : Type 0
+VectorsAreTheirAxes =
+    (settings : Settings) (es : List Entry) (who : User) (across up : ℕ) → are_checked es ≡ true → is_row across ≡ true → is_row up ≡ true
+    → axes (after (opening settings) es).core.device.inputs who (part.Both across up) ≡ (value_told who across (events_of es), value_told who up (events_of es))
 
 -- ---- what changes
 

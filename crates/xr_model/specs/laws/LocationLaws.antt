@@ -2,6 +2,7 @@
 use Rattle.std.specs.Prelude.{◌≡◌, ◌+◌, ◌++◌, ℕ, ℤ, true, List, [], ◌∷◌, Option, Some, None, option_and_then, unwrap_or, if◌then◌else◌}
 use Rattle.std.proofs.Common.{◌⊎◌}
 use Rattle.xr_types.specs.Code.{is_success}
+use Rattle.xr_types.specs.Printed.{kind_name, origin_name}
 use Rattle.xr_types.specs.Users.{user_place}
 use Rattle.xr_types.specs.declared.calls.Call.TheVariants as ask
 use Rattle.xr_types.specs.declared.calls.Gives.TheVariants as gives
@@ -10,6 +11,7 @@ use Rattle.xr_types.specs.declared.input.Column.{Column}
 use Rattle.xr_types.specs.declared.input.User.{User}
 use Rattle.xr_types.specs.declared.spaces.Location.{Location}
 use Rattle.xr_types.specs.declared.spaces.Location.TheVariants.{Missing, Factors}
+use Rattle.xr_types.specs.declared.spaces.Origin.{Origin}
 use Rattle.xr_types.specs.declared.spaces.RefKind.{RefKind}
 use Rattle.xr_types.specs.declared.spaces.Root.TheVariants.{Fixed, Action}
 use Rattle.xr_model.specs.machine.Calls.{Entry}
@@ -56,6 +58,12 @@ abbrev pub PosesFollowColumns : Type 0
 PosesFollowColumns =
     (s : CoreState) (time : ℤ) (x : Space) (place column : ℕ) (c : Column) → x.root ≡ Some (Action place column) → column_at (record { columns = s.columns }) place column ≡ Some c
     → pose_of s.room (record { columns = s.columns }) time x ≡ pose_by_column s time c
+
+-- The space of a kind has the pose of the origin that is named as the kind is: the view, what is local, or the stage.
+abbrev pub ReferenceSpacesHaveTheirOrigins : Type 0
+ReferenceSpacesHaveTheirOrigins =
+    (s : CoreState) (time : ℤ) (x : Space) (what : RefKind) (origin : Origin) → x.root ≡ Some (Fixed what) → origin_name origin ≡ kind_name what
+    → pose_of s.room (record { columns = s.columns }) time x ≡ pose_at time (samples_of s.room.samples origin)
 
 -- the factors: the base's offset, the base's pose, the space's pose, the space's offset; it is missing where one of the poses is
 abbrev pub IsLocated : Space → Space → Option ℕ → Option ℕ → Location → Type 0

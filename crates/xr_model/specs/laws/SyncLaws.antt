@@ -1,6 +1,7 @@
 -- What the definition of a sync means, for every list of sets and of bindings, all inputs and every column.
-use Rattle.std.specs.Prelude.{◌≡◌, ℕ, ℤ, pos, ◌+◌, ◌==◌, ◌&&◌, ◌||◌, ◌++◌, Bool, true, false, not, nat_lt, nat_le, unsigned_abs, map, List, [], ◌∷◌, Some, is_some, option_and_then, slice_get, if◌then◌else◌}
+use Rattle.std.specs.Prelude.{◌≡◌, ℕ, ℤ, pos, ◌+◌, ◌==◌, ◌&&◌, ◌||◌, ◌++◌, Bool, true, false, not, nat_lt, nat_le, unsigned_abs, codes, map, List, [], ◌∷◌, Some, is_some, option_and_then, slice_get, if◌then◌else◌}
 use Rattle.std.specs.List.{list_any, list_all}
+use Rattle.std.proofs.Common.{◌⊎◌}
 use Rattle.xr_types.specs.declared.input.ActionType.{ActionType}
 use Rattle.xr_types.specs.declared.input.ActionType.TheVariants as type
 use Rattle.xr_types.specs.declared.input.Column.{Column}
@@ -14,7 +15,10 @@ use Rattle.xr_types.specs.declared.input.Profile.{Profile}
 use Rattle.xr_types.specs.declared.input.Ranked.{Ranked}
 use Rattle.xr_types.specs.declared.input.User.{User}
 use Rattle.xr_types.specs.declared.limits.TheConstants.{MOST_ROW}
+use Rattle.xr_types.specs.declared.spaces.Origin.{Origin}
+use Rattle.xr_types.specs.InputNames.{input_name, is_digital}
 use Rattle.xr_types.specs.InputValues.{square_of}
+use Rattle.xr_types.specs.Printed.{origin_name, user_path}
 use Rattle.xr_types.specs.Users.{user_place}
 use Rattle.xr_model.specs.machine.Profiles.{component, grip, aim}
 use Rattle.xr_model.specs.machine.Sets.{is_declared}
@@ -121,3 +125,26 @@ is_pick pick = nat_lt pick.identifier 30 && has_rows pick.part
 -- What a path picks is one of thirty identifiers and outputs, and rows of inputs, or of poses.
 abbrev pub PicksAreInRange : Type 0
 PicksAreInRange = (which : Profile) (wanted : ActionType) (path : List ℕ) (pick : Pick) → component which wanted path ≡ Some pick → is_pick pick ≡ true
+
+-- ---- what a path names
+
+-- an input of a user path, by what stands behind `/input/`
+abbrev pub input_at : User → List ℕ → List ℕ
+input_at who entry = user_path who ++ codes "/input/" ++ entry
+
+-- the path is this one, or would be so with one of these components
+abbrev pub IsShortFor : List ℕ → List (List ℕ) → List ℕ → Type 0
+IsShortFor path [] whole = path ≡ whole
+IsShortFor path (component ∷ components) whole = (path ++ codes "/" ++ component ≡ whole) ⊎ IsShortFor path components whole
+
+-- What is picked at a user path is what the path names, in whole or without its component: an input, both axes of one, what has this
+-- pose, or an output.
+abbrev pub IsNamedFor : List ℕ → User → Part → Type 0
+IsNamedFor path who (part.Digital row) = (is_digital row ≡ true) × IsShortFor path (codes "click" ∷ codes "value" ∷ []) (input_at who (input_name row))
+IsNamedFor path who (part.Analogue row) = (is_digital row ≡ false) × IsShortFor path (codes "click" ∷ codes "value" ∷ []) (input_at who (input_name row))
+IsNamedFor path who (part.Both x y) = (path ++ codes "/x" ≡ input_at who (input_name x)) × (path ++ codes "/y" ≡ input_at who (input_name y))
+IsNamedFor path who (part.Pose row) = (o : Origin) × (pose_of who (part.Pose row) ≡ Some o) × IsShortFor path (codes "pose" ∷ []) (origin_name o)
+IsNamedFor path who part.Output = (name : List ℕ) × (path ≡ user_path who ++ codes "/output/" ++ name)
+
+abbrev pub PicksAreNamed : Type 0
+PicksAreNamed = (which : Profile) (wanted : ActionType) (path : List ℕ) (pick : Pick) → component which wanted path ≡ Some pick → IsNamedFor path pick.user pick.part

@@ -1,4 +1,5 @@
-// An image that is given back without the lock: an application and the compositor make calls of a runtime from one thread.
+// An image that is given back without the lock, and how many calls a pass has made: an application and the compositor make calls of a
+// runtime from one thread.
 ghost use Rattle.xr_runtime.specs.Passes.{table_of, IsApp, IsCompositor};
 
 use crate::parts::cores::is_own;
@@ -160,6 +161,10 @@ enum Turn {
     Paint,
     /// It releases the image.
     Release,
+    /// It acquires an image of no swapchain.
+    AcquireNone,
+    /// It reads an action that there isn't.
+    Read,
     /// A frame shows the swapchain.
     Submit,
     /// The compositor takes a frame.
@@ -192,6 +197,12 @@ fn play<R: Wait>(
         },
         Turn::Paint => Call::Paint { chain, stamp: 5 },
         Turn::Release => Call::ReleaseImage { chain },
+        Turn::AcquireNone => Call::AcquireImage { chain: 0 },
+        Turn::Read => Call::GetBoolean {
+            session: scene.session,
+            action: 0,
+            sub: 0,
+        },
         Turn::Submit => return submit(rt, runtime, app, scene),
         Turn::Take => return take(rt, runtime, compositor),
         Turn::GiveBack => return give_back(runtime, compositor),
@@ -201,7 +212,9 @@ fn play<R: Wait>(
 
 /// An image is shown, and waited for while its frame is pending, while the compositor has it, and once it was given back, with no call
 /// under the lock between.
-const STORY: [(Turn, Code); 19] = [
+const STORY: [(Turn, Code); 21] = [
+    (Turn::AcquireNone, Code::HandleInvalid),
+    (Turn::Read, Code::HandleInvalid),
     (Turn::Acquire, Code::Success),
     (Turn::Wait, Code::Success),
     (Turn::Paint, Code::Success),
@@ -223,7 +236,20 @@ const STORY: [(Turn, Code); 19] = [
     (Turn::Release, Code::Success),
 ];
 
-/// How many turns of the story come to what they should, before one that doesn't.
+/// How many calls a turn makes. A frame has three.
+fn calls_of(turn: Turn) -> u64 {
+    match turn {
+        Turn::Submit => 3,
+        _ => 1,
+    }
+}
+
+/// How many calls both have made.
+fn made(app: &AppPass, compositor: &CompositorPass) -> u64 {
+    app.calls().wrapping_add(compositor.calls())
+}
+
+/// How many turns of the story come to what they should, each call counted once, before one that doesn't.
 fn count_right<R: Wait>(
     rt: &R,
     runtime: &Runtime,
@@ -235,7 +261,9 @@ fn count_right<R: Wait>(
 {
     let scene = set_out(rt, runtime, app);
     for (number, (turn, due)) in STORY.iter().enumerate() {
-        if play(rt, runtime, app, compositor, scene, *turn) != Some(*due) {
+        let before = made(app, compositor);
+        let code = play(rt, runtime, app, compositor, scene, *turn);
+        if code != Some(*due) || made(app, compositor) != before.wrapping_add(calls_of(*turn)) {
             return number;
         }
     }
@@ -258,6 +286,22 @@ fn told<R: Wait>(rt: &R, alloc: Global) -> Option<usize> {
         return None;
     };
     Some(count_right(rt, &runtime, &mut app, &mut compositor))
+}
+
+/// How many calls the device's pass has made behind one; nothing where memory is short.
+fn told_by_device<R: Wait>(rt: &R, alloc: Global) -> Option<u64> {
+    let Ok((runtime, passes)) = Runtime::start(alloc, 1) else {
+        return None;
+    };
+    let Passes { mut device, .. } = passes;
+    let _ = runtime.device(rt, &mut device, DeviceEvent::Loss);
+    Some(device.calls())
+}
+
+#[test]
+fn a_call_of_the_device_is_counted_once(rt: HostRuntime) -> Result<(), Fail> {
+    assert_eq!(rt; told_by_device(&rt, rt.alloc()), Some(1));
+    Ok(())
 }
 
 #[test]

@@ -44,6 +44,7 @@ pub(crate) fn is_own(call: &Call<'_>) -> bool
             | Call::CreateActionSet { .. }
             | Call::CreateAction { .. }
             | Call::AttachSets { .. }
+            | Call::GetBoolean { .. }
             | Call::CreateReferenceSpace { .. }
             | Call::CreateSwapchain { .. }
             | Call::AcquireImage { .. }

@@ -75,7 +75,7 @@ const ROWS: &[Row] = &[
     },
     A_LINE_WITHOUT_ITS_LINE_FEED,
     Row {
-        name: "a comment and an empty line",
+        name: "an empty text",
         device: "",
         report: "\
 xrsim report 1

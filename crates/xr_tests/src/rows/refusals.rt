@@ -1,31 +1,10 @@
 // Refused creations, runs that are stuck, and a device that says no more.
 use crate::ends::Row;
 
-const ROWS: &[Row] = &[
-    Row {
-        name: "two scripts wait for each other",
-        words: &["serial", "scenario.json"],
-        scenario: r#"{"version":1,"scripts":[[{"op":"await","mark":1},{"op":"mark","mark":2}],[{"op":"await","mark":2},{"op":"mark","mark":1}]]}"#,
-        status: 7,
-        line: "xrsim: stuck\n",
-        report: "\
-xrsim report 1
-thread 1
-thread 2
-compositor
-device
-stuck
-thread 1 1 await
-thread 2 1 await
-compositor next_frame
-status 7
-",
-        ..Row::EMPTY
-    },
-    Row {
-        name: "a line of the device is malformed",
-        words: &["serial", "scenario.json", "--device", "device.txt"],
-        scenario: r#"{"version":1,"scripts":[[
+const A_MALFORMED_LINE: Row = Row {
+    name: "a line of the device is malformed",
+    words: &["serial", "scenario.json", "--device", "device.txt"],
+    scenario: r#"{"version":1,"scripts":[[
 {"op":"create_instance","major":1,"minor":0,"as":"i"},
 {"op":"get_system","instance":"i","form":"head","as":"y"},
 {"op":"create_session","instance":"i","system":"y","as":"s"},
@@ -34,7 +13,7 @@ status 7
 {"op":"poll_event","instance":"i"},
 {"op":"poll_event","instance":"i"},
 {"op":"begin_session","session":"s","view":"stereo"}]]}"#,
-        device: "\
+    device: "\
 clock 1
 clock 2
 clock 3
@@ -43,9 +22,9 @@ clock 5
 clock 6
 wish maybe
 ",
-        status: 6,
-        line: "xrsim: device line 7 garbled\n",
-        report: "\
+    status: 6,
+    line: "xrsim: device line 7 garbled\n",
+    report: "\
 xrsim report 1
 thread 1
 1 create_instance XR_SUCCESS
@@ -68,6 +47,89 @@ device
 6 clock 6
 garbled 7
 status 6
+",
+    ..Row::EMPTY
+};
+
+const ROWS: &[Row] = &[
+    Row {
+        name: "two scripts wait for each other",
+        words: &["serial", "scenario.json"],
+        scenario: r#"{"version":1,"scripts":[[{"op":"await","mark":1},{"op":"mark","mark":2}],[{"op":"await","mark":2},{"op":"mark","mark":1}]]}"#,
+        status: 7,
+        line: "xrsim: stuck\n",
+        report: "\
+xrsim report 1
+thread 1
+thread 2
+compositor
+device
+stuck
+thread 1 1 await
+thread 2 1 await
+compositor next_frame
+status 7
+",
+        ..Row::EMPTY
+    },
+    A_MALFORMED_LINE,
+    Row {
+        name: "the device can't be read on",
+        device: "\
+clock 1
+clock 2
+clock 3
+clock 4
+clock 5
+clock 6
+",
+        failing_reads: &[1],
+        status: 5,
+        line: "xrsim: device failed\n",
+        report: "\
+xrsim report 1
+thread 1
+1 create_instance XR_SUCCESS
+2 get_system XR_SUCCESS 1
+3 create_session XR_SUCCESS
+4 poll_event XR_SUCCESS state 1 IDLE
+5 poll_event XR_EVENT_UNAVAILABLE
+6 poll_event XR_EVENT_UNAVAILABLE
+7 poll_event XR_EVENT_UNAVAILABLE
+8 begin_session XR_ERROR_SESSION_LOST
+9 leave XR_SUCCESS
+compositor
+ended
+device
+1 clock 1
+2 clock 2
+3 clock 3
+4 clock 4
+5 clock 5
+6 clock 6
+fault
+status 5
+",
+        ..A_MALFORMED_LINE
+    },
+    Row {
+        name: "a script waits for a device that can't be read",
+        words: &["serial", "scenario.json", "--device", "device.txt"],
+        scenario: r#"{"version":1,"scripts":[[{"op":"await","mark":1}]]}"#,
+        device: "mark 1\n",
+        failing_reads: &[0],
+        status: 5,
+        line: "xrsim: device failed\n",
+        report: "\
+xrsim report 1
+thread 1
+compositor
+device
+fault
+stuck
+thread 1 1 await
+compositor next_frame
+status 5
 ",
         ..Row::EMPTY
     },

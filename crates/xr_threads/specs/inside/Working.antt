@@ -14,7 +14,7 @@ use Rattle.xr_runtime.specs.declared.passes.AppPass.{AppPass}
 use Rattle.xr_runtime.specs.declared.passes.CompositorPass.{CompositorPass}
 use Rattle.xr_runtime.specs.declared.passes.DevicePass.{DevicePass}
 use Rattle.xr_runtime.specs.Passes.{IsApp, IsFirst, IsCompositor, IsDevice}
-use Rattle.xr_workers.specs.Workers.{IsGated}
+use Rattle.xr_workers.specs.Workers.{IsGated, FollowsFront}
 use Rattle.xr_threads.specs.declared.app.AppWorker.{AppWorker}
 
 abbrev pub pass_of : AppWorker → AppPass
@@ -41,11 +41,13 @@ pub record MayRun (table : TableId) (scenario : Scenario) (ws : List AppWorker) 
   pub device : IsDevice table events
   pub none_told : events.calls ≡ 0
 
--- It has run: its pass is still its application's, the gate was called round each of its calls, and where these are listed they are those
--- of its script, and then `leave`.
+-- It has run: its pass is still its application's, which has left; its calls are those of a first part of its script, and then `leave`;
+-- both calls of the gate were made with the number of each; and where they are listed they are those of all of its script, and then `leave`.
 pub record HasWorked (came went : Actor → ℕ → Type 0) (table : TableId) (scenario : Scenario) (place : ℕ) (w : AppWorker) : Type 0 where
   pub is : IsApp table w.pass
   pub app_is : w.pass.app ≡ place + 1
+  pub has_left : w.pass.left ≡ true
+  pub front : FollowsFront (slice_index_or scenario.scripts place []) (calls_made w.pass)
   pub gated : IsGated came went (App (place + 1)) 0 (length (calls_made w.pass))
   pub lists : IfSome w.listed (λ list. Follows (slice_index_or scenario.scripts place []) (calls_made w.pass) × (list ≡ made_from 1 (calls_made w.pass)))
 

@@ -1,5 +1,5 @@
 -- The device's worker on its way.
-use Rattle.std.specs.Prelude.{◌≡◌, ◌≤◌, ◌+◌, ℕ, Bool, false, List, [], ◌∷◌, length, None}
+use Rattle.std.specs.Prelude.{◌≡◌, ◌≤◌, ◌+◌, ℕ, Bool, true, false, List, [], ◌∷◌, length, None}
 use Rattle.atomic_table.specs.Seated.{TableId}
 use Rattle.xr_types.specs.declared.calls.Reply.{Reply}
 use Rattle.xr_types.specs.declared.device.DeviceEvent.{DeviceEvent}
@@ -26,11 +26,13 @@ pub record MadeEvent (table : TableId) (old : DevicePass) (event : DeviceEvent) 
 abbrev pub side_of : List DeviceEvent → List Made → Bool → SideState
 side_of events list over = record { pending = None; over = over; events = events; calls = list }
 
--- These events were told and their calls made and listed; and where more may come, how many are still to come at most.
+-- These events were told and their calls made and listed; and where more may come, how many are still to come at most; where nothing more
+-- comes the device says so.
 pub record MadeEvents (table : TableId) (start now : Prospect) (old new : DevicePass) (events : List DeviceEvent) (list : List Made) (over : Bool) : Type 0 where
   pub is : IsDevice table new
   pub calls : List Exchange
   pub adds : Adds old.seat.me.0.know new.seat.me.0.know calls
   pub kept : DeviceKept (side_of events list over) calls start now
   pub few : over ≡ false → length calls + now.bound ≤ MOST_DEVICE
+  pub ends : over ≡ true → now.over ≡ true
   pub reads : ReadsOn start now

@@ -1,5 +1,6 @@
 use Rattle.std.proofs.Common.{◌∙◌}
-use Rattle.xr_bench.proofs.Resting.{may_give_back, gave_back, rests_again}
+use Rattle.xr_lock.proofs.Unnoted.{may_give_back, gave_back}
+use Rattle.xr_bench.proofs.Resting.{rests_again}
 use Rattle.xr_bench.proofs.turns.turn.Goals as goal
 
 pub give-requires-clause-may : goal.give-requires-clause-may

@@ -54,4 +54,5 @@ returns-clause-closed g c =
     let scripts : length c.as_slice-count.result.now ≡ length c.args.scenario.now.scripts = ap (λ (l : List (List Op)). length l) c.as_slice-count.ensures in
     let ran = c.run_actors-listed.ensures in
     closes _ _ (table_of c.in_ok-runtime.runtime) c.in_ok-runtime.runtime _ c.close-closed.result c.args.scenario.now c.close-closed.ensures.closed (started.apps_are ∙ scripts) ws c.part-all.ensures.passes_are (many ∙ (started.count ∙ scripts)) ran.have
-    c.in_ok-runtime.passes.compositor c.in_ok-runtime.passes.device started.compositor started.none_shown.1 ran.composed.is.is_own ran.composed_gated started.device started.none_told ran.told.is ran.told_gated
+    c.in_ok-runtime.passes.compositor c.in_ok-runtime.passes.device c.run_actors-listed.result.composed c.run_actors-listed.result.told _ _
+    started.compositor started.none_shown.1 ran.composed ran.composed_gated started.device started.none_told ran.told ran.told_gated

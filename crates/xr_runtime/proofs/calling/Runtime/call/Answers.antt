@@ -1,7 +1,10 @@
-use Rattle.std.proofs.Common.{rules, ◌≡◌, w64, to_z, of_z}
+use Rattle.std.proofs.Common.{rules, ◌≡◌, w64, to_z, of_z, sym, ◌∙◌}
 use Rattle.xr_runtime.specs.Passes.{table_of}
-use Rattle.xr_runtime.proofs.Begun.{as_it_is, begins}
+use Rattle.xr_runtime.proofs.Begun.{as_it_is, as_read, begins}
 use Rattle.xr_runtime.proofs.calling.Runtime.call.Goals as goal
+
+pub returns-then-is_getter : goal.returns-then-is_getter
+returns-then-is_getter g c = record { called = as_read (table_of c.args.self.now) c.args.pass.now c.getter.new.pass c.args.call.now c.args.text.now c.getter.result (sym c.is_getter.ensures ∙ c.if-is_getter.true) (c.getter.ensures.called c.args.text.now) }
 
 pub returns-in-WaitImage : goal.returns-in-WaitImage
 returns-in-WaitImage g c =
