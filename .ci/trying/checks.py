@@ -1,6 +1,7 @@
 """One check of a crate that has edits, over libraries that are built: only the functions that have to refuse them are proved, or the whole
 crate where a lemma that only other crates use has to."""
 import os
+import shutil
 import subprocess
 import tempfile
 from collections import namedtuple
@@ -35,8 +36,23 @@ def words(built, lines, name, texts):
     return [*found, *["--test"] * has_tests(texts), "--links", f"{name}=", "--jobs", "1"]
 
 
-def check(root, built, lines, edits):
-    """Checks the functions that have to refuse these edits, in a copy of their crate that has them all."""
+def begin_with(seed, own):
+    """Gives a check what an earlier one of the same crate has checked, if one has. What both have is linked: the toolchain never writes a file anew."""
+    if seed.is_dir():
+        shutil.copytree(seed, own, copy_function=os.link)
+
+
+def hand_on(seed, own):
+    """Keeps what a check has checked for those behind it, unless another one has."""
+    try:
+        own.rename(seed)
+    except OSError:
+        pass
+
+
+def check(root, built, lines, edits, seed=None):
+    """Checks the functions that have to refuse these edits, in a copy of their crate that has them all. Where a folder is named, it begins with what
+    that has, and what no edit changes isn't checked anew."""
     crate = edits[0].crate
     texts = texts_of(root / "crates" / crate)
     names = sorted({it for number, edit in enumerate(edits) for it in tried_by(edit, number)})
@@ -47,8 +63,13 @@ def check(root, built, lines, edits):
             file.parent.mkdir(parents=True, exist_ok=True)
             file.write_text(text, encoding="utf-8")
         call = [f"{kit()}/bin/rattle", "check", *words(built, lines, crate, texts), *only]
+        if seed:
+            begin_with(seed, own := Path(room, "checked"))
+            call += ["--incremental", str(own)]
         ran = subprocess.Popen(call, cwd=room, **SAYING)
         said = ran.stdout.read()
         _, status, used = os.wait4(ran.pid, 0)
         ran.returncode = os.waitstatus_to_exitcode(status)
+        if seed:
+            hand_on(seed, own)
     return Checked(said, ran.returncode, used.ru_utime + used.ru_stime)

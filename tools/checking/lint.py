@@ -5,7 +5,7 @@ import re
 from checking.arguments import never_taken
 from checking.prediction import unset
 from checking.sequence import names_of, out_of_order
-from checking.things import MADE_FROM, WANTED, Path, Thing, kind_given, kinds_of_marks, uses_of
+from checking.things import ASKED_OF, MADE_FROM, WANTED, Path, Thing, kind_given, kinds_of_marks, uses_of
 from scenarios.devices import CONTROLLERS, END, DeviceFound, Told
 from scenarios.findings import Finding, line_and_column
 from scenarios.json_text import Reader
@@ -106,12 +106,15 @@ class Lint:
         self.warn(op, place, words, ("mark",))
 
     def look_at_name(self, op: Op, place: int) -> None:
-        """Whether a name is given again while it alone stands for a handle that is live: one that was made, and neither destroyed nor handed over."""
-        old = self.named(op.fields["as"])
-        is_made = old and old.made and old.made.name.startswith("create_") and (self.number, old.made_at) not in self.expected
-        if old and is_made and not old.is_handed and not old.gone():
-            words = f"{quoted(op.fields['as'])} is given again, and nothing names the {old.kind} of op {old.made_at} any longer"
-            self.warn(op, place, words, ("as",))
+        """Whether a name is given again though the script hasn't destroyed what it stood for, nor what that was asked of."""
+        name = op.fields["as"]
+        old = self.named(name)
+        if not old or not old.made or old.is_over():
+            return
+        words = f"{quoted(name)} is given again behind op {old.made_at} ({old.made.name})"
+        if old.made.name.startswith("create_") and not old.is_handed and (self.number, old.made_at) not in self.expected:
+            words += f", and nothing names that {old.kind} any longer"
+        self.warn(op, place, words, ("as",))
 
     def named(self, name: object) -> Thing | None:
         """What a name stands for."""
@@ -123,14 +126,15 @@ class Lint:
         return thing.made if thing else None
 
     def thing(self, op: Op, field: str) -> Thing | None:
-        """What a field of an op names."""
-        return self.named(op.fields.get(field))
+        """What a field of an op names, unless it is of another kind than is wanted there: the call is refused then."""
+        found = self.named(op.fields.get(field))
+        return found if found and found.kind in (None, WANTED.get(field, found.kind)) else None
 
     def follow(self, op: Op, place: int) -> None:
-        """What an op does to what its names stand for. A call with a handle of another kind is refused."""
+        """What an op does to what its names stand for."""
         field = next((it for it in op.fields if it in WANTED or it == "value"), "")
         used = self.thing(op, field)
-        if used and used.kind in (None, WANTED.get(field, used.kind)):
+        if used:
             if op.name.startswith("destroy_"):
                 used.destroyed = used.destroyed or f"op {place} ({op.name})"
             elif op.name in ("begin_session", "end_session"):
@@ -141,7 +145,7 @@ class Lint:
         parent = self.thing(op, MADE_FROM.get(kind or "", ""))
         is_await = op.name == "await" and op.fields["mark"] <= MOST_HANDLE_MARK
         is_none = is_await and op.fields["mark"] not in self.valued
-        new = Thing(kind, op, place, parent, is_handed=op.name == "await", is_none=is_none)
+        new = Thing(kind, op, place, parent, self.thing(op, ASKED_OF.get(op.name, "")), is_handed=op.name == "await", is_none=is_none)
         if "as" in op.fields:
             self.look_at_name(op, place)
             self.names[op.fields["as"]] = new

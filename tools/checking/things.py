@@ -20,22 +20,24 @@ WANTED = {
 }
 PARTS_OF_LAYERS = ("projection", "quad", "image", "views")
 
-# the field that names what a thing of a kind is made from
+# the field that names what a thing of a kind is made from, and that which an op asks for something without an end of its own
 MADE_FROM = {"session": "instance", "action set": "instance", "action": "set", "space": "session", "swapchain": "session"}
+ASKED_OF = {"get_system": "instance", "string_to_path": "instance", "wait_frame": "session"}
 
 Path = tuple[Any, ...]
 
 
 @dataclass(eq=False)
 class Thing:
-    """What a name stands for: its kind where that is known, the op that made it and its place, what it is made from, the op that destroys it, the op
-    that begins it where it is a session, whether it goes from script to script or stands for no handle, what was made from it last by its names,
-    whether an image of it is waited for, and the op that attached it or attached sets to it."""
+    """What a name stands for: its kind where that is known, the op that made it and its place, what it is made from or asked of, the op that destroys
+    it, the op that begins it where it is a session, whether it goes from script to script or stands for no handle, what was made from it last by its
+    names, whether an image of it is waited for, and the op that attached it or attached sets to it."""
 
     kind: str | None
     made: Op | None = None
     made_at: int = 0
     parent: Thing | None = None
+    asked: Thing | None = None
     destroyed: str = ""
     begun: Op | None = None
     begun_at: int = 0
@@ -48,6 +50,10 @@ class Thing:
     def gone(self) -> Thing | None:
         """The thing whose end is its end too, if it has come to an end."""
         return self if self.destroyed else self.parent.gone() if self.parent else None
+
+    def is_over(self) -> bool:
+        """Whether it has come to an end, or what it was asked of has."""
+        return bool(self.gone() or self.asked and self.asked.gone())
 
 
 def uses_of(op: Op) -> Iterator[tuple[Path, str, str | None]]:

@@ -72,8 +72,13 @@ def examples(tally: Tally, program: str, room: Path) -> None:
         tally.check("warning: " not in said, f"{file.name}: {said!r}")
     (room / "a.expect").write_text("1 2 XR_ERROR_API_VERSION_UNSUPPORTED\n1 3 XR_SUCCESS\n", encoding="utf-8")
     _, said = checked(room, scenario_of("3 create_instance major=2 minor=0"), "-", "--lint")
-    (room / "a.expect").unlink()
     tally.same([line for _, line, *_ in WARNING.findall(said)], ["1", "3"], "which refusals are told beside a file of expectations")
+    # a refused call gives a name too, and nothing is lost where that is given again
+    (room / "a.expect").write_text("1 3 XR_ERROR_LIMIT_REACHED\n", encoding="utf-8")
+    _, said = checked(room, scenario_of("{INSTANCE}; {SESSION}; 3 {A_SPACE} as=p"), "-", "--lint")
+    (room / "a.expect").unlink()
+    told = [(line, "nothing names" in words) for _, line, _, words in WARNING.findall(said)]
+    tally.same(told, [("4", False), ("5", True)], "which names are told beside a file of expectations")
 
 
 def counts(tally: Tally, program: str, room: Path) -> None:
@@ -83,6 +88,8 @@ def counts(tally: Tally, program: str, room: Path) -> None:
     _, said = checked(room, scenario_of("{INSTANCE}; 20000 end_session session=i"), "-", "--lint")
     is_good = said.count("warning: ") == 100 and "19900 more warnings can be given" in said
     tally.check(is_good, "--lint doesn't stop at 100 warnings, or doesn't say how many are left")
+    status, said = checked(room, scenario_of("{INSTANCE}; 3000 create_session instance=i system=1 as=i"), "-", "--lint")
+    tally.same((status, said.count("warning: ")), (3, 100), "--lint: a name that is given again by the call that uses it")
 
 
 def wrong(tally: Tally, program: str, room: Path) -> None:

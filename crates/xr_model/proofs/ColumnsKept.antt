@@ -1,22 +1,27 @@
--- What stays where an action goes: the columns of the others, and the spaces that don't move with it.
+-- What stays: the columns over most calls, and where an action goes those of the others, and the spaces that don't move with it.
 use Rattle.std.proofs.Common.{◌≡◌, ◌==◌, ℕ, not, Bool, true, false, List, Option, Some, None, option_map, slice_get, refl, sym, ap, ◌∙◌, arith, true≢false}
 use Rattle.std.specs.Prelude.{option_and_then, if◌then◌else◌}
 use Rattle.xr_types.specs.Code.{is_success}
 use Rattle.xr_types.specs.declared.calls.Call.{Call}
 use Rattle.xr_types.specs.declared.calls.Call.TheVariants as ask
+use Rattle.xr_types.specs.declared.device.DeviceEvent.{DeviceEvent}
+use Rattle.xr_types.specs.declared.device.DeviceEvent.TheVariants as event
 use Rattle.xr_types.specs.declared.handles.Kind.TheVariants as kind
 use Rattle.xr_types.specs.declared.input.Column.{Column}
 use Rattle.xr_types.specs.declared.spaces.Root.{Root}
 use Rattle.xr_types.specs.declared.spaces.Root.TheVariants.{Fixed, Action}
 use Rattle.xr_model.specs.machine.Destroyed.{has_action, without_handle}
 use Rattle.xr_model.specs.machine.Handles.{Handles, destroyed_by, has, is_among, is_live, without}
+use Rattle.xr_model.specs.machine.Refusals.{Refusal}
+use Rattle.xr_model.specs.machine.Rule.{Effect, refusal, told_on, unless_refused}
+use Rattle.xr_model.specs.machine.Rules.Device.{behind_event}
 use Rattle.xr_model.specs.machine.Spaces.{Space, is_left, with_left, without_spaces}
 use Rattle.xr_model.specs.machine.State.{CoreState, opening}
 use Rattle.xr_model.specs.machine.Sync.{inactive_row, left_columns}
 use Rattle.xr_model.specs.machine.Machine.{reads_of, rule, step}
 use Rattle.xr_model.specs.machine.History.{after}
 use Rattle.xr_model.specs.laws.HandleLaws.{StandOnce}
-use Rattle.xr_model.specs.laws.ColumnLaws.{is_action_end, moves_on, KeepsOthers, OthersKeepWhatTheyShow}
+use Rattle.xr_model.specs.laws.ColumnLaws.{may_change_columns, ColumnsStay, is_action_end, moves_on, KeepsOthers, OthersKeepWhatTheyShow}
 use Rattle.xr_model.proofs.ChainPlaces.{same_some}
 use Rattle.xr_model.proofs.ColumnsGone.{got_from}
 use Rattle.xr_model.proofs.FrameCalls.{where_done}
@@ -25,7 +30,29 @@ use Rattle.xr_model.proofs.Keyed.{which_left, which_map}
 use Rattle.xr_model.proofs.Rows.{both_of, counted, not_true, uncounted}
 use Rattle.xr_model.proofs.StandOnce.{handles_stand_once}
 
--- ---- columns
+-- ---- over most calls
+
+columns_so : (s : CoreState) (o : Option Refusal) (x : Effect) → x.state.columns ≡ s.columns → (unless_refused s o x).state.columns ≡ s.columns
+columns_so s None x same = same
+columns_so s (Some r) x same = refl
+
+told_so : (s : CoreState) (what : DeviceEvent) → (behind_event s what).columns ≡ s.columns
+told_so s (event.Clock time) = refl
+told_so s _ = refl
+
+pub columns_stay : ColumnsStay
+columns_stay s e aside = by e.call aside
+  where
+    by : (r : Call) → may_change_columns r ≡ false → (step s (record e { call = r })).0.core.columns ≡ s.core.columns
+    by (ask.SyncActions session active) aside = absurd (true≢false aside)
+    by (ask.DestroyInstance instance) aside = absurd (true≢false aside)
+    by (ask.DestroySession session) aside = absurd (true≢false aside)
+    by (ask.DestroyActionSet set) aside = absurd (true≢false aside)
+    by (ask.DestroyAction action) aside = absurd (true≢false aside)
+    by (ask.Device what) aside = told_so s.core what
+    by r aside = let f = rule s.core (reads_of s r) (record e { call = r }) in columns_so s.core (refusal e.short f) (told_on f.on f.effect) refl
+
+-- ---- columns of others
 
 left_there : (there : ℕ → Bool) (columns : List (List Column)) (place : ℕ) → there place ≡ true → slice_get (left_columns there columns) place ≡ slice_get columns place
 left_there there columns place is = got_from (λ k row. if there k then row else inactive_row) 0 columns place place (omega arith) ∙ by (slice_get columns place)

@@ -118,7 +118,8 @@ module _ (s : CoreState) (reads : CellReads) (e : Entry) (fits : Fits s) where
           kept s (refusal e.short f) (told_on f.on f.effect) fits (λ none. (synced (is_state (life_of s session).state Focused) active, fits.1, fits.2, fits.3))
       by (ask.CreateAction set name type subs localized) good =
           let f = rule s reads (record e { call = ask.CreateAction set name type subs localized }) in
-          kept s (refusal e.short f) (told_on f.on f.effect) fits (λ none. (fits.0, fits.1, fits.2, all_more has_five s.inputs.actions _ fits.3 (rw (declared_length s.atoms subs no_users) refl)))
+          let fit = fits.0 in
+          kept s (refusal e.short f) (told_on f.on f.effect) fits (λ none. (search (fit, gone_fit), fits.1, fits.2, all_more has_five s.inputs.actions _ fits.3 (rw (declared_length s.atoms subs no_users) refl)))
       by (ask.DestroyInstance instance) good =
           let f = rule s reads (record e { call = ask.DestroyInstance instance }) in
           kept s (refusal e.short f) (told_on f.on f.effect) fits (λ none. gone instance)

@@ -35,7 +35,7 @@ among_each P f [] each k x found = cc
 among_each P f (s ∷ ss) each k x found = among_both P (f s) (flat_map f ss) (each zero s refl) (among_each P f ss (λ n t there. each (suc n) t there)) k x found
 
 -- what is left of a list was there, and meets the test
-pub among_left : {T : Type 0} (p : T → Bool) (xs : List T) (k : ℕ) (x : T) → slice_get (filter p xs) k ≡ Some x → (p x ≡ true) × (n : ℕ) × (slice_get xs n ≡ Some x)
+among_left : {T : Type 0} (p : T → Bool) (xs : List T) (k : ℕ) (x : T) → slice_get (filter p xs) k ≡ Some x → (p x ≡ true) × (n : ℕ) × (slice_get xs n ≡ Some x)
 among_left p [] k x found = cc
 among_left p (y ∷ xs) k x found = by (p y) refl k found (λ n there. among_left p xs n x there)
   where

@@ -1,9 +1,10 @@
 -- What a path picks is what it names.
-use Rattle.std.proofs.Common.{◌≡◌, ◌==◌, ◌||◌, ◌++◌, inl, inr, ℕ, Bool, true, false, List, [], ◌∷◌, Option, Some, None, option_map, refl, sym, ap, subst, ◌∙◌, arith, append_assoc}
-use Rattle.std.specs.Prelude.{bytes_eq, codes, nat_lt, option_and_then, if◌then◌else◌}
+use Rattle.std.proofs.Common.{◌≡◌, ◌==◌, ◌||◌, ◌++◌, ◌⊎◌, inl, inr, ℕ, Bool, true, false, List, [], ◌∷◌, Option, Some, None, option_map, refl, sym, ap, subst, ◌∙◌, arith, append_assoc}
+use Rattle.std.specs.Prelude.{bytes_eq, codes, nat_lt, option_and_then, slice_index_or, if◌then◌else◌}
 use Rattle.std.specs.Cmp.Lexicographic.{bytes_decides}
 use Rattle.std.specs.List.{filter, find, list_any}
 use Rattle.std.proofs.lemmas.Bool.Decides.{nat_tests}
+use Rattle.std.proofs.lemmas.List.Quantifiers.{position-Some}
 use Rattle.xr_types.specs.InputNames.{input_name, is_digital}
 use Rattle.xr_types.specs.Printed.{all_users, user_path}
 use Rattle.xr_types.specs.Words.{behind}
@@ -15,8 +16,8 @@ use Rattle.xr_types.specs.declared.input.Pick.{Pick}
 use Rattle.xr_types.specs.declared.input.Profile.{Profile}
 use Rattle.xr_types.specs.declared.input.User.{User}
 use Rattle.xr_types.specs.declared.spaces.Origin.TheVariants as origin
-use Rattle.xr_model.specs.machine.Profiles.{grip, aim, before_slash, both, entry_name, first_some, identifier_place, is_input, is_pose, outputs_at, part_of, pick_among, pick_at, pick_by, picked, picked_output, row_alone, row_named, rows_at}
-use Rattle.xr_model.specs.laws.SyncLaws.{is_row, has_rows, input_at, IsShortFor, IsNamedFor, PicksAreNamed}
+use Rattle.xr_model.specs.machine.Profiles.{grip, aim, before_slash, both, entry_name, first_some, identifier_place, identifiers, is_input, is_pose, outputs_at, part_of, pick_among, pick_at, pick_by, picked, picked_output, row_alone, row_named, rows_at}
+use Rattle.xr_model.specs.laws.SyncLaws.{is_row, has_rows, input_at, IsShortFor, IsNamedFor, PicksAreNamed, IsOfSource, PicksHaveTheirSources}
 use Rattle.xr_model.proofs.ChainPlaces.{same_some}
 use Rattle.xr_model.proofs.PickRanges.{picks_are_in_range}
 use Rattle.xr_model.proofs.Rows.{both_of, same_key}
@@ -199,3 +200,56 @@ among_is which wanted path (who ∷ more) = each_first (IsNamedPick path) (pick_
 
 pub picks_are_named : PicksAreNamed
 picks_are_named which wanted path pick e = among_is which wanted path all_users pick e (both_of (nat_lt pick.identifier 30) (has_rows pick.part) (picks_are_in_range which wanted path pick e)).1
+
+-- ---- sources
+
+abbrev Ends : List ℕ → Type 0
+Ends rest = (rest ≡ []) ⊎ ((more : List ℕ) × (rest ≡ codes "/" ++ more))
+
+-- what stands behind the first slash
+slash_behind : (entry : List ℕ) → (rest : List ℕ) × (entry ≡ before_slash entry ++ rest) × Ends rest
+slash_behind [] = ([], refl, inl refl)
+slash_behind (b ∷ bs) = by (b == 47) refl (slash_behind bs)
+  where
+    by : (c : Bool) → (b == 47) ≡ c → (rest : List ℕ) × (bs ≡ before_slash bs ++ rest) × Ends rest → (rest : List ℕ) × (b ∷ bs ≡ (if c then [] else b ∷ before_slash bs) ++ rest) × Ends rest
+    by true ec more = (b ∷ bs, refl, inr (bs, ap (λ (n : ℕ). n ∷ bs) (same_key b 47 ec)))
+    by false ec more = (more.0, ap (λ (l : List ℕ). b ∷ l) more.1, more.2)
+
+module _ (path : List ℕ) (who : User) (way : List ℕ) (known : (way ≡ codes "/input/") ⊎ (way ≡ codes "/output/")) where
+  source_by : (entry : List ℕ) → path ≡ (user_path who ++ way) ++ entry → (what : Option Part) → Each (IsOfSource path) (pick_by who entry what)
+  source_by entry is None pick e = cc
+  source_by entry is (Some p) pick e = by (identifier_place (before_slash entry)) refl e
+    where
+      by : (o : Option ℕ) → identifier_place (before_slash entry) ≡ o → option_map (λ place. (let q : Pick = record { user = who; identifier = place; part = p } in q)) o ≡ Some pick → IsOfSource path pick
+      by None at e = cc
+      by (Some place) at e =
+          let named = (bytes_decides (before_slash entry) (slice_index_or identifiers place [])).0 (position-Some (λ text. bytes_eq (before_slash entry) text) identifiers place [] at).1 in
+          let cut = slash_behind entry in
+          let q : Pick = record { user = who; identifier = place; part = p } in
+          subst (IsOfSource path) (same_some q pick e)
+          (record {
+            way = way;
+            known = known;
+            rest = cut.0;
+            whole =
+                is ∙ ap (λ (l : List ℕ). (user_path who ++ way) ++ l) cut.1 ∙ sym (append_assoc (user_path who ++ way) (before_slash entry) cut.0)
+                ∙ ap (λ (l : List ℕ). (user_path who ++ way) ++ l ++ cut.0) named;
+            ends = cut.2;
+          })
+
+source_at : (which : Profile) (wanted : ActionType) (path : List ℕ) (who : User) → Each (IsOfSource path) (pick_at which wanted path who)
+source_at which wanted path who =
+    each_first (IsOfSource path)
+    (option_and_then (λ entry. pick_by who entry (picked wanted (rows_at which who) entry)) (behind (user_path who ++ codes "/input/") path))
+    (option_and_then (λ entry. pick_by who entry (picked_output wanted (outputs_at which who) entry)) (behind (user_path who ++ codes "/output/") path))
+    (each_then (IsOfSource path) (λ entry. pick_by who entry (picked wanted (rows_at which who) entry)) (behind (user_path who ++ codes "/input/") path)
+    (λ entry at. source_by path who (codes "/input/") (inl refl) entry (behind_is (user_path who ++ codes "/input/") path entry at) (picked wanted (rows_at which who) entry)))
+    (each_then (IsOfSource path) (λ entry. pick_by who entry (picked_output wanted (outputs_at which who) entry)) (behind (user_path who ++ codes "/output/") path)
+    (λ entry at. source_by path who (codes "/output/") (inr refl) entry (behind_is (user_path who ++ codes "/output/") path entry at) (picked_output wanted (outputs_at which who) entry)))
+
+source_among : (which : Profile) (wanted : ActionType) (path : List ℕ) (users : List User) → Each (IsOfSource path) (pick_among which wanted path users)
+source_among which wanted path [] = each_none (IsOfSource path)
+source_among which wanted path (who ∷ more) = each_first (IsOfSource path) (pick_at which wanted path who) (pick_among which wanted path more) (source_at which wanted path who) (source_among which wanted path more)
+
+pub picks_have_their_sources : PicksHaveTheirSources
+picks_have_their_sources which wanted path pick e = source_among which wanted path all_users pick e

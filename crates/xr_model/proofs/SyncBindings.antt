@@ -1,7 +1,7 @@
--- The bindings of a sync: that each suggestion for a connected profile is one, and which place and priority it has.
-use Rattle.std.proofs.Common.{◌≡◌, ◌+◌, ◌==◌, ◌||◌, ◌++◌, ℕ, zero, suc, Bool, true, false, List, [], ◌∷◌, Option, Some, None, option_map, slice_get, refl, sym, ap, subst, ◌∙◌, arith, true≢false}
+-- The bindings of a sync: that they are the suggestions for the connected profiles, and which place and priority each has.
+use Rattle.std.proofs.Common.{◌≡◌, ◌+◌, ◌==◌, ◌&&◌, ◌||◌, ◌++◌, ℕ, zero, suc, Bool, true, false, List, [], ◌∷◌, Option, Some, None, option_map, map, slice_get, append-nil, refl, sym, ap, subst, ◌∙◌, arith, true≢false}
 use Rattle.std.specs.Prelude.{flat_map, is_some, option_and_then, unwrap_or, if◌then◌else◌}
-use Rattle.std.specs.List.{filter, position_from}
+use Rattle.std.specs.List.{filter, list_all, position_from}
 use Rattle.xr_types.specs.Printed.{all_users}
 use Rattle.xr_types.specs.Users.{user_place}
 use Rattle.xr_types.specs.declared.handles.Kind.TheVariants as kind
@@ -18,82 +18,124 @@ use Rattle.xr_model.specs.machine.Rules.Sync.{ranked, ranked_by, suggested_at, c
 use Rattle.xr_model.specs.machine.Sets as sets
 use Rattle.xr_model.specs.machine.Sets.{Set, action_at, set_at, set_priority}
 use Rattle.xr_model.specs.machine.State.{CoreState, Settings, opening}
-use Rattle.xr_model.specs.machine.Sync.{is_same_user}
 use Rattle.xr_model.specs.machine.Calls.{Entry}
 use Rattle.xr_model.specs.machine.History.{after, IsLegal}
-use Rattle.xr_model.specs.laws.SyncedLaws.{SuggestionsAreBindings, IsRanked, BindingsAreRanked}
+use Rattle.xr_model.specs.laws.SyncedLaws.{bindings_at, BindingsAreTheSuggestions, IsRanked, BindingsAreRanked}
 use Rattle.xr_model.proofs.ChainPlaces.{same_some}
 use Rattle.xr_model.proofs.DestroyingTakes.{under_parent}
 use Rattle.xr_model.proofs.GetterColumns.{position_got}
 use Rattle.xr_model.proofs.HeardBindings.{among_each}
 use Rattle.xr_model.proofs.Lists.{all_kept, listed_live}
 use Rattle.xr_model.proofs.Orphans.{no_orphans}
-use Rattle.xr_model.proofs.Rows.{itself, same_key}
+use Rattle.xr_model.proofs.Rows.{both_of, same_key}
+use Rattle.xr_model.proofs.SyncedColumns.{filters_twice}
 
--- ---- what is among some things
+-- ---- filters
 
--- it stands in the list
-abbrev IsIn : {T : Type 0} → T → List T → Type 0
-IsIn x xs = (k : ℕ) × (slice_get xs k ≡ Some x)
-
-in_front : {T : Type 0} (x : T) (xs ys : List T) → IsIn x xs → IsIn x (xs ++ ys)
-in_front x [] ys is = let none = is.1 in cc
-in_front x (y ∷ xs) ys is = by is.0 is.1 (λ k at. in_front x xs ys (k, at))
+filter_joined : {T : Type 0} (p : T → Bool) (xs ys : List T) → filter p (xs ++ ys) ≡ filter p xs ++ filter p ys
+filter_joined p [] ys = refl
+filter_joined p (x ∷ xs) ys = by (p x) (filter_joined p xs ys)
   where
-    by : (k : ℕ) → slice_get (y ∷ xs) k ≡ Some x → ((n : ℕ) → slice_get xs n ≡ Some x → IsIn x (xs ++ ys)) → IsIn x (y ∷ (xs ++ ys))
-    by zero at later = (zero, at)
-    by (suc k) at later = let more = later k at in (suc more.0, more.1)
+    by : (b : Bool) → filter p (xs ++ ys) ≡ filter p xs ++ filter p ys → (if b then x ∷ filter p (xs ++ ys) else filter p (xs ++ ys)) ≡ (if b then x ∷ filter p xs else filter p xs) ++ filter p ys
+    by true more = ap (λ l. x ∷ l) more
+    by false more = more
 
-in_behind : {T : Type 0} (x : T) (xs ys : List T) → IsIn x ys → IsIn x (xs ++ ys)
-in_behind x [] ys is = is
-in_behind x (y ∷ xs) ys is = let more = in_behind x xs ys is in (suc more.0, more.1)
+map_joined : {S T : Type 0} (f : S → T) (xs ys : List S) → map f (xs ++ ys) ≡ map f xs ++ map f ys
+map_joined f [] ys = refl
+map_joined f (x ∷ xs) ys = ap (λ l. f x ∷ l) (map_joined f xs ys)
 
-in_each : {S T : Type 0} (f : S → List T) (ss : List S) (s : S) (x : T) → IsIn s ss → IsIn x (f s) → IsIn x (flat_map f ss)
-in_each f [] s x at is = let none = at.1 in cc
-in_each f (y ∷ ss) s x at is = by at.0 at.1 (λ k there. in_each f ss s x (k, there) is)
+all_pass : {T : Type 0} (p : T → Bool) (xs : List T) → list_all p (filter p xs) ≡ true
+all_pass p [] = refl
+all_pass p (x ∷ xs) = by (p x) refl (all_pass p xs)
   where
-    by : (k : ℕ) → slice_get (y ∷ ss) k ≡ Some s → ((n : ℕ) → slice_get ss n ≡ Some s → IsIn x (flat_map f ss)) → IsIn x (f y ++ flat_map f ss)
-    by zero here later = in_front x (f y) (flat_map f ss) (subst (λ z. IsIn x (f z)) (sym (same_some y s here)) is)
-    by (suc k) there later = in_behind x (f y) (flat_map f ss) (later k there)
+    by : (b : Bool) → p x ≡ b → list_all p (filter p xs) ≡ true → list_all p (if b then x ∷ filter p xs else filter p xs) ≡ true
+    by true eb more = rw (eb, more) refl
+    by false eb more = more
 
-in_left : {T : Type 0} (p : T → Bool) (xs : List T) (x : T) → IsIn x xs → p x ≡ true → IsIn x (filter p xs)
-in_left p [] x at is = let none = at.1 in cc
-in_left p (y ∷ xs) x at is = by (p y) refl at.0 at.1 (λ k there. in_left p xs x (k, there) is)
-  where
-    later : (b : Bool) → IsIn x (filter p xs) → IsIn x (if b then y ∷ filter p xs else filter p xs)
-    later true more = (suc more.0, more.1)
-    later false more = more
+-- ---- the bindings at a user path
 
-    by : (b : Bool) → p y ≡ b → (k : ℕ) → slice_get (y ∷ xs) k ≡ Some x → ((n : ℕ) → slice_get xs n ≡ Some x → IsIn x (filter p xs)) → IsIn x (if b then y ∷ filter p xs else filter p xs)
-    by true eb zero at more = (zero, at)
-    by false eb zero at more = absurd (true≢false (sym (ap p (same_some y x at) ∙ is) ∙ eb))
-    by b eb (suc k) at more = later b (more k at)
+module _ (s : CoreState) where
+  abbrev own : User → Ranked → Bool
+  own who r = user_place r.bound.pick.user == user_place who
 
--- ---- suggestions
+  abbrev at_users : User → List Ranked
+  at_users who = flat_map (ranked s.inputs s.handles) (connected_at s who)
 
-user_in : (who : User) → IsIn who all_users
-user_in user.Left = (0, refl)
-user_in user.Right = (1, refl)
-user_in user.Head = (2, refl)
-user_in user.Gamepad = (3, refl)
-user_in user.Treadmill = (4, refl)
+  -- a suggestion has the user path that it was made for
+  ranked_own : (who : User) (b : Bound) → filter (own who) (ranked s.inputs s.handles b) ≡ (if user_place b.pick.user == user_place who then ranked s.inputs s.handles b else [])
+  ranked_own who b = by (action_at s.inputs b.action) (user_place b.pick.user == user_place who) refl
+    where
+      by : (o : Option sets.Action) (c : Bool) → (user_place b.pick.user == user_place who) ≡ c
+          → filter (own who) (unwrap_or (option_map (λ x. ranked_by s.inputs s.handles x b ∷ []) o) []) ≡ (if c then unwrap_or (option_map (λ x. ranked_by s.inputs s.handles x b ∷ []) o) [] else [])
+      by None true ec = refl
+      by None false ec = refl
+      by (Some x) true ec = rw ec refl
+      by (Some x) false ec = rw ec refl
 
-pub suggestions_are_bindings : SuggestionsAreBindings
-suggestions_are_bindings s which n b suggested connected listed = by (action_at s.inputs b.action) refl listed
-  where
-    here : IsIn b (connected_at s b.pick.user)
-    here =
-        subst (λ (o : Option (Option Profile)). IsIn b (suggested_at s.suggestions b.pick.user (option_and_then (λ p. p) o))) (sym connected)
-        (in_left (λ x. is_same_user x.pick.user b.pick.user) (suggestions_of s.suggestions which) b (n, suggested) (itself (user_place b.pick.user)))
+  -- those of one user path are its own, and none is another's
+  user_own : (who w : User) (bs : List Bound) → list_all (λ b. user_place b.pick.user == user_place w) bs ≡ true
+      → filter (own who) (flat_map (ranked s.inputs s.handles) bs) ≡ (if user_place w == user_place who then flat_map (ranked s.inputs s.handles) bs else [])
+  user_own who w [] all = by (user_place w == user_place who)
+    where
+      by : (c : Bool) → [] ≡ (if c then flat_map (ranked s.inputs s.handles) [] else [])
+      by true = refl
+      by false = refl
+  user_own who w (b ∷ bs) all =
+      let two = both_of (user_place b.pick.user == user_place w) (list_all (λ x. user_place x.pick.user == user_place w) bs) all in
+      filter_joined (own who) (ranked s.inputs s.handles b) (flat_map (ranked s.inputs s.handles) bs)
+      ∙ by (user_place w == user_place who) (ranked_own who b ∙ ap (λ (n : ℕ). if n == user_place who then ranked s.inputs s.handles b else []) (same_key (user_place b.pick.user) (user_place w) two.0)) (user_own who w bs two.1)
+    where
+      by : (c : Bool) → filter (own who) (ranked s.inputs s.handles b) ≡ (if c then ranked s.inputs s.handles b else [])
+          → filter (own who) (flat_map (ranked s.inputs s.handles) bs) ≡ (if c then flat_map (ranked s.inputs s.handles) bs else [])
+          → filter (own who) (ranked s.inputs s.handles b) ++ filter (own who) (flat_map (ranked s.inputs s.handles) bs) ≡ (if c then flat_map (ranked s.inputs s.handles) (b ∷ bs) else [])
+      by true here more = rw (here, more) refl
+      by false here more = rw (here, more) refl
 
-    by : (o : Option sets.Action) → action_at s.inputs b.action ≡ o → is_some o ≡ true → (k : ℕ) × (r : Ranked) × (slice_get (bindings_of s) k ≡ Some r) × (r.bound ≡ b)
-    by None eo some = absurd (true≢false (sym some))
-    by (Some x) eo some =
-        let r = ranked_by s.inputs s.handles x b in
-        let own : IsIn (ranked_by s.inputs s.handles x b) (ranked s.inputs s.handles b) = (0, rw eo refl) in
-        let at = in_each (ranked s.inputs s.handles) (connected_at s b.pick.user) b r here own in
-        let all = in_each (λ who. flat_map (ranked s.inputs s.handles) (connected_at s who)) all_users b.pick.user r (user_in b.pick.user) at in
-        (all.0, r, all.1, refl)
+  connected_own : (w : User) → list_all (λ b. user_place b.pick.user == user_place w) (connected_at s w) ≡ true
+  connected_own w = by (option_and_then (λ p. p) (slice_get s.device.profiles (user_place w)))
+    where
+      by : (o : Option Profile) → list_all (λ b. user_place b.pick.user == user_place w) (suggested_at s.suggestions w o) ≡ true
+      by None = refl
+      by (Some which) = all_pass (λ b. user_place b.pick.user == user_place w) (suggestions_of s.suggestions which)
+
+  users_own : (who : User) (users : List User) → filter (own who) (flat_map at_users users) ≡ flat_map (λ w. if user_place w == user_place who then at_users w else []) users
+  users_own who [] = refl
+  users_own who (w ∷ users) =
+      filter_joined (own who) (at_users w) (flat_map at_users users)
+      ∙ ap (λ (l : List Ranked). l ++ filter (own who) (flat_map at_users users)) (user_own who w (connected_at s w) (connected_own w))
+      ∙ ap (λ (l : List Ranked). (if user_place w == user_place who then at_users w else []) ++ l) (users_own who users)
+
+  own_are : (who : User) → bindings_at s who ≡ at_users who
+  own_are who = users_own who all_users ∙ by who
+    where
+      by : (w : User) → flat_map (λ v. if user_place v == user_place w then at_users v else []) all_users ≡ at_users w
+      by user.Left = append-nil (at_users user.Left)
+      by user.Right = append-nil (at_users user.Right)
+      by user.Head = append-nil (at_users user.Head)
+      by user.Gamepad = append-nil (at_users user.Gamepad)
+      by user.Treadmill = append-nil (at_users user.Treadmill)
+
+  -- of each listed action, and of no other
+  bounds_are : (bs : List Bound) → map (λ (r : Ranked). r.bound) (flat_map (ranked s.inputs s.handles) bs) ≡ filter (λ b. is_some (action_at s.inputs b.action)) bs
+  bounds_are [] = refl
+  bounds_are (b ∷ bs) = map_joined (λ (r : Ranked). r.bound) (ranked s.inputs s.handles b) (flat_map (ranked s.inputs s.handles) bs) ∙ by (action_at s.inputs b.action) (bounds_are bs)
+    where
+      by : (o : Option sets.Action) → map (λ (r : Ranked). r.bound) (flat_map (ranked s.inputs s.handles) bs) ≡ filter (λ x. is_some (action_at s.inputs x.action)) bs
+          → map (λ (r : Ranked). r.bound) (unwrap_or (option_map (λ x. ranked_by s.inputs s.handles x b ∷ []) o) []) ++ map (λ (r : Ranked). r.bound) (flat_map (ranked s.inputs s.handles) bs)
+          ≡ (if is_some o then b ∷ filter (λ x. is_some (action_at s.inputs x.action)) bs else filter (λ x. is_some (action_at s.inputs x.action)) bs)
+      by None more = more
+      by (Some x) more = ap (λ (l : List Bound). b ∷ l) more
+
+pub bindings_are_the_suggestions : BindingsAreTheSuggestions
+bindings_are_the_suggestions s = record {
+  own = λ who which connected.
+      ap (map (λ (r : Ranked). r.bound)) (own_are s who) ∙ bounds_are s (connected_at s who)
+      ∙ ap (λ (o : Option (Option Profile)). filter (λ b. is_some (action_at s.inputs b.action)) (suggested_at s.suggestions who (option_and_then (λ p. p) o))) connected
+      ∙ filters_twice (λ b. user_place b.pick.user == user_place who) (λ b. is_some (action_at s.inputs b.action)) (λ b. (user_place b.pick.user == user_place who) && is_some (action_at s.inputs b.action)) (λ b. refl) (suggestions_of s.suggestions which);
+  all =
+      rw (own_are s user.Left, own_are s user.Right, own_are s user.Head, own_are s user.Gamepad, own_are s user.Treadmill)
+      (ap (λ (l : List Ranked). at_users s user.Left ++ (at_users s user.Right ++ (at_users s user.Head ++ (at_users s user.Gamepad ++ l)))) (append-nil (at_users s user.Treadmill)));
+}
 
 -- ---- places and priorities
 

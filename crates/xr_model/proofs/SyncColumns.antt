@@ -34,7 +34,7 @@ kind_active type.Vector inputs f pick = longer_active f (axes inputs pick.user p
 kind_active type.Pose inputs f pick = refl
 kind_active type.Vibration inputs f pick = refl
 
-active_from : (inputs : Inputs) (bs : List Ranked) (f : Found) → (found_from inputs f bs).active ≡ f.active || has_some bs
+pub active_from : (inputs : Inputs) (bs : List Ranked) (f : Found) → (found_from inputs f bs).active ≡ f.active || has_some bs
 active_from inputs [] f = sym (or_false f.active)
   where
     or_false : (b : Bool) → b || false ≡ b

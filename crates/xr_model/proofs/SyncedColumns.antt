@@ -10,7 +10,7 @@ use Rattle.xr_types.specs.declared.code.Code.TheVariants.{LimitReached, Actionse
 use Rattle.xr_types.specs.declared.handles.Kind.TheVariants as kind
 use Rattle.xr_types.specs.declared.input.ActiveSet.{ActiveSet}
 use Rattle.xr_types.specs.declared.input.Column.{Column}
-use Rattle.xr_types.specs.declared.input.Found.{Found}
+use Rattle.xr_types.specs.declared.input.Inputs.{Inputs}
 use Rattle.xr_types.specs.declared.input.Heard.{Heard}
 use Rattle.xr_types.specs.declared.input.Ranked.{Ranked}
 use Rattle.xr_types.specs.declared.input.User.{User}
@@ -28,9 +28,10 @@ use Rattle.xr_model.specs.machine.Rules.Sync.{bindings_of, columns_synced, heard
 use Rattle.xr_model.specs.machine.SessionLife.{is_state}
 use Rattle.xr_model.specs.machine.Sets.{is_declared, set_declares}
 use Rattle.xr_model.specs.machine.State.{CoreState}
-use Rattle.xr_model.specs.machine.Sync.{column_after, counts_in, each_from, found_at, is_heard, is_live, is_of, synced_column}
+use Rattle.xr_model.specs.machine.Sync.{column_after, counts_in, each_from, found_at, found_from, is_heard, is_live, is_of, live_in, nothing_found, synced_column}
 use Rattle.xr_model.specs.machine.Machine.{reads_of, rule, step}
 use Rattle.xr_model.specs.laws.InputLaws.{IsFor, is_in_focus}
+use Rattle.xr_model.specs.laws.SyncLaws.{has_some}
 use Rattle.xr_model.specs.laws.SyncedLaws.{IsAskedFor, SyncsHearTheirItems, IsOfColumn, ColumnsHaveTheirBindings, ShowsWhatIsFound, IsSynced, SyncsShowWhatIsFound}
 use Rattle.xr_model.proofs.ChainPlaces.{same_some}
 use Rattle.xr_model.proofs.ColumnsGone.{got_from}
@@ -41,6 +42,7 @@ use Rattle.xr_model.proofs.HeardBindings.{heard_are_listed}
 use Rattle.xr_model.proofs.InputsGive.{changes_are_told, items_fail}
 use Rattle.xr_model.proofs.ListSteps.{none_behind, none_front}
 use Rattle.xr_model.proofs.Rows.{both_of, itself, same_key}
+use Rattle.xr_model.proofs.SyncColumns.{active_from}
 use Rattle.xr_model.proofs.UserAtoms.{same_user}
 
 -- ---- what is heard
@@ -134,7 +136,7 @@ syncs_hear_their_items s e session active b is good = subst Hears (sym is) heard
 
 -- ---- the bindings of a column
 
-filters_twice : {T : Type 0} (p q r : T → Bool) → ((x : T) → r x ≡ p x && q x) → (xs : List T) → filter q (filter p xs) ≡ filter r xs
+pub filters_twice : {T : Type 0} (p q r : T → Bool) → ((x : T) → r x ≡ p x && q x) → (xs : List T) → filter q (filter p xs) ≡ filter r xs
 filters_twice p q r same [] = refl
 filters_twice p q r same (x ∷ xs) = by (p x) refl (q x) refl (filters_twice p q r same xs)
   where
@@ -184,18 +186,27 @@ columns_have_their_bindings active all place column counts same =
 
 -- ---- what a column shows
 
-shows : (clock : ℤ) (found : Found) (old : Column) → ShowsWhatIsFound clock found old (column_after clock old found)
+shows : (clock : ℤ) (live : List Ranked) (inputs : Inputs) (old : Column) → ShowsWhatIsFound clock live (found_from inputs nothing_found live) old (column_after clock old (found_from inputs nothing_found live))
 unfolding column_after
-shows clock found old = by found.active refl
+shows clock live inputs old = by (has_some live) refl (active_from inputs live nothing_found)
   where
-    by : (b : Bool) → found.active ≡ b → ShowsWhatIsFound clock found old (column_after clock old found)
-    by true eb = record { active = rw eb refl; first = λ e. rw eb refl; second = λ e. rw eb refl; pose = λ e. rw eb refl; change = λ e. changes_are_told clock old found e }
-    by false eb = record {
-      active = rw eb refl;
+    by : (b : Bool) → has_some live ≡ b → (found_from inputs nothing_found live).active ≡ has_some live
+        → ShowsWhatIsFound clock live (found_from inputs nothing_found live) old (column_after clock old (found_from inputs nothing_found live))
+    by true eb is = let here = is ∙ eb in record {
+      active = rw here (sym eb);
+      first = λ e. rw here refl;
+      second = λ e. rw here refl;
+      pose = λ e. rw here refl;
+      change = λ e. changes_are_told clock old (found_from inputs nothing_found live) here;
+      nothing = λ e. absurd (true≢false (sym eb ∙ e));
+    }
+    by false eb is = let here = is ∙ eb in record {
+      active = rw here (sym eb);
       first = λ e. absurd (true≢false (sym e ∙ eb));
       second = λ e. absurd (true≢false (sym e ∙ eb));
       pose = λ e. absurd (true≢false (sym e ∙ eb));
       change = λ e. absurd (true≢false (sym e ∙ eb));
+      nothing = λ e. rw here refl;
     }
 
 in_focus : (state : SessionState) → is_in_focus state ≡ true → is_state state Focused ≡ true
@@ -220,7 +231,7 @@ syncs_show_what_is_found s e session active place column row old is good focus a
           new = column_after s.core.device.clock old (found_at heard all s.core.device.inputs place column);
           stands = got_from (λ k c. synced_column (map (heard_by s.core) active) (bindings_of s.core) s.core.device.inputs s.core.device.clock place k c) 0 row column column (omega arith)
               ∙ ap (option_map (λ c. synced_column (map (heard_by s.core) active) (bindings_of s.core) s.core.device.inputs s.core.device.clock place column c)) stood;
-          shows = shows s.core.device.clock (found_at heard all s.core.device.inputs place column) old;
+          shows = shows s.core.device.clock (live_in heard all place column) s.core.device.inputs old;
         }
 
     shown : Shows (ask.SyncActions session active)

@@ -41,8 +41,7 @@ pub fn stamps_are_set()
     ensures { StampsAreSet }
 {}
 
-/// After a legal history at most sixteen images were given back for each frame that was taken, as many as there are places of swapchains;
-/// so the compositor's calls are few wherever the counted calls are.
+/// After a legal history at most sixteen images were given back for each frame that was taken, as many as there are places of swapchains.
 #[tactic(auto, using(crate::proofs::FewReturns::returns_are_few))]
 pub fn returns_are_few()
     ensures { ReturnsAreFew }

@@ -1,13 +1,19 @@
 //! The laws of what a sync hears, what inputs give, and what columns show.
-ghost use Rattle.xr_model.specs.laws.ColumnLaws.{GettersReadTheNamedColumn, GettersTellTheirColumns, ColumnsGoWithTheSession, ColumnsGoWithTheAction, OthersKeepWhatTheyShow};
+ghost use Rattle.xr_model.specs.laws.ColumnLaws.{GettersReadTheNamedColumn, GettersTellTheirColumns, ColumnsStay, ColumnsGoWithTheSession, ColumnsGoWithTheAction, OthersKeepWhatTheyShow};
 ghost use Rattle.xr_model.specs.laws.InputLaws.{BindingsAreOfTheConnected, HeardAreListed, LiveHaveTheLargestPriority, InputsGiveFromTheirEvents, VectorsAreTheirAxes, ChangesAreTold, UnfocusedSyncsAreInactive, ActionsDeclareTheirAtoms};
-ghost use Rattle.xr_model.specs.laws.SyncLaws.{PicksAreNamed};
-ghost use Rattle.xr_model.specs.laws.SyncedLaws.{SuggestionsAreBindings, BindingsAreRanked, SyncsHearTheirItems, ColumnsHaveTheirBindings, SyncsShowWhatIsFound};
+ghost use Rattle.xr_model.specs.laws.SyncLaws.{PicksAreNamed, PicksHaveTheirSources};
+ghost use Rattle.xr_model.specs.laws.SyncedLaws.{BindingsAreTheSuggestions, BindingsAreRanked, SyncsHearTheirItems, ColumnsHaveTheirBindings, SyncsShowWhatIsFound};
 
 /// What a suggested path picks is what it names, in whole or without its component: an input of its user path, both axes of one, the grip
 /// or the aim of a hand, or an output.
 pub fn picks_are_named()
     ensures { PicksAreNamed }
+{}
+
+/// The identifier of what a suggested path picks is the one that stands in the path behind `/input/` or `/output/`, up to the next slash
+/// or the end.
+pub fn picks_have_their_sources()
+    ensures { PicksHaveTheirSources }
 {}
 
 /// Each binding of a sync was suggested for the profile that is connected at its own user path, and is told its action's set, type and
@@ -17,10 +23,11 @@ pub fn bindings_are_of_the_connected()
     ensures { BindingsAreOfTheConnected }
 {}
 
-/// What is suggested at a user path for the profile that is connected there is a binding of a sync, as long as its action is listed.
-#[tactic(auto, using(crate::proofs::SyncBindings::suggestions_are_bindings))]
-pub fn suggestions_are_bindings()
-    ensures { SuggestionsAreBindings }
+/// The bindings of a sync at a user path are what is suggested there for the profile that is connected, of actions that are listed, in the
+/// order of the suggestions; those of the left hand come first, then those of the right one, the head, the gamepad and the treadmill.
+#[tactic(auto, using(crate::proofs::SyncBindings::bindings_are_the_suggestions))]
+pub fn bindings_are_the_suggestions()
+    ensures { BindingsAreTheSuggestions }
 {}
 
 /// After a legal history each binding of a sync has the place in which its action's handle stands, and the priority of its set.
@@ -54,8 +61,8 @@ pub fn columns_have_their_bindings()
     ensures { ColumnsHaveTheirBindings }
 {}
 
-/// Behind a sync that succeeds of a focused session, each column shows the numbers and the pose that its live bindings come to, and tells
-/// the change from what it showed, at the time of the device's clock.
+/// Behind a sync that succeeds of a focused session, each column with a live binding is active, shows the numbers and the pose that these
+/// come to, and tells the change from what it showed, at the time of the device's clock; and each other shows nothing.
 #[tactic(auto, using(crate::proofs::SyncedColumns::syncs_show_what_is_found))]
 pub fn syncs_show_what_is_found()
     ensures { SyncsShowWhatIsFound }
@@ -92,7 +99,7 @@ pub fn actions_declare_their_atoms()
     ensures { ActionsDeclareTheirAtoms }
 {}
 
-/// A getter reads the column of all user paths by 0, and by the atom of a user path that the action declares the column of that one.
+/// Where a getter finds a column, it is that of all user paths, for 0, or that of a user path that the action declares, for its atom.
 #[tactic(auto, using(crate::proofs::ColumnsGone::getters_read_the_named_column))]
 pub fn getters_read_the_named_column()
     ensures { GettersReadTheNamedColumn }
@@ -105,7 +112,13 @@ pub fn getters_tell_their_columns()
     ensures { GettersTellTheirColumns }
 {}
 
-/// Where a session is destroyed, no column is active behind it.
+/// No column changes but by a sync, and by the end of a session, of an action, or of what is above these.
+#[tactic(auto, using(crate::proofs::ColumnsKept::columns_stay))]
+pub fn columns_stay()
+    ensures { ColumnsStay }
+{}
+
+/// Behind a `destroy_session` that succeeds no column is active.
 #[tactic(auto, using(crate::proofs::ColumnsGone::columns_go_with_the_session))]
 pub fn columns_go_with_the_session()
     ensures { ColumnsGoWithTheSession }

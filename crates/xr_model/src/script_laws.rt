@@ -8,8 +8,8 @@ pub fn names_stand_for_what_was_given()
     ensures { NamesStandForWhatWasGiven }
 {}
 
-/// The script of a load has 7 ops ahead of its frames and 7 for each, with one wait and one end; for each tenth frame a wait and a begin
-/// more, and for each seventh an end at a wrong time.
+/// The script of a load of N frames has 7 + 7N ops and two more for each tenth frame and one for each seventh: N waits and one for each
+/// tenth, N ends at a named time, and one at a number for each seventh.
 pub fn loads_have_so_many_ops()
     ensures { LoadsHaveSoManyOps }
 {}

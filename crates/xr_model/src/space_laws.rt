@@ -1,7 +1,7 @@
 //! The laws of where spaces are: what a new space is, and what a location tells.
 ghost use Rattle.xr_model.specs.laws.LocationLaws.{ReferenceSpacesAreAsAsked, ActionSpacesFollowTheirColumns, ReferenceSpacesHaveTheirOrigins, PosesFollowColumns, LocationsAreFactors};
 
-/// In a legal history a reference space that is created moves with the origin of its kind, and has the offset that was asked for.
+/// In a legal history a reference space that is created is listed with the kind and the offset that were asked for.
 #[tactic(auto, using(crate::proofs::Locations::reference_spaces_are_as_asked))]
 pub fn reference_spaces_are_as_asked()
     ensures { ReferenceSpacesAreAsAsked }

@@ -2,12 +2,14 @@
 //! one history of all calls, which the proofs alone keep. It knows the calls on cells and the wait for an image; when a call is ready it knows by laws of the model alone.
 #![tactic(auto)]
 
+mod beside;
 mod held;
 mod plays;
 mod rule;
 mod table;
 mod view;
 
+pub use beside::{Bell, Beside, Door};
 pub use held::Held;
 pub use plays::{
     Change, Claim, Claiming, Cut, Draw, Enter, Find, GiveBack, Join, Keep, Leave, Look, Make,

@@ -4,6 +4,7 @@ ghost use Rattle.xr_model.specs.laws.ImageLaws.{IsPlaced};
 ghost use Rattle.xr_rule.specs.Rule.{front_word, image_word, stamp_word, word_count};
 ghost use Rattle.xr_rule.specs.Shows.{buffers, buffer_words, exit_word, state_word};
 
+use crate::beside::Beside;
 use crate::held::Held;
 use crate::view::View;
 use atomic_table::{Table, TableRule};
@@ -105,10 +106,11 @@ impl<M: Machine> TableRule<Option<Held<M>>, View, u64> for XrRule<M> {
     ghost first = { λ apps. newcomer apps };
 }
 
-/// A table of words and one slot, which follows the rule.
+/// A table of words and one slot, which follows the rule, and the plain words beside it.
 #[derive(Drop)]
 pub struct XrTable<M: Machine> {
     pub table: Table<Option<Held<M>>, View, u64, XrRule<M>, Global>,
+    pub beside: Beside,
     pub ghost sized: { (table.shared.table_id.words ≡ word_count) × (table.shared.table_id.slots ≡ 1) },
 }
 

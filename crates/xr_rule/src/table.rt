@@ -6,6 +6,7 @@ ghost use Rattle.xr_rule.specs.Rule.{HasAll, word_count};
 ghost use Rattle.xr_rule.specs.Seats.{AreFresh, IsBetween, IsIdle};
 ghost use Rattle.xr_rule.specs.View.{joined_view, keepsake, newcomer};
 
+use crate::beside::Beside;
 use crate::held::Held;
 use crate::plays::{Cut, Join, Keep};
 use crate::rule::{NO_COUNT, WORDS, XrSeat, XrTable};
@@ -49,6 +50,7 @@ impl<M: Machine + Drop> XrTable<M> {
         ensures seats { IfOk result (λ r. AreFresh r.0.table.shared.table_id apps r.1.items) }
     {
         let mut slots = Vec::with_capacity(alloc, 1)?;
+        let value = Box::new(alloc, value)?;
         let room = Box::new(alloc, View::start())?;
         let counts = [NO_COUNT, 0, 0, 0, 0, 0, 0, 0, 0, 0];
         slots.push_reserved(Some(Held {
@@ -61,11 +63,12 @@ impl<M: Machine + Drop> XrTable<M> {
         let mut words = Vec::with_capacity(alloc, WORDS)?;
         fill_zeros(&mut words);
         let apps = apps as u64;
+        let beside = Beside::start(alloc)?;
         let (table, root) = match Table::new(alloc, &words, slots, &apps) {
             Ok(made) => made,
             Err(Refused { slots: _ }) => return Err(NoMemory),
         };
-        let made = XrTable { table };
+        let made = XrTable { table, beside };
         made.deal(root, apps, &mut seats);
         Ok((made, seats))
     }
@@ -118,11 +121,12 @@ impl<M: Machine + Drop> XrTable<M> {
         ensures value { M.stands result.value (after (opening (with_apps self.table.shared.key)) seat.me.0.know.seen) }
     {
         let kept = self.table.shared.split_seat::<Keep>(&mut seat);
-        let XrTable { table } = self;
+        let XrTable { table, beside: _ } = self;
         let mut closed = table.close_with(seat);
         let slot = closed.take(0);
         closed.free();
         let Held { value, .. } = slot.unwrap();
+        let value = Box::into_inner(value);
         Finished { value, seat: kept }
     }
 }

@@ -1,5 +1,5 @@
 -- A call under the lock: what is taken, lent, noted or decided, and given back, put together.
-use Rattle.std.proofs.Common.{◌≡◌, ℕ, zero, suc, ℤ, ◌<◌, ◌≤ℤ◌, pos, ◌^◌, Bool, true, false, List, [], ◌∷◌, ◌++◌, sym, refl, ap, ◌∙◌, subst, Option, Some, None, true≢false}
+use Rattle.std.proofs.Common.{Box, Global, ◌≡◌, ℕ, zero, suc, ℤ, ◌<◌, ◌≤ℤ◌, pos, ◌^◌, Bool, true, false, List, [], ◌∷◌, ◌++◌, sym, refl, ap, ◌∙◌, subst, Option, Some, None, true≢false}
 use Rattle.xr_types.specs.declared.calls.Actor.{Actor}
 use Rattle.xr_types.specs.declared.calls.Actor.TheVariants.{App, Compositor, Device}
 use Rattle.xr_types.specs.declared.calls.Call.{Call}
@@ -44,19 +44,19 @@ use Rattle.xr_runtime.proofs.Going.{here_at_look, clock_at_look}
 abbrev pub stands : List ℕ → Held WholeCore → CoreState → Type 0
 stands = stands_in keeps
 
-pub kept_is : (k : Know) (n : Has) (held : Held WholeCore) (taken : Taken stands k n held) → held.value.kept ≡ (state_at k taken.look).core
+pub kept_is : (k : Know) (n : Has) (held : Held WholeCore) (taken : Taken stands k n held) → held.value.value.kept ≡ (state_at k taken.look).core
 kept_is k n held taken = taken.stands_now.1 opening_cells
 
 -- ---- what the core asks
 
-pub may_make : (m n : Has) (held : Held WholeCore) (core2 : WholeCore) (who : Actor) (what : Call) (size : ℕ) → MayMake m who what size → Taken stands m.0.know n held → core2.kept ≡ held.value.kept → core.MayMake core2.kept who what size
+pub may_make : (m n : Has) (held : Held WholeCore) (core2 : WholeCore) (who : Actor) (what : Call) (size : ℕ) → MayMake m who what size → Taken stands m.0.know n held → core2.kept ≡ held.value.value.kept → core.MayMake core2.kept who what size
 may_make m n held core2 who what size may taken same = record {
   asks = may.asks;
   present = subst (λ (s : CoreState). IsPresent s who) (sym (same ∙ kept_is m.0.know n held taken))
       (subst (λ (a : Actor). IsPresent (behind m.0.know taken.look).state.core a) (sym may.is_own) (here_at_look m.0.know taken.look taken.sees (subst (λ (a : Actor). IsPresent (seen_by m.0.know).state.core a) may.is_own may.here)));
 }
 
-pub few_calls : (k : Know) (n : Has) (held : Held WholeCore) (core2 : WholeCore) → Taken stands k n held → core2.kept ≡ held.value.kept → core2.kept.locked < 2 ^ 44
+pub few_calls : (k : Know) (n : Has) (held : Held WholeCore) (core2 : WholeCore) → Taken stands k n held → core2.kept ≡ held.value.value.kept → core2.kept.locked < 2 ^ 44
 few_calls k n held core2 taken same = subst (λ (s : CoreState). s.locked < 2 ^ 44) (sym (same ∙ kept_is k n held taken)) taken.sees.few
 
 -- the request for a frame is answered as out of order only where images are held
@@ -108,7 +108,7 @@ comes_to m e reply is = sym is
 core_then : (k : Know) (look : List Entry) (e : Entry) → (state_at k (look ++ e ∷ [])).core ≡ (step (state_at k look) e).0.core
 core_then k look e = ap (λ (s : State). s.core) (after_is_in_turn (opening_moment k.apps).state look (e ∷ []))
 
-module _ (m n : Has) (held : Held WholeCore) (core2 : WholeCore) (who : Actor) (call : Call) (size : ℕ) (may : MayMake m who (call) size) (taken : Taken stands m.0.know n held) (same : core2.kept ≡ held.value.kept) where
+module _ (m n : Has) (held : Held WholeCore) (core2 : WholeCore) (who : Actor) (call : Call) (size : ℕ) (may : MayMake m who (call) size) (taken : Taken stands m.0.know n held) (same : core2.kept ≡ held.value.value.kept) where
   abbrev k : Know
   k = m.0.know
 
@@ -158,14 +158,14 @@ module _ (m n : Has) (held : Held WholeCore) (core2 : WholeCore) (who : Actor) (
     counts_are : new.counts ≡ taken.counts
     counts_are = as_many ∙ taken.stands_now.0
 
-    tells_of : (answer : Step) (decided : Bool) → IsTold n core2 what new.value before after answer decided p → Tells k look_hold its_eyes ((0, None) ∷ []) what new.value before after core2.kept answer decided p
-    tells_of answer decided told = subst (λ (z : Has). IsTold z core2 what new.value before after answer decided p) taken.is told look_hold refl
+    tells_of : (answer : Step) (decided : Bool) → IsTold n core2 what new.value.value before after answer decided p → Tells k look_hold its_eyes ((0, None) ∷ []) what new.value.value before after core2.kept answer decided p
+    tells_of answer decided told = subst (λ (z : Has). IsTold z core2 what new.value.value before after answer decided p) taken.is told look_hold refl
 
     -- ---- it has to wait
 
-    module _ (answer : Step) (decided : Bool) (told : IsTold n core2 what new.value before after answer decided p) (waits : answer ≡ NotReady) where
-      waits_told : (decided ≡ false) × Waits k look_hold its_eyes ((0, None) ∷ []) what new.value before after core2.kept p
-      waits_told = tells_of NotReady decided (subst (λ (z : Step). IsTold n core2 what new.value before after z decided p) waits told)
+    module _ (answer : Step) (decided : Bool) (told : IsTold n core2 what new.value.value before after answer decided p) (waits : answer ≡ NotReady) where
+      waits_told : (decided ≡ false) × Waits k look_hold its_eyes ((0, None) ∷ []) what new.value.value before after core2.kept p
+      waits_told = tells_of NotReady decided (subst (λ (z : Step). IsTold n core2 what new.value.value before after z decided p) waits told)
 
       pub give_waiting : MayGive stands p new
       give_waiting = subst (λ (z : Has). MayGive stands z new) (sym waits_told.1.same) record {
@@ -189,7 +189,7 @@ module _ (m n : Has) (held : Held WholeCore) (core2 : WholeCore) (who : Actor) (
 
       -- ---- it is noted
 
-      module _ (prepared : Prepares k look_hold its_eyes ((0, None) ∷ []) what new.value before after reply p) where
+      module _ (prepared : Prepares k look_hold its_eyes ((0, None) ∷ []) what new.value.value before after reply p) where
         abbrev note_hold : Hold
         note_hold = record look_hold { made = prepared.made }
 
@@ -232,7 +232,7 @@ module _ (m n : Has) (held : Held WholeCore) (core2 : WholeCore) (who : Actor) (
           is = refl;
           publishes_none = quiet none;
           unmade = λ unnoted. absurd (some_is_none e unnoted);
-          stands_so = (as_counted ∙ counts_are, λ cells. ap (λ (c : WholeCore). c.kept) value_is ∙ (prepared.answers.leads ∙ sym (core_then k taken.look e)));
+          stands_so = (as_counted ∙ counts_are, λ cells. ap (λ (b : Box WholeCore Global). b.value.kept) value_is ∙ (prepared.answers.leads ∙ sym (core_then k taken.look e)));
         }
           where
             some_is_none : (x : Entry) → ◌≡◌ {A = Option Entry} (Some x) None → ⊥
@@ -246,14 +246,14 @@ module _ (m n : Has) (held : Held WholeCore) (core2 : WholeCore) (who : Actor) (
             getters_behind taken.look d.more d.decides.saw.by_callers d.free (subst (λ (z : ℕ). none_is_by (actor_at z) d.more ≡ true) (its_number frame) none)
 
         -- and the images that are held are those of the frame that was taken
-        held_now : (v : View) (d : DecidesBehind k taken.look e v) → is_next_frame what ≡ true → new.value.held ≡ (seen_by v.know).state.cells.held
+        held_now : (v : View) (d : DecidesBehind k taken.look e v) → is_next_frame what ≡ true → new.value.value.held ≡ (seen_by v.know).state.cells.held
         held_now v d frame =
             let there : behind k (taken.look ++ d.more) ≡ now = moments_stay (opening_moment k.apps) taken.look d.more (getters_came v d frame) in
             prepared.holds frame
             ∙ (ap (λ (x : Moment). (step x.state e).0.cells.held) (sym there)
             ∙ (ap (λ (s : State). s.cells.held) (sym (after_is_in_turn (opening_moment k.apps).state (taken.look ++ d.more) (e ∷ []))) ∙ ap (λ (u : View). (seen_by u.know).state.cells.held) (sym d.decides.is)))
 
-        pub called_noted : (q w : Has) (clock : ℤ) (images : List Image) → Noted p (noted_entry p.0.know call reply) q → Given q w → clock ≡ new.value.kept.device.clock → pos 0 ≤ℤ clock → (is_next_frame what ≡ true → images ≡ new.value.held)
+        pub called_noted : (q w : Has) (clock : ℤ) (images : List Image) → Noted p (noted_entry p.0.know call reply) q → Given q w → clock ≡ new.value.value.kept.device.clock → pos 0 ≤ℤ clock → (is_next_frame what ≡ true → images ≡ new.value.value.held)
             → Called m what reply before after w × Reads w.0.know what clock images
         called_noted q w clock images noted given clock_is begun images_are =
             let g = subst (λ (z : Has). Given z w) (noted_is q noted) given noted_hold refl in
@@ -289,7 +289,7 @@ module _ (m n : Has) (held : Held WholeCore) (core2 : WholeCore) (who : Actor) (
           u_is : u ≡ holder (know_after k behind_look e) kept_hold (Keeps last.counts 0)
           u_is = λ i. (shown.1.is i, shown.0 i)
 
-          leads_there : new.value.kept ≡ (state_at k (behind_look ++ e ∷ [])).core
+          leads_there : new.value.value.kept ≡ (state_at k (behind_look ++ e ∷ [])).core
           leads_there = prepared.answers.leads ∙ sym (core_then k taken.look e) ∙ sym shown.1.core
 
           pub give_published : MayGive stands u last
@@ -300,10 +300,10 @@ module _ (m n : Has) (held : Held WholeCore) (core2 : WholeCore) (who : Actor) (
             is = refl;
             publishes_none = tt;
             unmade = λ _. refl;
-            stands_so = (refl, λ cells. ap (λ (c : WholeCore). c.kept) value_is ∙ leads_there);
+            stands_so = (refl, λ cells. ap (λ (b : Box WholeCore Global). b.value.kept) value_is ∙ leads_there);
           }
 
-          pub called_published : (w : Has) (clock : ℤ) (images : List Image) → Given u w → clock ≡ new.value.kept.device.clock → pos 0 ≤ℤ clock → publishes call reply.code ≡ true → Called m what reply before after w × Reads w.0.know what clock images
+          pub called_published : (w : Has) (clock : ℤ) (images : List Image) → Given u w → clock ≡ new.value.value.kept.device.clock → pos 0 ≤ℤ clock → publishes call reply.code ≡ true → Called m what reply before after w × Reads w.0.know what clock images
           called_published w clock images given clock_is begun publishing =
               let g = subst (λ (z : Has). Given z w) u_is given kept_hold refl in
               let there : Moment = behind k behind_look in
@@ -324,7 +324,7 @@ module _ (m n : Has) (held : Held WholeCore) (core2 : WholeCore) (who : Actor) (
 
       -- ---- it was decided at a claim
 
-      module _ (decided : Decided k look_hold its_eyes ((0, None) ∷ []) what new.value before after reply p) where
+      module _ (decided : Decided k look_hold its_eyes ((0, None) ∷ []) what new.value.value before after reply p) where
         abbrev x : Entry
         x = wait_entry k what
 
@@ -334,7 +334,7 @@ module _ (m n : Has) (held : Held WholeCore) (core2 : WholeCore) (who : Actor) (
         abbrev k_then : Know
         k_then = know_after k there_look x
 
-        leads : new.value.kept ≡ (state_at k (there_look ++ x ∷ [])).core
+        leads : new.value.value.kept ≡ (state_at k (there_look ++ x ∷ [])).core
         leads = decided.answers.leads ∙ (ap (λ (y : Entry). (step (state_at k there_look) y).0.core) decided.is_wait ∙ sym (core_then k there_look x))
 
         pub give_decided : (last : Held WholeCore) → last.value ≡ new.value → last.counts ≡ new.counts → MayGive stands p last
@@ -345,13 +345,13 @@ module _ (m n : Has) (held : Held WholeCore) (core2 : WholeCore) (who : Actor) (
           is = refl;
           publishes_none = tt;
           unmade = λ _. refl;
-          stands_so = (as_counted ∙ counts_are, λ cells. ap (λ (c : WholeCore). c.kept) value_is ∙ leads);
+          stands_so = (as_counted ∙ counts_are, λ cells. ap (λ (b : Box WholeCore Global). b.value.kept) value_is ∙ leads);
         }
 
         keeps_decided : p.0.eyes ≡ Keeps new.counts 0
         keeps_decided = ap (λ (z : Has). z.0.eyes) decided.decides.is ∙ ap (λ (cs : List ℕ). Keeps cs 0) (sym counts_are)
 
-        pub called_decided : (w : Has) (clock : ℤ) (images : List Image) → Given p w → clock ≡ new.value.kept.device.clock → pos 0 ≤ℤ clock → Called m what reply before after w × Reads w.0.know what clock images
+        pub called_decided : (w : Has) (clock : ℤ) (images : List Image) → Given p w → clock ≡ new.value.value.kept.device.clock → pos 0 ≤ℤ clock → Called m what reply before after w × Reads w.0.know what clock images
         called_decided w clock images given clock_is begun =
             let g = subst (λ (z : Has). Given z w) decided.decides.is given (hold_from taken.ticket (there_look ++ x ∷ [])) refl in (
               record {
@@ -366,9 +366,9 @@ module _ (m n : Has) (held : Held WholeCore) (core2 : WholeCore) (who : Actor) (
 
     -- ---- whichever it was
 
-    module _ (answer : Step) (decided : Bool) (reply : Reply) (told : IsTold n core2 what new.value before after answer decided p) (is : answer ≡ Done reply) where
-      done_told : (b : Bool) → decided ≡ b → Tells k look_hold its_eyes ((0, None) ∷ []) what new.value before after core2.kept (Done reply) b p
-      done_told b so = tells_of (Done reply) b (subst (λ (z : Step × Bool). IsTold n core2 what new.value before after z.0 z.1 p) (λ i. (is i, so i)) told)
+    module _ (answer : Step) (decided : Bool) (reply : Reply) (told : IsTold n core2 what new.value.value before after answer decided p) (is : answer ≡ Done reply) where
+      done_told : (b : Bool) → decided ≡ b → Tells k look_hold its_eyes ((0, None) ∷ []) what new.value.value before after core2.kept (Done reply) b p
+      done_told b so = tells_of (Done reply) b (subst (λ (z : Step × Bool). IsTold n core2 what new.value.value before after z.0 z.1 p) (λ i. (is i, so i)) told)
 
       pub settle_done : MaySettle stands p new call reply decided
       settle_done = record { keeps = by decided refl; notes = λ undecided. note_so reply (done_told false undecided) }
@@ -387,7 +387,7 @@ module _ (m n : Has) (held : Held WholeCore) (core2 : WholeCore) (who : Actor) (
         give_by false true so is s = give_published reply (done_told false so) s.0 q last value_is s.1 s.2
         give_by true c so is s = subst (λ (z : Has). MayGive stands z last) (sym s.0) (give_decided reply (done_told true so) last value_is s.1)
 
-        called_by : (w : Has) (clock : ℤ) (images : List Image) → Given q w → clock ≡ new.value.kept.device.clock → pos 0 ≤ℤ clock → (is_next_frame what ≡ true → images ≡ new.value.held) → (b c : Bool) → decided ≡ b → publishes call reply.code ≡ c → Settled b c
+        called_by : (w : Has) (clock : ℤ) (images : List Image) → Given q w → clock ≡ new.value.value.kept.device.clock → pos 0 ≤ℤ clock → (is_next_frame what ≡ true → images ≡ new.value.value.held) → (b c : Bool) → decided ≡ b → publishes call reply.code ≡ c → Settled b c
             → Called m what reply before after w × Reads w.0.know what clock images
         called_by w clock images given clock_is begun images_are false false so is s = called_noted reply (done_told false so) q w clock images s.0 given clock_is begun images_are
         called_by w clock images given clock_is begun images_are false true so is s = called_published reply (done_told false so) s.0 q last value_is s.1 s.2 w clock images given clock_is begun is
@@ -397,5 +397,5 @@ module _ (m n : Has) (held : Held WholeCore) (core2 : WholeCore) (who : Actor) (
           pub give_done : MayGive stands q last
           give_done = give_by decided (publishes call reply.code) refl refl settled
 
-          pub called_done : (w : Has) (clock : ℤ) (images : List Image) → Given q w → clock ≡ new.value.kept.device.clock → pos 0 ≤ℤ clock → (is_next_frame what ≡ true → images ≡ new.value.held) → Called m what reply before after w × Reads w.0.know what clock images
+          pub called_done : (w : Has) (clock : ℤ) (images : List Image) → Given q w → clock ≡ new.value.value.kept.device.clock → pos 0 ≤ℤ clock → (is_next_frame what ≡ true → images ≡ new.value.value.held) → Called m what reply before after w × Reads w.0.know what clock images
           called_done w clock images given clock_is begun images_are = called_by w clock images given clock_is begun images_are decided (publishes call reply.code) refl refl settled

@@ -1,12 +1,12 @@
 -- A getter that is read without the lock is a call of its application, as any other is.
-use Rattle.std.proofs.Common.{◌≡◌, ◌==◌, ◌&&◌, ◌<◌, ◌≤◌, ◌^◌, ℕ, zero, suc, not, Bool, true, false, true≢false, List, [], ◌∷◌, ◌++◌, length, sym, refl, ap, ◌∙◌, subst, Option, Some, None, option_map, option_and_then, eqb-true, arith}
+use Rattle.std.proofs.Common.{◌≡◌, ◌==◌, ◌&&◌, ◌<◌, ◌≤◌, ◌^◌, ℕ, zero, suc, not, Bool, true, false, true≢false, List, [], ◌∷◌, sym, refl, ap, ◌∙◌, subst, Option, Some, None, option_map, option_and_then, eqb-true, arith}
 use Rattle.std.specs.Prelude.{slice_get, unwrap_or, if◌then◌else◌}
 use Rattle.std.specs.List.{list_all}
 use Rattle.atomic_table.specs.Seated.{TableId}
 use Rattle.xr_types.specs.Code.{is_out_of_memory}
 use Rattle.xr_types.specs.CallKinds.{is_getter, is_locked, is_leave}
 use Rattle.xr_types.specs.declared.calls.Actor.{Actor}
-use Rattle.xr_types.specs.declared.calls.Actor.TheVariants.{App, Compositor, Device}
+use Rattle.xr_types.specs.declared.calls.Actor.TheVariants.{App}
 use Rattle.xr_types.specs.declared.calls.Call.{Call}
 use Rattle.xr_types.specs.declared.calls.Call.TheVariants as ask
 use Rattle.xr_types.specs.declared.calls.Gives.{Gives}
@@ -26,7 +26,7 @@ use Rattle.xr_model.specs.laws.Moments.{actor_at}
 use Rattle.xr_model.proofs.GetterSteps.{getters_read}
 use Rattle.xr_model.proofs.Rows.{both_of, not_true}
 use Rattle.xr_rule.specs.Plays.{Decides, published_by}
-use Rattle.xr_rule.specs.View.{Know, View, number_in, calls_in}
+use Rattle.xr_rule.specs.View.{Know, number_in}
 use Rattle.xr_snap.specs.Reading.{getter_entry, outcome_of, MayEnter, HasRead}
 use Rattle.xr_runtime.specs.Calling.{Has, actor_of, behind, seen_by, entry_by, Called}
 use Rattle.xr_runtime.specs.Passes.{MayCall}

@@ -16,7 +16,7 @@ use Rattle.xr_runtime.specs.Calling.{Has}
 use Rattle.xr_runtime.specs.Settling.{keeps}
 
 pub may_publish : (m n : Has) (held : Held WholeCore) (call : Call) (reply : Reply) (room : List ℕ) → m.0.eyes ≡ Keeps held.counts 0 → NotesCall (stands_in keeps) m held call reply → Noted m (noted_entry m.0.know call reply) n
-    → room ≡ words (publication_of held.value.kept) → MayPublish n held.counts room
+    → room ≡ words (publication_of held.value.value.kept) → MayPublish n held.counts room
 may_publish m n held call reply room kept notes noted room_is =
     let e : Entry = noted_entry m.0.know call reply in
     let h : Hold = notes.notes.hold in

@@ -10,7 +10,7 @@ use crate::lending::{Told, lend};
 use arrayvec::ArrayVec;
 use std::sync::Wait;
 use xr_core::Core;
-use xr_lock::Lock;
+use xr_lock::{Listener, Lock};
 use xr_rule::{Held, XrSeat, XrTable};
 use xr_snap::publish;
 use xr_types::{Actor, Call, Image, MOST_LAYERS, Reply, Shown, Step};
@@ -94,22 +94,16 @@ impl Runtime {
     {
         let lock = Lock { table: &self.table };
         let mut held = lock.take(rt, seat);
-        settle_before(&mut held.value, call);
-        let Told { step, decided } = lend(
-            &self.table,
-            seat,
-            &mut held.value,
-            who,
-            call,
-            text,
-            shown,
-        );
+        let core: &mut Core = &mut held.value;
+        settle_before(core, call);
+        let Told { step, decided } = lend(&self.table, seat, core, who, call, text, shown);
         match step {
             Step::Done(reply) => {
-                let clock = held.value.clock();
-                let taken = taken_by(&held.value, call);
+                let clock = core.clock();
+                let taken = taken_by(core, call);
                 self.settle(seat, &mut held, call, &reply, decided);
                 lock.give(seat, held);
+                self.ring_behind(call, reply.code);
                 Some(Answered {
                     reply,
                     clock,
@@ -123,7 +117,7 @@ impl Runtime {
         }
     }
 
-    // Makes the call, once it is ready: where it isn't, it lets others go first.
+    // Makes the call, once it is ready: where it isn't, it waits at a bell until another's call may have made it so.
     pub(crate) fn make<R: Wait>(
         &self,
         rt: &R,
@@ -139,13 +133,14 @@ impl Runtime {
         ensures called { Called seat.old.me call.now result.reply (as_lent text.old shown.old) (as_lent text.new shown.new) seat.new.me }
         ensures reads { Reads seat.new.me.0.know call.now result.clock result.taken.items }
     {
-        let mut tries = 0u32;
+        let mut listener = Listener::new(self.bell_of(call));
         for _ in rt.forever() {
+            listener.listen();
             if let Some(answered) = self.make_once(rt, seat, who, call, text, shown) {
+                listener.leave();
                 return answered;
             }
-            Lock { table: &self.table }.pause(rt, tries);
-            tries = tries.saturating_add(1);
+            listener.wait(rt);
         }
         unreachable!()
     }

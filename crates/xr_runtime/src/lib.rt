@@ -3,6 +3,7 @@
 #![tactic(auto)]
 
 mod app_calls;
+mod bells;
 mod calling;
 mod close;
 mod frames;

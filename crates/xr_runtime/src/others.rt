@@ -9,6 +9,7 @@ ghost use Rattle.xr_runtime.specs.Passes.{table_of, IsCompositor, Composes, IsDe
 use crate::calling::{Answered, Runtime};
 use crate::passes::{CompositorPass, DevicePass};
 use std::sync::Wait;
+use xr_lock::ring;
 use xr_types::{Actor, Call, Code, DeviceEvent, Gives, Reply, Shown};
 use xr_words::give_back;
 
@@ -53,6 +54,7 @@ impl Runtime {
     {
         let image = pass.held.remove(0);
         give_back(&self.table, &mut pass.seat, image);
+        ring(&self.table.beside.images);
         pass.calls += 1;
         Reply {
             code: Code::Success,

@@ -17,6 +17,13 @@ pub struct AppPass {
 }
 
 impl AppPass {
+    /// Its seat, which knows the calls that it has made.
+    pub fn seat(&self) -> &XrSeat<Core>
+        ensures { result.now ≡ self.now.seat }
+    {
+        &self.seat
+    }
+
     /// How many calls it has made.
     pub fn calls(&self) -> u64
         ensures { result ≡ self.now.calls }
@@ -49,6 +56,13 @@ pub struct CompositorPass {
 }
 
 impl CompositorPass {
+    /// Its seat, which knows the calls that it has made.
+    pub fn seat(&self) -> &XrSeat<Core>
+        ensures { result.now ≡ self.now.seat }
+    {
+        &self.seat
+    }
+
     /// How many calls it has made.
     pub fn calls(&self) -> u64
         ensures { result ≡ self.now.calls }
@@ -79,6 +93,13 @@ pub struct DevicePass {
 }
 
 impl DevicePass {
+    /// Its seat, which knows the calls that it has made.
+    pub fn seat(&self) -> &XrSeat<Core>
+        ensures { result.now ≡ self.now.seat }
+    {
+        &self.seat
+    }
+
     /// How many calls it has made.
     pub fn calls(&self) -> u64
         ensures { result ≡ self.now.calls }

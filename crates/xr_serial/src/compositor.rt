@@ -77,6 +77,16 @@ impl CompositorSide {
         if machine.next_frame_waits() {
             return Ok(false);
         }
+        self.take_next(machine)
+    }
+
+    // Asks for a frame. It is kept apart, since the place of a frame is cleared where it is made, and most turns ask for none.
+    #[inline(never)]
+    fn take_next(&mut self, machine: &mut Machine) -> Result<bool, NoMemory>
+        requires calls { machine.old.core.locked < 2 ^ 44 }
+        requires unheld { machine.old.cells.held ≡ [] }
+        ensures { IfOk result (λ went. FrameTurn self.old self.new machine.old machine.new went) }
+    {
         let mut shown = Shown::default();
         let Some(reply) = machine.lender.next_frame(&mut shown) else {
             return Ok(false);

@@ -2,6 +2,8 @@
 use std::sync::atomic::Ordering::SeqCst;
 use std::sync::atomic::{AtomicBool, AtomicU64};
 use std::thread::yield_now;
+use xr_core::Core;
+use xr_rule::XrSeat;
 use xr_types::Actor;
 use xr_workers::Gate;
 
@@ -44,15 +46,15 @@ impl Meeting {
 }
 
 impl Gate for Meeting {
-    ghost came = { λ gate actor call. Unit {0} };
+    ghost came = { λ gate actor call made. Unit {0} };
 
-    ghost went = { λ gate actor call. Unit {0} };
+    ghost went = { λ gate actor call made. Unit {0} };
 
-    fn before(&self, actor: Actor, call: u64) {
+    fn before(&self, actor: Actor, call: u64, _seat: &XrSeat<Core>) {
         if call == 1 && matches!(actor, Actor::App(1) | Actor::App(2)) {
             self.meet();
         }
     }
 
-    fn after(&self, _actor: Actor, _call: u64) {}
+    fn after(&self, _actor: Actor, _call: u64, _seat: &XrSeat<Core>) {}
 }

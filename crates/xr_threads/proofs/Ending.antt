@@ -30,7 +30,7 @@ use Rattle.xr_runtime.specs.Closing.{Holds, history_of, IsClosed}
 use Rattle.xr_runtime.specs.Passes.{apps_of, IsCompositor, IsDevice}
 use Rattle.xr_workers.specs.declared.compositor.Composed.{Composed}
 use Rattle.xr_workers.specs.declared.device.DeviceMade.{DeviceMade}
-use Rattle.xr_workers.specs.Workers.{Adds, IsGated, FollowsFront, TellsSoFar, turns_in, RanCompositor, RanDevice}
+use Rattle.xr_workers.specs.Workers.{Adds, IsGated, TurnsGated, FollowsFront, TellsSoFar, RanCompositor, RanDevice}
 use Rattle.xr_threads.specs.declared.app.AppWorker.{AppWorker}
 use Rattle.xr_threads.specs.Threads.{RanOnThreads, ClosesRun}
 use Rattle.xr_threads.specs.inside.Working.{pass_of, calls_made, HasWorked, HaveWorked, list_of, is_listed, Parted}
@@ -50,7 +50,7 @@ listed_at [] i d all within = absurd (omega (arith, within))
 listed_at (w ∷ ws) zero d all within = (both_of (is_listed w) (list_all is_listed ws) all).0
 listed_at (w ∷ ws) (suc i) d all within = listed_at ws i d (both_of (is_listed w) (list_all is_listed ws) all).1 (omega (arith, within))
 
-module _ (came went : Actor → ℕ → Type 0) (table : TableId) (r : Runtime) (p : Passes) (c : Closed) (scenario : Scenario) (k : IsClosed r p c) (apps : apps_of r ≡ length scenario.scripts)
+module _ (came went : Actor → ℕ → ℕ → Type 0) (table : TableId) (r : Runtime) (p : Passes) (c : Closed) (scenario : Scenario) (k : IsClosed r p c) (apps : apps_of r ≡ length scenario.scripts)
     (ws : List AppWorker) (passes : p.apps.items ≡ map pass_of ws) (count : length ws ≡ length scenario.scripts) (have : HaveWorked came went table scenario ws) where
   abbrev pub history : List Entry
   history = history_of c
@@ -87,7 +87,7 @@ module _ (came went : Actor → ℕ → Type 0) (table : TableId) (r : Runtime) 
   -- the closed runtime stands for a legal history, which has so much of what each actor does
   pub closes : (c_old : CompositorPass) (d_old : DevicePass) (composed : Result Composed NoMemory) (told : Result DeviceMade NoMemory) (start now : Prospect)
       → IsCompositor table c_old → c_old.calls ≡ 0 → RanCompositor table c_old p.compositor composed
-      → (calls : List Exchange) × Adds c_old.seat.me.0.know p.compositor.seat.me.0.know calls × IsGated came went Compositor 0 (turns_in calls)
+      → (calls : List Exchange) × Adds c_old.seat.me.0.know p.compositor.seat.me.0.know calls × TurnsGated came went calls
       → IsDevice table d_old → d_old.calls ≡ 0 → RanDevice table start now d_old p.device told → IsGated came went Device d_old.calls p.device.calls → ClosesRun came went scenario start now c
   closes c_old d_old composed told start now is_c none_c ran_c gated_c is_d none_d ran_d gated_d = record {
     legal = subst (λ (n : ℕ). IsLegal (with_apps n) history) apps k.legal;
@@ -102,7 +102,7 @@ module _ (came went : Actor → ℕ → Type 0) (table : TableId) (r : Runtime) 
         let some : 0 < length ws = omega (arith, within, count) in
         let here : place < length ws = omega (arith, within, count) in
         subst (λ (l : List Exchange). IsGated came went (App (place + 1)) 0 (length l)) (sym (app_calls place (some_worker some) here)) (have place (some_worker some) here).gated;
-    compositor_gated = subst (λ (l : List Exchange). IsGated came went Compositor 0 (turns_in l)) (sym (compositor_calls c_old gated_c.0 is_c none_c ran_c.is.is_own gated_c.1)) gated_c.2;
+    compositor_gated = subst (TurnsGated came went) (sym (compositor_calls c_old gated_c.0 is_c none_c ran_c.is.is_own gated_c.1)) gated_c.2;
     device_gated =
         let all : calls_of (settings_of scenario) Device history ≡ calls_in p.device.seat.me.0.know.own = calls_are Device p.device.seat.me.0.know (ap actor_at ran_d.is.is_own) k.device in
         subst (λ (z : ℕ × ℕ). IsGated came went Device z.0 z.1) (λ i. (none_d i, (ran_d.is.counts ∙ ap length (sym all)) i)) gated_d;
@@ -186,7 +186,7 @@ module _ (came went : Actor → ℕ → Type 0) (table : TableId) (r : Runtime) 
           },
         )
 
-module _ (came went : Actor → ℕ → Type 0) (table : TableId) (ws : List AppWorker) (r : Runtime) (p : Passes) (c : Closed) (scenario : Scenario) (k : IsClosed r p c) (apps : apps_of r ≡ length scenario.scripts) (lists : List (List Made)) (all : Bool)
+module _ (came went : Actor → ℕ → ℕ → Type 0) (table : TableId) (ws : List AppWorker) (r : Runtime) (p : Passes) (c : Closed) (scenario : Scenario) (k : IsClosed r p c) (apps : apps_of r ≡ length scenario.scripts) (lists : List (List Made)) (all : Bool)
     (parts : Parted ws p.apps.items lists all) (count : length ws ≡ length scenario.scripts) (have : HaveWorked came went table scenario ws) (composed : Result Composed NoMemory) (told : Result DeviceMade NoMemory) (start now : Prospect)
     (c_old : CompositorPass) (is_c : IsCompositor table c_old) (none_c : c_old.calls ≡ 0) (ran_c : RanCompositor table c_old p.compositor composed)
     (d_old : DevicePass) (is_d : IsDevice table d_old) (none_d : d_old.calls ≡ 0) (ran_d : RanDevice table start now d_old p.device told) where

@@ -31,7 +31,7 @@ module _ (table : TableId) (scenario : Scenario) (ws : List AppWorker) where
       }
 
   -- the passes of workers that have run rest
-  pub at_rest : (came went : Actor → ℕ → Type 0) (passes : List AppPass) → passes ≡ map pass_of ws → HaveWorked came went table scenario ws → (i : ℕ) (a : AppPass) → slice_get passes i ≡ Some a → Rests table a.seat
+  pub at_rest : (came went : Actor → ℕ → ℕ → Type 0) (passes : List AppPass) → passes ≡ map pass_of ws → HaveWorked came went table scenario ws → (i : ℕ) (a : AppPass) → slice_get passes i ≡ Some a → Rests table a.seat
   at_rest came went passes are have i a at =
       let s : Source pass_of ws i a = source_of pass_of ws i a (sym (ap (λ (l : List AppPass). slice_get l i) are) ∙ at) in
       subst (λ (p : AppPass). Rests table p.seat) (ap pass_of (s.at s.source) ∙ s.gives) (have i s.source s.within).is.rests

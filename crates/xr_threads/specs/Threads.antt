@@ -17,7 +17,7 @@ use Rattle.xr_model.specs.runs.Lists.{lists_of}
 use Rattle.xr_model.specs.laws.MomentLaws.{are_by_callers}
 use Rattle.xr_runtime.specs.declared.close.Closed.{Closed}
 use Rattle.xr_runtime.specs.Closing.{history_of}
-use Rattle.xr_workers.specs.Workers.{IsGated, FollowsFront, TellsSoFar, turns_in}
+use Rattle.xr_workers.specs.Workers.{IsGated, TurnsGated, FollowsFront, TellsSoFar}
 use Rattle.xr_runs.specs.Runs.{settings_of, Gave, AreSound, OfEachScript, IsEnd, IsWhole}
 
 -- The lists of a history in which all have come to their end. How many counted calls came before an image was given back is not known.
@@ -49,14 +49,14 @@ RanBeside closed scenario before now lists = (count : ℕ) × (now.given ≡ bef
 
 -- What a closed runtime stands for, also where memory was short for a list: a legal history, with so many counted calls. Its calls of each
 -- application are those of a first part of its script, and then `leave`; the compositor was told the end by its last; and those of the
--- device, which was asked, are those of the events that it has given. Both calls of the gate were made with the number of each call of the
--- scripts and of the device, and of each turn of the compositor.
-pub record ClosesRun (came went : Actor → ℕ → Type 0) (scenario : Scenario) (start now : Prospect) (c : Closed) : Type 0 where
+-- device, which was asked, are those of the events that it has given. The gate lies round each call of the scripts and of the device, and
+-- round each turn of the compositor.
+pub record ClosesRun (came went : Actor → ℕ → ℕ → Type 0) (scenario : Scenario) (start now : Prospect) (c : Closed) : Type 0 where
   pub legal : IsLegal (settings_of scenario) (history_of c)
   pub places_are : c.places ≡ count_locked (history_of c)
   pub follow : OfEachScript scenario (history_of c) FollowsFront
   pub ends : IsEnd (calls_of (settings_of scenario) Compositor (history_of c))
   pub tells : TellsSoFar start now (calls_of (settings_of scenario) Device (history_of c))
   pub apps_gated : (place : ℕ) → place < length scenario.scripts → IsGated came went (App (place + 1)) 0 (length (calls_of (settings_of scenario) (App (place + 1)) (history_of c)))
-  pub compositor_gated : IsGated came went Compositor 0 (turns_in (calls_of (settings_of scenario) Compositor (history_of c)))
+  pub compositor_gated : TurnsGated came went (calls_of (settings_of scenario) Compositor (history_of c))
   pub device_gated : IsGated came went Device 0 (length (calls_of (settings_of scenario) Device (history_of c)))

@@ -1,26 +1,19 @@
 -- One call of an application's worker.
-use Rattle.std.proofs.Common.{◌≡◌, ◌<◌, ◌≤◌, ◌+◌, ◌∙◌, ℕ, ℤ, pos, zero, suc, Bool, true, false, List, [], ◌∷◌, ◌++◌, length, take, drop, Option, Some, None, IfSome, refl, sym, ap, subst, arith, true≢false}
+use Rattle.std.proofs.Common.{◌≡◌, ◌∙◌, ℕ, ℤ, Bool, true, false, List, [], ◌∷◌, ◌++◌, length, take, drop, Option, Some, None, IfSome, refl, sym, ap, arith}
 use Rattle.std.specs.Prelude.{nat_le, if◌then◌else◌}
 use Rattle.std.proofs.lemmas.List.{take_at}
 use Rattle.atomic_table.specs.Seated.{TableId}
 use Rattle.xr_types.specs.declared.calls.Gives.{Gives}
 use Rattle.xr_types.specs.declared.calls.Gives.TheVariants.{Size}
 use Rattle.xr_types.specs.declared.calls.Reply.{Reply}
-use Rattle.xr_types.specs.declared.frames.Shown.{Shown}
 use Rattle.xr_model.specs.laws.Moments.{Moment, exchange_at}
-use Rattle.xr_types.specs.declared.calls.Actor.TheVariants.{App}
-use Rattle.xr_types.specs.declared.scenario.Op.{Op}
-use Rattle.xr_types.specs.declared.scenario.Op.TheVariants as op
-use Rattle.xr_model.specs.machine.CoreCalls.{Lent, MayAsk, left_in}
-use Rattle.xr_model.specs.scenario.ScriptForm.{IsInRange}
-use Rattle.xr_model.specs.runs.Scripts.{request_for}
+use Rattle.xr_model.specs.machine.CoreCalls.{Lent}
 use Rattle.xr_workers.specs.declared.script.Asked.{Asked}
 use Rattle.xr_model.specs.machine.Machine.{step}
-use Rattle.xr_model.specs.machine.Calls.{Entry, Exchange}
+use Rattle.xr_model.specs.machine.Calls.{Entry}
 use Rattle.xr_types.specs.declared.calls.Call.{Call}
 use Rattle.xr_types.specs.declared.calls.Call.TheVariants as ask
-use Rattle.xr_model.specs.machine.State.{State}
-use Rattle.xr_runtime.specs.Calling.{Called, behind, entry_by}
+use Rattle.xr_runtime.specs.Calling.{behind, entry_by}
 use Rattle.xr_runtime.specs.Passes.{MayCall, AppCalls, AppAnswers, AnswersText}
 use Rattle.xr_runtime.specs.declared.passes.AppPass.{AppPass}
 use Rattle.xr_runtime.proofs.Passing.{seat_is}

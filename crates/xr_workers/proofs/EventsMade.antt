@@ -1,6 +1,6 @@
 -- The calls of the device's worker.
 use Rattle.std.proofs.Common.{◌≡◌, ◌≤◌, ◌<◌, ◌+◌, ◌^◌, ◌∙◌, ℕ, pos, Bool, true, false, List, [], ◌∷◌, ◌++◌, length, Option, Some, None, refl, sym, ap, subst, arith, true≢false, append_assoc, append-nil, length-append}
-use Rattle.std.specs.Prelude.{◌||◌, Result, Ok, Err}
+use Rattle.std.specs.Prelude.{◌||◌, Ok, Err}
 use Rattle.std.specs.List.{list_any}
 use Rattle.std.proofs.lemmas.List.Folds.{list_any-append}
 use Rattle.atomic_table.specs.Seated.{TableId}

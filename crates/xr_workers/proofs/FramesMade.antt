@@ -1,8 +1,9 @@
 -- The turns of the compositor's worker, one after another.
-use Rattle.std.proofs.Common.{◌≡◌, ◌≤◌, ◌<◌, ◌+◌, ◌*◌, ◌^◌, ◌∙◌, ℕ, zero, suc, Bool, true, false, List, [], ◌∷◌, ◌++◌, length, Option, Some, None, IfSome, refl, sym, ap, subst, arith, true≢false, append_assoc, append-nil, length-append}
+use Rattle.std.proofs.Common.{◌≡◌, ◌≤◌, ◌<◌, ◌+◌, ◌^◌, ◌∙◌, ℕ, Bool, true, false, List, [], ◌∷◌, ◌++◌, length, Option, Some, None, IfSome, refl, sym, ap, subst, arith, true≢false, append_assoc, append-nil, length-append}
 use Rattle.std.specs.Prelude.{Result, Ok, Err, if◌then◌else◌}
 use Rattle.atomic_table.specs.Seated.{TableId}
 use Rattle.xr_types.specs.declared.calls.Actor.{Actor}
+use Rattle.xr_types.specs.declared.calls.Actor.TheVariants.{Compositor}
 use Rattle.xr_types.specs.declared.calls.Gives.{Gives}
 use Rattle.xr_types.specs.declared.calls.Gives.TheVariants as gives
 use Rattle.xr_types.specs.declared.calls.NoMemory.{NoMemory}
@@ -11,7 +12,7 @@ use Rattle.xr_types.specs.declared.frames.Shown.{Shown}
 use Rattle.xr_model.specs.laws.FewCalls.{is_end}
 use Rattle.xr_model.specs.laws.ImageLaws.{is_next_frame}
 use Rattle.xr_model.specs.laws.Laws.{count_locked}
-use Rattle.xr_model.specs.laws.Moments.{Moment, opening_moment, exchange_at, actor_at, calls_by}
+use Rattle.xr_model.specs.laws.Moments.{opening_moment, exchange_at, actor_at, calls_by}
 use Rattle.xr_model.specs.machine.History.{after, calls_from, shown_if}
 use Rattle.xr_model.specs.machine.Machine.{step}
 use Rattle.xr_types.specs.CallKinds.{is_locked}
@@ -22,16 +23,18 @@ use Rattle.xr_model.specs.machine.State.{State, opening, with_apps}
 use Rattle.xr_model.specs.runs.Lists.{frames_in, replies_in, reply_if_shown, end_of}
 use Rattle.xr_model.specs.runs.Robin.{is_ended}
 use Rattle.xr_model.proofs.Histories.{entries_are_counted}
-use Rattle.xr_rule.specs.View.{Own, Know, number_in, calls_in, with_call, know_after}
+use Rattle.xr_rule.specs.View.{Own, number_in, calls_in, with_call}
 use Rattle.xr_runtime.specs.Calling.{behind}
 use Rattle.xr_runtime.specs.Passes.{IsCompositor}
 use Rattle.xr_runtime.specs.declared.passes.CompositorPass.{CompositorPass}
+use Rattle.xr_compositor.specs.declared.Turned.{Turned}
 use Rattle.xr_compositor.specs.declared.Turned.TheVariants as turned
-use Rattle.xr_compositor.specs.Turns.{know_of, IsReturn, AreReturns, AsksForFrame, Turns}
+use Rattle.xr_compositor.specs.Turns.{know_of, AreReturns, AsksForFrame, Turns}
 use Rattle.xr_workers.specs.declared.compositor.Composed.{Composed}
 use Rattle.xr_workers.specs.declared.compositor.Frames.{Frames}
 use Rattle.xr_workers.specs.inside.Composing.{KeepsFrame, Composes, ListsAll}
-use Rattle.xr_workers.specs.Workers.{Adds, turns_in, ListsFramesIf, RanCompositor}
+use Rattle.xr_workers.specs.Workers.{Adds, turns_in, TurnsGated, ListsFramesIf, RanCompositor}
+use Rattle.xr_workers.proofs.TurnsMade.{turn_gated}
 use Rattle.xr_runs.specs.Runs.{GoesOn, a_frame, an_image, IsEnd}
 use Rattle.xr_runs.specs.Sides.{AllGoOn}
 
@@ -155,6 +158,11 @@ none_composed table p kept is unended none keeps = record {
   keeps = keeps;
 }
 
+pub none_turned : (came went : Actor → ℕ → ℕ → Type 0) (table : TableId) (p : CompositorPass) (kept : Option Frames) (is : IsCompositor table p) (unended : p.ended ≡ false) (none : p.held.items ≡ [])
+    (keeps : IfSome kept (λ k. (k.frames.items ≡ []) × (k.replies.items ≡ []))) → TurnsGated came went (none_composed table p kept is unended none keeps).calls
+unfolding none_composed
+none_turned came went table p kept is unended none keeps n less = absurd (omega (arith, less))
+
 module _ (table : TableId) (turns : ℕ) (first old new : CompositorPass) (kept : Option Frames) (start : IsCompositor table first) (none : first.calls ≡ 0) (c : Composes table turns first old kept) where
   pub few_calls : old.calls < 2 ^ 62
   few_calls =
@@ -166,7 +174,7 @@ module _ (table : TableId) (turns : ℕ) (first old new : CompositorPass) (kept 
       omega (arith, few, below, before, now, more, none, length-append (calls_in (know_of first).own) c.calls)
 
   -- what the pass has made is what it made in these turns
-  all_own : calls_in (know_of old).own ≡ c.calls
+  pub all_own : calls_in (know_of old).own ≡ c.calls
   all_own = c.adds ∙ ap (λ (ts : List Exchange). ts ++ c.calls) (no_calls table first start none)
 
   turns_more : (frame : Exchange) → AsksForFrame old frame → frame.call ≡ ask.NextFrame → (turns + 1 ≡ turns_in (c.calls ++ frame ∷ [])) × (turns + 1 < 2 ^ 44)
@@ -180,6 +188,19 @@ module _ (table : TableId) (turns : ℕ) (first old new : CompositorPass) (kept 
   asked_frame : (frame : Exchange) → (a : AsksForFrame old frame) → frame.call ≡ ask.NextFrame
   unfolding exchange_at
   asked_frame frame a = ap (λ (t : Exchange). t.call) a.is ∙ a.asks
+
+  -- the gate lies round one more
+  pub turns_gated : (came went : Actor → ℕ → ℕ → Type 0) (before after : Shown) (turned : Turned) → (t : Turns table old before after turned new) → TurnsGated came went c.calls
+      → came Compositor (turns + 1) (length (calls_in (know_of old).own)) → went Compositor (turns + 1) (length (calls_in (know_of new).own)) → TurnsGated came went (c.calls ++ t.frame ∷ t.images)
+  turns_gated came went before after turned t gated comes goes =
+      let asks : t.frame.call ≡ ask.NextFrame = asked_frame t.frame t.asks in
+      let more = turns_more t.frame t.asks asks in
+      let split = turns_added (c.calls ++ t.frame ∷ []) t.images in
+      let join = ap turns_in (append_assoc c.calls (t.frame ∷ []) t.images) in
+      let first_part = more.0 in
+      let zero = no_turns t.images t.returns in
+      let now : calls_in (know_of new).own ≡ c.calls ++ t.frame ∷ t.images = t.made ∙ ap (λ (ts : List Exchange). ts ++ t.frame ∷ t.images) all_own in
+      turn_gated came went c.calls t.frame t.images turns (length (calls_in (know_of old).own)) (length (calls_in (know_of new).own)) (ap is_next_frame asks) c.turns_are (omega (arith, split, join, first_part, zero)) (ap length all_own) (ap length now) gated comes goes
 
   pub one_composed : (before after : Shown) (reply : Reply) (next : Option Frames) → Turns table old before after (turned.Shown reply) new → KeepsFrame kept after reply next → Composes table (turns + 1) first new next
   one_composed before after reply next t keeps =
@@ -217,6 +238,12 @@ module _ (table : TableId) (turns : ℕ) (first old new : CompositorPass) (kept 
             h.1 ∙ (ap (λ (l : List Reply). l ++ reply ∷ []) so.1 ∙ (ap (λ (l : List Reply). replies_in c.calls ++ l) (sym one_reply) ∙ sym (replies_added c.calls (t.frame ∷ t.images)))),
           )
 
+  pub one_turned : (came went : Actor → ℕ → ℕ → Type 0) (before after : Shown) (reply : Reply) (next : Option Frames) (t : Turns table old before after (turned.Shown reply) new) (keeps : KeepsFrame kept after reply next)
+      → TurnsGated came went c.calls → came Compositor (turns + 1) (length (calls_in (know_of old).own)) → went Compositor (turns + 1) (length (calls_in (know_of new).own))
+      → TurnsGated came went (one_composed before after reply next t keeps).calls
+  unfolding one_composed
+  one_turned came went before after reply next t keeps gated comes goes = turns_gated came went before after (turned.Shown reply) t gated comes goes
+
   -- the last turn, in which the end was told
   module _ (before after : Shown) (reply : Reply) (t : Turns table old before after (turned.Ended reply) new) where
     asks_last : t.frame.call ≡ ask.NextFrame
@@ -227,9 +254,6 @@ module _ (table : TableId) (turns : ℕ) (first old new : CompositorPass) (kept 
 
     pub last_calls : Adds (know_of first) (know_of new) (c.calls ++ t.frame ∷ [])
     last_calls = t.made ∙ (ap (λ (ts : List Exchange). calls_in (know_of old).own ++ t.frame ∷ ts) t.at_end ∙ (ap (λ (ts : List Exchange). ts ++ t.frame ∷ []) c.adds ∙ append_assoc (calls_in (know_of first).own) c.calls (t.frame ∷ [])))
-
-    pub last_turns : turns + 1 ≡ turns_in (c.calls ++ t.frame ∷ [])
-    last_turns = (turns_more t.frame t.asks asks_last).0
 
     pub ran_compositor : (list : Result Composed NoMemory) → ListsFramesIf (c.calls ++ t.frame ∷ []) list → RanCompositor table first new list
     ran_compositor list lists = record {

@@ -1,4 +1,5 @@
 pub mod CallsMade
 pub mod EventsMade
 pub mod ScriptsMade
+pub mod TurnsMade
 pub mod FramesMade

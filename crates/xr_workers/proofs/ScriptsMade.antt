@@ -1,8 +1,11 @@
 -- An application's calls, one after another.
-use Rattle.std.proofs.Common.{◌≡◌, ◌≤◌, ◌<◌, ◌+◌, ◌^◌, ◌∙◌, ℕ, ℤ, pos, Bool, true, false, List, [], ◌∷◌, ◌++◌, length, take, drop, Option, Some, None, IfSome, refl, sym, ap, subst, arith, append_assoc, append-nil, length-append, take-add}
-use Rattle.std.specs.Prelude.{nat_le, Result, Ok, Err, slice_set, option_map}
+use Rattle.std.proofs.Common.{◌≡◌, ◌≤◌, ◌<◌, ◌+◌, ◌^◌, ◌∙◌, ℕ, ℤ, Bool, true, false, List, [], ◌∷◌, ◌++◌, length, take, drop, Option, Some, None, IfSome, refl, sym, ap, subst, arith, append_assoc, append-nil, length-append, take-add}
+use Rattle.std.specs.Prelude.{nat_lt, Result, Ok, Err, option_map}
 use Rattle.std.proofs.lemmas.List.{length-take-le, length-set, length-replicate, take_all}
 use Rattle.atomic_table.specs.Seated.{TableId}
+use Rattle.atomic_table.specs.declared.shared.Seat.{Seat}
+use Rattle.xr_model.specs.machine.State.{WholeCore}
+use Rattle.xr_rule.specs.declared.held.Held.{Held}
 use Rattle.xr_types.specs.declared.calls.Actor.{Actor}
 use Rattle.xr_types.specs.declared.calls.NoMemory.{NoMemory}
 use Rattle.xr_types.specs.declared.calls.Reply.{Reply}
@@ -15,33 +18,48 @@ use Rattle.xr_types.specs.declared.calls.Call.TheVariants as ask
 use Rattle.xr_model.specs.runs.Lists.{made_at, made_from}
 use Rattle.xr_model.specs.runs.NameValues.{no_values, with_name_value}
 use Rattle.xr_model.specs.runs.Scripts.{request_for, unstarted, FollowsFrom}
-use Rattle.xr_rule.specs.View.{calls_in}
+use Rattle.xr_rule.specs.View.{View, calls_in}
 use Rattle.xr_runtime.specs.Passes.{IsApp, MayCall}
 use Rattle.xr_runtime.specs.declared.passes.AppPass.{AppPass}
 use Rattle.xr_types.specs.CallKinds.{written_size, lent_size, with_start, listed_as, is_leave}
 use Rattle.xr_workers.specs.declared.script.Asked.{Asked}
 use Rattle.xr_workers.specs.inside.Made.{CallMade, AskedBy}
 use Rattle.xr_workers.specs.inside.Script.{Leads, MadeOps, MadeOp, MadeSome}
-use Rattle.xr_workers.specs.Workers.{Adds, IsGated, ListsScript, RanScript}
+use Rattle.xr_workers.specs.Workers.{IsGated, ListsScript, RanScript}
 use Rattle.xr_runs.proofs.Listing.{made_snoc}
 use Rattle.xr_runs.proofs.OpCalls.{same_request}
 
 -- ---- the gate
 
-pub gated_on : (came went : Actor → ℕ → Type 0) (who : Actor) (a b c : ℕ) → IsGated came went who a b → IsGated came went who b c → IsGated came went who a c
-gated_on came went who a b c first second n above within = by (nat_le n b) refl
+pub gated_on : (came went : Actor → ℕ → ℕ → Type 0) (who : Actor) (a b c : ℕ) → IsGated came went who a b → IsGated came went who b c → IsGated came went who a c
+gated_on came went who a b c first second n above within = by (nat_lt n b) refl
   where
-    by : (t : Bool) → nat_le n b ≡ t → came who n × went who n
+    by : (t : Bool) → nat_lt n b ≡ t → came who (n + 1) n × went who (n + 1) (n + 1)
     by true is = first n above (grind (arith, is))
     by false is = second n (grind (arith, is)) within
 
-pub gated_none : (came went : Actor → ℕ → Type 0) (who : Actor) (a : ℕ) → IsGated came went who a a
+pub gated_none : (came went : Actor → ℕ → ℕ → Type 0) (who : Actor) (a : ℕ) → IsGated came went who a a
 gated_none came went who a n above within = absurd (omega (arith, above, within))
 
-pub gated_one : (came went : Actor → ℕ → Type 0) (who : Actor) (a : ℕ) → came who (a + 1) → went who (a + 1) → IsGated came went who a (a + 1)
-gated_one came went who a before behind n above within =
-    let same : a + 1 ≡ n = omega (arith, above, within) in
-    subst (λ (k : ℕ). came who k × went who k) same (before, behind)
+-- one call, which the actor came to having made so many, and from which it went on having made so many
+pub gated_one : (came went : Actor → ℕ → ℕ → Type 0) (who : Actor) (a number before behind : ℕ) → number ≡ a + 1 → before ≡ a → behind ≡ a + 1 → came who number before → went who number behind → IsGated came went who a (a + 1)
+gated_one came went who a number before behind at old new comes goes n above within =
+    let same : a ≡ n = omega (arith, above, within) in
+    subst (λ (k : ℕ). came who (k + 1) k × went who (k + 1) (k + 1)) same
+    (subst (λ (z : ℕ × ℕ). came who z.0 z.1) (λ i. (at i, old i)) comes, subst (λ (z : ℕ × ℕ). went who z.0 z.1) (λ i. (at i, new i)) goes)
+
+-- how many calls of its own a seat has made
+abbrev made_by : Seat (Option (Held WholeCore)) View → ℕ
+made_by s = length (calls_in s.me.0.know.own)
+
+-- one call of a pass, with whose seat the gate was called before it and behind it
+pub seat_gated : (came went : Actor → ℕ → ℕ → Type 0) (who : Actor) (a number : ℕ) (first second old new : Seat (Option (Held WholeCore)) View) (t : Exchange)
+    → number ≡ a → a ≡ made_by old → calls_in new.me.0.know.own ≡ calls_in old.me.0.know.own ++ t ∷ [] → first ≡ old → second ≡ new
+    → came who (number + 1) (made_by first) → went who (number + 1) (made_by second) → IsGated came went who a (a + 1)
+seat_gated came went who a number first second old new t at counts more is_old is_new comes goes =
+    let before : made_by first ≡ a = ap made_by is_old ∙ sym counts in
+    let behind : made_by second ≡ a + 1 = ap made_by is_new ∙ (ap length more ∙ (length-append (calls_in old.me.0.know.own) (t ∷ []) ∙ ap (λ (k : ℕ). k + 1) (sym counts))) in
+    gated_one came went who a (number + 1) (made_by first) (made_by second) (ap (λ (k : ℕ). k + 1) at) before behind comes goes
 
 -- ---- one op
 
@@ -163,7 +181,7 @@ op_calls table place o old new names learned listed is x =
     let more = ap length x.adds in
     omega (arith, before, now, more, length-append (calls_in old.seat.me.0.know.own) (x.call ∷ []))
 
-pub op_gated : (came went : Actor → ℕ → Type 0) (who : Actor) (first old new : ℕ) → new ≡ old + 1 → IsGated came went who first old → IsGated came went who old (old + 1) → IsGated came went who first new
+pub op_gated : (came went : Actor → ℕ → ℕ → Type 0) (who : Actor) (first old new : ℕ) → new ≡ old + 1 → IsGated came went who first old → IsGated came went who old (old + 1) → IsGated came went who first new
 op_gated came went who first old new is before this = subst (IsGated came went who first) (sym is) (gated_on came went who first old (old + 1) before this)
 
 -- the list with one more

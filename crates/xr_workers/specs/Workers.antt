@@ -1,5 +1,5 @@
 -- What the workers of a run do: the calls that each makes by its pass, and what it lists of them.
-use Rattle.std.specs.Prelude.{◌≡◌, ◌<◌, ◌≤◌, ◌+◌, ℕ, Bool, true, false, List, [], ◌∷◌, ◌++◌, length, take, Option, Some, Result, Ok, Err}
+use Rattle.std.specs.Prelude.{◌≡◌, ◌<◌, ◌≤◌, ◌+◌, ℕ, zero, suc, if◌then◌else◌, Bool, true, false, List, [], ◌∷◌, ◌++◌, length, take, Option, Some, Result, Ok, Err}
 use Rattle.std.specs.List.{list_any}
 use Rattle.atomic_table.specs.Seated.{TableId}
 use Rattle.xr_types.specs.declared.calls.Actor.{Actor}
@@ -34,10 +34,10 @@ use Rattle.xr_runs.specs.Sides.{Came}
 abbrev pub Adds : Know → Know → List Exchange → Type 0
 Adds old new calls = calls_in new.own ≡ calls_in old.own ++ calls
 
--- Both calls of the gate were made with the number of each call of an actor from behind one number up to another. That they lie round that
--- call is not said.
-abbrev pub IsGated : (Actor → ℕ → Type 0) → (Actor → ℕ → Type 0) → Actor → ℕ → ℕ → Type 0  -- came, went
-IsGated came went who from to = (n : ℕ) → from < n → n ≤ to → came who n × went who n
+-- The gate lies round each call of an actor from behind one number up to another: when the actor came to the call of this number it had made
+-- those before it and no more, and when it went on it had made this one too.
+abbrev pub IsGated : (Actor → ℕ → ℕ → Type 0) → (Actor → ℕ → ℕ → Type 0) → Actor → ℕ → ℕ → Type 0  -- came, went
+IsGated came went who from to = (n : ℕ) → from ≤ n → n < to → came who (n + 1) n × went who (n + 1) (n + 1)
 
 -- ---- an application
 
@@ -136,6 +136,17 @@ pub record RanCompositor (table : TableId) (old new : CompositorPass) (list : Re
 abbrev pub turns_in : List Exchange → ℕ
 turns_in calls = how_many (λ t. is_next_frame t.call) calls
 
--- So they were with the number of each turn of a compositor's pass that came from knowing this to knowing that.
-abbrev pub ComposesGated : (Actor → ℕ → Type 0) → (Actor → ℕ → Type 0) → Know → Know → Type 0  -- came, went
-ComposesGated came went old new = (calls : List Exchange) × Adds old new calls × IsGated came went Compositor 0 (turns_in calls)
+-- How many calls come before the turn of this number, from 0: before its request for a frame. Behind the last turn it is all of them.
+abbrev pub before_turn : ℕ → List Exchange → ℕ
+before_turn n [] = 0
+before_turn zero (t ∷ ts) = if is_next_frame t.call then 0 else before_turn zero ts + 1
+before_turn (suc n) (t ∷ ts) = if is_next_frame t.call then before_turn n ts + 1 else before_turn (suc n) ts + 1
+
+-- The gate lies round each turn of a compositor that made these calls: when it came to the turn of this number it had made those before it
+-- and no more, and when it went on all up to the next.
+abbrev pub TurnsGated : (Actor → ℕ → ℕ → Type 0) → (Actor → ℕ → ℕ → Type 0) → List Exchange → Type 0  -- came, went
+TurnsGated came went calls = (n : ℕ) → n < turns_in calls → came Compositor (n + 1) (before_turn n calls) × went Compositor (n + 1) (before_turn (n + 1) calls)
+
+-- so it does round each turn of a compositor's pass that came from knowing this to knowing that
+abbrev pub ComposesGated : (Actor → ℕ → ℕ → Type 0) → (Actor → ℕ → ℕ → Type 0) → Know → Know → Type 0  -- came, went
+ComposesGated came went old new = (calls : List Exchange) × Adds old new calls × TurnsGated came went calls

@@ -29,9 +29,9 @@ fn leave<R: Wait, G: Gate>(context: &Context<'_, R, G>, app: u8, pass: &mut AppP
     ensures gated { IsGated (G.came context.now.gate.now) (G.went context.now.gate.now) (App app) pass.old.calls (pass.old.calls + 1) }
 {
     let number = pass.calls() + 1;
-    context.gate.before(Actor::App(app), number);
+    context.gate.before(Actor::App(app), number, pass.seat());
     let reply = context.runtime.leave(context.rt, pass);
-    context.gate.after(Actor::App(app), number);
+    context.gate.after(Actor::App(app), number, pass.seat());
     reply
 }
 

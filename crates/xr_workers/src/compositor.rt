@@ -75,9 +75,9 @@ pub fn run_compositor<R: Wait, G: Gate>(
     for _ in context.rt.forever() {
         turns += 1;
         let mut shown = Shown::default();
-        context.gate.before(Actor::Compositor, turns);
+        context.gate.before(Actor::Compositor, turns, pass.seat());
         let turned = turn(context.runtime, context.rt, pass, &mut shown);
-        context.gate.after(Actor::Compositor, turns);
+        context.gate.after(Actor::Compositor, turns, pass.seat());
         match turned {
             Turned::Shown(reply) => kept = with_frame(kept, shown, reply),
             Turned::Ended(reply) => return list(kept, reply),

@@ -33,9 +33,9 @@ fn make_event<R: Wait, G: Gate>(
     ensures gated { IsGated (G.came context.now.gate.now) (G.went context.now.gate.now) Devices pass.old.calls (pass.old.calls + 1) }
 {
     let number = pass.calls() + 1;
-    context.gate.before(Actor::Device, number);
+    context.gate.before(Actor::Device, number, pass.seat());
     let reply = context.runtime.device(context.rt, pass, event);
-    context.gate.after(Actor::Device, number);
+    context.gate.after(Actor::Device, number, pass.seat());
     reply
 }
 

@@ -97,9 +97,9 @@ fn ask<R: Wait, G: Gate>(
 {
     let number = pass.calls() + 1;
     let lent = &mut buffer[..call.lent_size() as usize];
-    context.gate.before(Actor::App(app), number);
+    context.gate.before(Actor::App(app), number, pass.seat());
     let reply = context.runtime.call(context.rt, pass, call, lent);
-    context.gate.after(Actor::App(app), number);
+    context.gate.after(Actor::App(app), number, pass.seat());
     let written = reply.gives.written_size(lent.len() as u64) as usize;
     let text = match Bytes::from_slice(context.alloc, &lent[..written]) {
         Ok(text) => Some(text),

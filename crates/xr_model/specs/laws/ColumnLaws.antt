@@ -73,6 +73,21 @@ GettersTellTheirColumns =
     → is_success (step (after (opening settings) es) e).1.reply.code ≡ true
     → TellsItsColumn (after (opening settings) es).core action sub e.call (step (after (opening settings) es) e).1.reply.gives
 
+-- ---- what a column shows between two syncs
+
+-- the call may change what columns show: a sync, or the end of a session, of an action, or of what is above these
+abbrev pub may_change_columns : Call → Bool
+may_change_columns (ask.SyncActions session active) = true
+may_change_columns (ask.DestroyInstance instance) = true
+may_change_columns (ask.DestroySession session) = true
+may_change_columns (ask.DestroyActionSet set) = true
+may_change_columns (ask.DestroyAction action) = true
+may_change_columns _ = false
+
+-- no other call changes any
+abbrev pub ColumnsStay : Type 0
+ColumnsStay = (s : State) (e : Entry) → may_change_columns e.call ≡ false → (step s e).0.core.columns ≡ s.core.columns
+
 -- ---- what goes with a session
 
 abbrev pub are_inactive : List Column → Bool
@@ -112,7 +127,7 @@ moves_on s None = true
 moves_on s (Some (Fixed what)) = true
 moves_on s (Some (Action place column)) = has_action s.handles.actions place
 
--- a place in which an action stands shows what it showed, and a space that is left, and whose place is so, is as it was
+-- a place in which an action stands shows what it showed, and a space that is left, and moves with no action that went, is as it was
 pub record KeepsOthers (s new : CoreState) : Type 0 where
   pub columns : (place : ℕ) → has_action new.handles.actions place ≡ true → slice_get new.columns place ≡ slice_get s.columns place
   pub spaces : (handle : ℕ) (old x : Space) → space_at s.room.spaces handle ≡ Some old → space_at new.room.spaces handle ≡ Some x → moves_on new old.root ≡ true → x ≡ old

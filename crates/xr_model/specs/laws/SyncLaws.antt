@@ -1,5 +1,5 @@
 -- What the definition of a sync means, for every list of sets and of bindings, all inputs and every column.
-use Rattle.std.specs.Prelude.{◌≡◌, ℕ, ℤ, pos, ◌+◌, ◌==◌, ◌&&◌, ◌||◌, ◌++◌, Bool, true, false, not, nat_lt, nat_le, unsigned_abs, codes, map, List, [], ◌∷◌, Some, is_some, option_and_then, slice_get, if◌then◌else◌}
+use Rattle.std.specs.Prelude.{◌≡◌, ℕ, ℤ, pos, ◌+◌, ◌==◌, ◌&&◌, ◌||◌, ◌++◌, Bool, true, false, not, nat_lt, nat_le, unsigned_abs, codes, map, List, [], ◌∷◌, Some, is_some, option_and_then, slice_get, slice_index_or, if◌then◌else◌}
 use Rattle.std.specs.List.{list_any, list_all}
 use Rattle.std.proofs.Common.{◌⊎◌}
 use Rattle.xr_types.specs.declared.input.ActionType.{ActionType}
@@ -20,7 +20,7 @@ use Rattle.xr_types.specs.InputNames.{input_name, is_digital}
 use Rattle.xr_types.specs.InputValues.{square_of}
 use Rattle.xr_types.specs.Printed.{origin_name, user_path}
 use Rattle.xr_types.specs.Users.{user_place}
-use Rattle.xr_model.specs.machine.Profiles.{component, grip, aim}
+use Rattle.xr_model.specs.machine.Profiles.{component, grip, aim, identifiers}
 use Rattle.xr_model.specs.machine.Sets.{is_declared}
 use Rattle.xr_model.specs.machine.Sync.{live_in, is_live, is_down, amount, axes, pose_of, found_at, synced_column, column_after, inactive}
 
@@ -148,3 +148,14 @@ IsNamedFor path who part.Output = (name : List ℕ) × (path ≡ user_path who +
 
 abbrev pub PicksAreNamed : Type 0
 PicksAreNamed = (which : Profile) (wanted : ActionType) (path : List ℕ) (pick : Pick) → component which wanted path ≡ Some pick → IsNamedFor path pick.user pick.part
+
+-- The identifier of a pick is the one that stands in its path behind `/input/` or `/output/`, up to the next slash or the end.
+pub record IsOfSource (path : List ℕ) (pick : Pick) : Type 0 where
+  pub way : List ℕ
+  pub known : (way ≡ codes "/input/") ⊎ (way ≡ codes "/output/")
+  pub rest : List ℕ
+  pub whole : path ≡ user_path pick.user ++ way ++ slice_index_or identifiers pick.identifier [] ++ rest
+  pub ends : (rest ≡ []) ⊎ ((component : List ℕ) × (rest ≡ codes "/" ++ component))
+
+abbrev pub PicksHaveTheirSources : Type 0
+PicksHaveTheirSources = (which : Profile) (wanted : ActionType) (path : List ℕ) (pick : Pick) → component which wanted path ≡ Some pick → IsOfSource path pick

@@ -42,8 +42,8 @@ pub record MayRun (table : TableId) (scenario : Scenario) (ws : List AppWorker) 
   pub none_told : events.calls ≡ 0
 
 -- It has run: its pass is still its application's, which has left; its calls are those of a first part of its script, and then `leave`;
--- both calls of the gate were made with the number of each; and where they are listed they are those of all of its script, and then `leave`.
-pub record HasWorked (came went : Actor → ℕ → Type 0) (table : TableId) (scenario : Scenario) (place : ℕ) (w : AppWorker) : Type 0 where
+-- the gate lies round each; and where they are listed they are those of all of its script, and then `leave`.
+pub record HasWorked (came went : Actor → ℕ → ℕ → Type 0) (table : TableId) (scenario : Scenario) (place : ℕ) (w : AppWorker) : Type 0 where
   pub is : IsApp table w.pass
   pub app_is : w.pass.app ≡ place + 1
   pub has_left : w.pass.left ≡ true
@@ -51,7 +51,7 @@ pub record HasWorked (came went : Actor → ℕ → Type 0) (table : TableId) (s
   pub gated : IsGated came went (App (place + 1)) 0 (length (calls_made w.pass))
   pub lists : IfSome w.listed (λ list. Follows (slice_index_or scenario.scripts place []) (calls_made w.pass) × (list ≡ made_from 1 (calls_made w.pass)))
 
-abbrev pub HaveWorked : (Actor → ℕ → Type 0) → (Actor → ℕ → Type 0) → TableId → Scenario → List AppWorker → Type 0
+abbrev pub HaveWorked : (Actor → ℕ → ℕ → Type 0) → (Actor → ℕ → ℕ → Type 0) → TableId → Scenario → List AppWorker → Type 0
 HaveWorked came went table scenario ws = (i : ℕ) (d : AppWorker) → i < length ws → HasWorked came went table scenario i (slice_index_or ws i d)
 
 -- its list, none where memory was short

@@ -1,5 +1,5 @@
 -- The compositor's worker on its way.
-use Rattle.std.specs.Prelude.{◌≡◌, ◌<◌, ◌≤◌, ◌+◌, ◌*◌, ◌^◌, ℕ, false, List, [], ◌∷◌, ◌++◌, length, Option, Some, None, IfSome, Result, Ok, Err, ⊤}
+use Rattle.std.specs.Prelude.{◌≡◌, ◌<◌, ◌≤◌, ◌*◌, ◌^◌, ℕ, false, List, [], ◌∷◌, ◌++◌, length, Option, Some, None, IfSome, Result, Ok, Err, ⊤}
 use Rattle.atomic_table.specs.Seated.{TableId}
 use Rattle.xr_types.specs.declared.calls.NoMemory.{NoMemory}
 use Rattle.xr_types.specs.declared.calls.Reply.{Reply}

@@ -4,7 +4,7 @@ use Rattle.xr_bench.proofs.Resting.{rests_again}
 use Rattle.xr_bench.proofs.turns.turn.Goals as goal
 
 pub give-requires-clause-may : goal.give-requires-clause-may
-give-requires-clause-may g c = may_give_back _ c.args.seat.now.me c.take-held.new.seat.me c.take-held.result (record c.take-held.result { value = c.turn-enough.new.self }) c.take-held.ensures.taken (λ cs x is. (is.0, λ cells. tt))
+give-requires-clause-may g c = may_give_back _ c.args.seat.now.me c.take-held.new.seat.me c.take-held.result (record c.take-held.result { value = record c.take-held.result.value { value = c.turn-enough.new.self } }) c.take-held.ensures.taken (λ cs x is. (is.0, λ cells. tt))
 
 pub returns : goal.returns
 returns g c =

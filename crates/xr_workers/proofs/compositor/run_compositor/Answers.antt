@@ -1,10 +1,23 @@
-use Rattle.std.proofs.Common.{◌≡◌, ◌+◌, ◌++◌, ◌∷◌, [], ℕ, subst}
+use Rattle.std.proofs.Common.{rules, ◌+◌, ◌++◌, ◌∷◌, [], List, Option, length, subst}
+use Rattle.atomic_table.specs.declared.shared.Seat.{Seat}
 use Rattle.xr_types.specs.declared.calls.Actor.TheVariants.{Compositor}
+use Rattle.xr_model.specs.machine.State.{WholeCore}
+use Rattle.xr_rule.specs.declared.held.Held.{Held}
+use Rattle.xr_rule.specs.View.{View, calls_in}
+use Rattle.xr_model.specs.machine.Calls.{Exchange}
 use Rattle.xr_runtime.specs.Passes.{table_of}
-use Rattle.xr_workers.specs.Workers.{IsGated}
-use Rattle.xr_workers.proofs.FramesMade.{one_composed, last_calls, last_turns, ran_by}
-use Rattle.xr_workers.proofs.ScriptsMade.{gated_on, gated_one}
+use Rattle.xr_workers.specs.Workers.{TurnsGated}
+use Rattle.xr_workers.proofs.FramesMade.{none_composed, none_turned, one_composed, one_turned, turns_gated, last_calls, ran_by}
 use Rattle.xr_workers.proofs.compositor.run_compositor.Goals as goal
+
+pub after-requires : goal.after-requires
+after-requires g c = (_, c.before-in-loop.ensures)
+
+pub loop-init : goal.loop-init
+loop-init g c = record {
+  went = none_composed (table_of c.args.context.now.runtime.now) c.args.pass.now _ c.requires.is c.requires.first.0 c.requires.none_held (search rules);
+  gated = none_turned (g.G.Gate.came c.args.context.now.gate.now) (g.G.Gate.went c.args.context.now.gate.now) (table_of c.args.context.now.runtime.now) c.args.pass.now _ c.requires.is c.requires.first.0 c.requires.none_held _;
+}
 
 pub loop-preserved : goal.loop-preserved
 loop-preserved g c =
@@ -12,7 +25,7 @@ loop-preserved g c =
     let came = g.G.Gate.came c.args.context.now.gate.now in
     let went = g.G.Gate.went c.args.context.now.gate.now in record {
       went = one_composed (table_of c.args.context.now.runtime.now) c.loop.turns c.args.pass.now c.loop.pass c.turn-turned.new.pass c.loop.kept c.requires.is c.requires.first.1 i.went _ _ c.in-Shown.reply c.with_frame-kept.result c.in-Shown.ensures.turns c.with_frame-kept.ensures;
-      gated = gated_on came went Compositor 0 c.loop.turns (c.loop.turns + 1) i.gated (gated_one came went Compositor c.loop.turns c.before-in-loop.ensures c.after.ensures);
+      gated = one_turned (table_of c.args.context.now.runtime.now) c.loop.turns c.args.pass.now c.loop.pass c.turn-turned.new.pass c.loop.kept c.requires.is c.requires.first.1 i.went came went _ _ c.in-Shown.reply c.with_frame-kept.result c.in-Shown.ensures.turns c.with_frame-kept.ensures i.gated (subst (λ (s : Seat (Option (Held WholeCore)) View). came Compositor (c.loop.turns + 1) (length (calls_in s.me.0.know.own))) c.seat.ensures c.before-in-loop.ensures) (subst (λ (s : Seat (Option (Held WholeCore)) View). went Compositor (c.loop.turns + 1) (length (calls_in s.me.0.know.own))) c.seat-in-loop.ensures c.after.ensures);
     }
 
 pub returns-in-Ended-clause-ran : goal.returns-in-Ended-clause-ran
@@ -25,6 +38,5 @@ returns-in-Ended-clause-gated g c =
     let came = g.G.Gate.came c.args.context.now.gate.now in
     let went = g.G.Gate.went c.args.context.now.gate.now in
     let all = last_calls (table_of c.args.context.now.runtime.now) c.loop.turns c.args.pass.now c.loop.pass c.turn-turned.new.pass c.loop.kept c.requires.is c.requires.first.1 i.went _ _ c.in-Ended.reply t in
-    let size = last_turns (table_of c.args.context.now.runtime.now) c.loop.turns c.args.pass.now c.loop.pass c.turn-turned.new.pass c.loop.kept c.requires.is c.requires.first.1 i.went _ _ c.in-Ended.reply t in
-    let gated = gated_on came went Compositor 0 c.loop.turns (c.loop.turns + 1) i.gated (gated_one came went Compositor c.loop.turns c.before-in-loop.ensures c.after.ensures) in
-    (i.went.calls ++ t.frame ∷ [], all, subst (IsGated came went Compositor 0) size gated)
+    let gated = turns_gated (table_of c.args.context.now.runtime.now) c.loop.turns c.args.pass.now c.loop.pass c.turn-turned.new.pass c.loop.kept c.requires.is c.requires.first.1 i.went came went _ _ _ t i.gated (subst (λ (s : Seat (Option (Held WholeCore)) View). came Compositor (c.loop.turns + 1) (length (calls_in s.me.0.know.own))) c.seat.ensures c.before-in-loop.ensures) (subst (λ (s : Seat (Option (Held WholeCore)) View). went Compositor (c.loop.turns + 1) (length (calls_in s.me.0.know.own))) c.seat-in-loop.ensures c.after.ensures) in
+    (i.went.calls ++ t.frame ∷ [], all, subst (λ (ts : List Exchange). TurnsGated came went (i.went.calls ++ t.frame ∷ ts)) t.at_end gated)

@@ -1,11 +1,10 @@
-use Rattle.std.proofs.Common.{rules, ◌≡◌, ◌<◌, ◌+◌, ◌++◌, ◌∷◌, ◌∙◌, [], ℕ, List, Bool, true, false, length, pos, Option, Some, None, Err, sym, ap, subst, refl, true≢false, arith}
+use Rattle.std.proofs.Common.{rules, ◌≡◌, ◌<◌, ◌+◌, ◌++◌, ◌∷◌, ◌∙◌, [], Bool, length, pos, Option, Some, None, Err, sym, subst, refl, true≢false, arith}
 use Rattle.xr_types.specs.declared.calls.Actor.TheVariants.{Device as Devices}
 use Rattle.xr_types.specs.declared.device.DeviceEvent.{DeviceEvent}
 use Rattle.xr_types.specs.declared.made.Made.{Made}
 use Rattle.xr_types.specs.declared.names.CallName.TheVariants as name
 use Rattle.xr_runtime.specs.Passes.{table_of}
 use Rattle.xr_device.specs.Told.{Comes}
-use Rattle.xr_workers.specs.Workers.{IsGated}
 use Rattle.xr_workers.specs.inside.Telling.{MadeEvents}
 use Rattle.xr_workers.proofs.EventsMade.{told_none, told_event, told_at, few_listed, event_calls, short_event, ran_device}
 use Rattle.xr_workers.proofs.ScriptsMade.{op_gated}

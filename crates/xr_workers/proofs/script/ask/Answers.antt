@@ -5,6 +5,7 @@ use Rattle.xr_types.specs.declared.calls.Actor.TheVariants.{App}
 use Rattle.xr_model.specs.machine.CoreCalls.{MayAsk}
 use Rattle.xr_runtime.specs.Passes.{table_of}
 use Rattle.xr_workers.proofs.CallsMade.{text_made, asked_by, lent_begun}
+use Rattle.xr_workers.proofs.ScriptsMade.{seat_gated}
 use Rattle.xr_workers.proofs.script.ask.Goals as goal
 
 pub slice_bounds-lent-end : goal.slice_bounds-lent-end
@@ -34,3 +35,11 @@ returns-clause-made g c =
     let begun : c.written_size-written.result ≡ written_size c.call-reply.result.gives (lent_size (with_start c.args.pass.now.clock c.args.call.now)) = size ∙ ap (written_size c.call-reply.result.gives) (sym (lent_begun c.args.pass.now.clock c.args.call.now)) in
     let made = text_made (table_of c.args.context.now.runtime.now) c.args.pass.now c.call-reply.new.pass _ c.call-reply.result _ _ c.requires.may c.call-reply.ensures.called in
     asked_by (table_of c.args.context.now.runtime.now) c.args.pass.now c.call-reply.new.pass _ _ (record { reply = c.call-reply.result; text = c.match-from_slice.text }) c.written_size-written.result made begun (search rules)
+
+pub after-requires : goal.after-requires
+after-requires g c = (_, c.before-2.ensures)
+
+pub returns-clause-gated : goal.returns-clause-gated
+returns-clause-gated g c =
+    let made = text_made (table_of c.args.context.now.runtime.now) c.args.pass.now c.call-reply.new.pass _ c.call-reply.result _ _ c.requires.may c.call-reply.ensures.called in
+    seat_gated (g.G.Gate.came c.args.context.now.gate.now) (g.G.Gate.went c.args.context.now.gate.now) (App c.args.app) c.args.pass.now.calls c.calls-number.result c.seat.result.now c.seat-2.result.now c.args.pass.now.seat c.call-reply.new.pass.seat made.exchange c.calls-number.ensures c.requires.may.is.counts made.made c.seat.ensures c.seat-2.ensures c.before-2.ensures c.after.ensures

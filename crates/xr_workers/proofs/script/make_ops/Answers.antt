@@ -1,4 +1,4 @@
-use Rattle.std.proofs.Common.{rules, ◌≡◌, ◌≤◌, ◌<◌, ◌+◌, List, [], ◌∷◌, ◌++◌, length, drop, Option, Some, None, IfSome, refl, sym, subst, ap, ◌∙◌, arith, ℕ}
+use Rattle.std.proofs.Common.{rules, ◌≡◌, ◌+◌, List, [], ◌∷◌, ◌++◌, length, Option, Some, None, IfSome, sym, subst, ◌∙◌, arith, ℕ}
 use Rattle.xr_types.specs.declared.calls.Actor.TheVariants.{App}
 use Rattle.xr_types.specs.declared.made.Made.{Made}
 use Rattle.xr_model.specs.runs.Lists.{made_at}
@@ -7,7 +7,7 @@ use Rattle.xr_model.specs.scenario.ScriptForm.{IsInRange}
 use Rattle.xr_model.proofs.ScriptForm.{in_range-item}
 use Rattle.xr_runtime.specs.Passes.{table_of}
 use Rattle.xr_workers.specs.inside.Script.{MadeOps}
-use Rattle.xr_workers.proofs.ScriptsMade.{none_made, some_made, all_made, may_go_on, values_are, calls_are, one_more, some_by, none_mapped, op_calls, op_gated, gated_none, lists_more}
+use Rattle.xr_workers.proofs.ScriptsMade.{none_made, some_made, may_go_on, values_are, calls_are, one_more, some_by, none_mapped, op_calls, op_gated, gated_none, lists_more}
 use Rattle.xr_workers.proofs.script.make_ops.Goals as goal
 use Rattle.xr_runs.proofs.OpCalls.{here_at}
 

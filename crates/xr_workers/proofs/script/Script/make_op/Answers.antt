@@ -1,4 +1,4 @@
-use Rattle.std.proofs.Common.{rules, ◌≡◌, ◌≤◌, ◌∙◌, ℤ, w64, to_z, of_z, ap, Option, Some, None, IfSome, sym, subst, arith, length}
+use Rattle.std.proofs.Common.{rules, ◌≡◌, ◌≤◌, ◌∙◌, w64, to_z, of_z, ap, Option, Some, None, IfSome, sym, subst, arith, length}
 use Rattle.xr_types.specs.CallKinds.{with_start, lent_size, listed_as}
 use Rattle.xr_types.specs.declared.calls.Actor.TheVariants.{App}
 use Rattle.xr_types.specs.declared.calls.Call.{Call}
