@@ -11,11 +11,12 @@ from scenarios.reading import Op, Scripts
 #   is told the end once all scripts have left. So it hangs only where a script does.
 # - `wait_image` waits while a frame that is pending uses the image, or the compositor holds it. The compositor takes all pending
 #   frames and gives all images back, so this ends.
-# - `wait_frame` waits while pending frames and the begun one are more than two, which ends likewise; and while a frame is waited
-#   for that isn't begun. Say that behind each `wait_frame` its script has a `begin_frame` of the same session before it waits for
-#   a mark or a frame again. Whose wait succeeded last then comes to its begin, as nothing but an image can hold it up. That begin
-#   finds the frame waited for, and begins it; or it finds none, the session gone, lost, or in another running period, and in each
-#   of these nothing is waited for, or a wait is refused. And the waits of a run are so many and no more.
+# - `wait_frame` waits while the pending frames of all sessions and the begun one of its own are more than two, which ends likewise;
+#   and while a frame of its session is waited for that isn't begun. Say that behind each `wait_frame` its script has a `begin_frame`
+#   of the same session before it waits for a mark or a frame again. Whose wait for a session's frame succeeded last then comes to its
+#   begin, as nothing but an image can hold it up. That begin finds the frame waited for, and begins it; or it finds none, the session
+#   gone, lost, or in another running period, and in each of these nothing is waited for, or a wait is refused. And the waits of a run
+#   are so many and no more.
 # - An `await` waits for its mark, and a mark that is set stays set. So which awaits end doesn't depend on the order: one order in
 #   which all come to their ends, as the round robin, shows it of all; and where frames come, one that is stuck does so too.
 

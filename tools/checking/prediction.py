@@ -6,8 +6,7 @@ import re
 from collections.abc import Callable, Container
 from dataclasses import dataclass
 
-from machine.sessions import LAST, Session
-from machine.turns import Turns, is_made
+from machine.turns import Script, Turns, is_made
 from scenarios.devices import END, DeviceFound
 from scenarios.findings import line_and_column
 from scenarios.reading import Op, ScenarioFound, Scripts
@@ -84,8 +83,7 @@ class Prediction(Turns):
         loss may. At an `await` of a mark that isn't set the device waits itself. Nobody waits for an image, since no frame uses any."""
         if self.next is None:
             return
-        session = self.machine.session
-        lost = "lost|" if session and not session.is_lost else ""
+        lost = "lost|" if any(not it.is_lost for it in self.machine.sessions) else ""
         stop = re.compile(rf"\n(?:{lost}(?:mark|await) (?:{unset(self.machine.marks)})){END}".encode())
         found = stop.search(self.device.text, self.next.at)
         end = found.start() if found else len(self.device.text)
@@ -103,52 +101,76 @@ class Prediction(Turns):
             times = re.findall(rb"\nclock ([0-9]+)", text)
             longest = max(map(len, times))
             machine.tell_event(f"clock {max(it for it in times if len(it) == longest).decode()}")
-        for name in ("grid", "stage") if machine.session else ("grid", "stage", "wish"):
+        for name in ("grid", "stage") if machine.sessions else ("grid", "stage", "wish"):
             last = text.rfind(f"\n{name} ".encode())
             if last >= 0:
                 machine.tell_event(text[last + 1 :].partition(b"\n")[0].decode())
-        if machine.session and (b"\nwish " in text or b"\nloss" in text):
-            self.tell_states(machine.session, re.findall(rb"\n(?:wish ([a-z]+)|loss)", text))
+        if machine.sessions and (b"\nwish " in text or b"\nloss" in text):
+            self.tell_states(re.findall(rb"\n(?:wish ([a-z]+)|loss)", text))
 
-    def tell_states(self, session: Session, wishes: list[bytes]) -> None:
+    @property
+    def states(self) -> tuple[str, ...]:
+        """The states of all sessions."""
+        return tuple(it.state for it in self.machine.sessions)
+
+    def bring(self, states: tuple[str, ...]) -> None:
+        """Brings the sessions to these states."""
+        for session, state in zip(self.machine.sessions, states):
+            session.state = state
+
+    def tell_states(self, wishes: list[bytes]) -> None:
         """The wishes and losses of a device in their order; a loss is empty here. A step that was made once is made again without following it."""
-        made: dict[tuple[str, bytes], str] = {}
+        made: dict[tuple[tuple[str, ...], bytes], tuple[str, ...]] = {}
+        states = self.states
         for wish in wishes:
-            if session.state in LAST:
-                break
-            step = session.state, wish
+            step = states, wish
             if step not in made:
+                self.bring(states)
                 self.machine.tell_event(f"wish {wish.decode()}" if wish else "loss")
-                made[step] = session.state
-            session.state = made[step]
+                made[step] = self.states
+            states = made[step]
+        self.bring(states)
         device = self.machine.device
         device.wish = next((it.decode() for it in reversed(wishes) if it), device.wish)
 
     # ---- who is stuck
 
-    def left(self, does: Callable[[Op], bool]) -> list[str]:
+    def left(self, does: Callable[[Script, Op], bool]) -> list[str]:
         """The first op of each script that does something and isn't made."""
-        ahead = [(it.number, enumerate(it.ops[it.made :], it.made + 1)) for it in self.scripts]
-        places = [(number, next((at for at, op in ops if does(op)), 0)) for number, ops in ahead]
+        ahead = [(it, enumerate(it.ops[it.made :], it.made + 1)) for it in self.scripts]
+        places = [(it.number, next((at for at, op in ops if does(it, op)), 0)) for it, ops in ahead]
         return [f"script {number} op {place}" for number, place in places if place]
 
     def setters(self, mark: int) -> str:
         """Who would set a mark: ops, and an event of those that weren't told."""
-        found = self.left(lambda it: it.name == "mark" and it.fields["mark"] == mark)
+        found = self.left(lambda _, it: it.name == "mark" and it.fields["mark"] == mark)
         at = self.next.at if self.next else len(self.device.text)
         line = re.compile(rf"\nmark {mark}{END}".encode()).search(self.device.text, at)
         found += [f"the device's line {self.device.text.count(10, 0, line.start() + 1)}"] if line else []
         return would_be("set", "sets", found)
 
+    def beginners(self, session: int) -> list[str]:
+        """Who would begin a frame of a session, as far as is known: not by a name of another live session that isn't given again."""
+        others = {it.handle for it in self.machine.sessions} - {session}
+
+        def may_begin(script: Script, op: Op) -> bool:
+            name = op.fields["session"] if op.name == "begin_frame" else 0
+            is_given = any(it.fields.get("as") == name for it in script.ops[script.made :])
+            return name != 0 and (is_given or script.values.get(name) not in others)
+
+        return self.left(may_begin)
+
     def waiting(self, text: str) -> list[str]:
         """A line for each script that waits for ever, and one for the device: for what, and who would give it. In the end a frame waits only for the
-        one before it, and nobody waits for an image."""
+        one before it of its session, and nobody waits for an image."""
         lines = []
         for script in (it for it in self.scripts if not it.is_done):
-            begins = self.left(lambda it: it.name == "begin_frame" and it.fields["session"] != 0)
-            why, mark = f"until the frame before its own is begun: {would_be('begun', 'begins', begins)}", script.next.fields.get("mark")
             if script.next.name == "await":
+                mark = script.next.fields["mark"]
                 why = f"for mark {mark}: {self.setters(mark)}"
+            else:
+                begins = self.beginners(script.fields()["session"])
+                why = f"until the frame before its own is begun: {would_be('begun', 'begins', begins)}"
             line, column = line_and_column(text, script.next.at)
             lines.append(f"script {script.number} op {script.made + 1} (line {line}, column {column}) waits {why}")
         event = self.next

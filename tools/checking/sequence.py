@@ -3,7 +3,8 @@ from __future__ import annotations
 
 from collections.abc import Callable, Iterator
 
-from checking.things import Path, Thing
+from checking.things import Path, Thing, uses_of
+from machine import sessions
 from scenarios.reading import Op
 from shown import quoted, with_article
 
@@ -29,12 +30,25 @@ def out_of_order(op: Op, place: int, named: Named, attaches: bool) -> Found:
     kind = action.made.fields.get("type") if action and action.made else None
     if kind and kind != GETTERS.get(op.name, kind):
         yield ("action",), f"{quoted(fields['action'])} is {with_article(kind)} action: XR_ERROR_ACTION_TYPE_MISMATCH"
+    yield from of_another(op, named)
     yield from taken_names(op, named)
     yield from too_late(op, named)
     if op.name == "attach_sets":
         for thing in (session, *map(named, fields["sets"])):
             if thing:
                 thing.attached = thing.attached or who
+
+
+def of_another(op: Op, named: Named) -> Found:
+    """Spaces and swapchains that stand below another session than the call's, where several may be live."""
+    one = named(op.fields.get("space"))
+    own = {"locate_space": one.parent if one else None, "end_frame": named(op.fields.get("session"))}.get(op.name)
+    for path, name, _ in uses_of(op) if own and sessions.MOST_SESSIONS > 1 else ():
+        thing = named(name)
+        other = thing.parent if thing and thing.kind in ("space", "swapchain") else None
+        are_new = own and other and all(it.made and it.made.name == "create_session" and not it.gone() for it in (own, other))
+        if are_new and other is not own:
+            yield path, f"{quoted(name)} is another session's: XR_ERROR_HANDLE_INVALID"
 
 
 def names_of(op: Op) -> list[tuple[str, str]]:

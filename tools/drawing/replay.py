@@ -11,6 +11,8 @@ STATES = ("IDLE", "READY", "SYNCHRONIZED", "VISIBLE", "FOCUSED", "STOPPING", "EX
 
 # the calls that may have to wait; `frame` and `ended` are what `next_frame` told
 MAY_WAIT = frozenset(("await", "wait_frame", "wait_image", "frame", "ended"))
+# the calls that do something to a session, beside those that create and destroy
+OF_SESSIONS = ("begin_session", "end_session", "request_exit_session", "end_frame")
 AWAITED = {"next_frame": "a frame, or for all scripts to leave", "wait_frame": "the frames before its own", "wait_image": "an image"}
 
 
@@ -54,41 +56,92 @@ class Session(sessions.Session):
         if told or was.is_running != self.is_running:
             self.changes.append(Change(place, passed, told, self.is_running, self.is_lost))
 
-    def follows(self, call: Call, wish: str) -> None:
-        """What a call that was met does."""
+    def fits(self, name: str) -> bool:
+        """Whether a call of this name may be met by it."""
+        if name in ("begin_session", "end_session"):
+            return self.is_running == (name == "end_session") and self.state == ("STOPPING" if self.is_running else "READY")
+        return self.is_running or name == "destroy_session"
+
+    def follows(self, name: str) -> list[str]:
+        """What a call of this name that was met does to it, before all settle."""
         first = ""
-        if call.name in ("begin_session", "end_session"):
-            self.set_running(call.name == "begin_session")
-            first = "IDLE" if call.name == "end_session" and self.state == "STOPPING" else ""
-        elif call.name == "request_exit_session":
+        if name in ("begin_session", "end_session"):
+            self.set_running(name == "begin_session")
+            first = "IDLE" if name == "end_session" and self.state == "STOPPING" else ""
+        elif name == "request_exit_session":
             self.is_asked_to_exit = True
-        elif call.name == "end_frame" and self.is_running and self.state == "READY":
+        elif name == "end_frame" and self.is_running and self.state == "READY":
             first = "SYNCHRONIZED"
-        self.note(call.place, self.enter(first, wish) if first else self.settle(wish))
+        return self.enter(first) if first else []
+
+
+class Sessions:
+    """The sessions of a run: those that there were, those that are live, and what the names of scripts and the marks stand for, which is
+    the ordinal of a session or nothing."""
+
+    def __init__(self) -> None:
+        self.found: list[Session] = []
+        self.live: list[Session] = []
+        self.names: dict[tuple[int, str], int] = {}
+        self.marks: dict[int | None, int] = {}
+        self.wish = "rest"
+
+    def settle(self, place: int, told: Iterable[str] = ()) -> None:
+        """All live sessions settle behind these events, and keep what is told of each."""
+        events = [*told, *sessions.settled(self.live, self.wish)]
+        for it in self.live:
+            it.note(place, [event for event in events if event.startswith(f"state {it.ordinal} ")])
+
+    def tell(self, call: Call) -> None:
+        """A line of the device."""
+        self.wish = call.text if call.name == "wish" else self.wish
+        if call.name == "mark":
+            self.marks[mark_of(call)] = 0
+        for it in self.live:
+            it.is_lost = it.is_lost or call.name == "lost" or is_fault(call)
+        self.settle(call.place, [event for it in self.live for event in it.lose()] if call.name == "loss" else ())
+
+    def call(self, call: Call) -> None:
+        """A call of a script."""
+        is_new = call.is_met and call.name == "create_session"
+        if is_new:
+            self.found.append(Session(len(self.found) + 1))
+            self.live.append(self.found[-1])
+            self.settle(call.place, self.live[-1].enter("IDLE"))
+        elif call.is_met and call.name in ("destroy_session", "destroy_instance"):
+            gone = [self.of(call)] if call.name == "destroy_session" and self.live else self.live
+            self.live = [it for it in self.live if it not in gone]
+            for it in gone:
+                it.ended = call.place
+            self.settle(call.place)
+        elif call.is_met and call.name in OF_SESSIONS and self.live:
+            self.settle(call.place, self.of(call).follows(call.name))
+        self.name(call, len(self.found) if is_new else 0)
+
+    def of(self, call: Call) -> Session:
+        """The live session of a call: the one that it names. Where the scenario isn't known it is the first that the call fits."""
+        ordinal = self.names.get((call.script, (call.arguments or {}).get("session", "")), 0)
+        named = next((it for it in self.live if it.ordinal == ordinal), None)
+        return named or next((it for it in self.live if it.fits(call.name)), self.live[0])
+
+    def name(self, call: Call, new: int) -> None:
+        """Keeps what a call gives a name or a mark."""
+        given = call.arguments or {}
+        if call.name == "mark":
+            self.marks[given.get("mark")] = self.names.get((call.script, given.get("value", "")), 0)
+        elif "as" in given:
+            self.names[call.script, given["as"]] = self.marks.get(given["mark"], 0) if call.name == "await" else new
 
 
 def sessions_of(ordered: Iterable[Call]) -> list[Session]:
-    """The sessions of a run with the states that they go through. At most one is live, so no name is needed to find it."""
-    found: list[Session] = []
-    live: list[Session] = []
-    wish = "rest"
+    """The sessions of a run with the states that they go through."""
+    its = Sessions()
     for call in ordered:
         if call.actor == DEVICE:
-            wish = call.text if call.name == "wish" else wish
-            for session in live:
-                session.is_lost = session.is_lost or call.name == "lost" or is_fault(call)
-                session.note(call.place, session.lose() if call.name == "loss" else session.settle(wish))
-        elif call.is_met and call.name == "create_session":
-            live = [*live, Session(len(found) + 1)]
-            found += live[-1:]
-            live[-1].note(call.place, live[-1].enter("IDLE", wish))
-        elif call.is_met and call.name in ("destroy_session", "destroy_instance"):
-            while live:
-                live.pop().ended = call.place
-        elif call.is_met:
-            for session in live:
-                session.follows(call, wish)
-    return found
+            its.tell(call)
+        elif call.actor != COMPOSITOR:
+            its.call(call)
+    return its.found
 
 
 def scripts_of(report: Report) -> list[str]:

@@ -132,6 +132,17 @@ def places_of(calls: list[Call]) -> Iterator[tuple[Call, int]]:
         yield call, last
 
 
+def rows_of(sessions: Sequence[replay.Session]) -> list[list[replay.Session]]:
+    """Sessions in rows, in each of which one begins where those before it have ended."""
+    rows: list[list[replay.Session]] = []
+    for it in sessions:
+        row = next((row for row in rows if row[-1].ended is not None and row[-1].ended <= it.changes[0].place), None)
+        if row is None:
+            rows.append(row := [])
+        row.append(it)
+    return rows
+
+
 class Scene:
     """A run, laid out."""
 
@@ -148,7 +159,8 @@ class Scene:
         self._note_paths()
         self.lanes = [self._lane(actor) for actor in (*scripts_of(report), DEVICE, COMPOSITOR)]
         if len(self.sessions) > MOST_SESSION_LANES:
-            self.lanes.append(Lane("sessions", f"1 to {len(self.sessions):,}, derived", sessions=self.sessions))
+            for it in rows_of(self.sessions):
+                self.lanes.append(Lane("sessions", f"{it[0].ordinal:,} to {it[-1].ordinal:,}, derived", sessions=it))
         else:
             self.lanes += [Lane(f"session {it.ordinal}", "states, derived", sessions=[it]) for it in self.sessions]
         shown = chains[:MOST_CHAIN_LANES]

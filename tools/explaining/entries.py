@@ -3,7 +3,9 @@ from __future__ import annotations
 
 from typing import Any
 
+from machine.answers import Fields
 from machine.history import DEVICE, Entry, History
+from machine.sessions import Session
 from machine.turns import Script
 from scenarios.reading import Scripts
 from shown import quoted
@@ -21,7 +23,7 @@ def written(value: Any) -> str:
 
 class Kept(History):
     """A run with the entries that gave a handle or a name, that took a handle away, that did something to a handle last or were a line of the
-    device last, that brought the session to its state, and that lost it."""
+    device last, that brought each session to its state, and that lost it."""
 
     def __init__(self, scripts: Scripts, events: list[str]) -> None:
         super().__init__(scripts, events)
@@ -31,9 +33,8 @@ class Kept(History):
         self.gone: dict[int, Entry] = {}
         self.last: dict[tuple[str, int], Entry] = {}
         self.kinds: dict[int, str] = {}
-        self.since: Entry | None = None
-        self.lost: Entry | None = None
-        self.was = ""
+        self.since: dict[int, tuple[str, Entry]] = {}
+        self.lost: dict[int, Entry] = {}
 
     def call(self, script: Script) -> bool:
         if not script.is_done and script.next.name.startswith("destroy_"):
@@ -45,10 +46,11 @@ class Kept(History):
             self.follow(entry)
         else:
             self.last[entry.name.partition(" ")[0], 0] = entry
-        state, session = f"{self.machine.sessions_created} {entry.state}", self.machine.session
-        if state != self.was:
-            self.was, self.since = state, entry
-        self.lost = (self.lost or entry) if session and session.is_lost else None
+        for it in self.machine.sessions:
+            if it.handle not in self.since or self.since[it.handle][0] != it.state:
+                self.since[it.handle] = it.state, entry
+            if it.is_lost:
+                self.lost.setdefault(it.handle, entry)
         super().keep(entry)
 
     def follow(self, entry: Entry) -> None:
@@ -68,7 +70,7 @@ class Kept(History):
     def live(self) -> dict[int, str]:
         """The kinds of the live handles."""
         its = self.machine
-        found = {its.instance: "instance", its.session.handle if its.session else 0: "session"}
+        found = {its.instance: "instance", **{it.handle: "session" for it in its.sessions}}
         for kind, those in (("action set", its.sets), ("action", its.actions), ("space", its.spaces), ("swapchain", its.chains)):
             found.update(dict.fromkeys(those, kind))
         found.pop(0, None)
@@ -94,9 +96,18 @@ class Kept(History):
         parts = [self.by(done, entry) for entry, done in known[begun : begun + 2]]
         return f"; it was {' and '.join(parts)}" if parts else "; it never was"
 
-    def state_since(self) -> str:
-        """The session's state, and what brought it there."""
-        return f"the session is {self.state}" + (f" since {self.shown(self.since)}" if self.since else "")
+    def session_of(self, its: Fields) -> Session:
+        """The session of a call with these fields, which is live."""
+        known = self.machine
+        if "session" in its:
+            return known.live_session(its["session"])
+        return known.live_session((known.spaces[its["space"]] if "space" in its else known.chains[its["chain"]]).session)
+
+    def state_since(self, its: Fields) -> str:
+        """The state of the session of a call with these fields, and what brought it there."""
+        session = self.session_of(its)
+        since = self.since.get(session.handle)
+        return f"the session is {session.state}" + (f" since {self.shown(since[1])}" if since else "")
 
     def gave_none(self, name: str, entry: Entry, what: str) -> str:
         """Why a name stands for 0."""

@@ -57,12 +57,15 @@ class Reasons(Kept):
             kind = {"suggest_bindings": "action", "end_frame": "swapchain" if len(entry.answer.items) > 1 else "space"}.get(entry.name, "action set")
             return self.no_handle(entry, *(it[0] if isinstance(it, list) else it for it in (name, handle)), kind)
         live, keys = self.live(), [it for it in its if it in HANDLES]
-        key = next(it for it in keys if live.get(its[it]) != WANTED[it])
+        # where all are live, the base is the one that is of another session
+        key = next((it for it in keys if live.get(its[it]) != WANTED[it]), "base")
         return self.no_handle(entry, entry.arguments[key], its[key], WANTED[key])
 
     def no_handle(self, entry: Entry, name: str | int, handle: int, kind: str) -> str:
         """What became of a handle that isn't live, or isn't of this kind."""
         front = f"{written(name)} is no live {kind}"
+        if self.live().get(handle) == kind:
+            return f"{front} of the session: it is another session's, {self.by('made', self.made.get(handle))}"
         if handle in self.gone:
             return f"{front}: {self.by('it was destroyed', self.gone[handle])}"
         if handle:
@@ -70,10 +73,10 @@ class Reasons(Kept):
         return f"{front}: {self.gave_none(name, entry, 'handle')}" if isinstance(name, str) else front
 
     def session_lost(self, entry: Entry, its: Fields) -> str:
-        return self.by("the session was lost", self.lost)
+        return self.by("the session was lost", self.lost.get(self.session_of(its).handle))
 
     def session_loss_pending(self, entry: Entry, its: Fields) -> str:
-        return f"it succeeded, and {self.state_since()}"
+        return f"it succeeded, and {self.state_since(its)}"
 
     def session_running(self, entry: Entry, its: Fields) -> str:
         return self.by("the session runs already: it was begun", self.last.get(("begin_session", its["session"])))
@@ -83,22 +86,22 @@ class Reasons(Kept):
 
     def session_not_ready(self, entry: Entry, its: Fields) -> str:
         due = {"begin_session": "READY", "end_session": "STOPPING"}.get(entry.name, "FOCUSED")
-        return f"{self.state_since()}, and {due} is due"
+        return f"{self.state_since(its)}, and {due} is due"
 
     session_not_stopping = session_not_focused = session_not_ready
 
     def limit_reached(self, entry: Entry, its: Fields) -> str:
         known = self.machine
-        if entry.name in ("create_instance", "create_session"):
-            handle = known.instance if entry.name == "create_instance" else known.session.handle if known.session else 0
-            return self.by(f"{with_article(entry.name[7:])} is live, made", self.made.get(handle))
+        ones = {"create_instance": [known.instance], "create_session": [it.handle for it in known.sessions]}.get(entry.name, [])
+        if len(ones) == 1:
+            return self.by(f"{with_article(entry.name[7:])} is live, made", self.made.get(ones[0]))
         if entry.name == "create_swapchain":
             others = ", the others by frames that are pending or were taken last" * (len(known.chains) < MOST_CHAINS)
             return f"all {MOST_CHAINS} places are taken, {len(known.chains)} by live swapchains{others}"
         most = {"suggest_bindings": ("bindings", inputs.MOST_SUGGESTED), "sync_actions": ("active", inputs.MOST_SYNCED)}.get(entry.name)
         if most:
             return f"{len(its[most[0]])} are listed, and {most[1]} are the most"
-        found = {"create_action_set": known.sets, "create_action": known.actions}.get(entry.name, known.spaces)
+        found = {"create_session": ones, "create_action_set": known.sets, "create_action": known.actions}.get(entry.name, known.spaces)
         return f"{count(len(found), 'such handle')} are live, which are the most"
 
     # ---- the call order, frames and images

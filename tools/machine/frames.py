@@ -19,7 +19,7 @@ IMAGES_OF_A_CHAIN = 3
 FORMATS = (1, 2, 3)
 VIEWS = 2
 
-# a wait for a frame is held back while more than these are pending or begun
+# a wait for a frame is held back while more than these are pending, of all sessions, or begun by its own
 MOST_FRAMES = 2
 
 # the latest time that there is
@@ -30,8 +30,10 @@ Image = tuple[int, int]
 
 @dataclass
 class Chain:
-    """A live swapchain: its images that are acquired, whether the first of them is waited for, the one released last, and the next."""
+    """A live swapchain: the session that it is of, its images that are acquired, whether the first of them is waited for, the one released
+    last, and the next."""
 
+    session: int
     handle: int
     width: int
     height: int
@@ -127,7 +129,7 @@ def image_shown(part: list[int], chains: dict[int, Chain]) -> Image:
 
 
 def layers_of(time: int, blend: str, layers: list[Fields], spaces: Container[int], chains: dict[int, Chain]) -> list[Layer]:
-    """The layers of a frame with this time and blend mode by their images, where these spaces and swapchains are live."""
+    """The layers of a frame with this time and blend mode by their images, where these spaces and swapchains of its session are live."""
     refuse(time <= 0, "XR_ERROR_TIME_INVALID")
     refuse(blend != "opaque", "XR_ERROR_ENVIRONMENT_BLEND_MODE_UNSUPPORTED")
     refuse(len(layers) > MOST_LAYERS, "XR_ERROR_LAYER_LIMIT_EXCEEDED")

@@ -12,7 +12,8 @@ DEVICE, COMPOSITOR = "device", "compositor"
 
 class Entry(NamedTuple):
     """A call that was made: its place, its actor, which is a script's number from 1, `device` or `compositor`, and its number there; its op or line;
-    of a script's its arguments as they are written, their values, and the answer; and the state of the live session behind it, if there is one."""
+    of a script's its arguments as they are written, their values, and the answer; and the state of the live session behind it, if there is
+    one, or those of several with their ordinals."""
 
     place: int
     actor: int | str
@@ -42,8 +43,8 @@ class History(Turns):
 
     @property
     def state(self) -> str:
-        session = self.machine.session
-        return session.state if session else ""
+        sessions = self.machine.sessions
+        return ", ".join(f"{it.ordinal} {it.state}" for it in sessions) if len(sessions) > 1 else "".join(it.state for it in sessions)
 
     def call(self, script: Script) -> bool:
         if script.is_done:

@@ -5,7 +5,7 @@ from __future__ import annotations
 import re
 from collections.abc import Iterable
 from dataclasses import dataclass, field
-from typing import NamedTuple
+from typing import NamedTuple, Optional
 
 from machine.answers import OUT_OF_MEMORY, due, each, refuse
 from scenarios.devices import CONTROLLERS, POSES, USERS
@@ -134,11 +134,13 @@ class Column(NamedTuple):
 
 
 INACTIVE = Column()
+# the columns that are active, by an action and a user path, or None for all; every other one is inactive
+Columns = dict[tuple[int, Optional[str]], Column]
 
 
 @dataclass(eq=False)
 class Action:
-    """A live action, with a column for all user paths, which is that of None, and one for each that it declares."""
+    """A live action. It has a column for all user paths, and one for each that it declares."""
 
     handle: int
     set: ActionSet
@@ -146,14 +148,6 @@ class Action:
     kind: str
     users: list[str]
     localized: str
-    columns: dict[str | None, Column] = field(default_factory=dict)
-
-    def __post_init__(self) -> None:
-        self.deactivate()
-
-    def deactivate(self) -> None:
-        """All columns become inactive."""
-        self.columns = dict.fromkeys((None, *self.users), INACTIVE)
 
 
 class Suggestion(NamedTuple):
@@ -184,7 +178,7 @@ def users_of(atoms: Atoms, subactions: list[int]) -> list[str]:
 def column_of(atoms: Atoms, action: Action, sub: int) -> str | None:
     """Which column of an action a number names: that of all user paths by 0, or that of a user path by its atom."""
     user = atoms.text_of(sub) if sub else None
-    refuse(user not in action.columns or (user is None and sub != 0), "XR_ERROR_PATH_UNSUPPORTED")
+    refuse(sub != 0 and user not in action.users, "XR_ERROR_PATH_UNSUPPORTED")
     return user
 
 
@@ -240,21 +234,26 @@ class Device:
             return x, y, None
         return 0, 0, "/input/".join(places[0][0]) if kind == "pose" else None
 
-    def sync(self, actions: Iterable[Action], suggestions: dict[str, list[Suggestion]], listed: set[tuple[int, str | None]]) -> None:
-        """Each column of each action becomes what its live bindings show. These are the suggestions for the controllers that are connected, in the
-        order of the user paths and then of the suggestions, whose sets are listed, each for all user paths by None or for one, and that none of
-        the same source and a larger priority outranks."""
+    def sync(
+        self, actions: Iterable[Action], before: Columns, suggestions: dict[str, list[Suggestion]], listed: set[tuple[int, str | None]]
+    ) -> Columns:
+        """What each column of each action becomes, which is what its live bindings show. These are the suggestions for the controllers that
+        are connected, in the order of the user paths and then of the suggestions, whose sets are listed, each for all user paths by None or
+        for one, and that none of the same source and a larger priority outranks."""
         found = [it for user in USERS for it in suggestions.get(self.connected.get(user, ""), []) if it.pick.user == user]
         heard = [it for it in found if {(it.action.set.handle, None), (it.action.set.handle, it.pick.user)} & listed]
         largest: dict[tuple[str, str], int] = {}
         for it in heard:
             largest[it.source] = max(largest.get(it.source, 0), it.action.set.priority)
         live = [it for it in heard if it.action.set.priority == largest[it.source]]
+        columns: Columns = {}
         for action in actions:
             mine = [it.pick for it in live if it.action is action]
-            for user, before in action.columns.items():
-                picks = [it for it in mine if user in (None, it.user)]
-                x, y, origin = self.found(action.kind, picks) if picks else (0, 0, None)
-                has_changed = (x, y) != (before.x, before.y)
-                time = self.clock if has_changed else before.time
-                action.columns[user] = Column(x, y, has_changed, time, True, origin) if picks else INACTIVE
+            for user in (None, *action.users):
+                at, picks = (action.handle, user), [it for it in mine if user in (None, it.user)]
+                if picks:
+                    x, y, origin = self.found(action.kind, picks)
+                    was = before.get(at, INACTIVE)
+                    has_changed = (x, y) != (was.x, was.y)
+                    columns[at] = Column(x, y, has_changed, self.clock if has_changed else was.time, True, origin)
+        return columns

@@ -2,8 +2,10 @@
 from __future__ import annotations
 
 from collections import deque
-from collections.abc import Callable
+from collections.abc import Callable, Iterable
+from typing import TypeVar
 
+from machine import sessions
 from machine.answers import (
     LOSS_PENDING, NO_HANDLE, NOT_FOCUSED, OUT_OF_MEMORY, SUCCESS, Answer, Fields, HeldBack, Refused, due, each, live, refuse
 )
@@ -12,7 +14,7 @@ from machine.inputs import (
     INACTIVE, MOST_ACTIONS, MOST_SETS, MOST_SUGGESTED, MOST_SYNCED, Action, ActionSet, Atoms, Column, Device, Suggestion,
     check_localized, check_name, column_of, pick_of, users_of
 )
-from machine.sessions import Session, Space
+from machine.sessions import Session, Space, settled
 from reports.values import GETTERS
 from scenarios.devices import PROFILES
 from scenarios.reading import MOST_HANDLE_MARK
@@ -31,12 +33,15 @@ PUBLISHING = frozenset(
 )
 PUBLISHED_BY = (SUCCESS, LOSS_PENDING, NOT_FOCUSED)
 
+# what stands below a session
+BelowT = TypeVar("BelowT", Space, Chain)
+
 
 class State:
     """The state of a run of so many applications, and what the rules of calls have in common.
 
-    At most one instance and one session are live, so all that is live stands below them. Handles are numbers from 1 here, in the order
-    in which they are given; no report prints one."""
+    At most one instance is live, so all that is live stands below it; sessions stand in the order of their creation. Handles are numbers
+    from 1 here, in the order in which they are given; no report prints one."""
 
     def __init__(self, applications: int) -> None:
         self.present = applications
@@ -45,7 +50,7 @@ class State:
         # the events that wait, and the newest samples of each origin, each a time and the pose from then on, the newest first
         self.events: deque[str] = deque(maxlen=MOST_EVENTS)
         self.samples: dict[str, list[tuple[int, int]]] = {}
-        self.session: Session | None = None
+        self.sessions: list[Session] = []
         self.sets: dict[int, ActionSet] = {}
         self.actions: dict[int, Action] = {}
         self.suggestions: dict[str, list[Suggestion]] = {}
@@ -64,13 +69,17 @@ class State:
             self.lost = min(self.lost + (len(self.events) == MOST_EVENTS), MOST_LOST)
             self.events.append(it)
 
+    def settle(self, events: Iterable[str] = ()) -> None:
+        """All sessions settle, behind these events: one was created or destroyed, or a state, a flag or the wish changed."""
+        self.tell([*events, *settled(self.sessions, self.device.wish)])
+
     # ---- a call's own handles
 
     def check_instance(self, instance: int) -> None:
         refuse(not self.instance or instance != self.instance, NO_HANDLE)
 
     def live_session(self, session: int) -> Session:
-        return due(self.session if self.session and self.session.handle == session else None, NO_HANDLE)
+        return due(next((it for it in self.sessions if it.handle == session), None), NO_HANDLE)
 
     def usable_session(self, session: int) -> Session:
         """The session of a call, which isn't lost."""
@@ -84,32 +93,37 @@ class State:
         refuse(not found.is_running, "XR_ERROR_SESSION_NOT_RUNNING")
         return found
 
-    def session_above(self) -> Session:
-        """The session of a live handle that stands below one."""
-        assert self.session is not None, "what stands below a session goes with it"
-        self.session.check_loss()
-        return self.session
+    def session_above(self, found: Space | Chain) -> Session:
+        """The session of what stands below one, which isn't lost."""
+        return self.usable_session(found.session)
+
+    def below(self, session: int, found: dict[int, BelowT]) -> dict[int, BelowT]:
+        """What stands below a session of these."""
+        return {handle: it for handle, it in found.items() if it.session == session}
 
     def chain_that(self, may: str, chain: int) -> tuple[Chain, Session]:
         """A swapchain whose turn it is for a call, as this property says, and its session."""
-        found, session = live(self.chains, chain), self.session_above()
+        found = live(self.chains, chain)
+        session = self.session_above(found)
         refuse(not getattr(found, may), "XR_ERROR_CALL_ORDER_INVALID")
         return found, session
 
     # ---- what goes with a handle
 
-    def drop_session(self) -> None:
-        """The session goes, with all below it and with what actions show. Frames that are pending or taken stay."""
-        self.session = None
-        self.spaces.clear()
-        self.chains.clear()
-        for action in self.actions.values():
-            action.deactivate()
+    def drop_session(self, gone: Session) -> None:
+        """A session goes, with all below it and with what actions show in it. Frames that are pending or taken stay."""
+        self.sessions.remove(gone)
+        for handle in self.below(gone.handle, self.spaces):
+            del self.spaces[handle]
+        for handle in self.below(gone.handle, self.chains):
+            del self.chains[handle]
 
     def drop_actions(self, gone: list[int]) -> None:
         """These actions go, with what is suggested for them and what they show."""
         for handle in gone:
             del self.actions[handle]
+        for session in self.sessions:
+            session.columns = {at: it for at, it in session.columns.items() if at[0] in self.actions}
         for profile, kept in self.suggestions.items():
             self.suggestions[profile] = [it for it in kept if it.action.handle in self.actions]
 
@@ -140,7 +154,8 @@ class ApplicationCalls(State):
         """The instance goes with all that lives, its atoms, its suggestions and its events."""
         self.check_instance(instance)
         self.instance = 0
-        self.drop_session()
+        for it in [*self.sessions]:
+            self.drop_session(it)
         for kept in (self.sets, self.actions, self.suggestions, self.events):
             kept.clear()
         self.atoms, self.lost = Atoms(), 0
@@ -176,15 +191,16 @@ class ApplicationCalls(State):
     def create_session(self, instance: int, system: int) -> Answer:
         self.check_instance(instance)
         refuse(system != THE_SYSTEM, "XR_ERROR_SYSTEM_INVALID")
-        refuse(self.session is not None, "XR_ERROR_LIMIT_REACHED")
+        refuse(len(self.sessions) == sessions.MOST_SESSIONS, "XR_ERROR_LIMIT_REACHED")
         self.sessions_created += 1
-        self.session = Session(self.give(), self.sessions_created)
-        self.tell(self.session.enter("IDLE", self.device.wish))
-        return Answer(given=self.session.handle)
+        new = Session(self.give(), self.sessions_created)
+        self.sessions.append(new)
+        self.settle(new.enter("IDLE"))
+        return Answer(given=new.handle)
 
     def destroy_session(self, session: int) -> None:
-        self.live_session(session)
-        self.drop_session()
+        self.drop_session(self.live_session(session))
+        self.settle()
 
     def begin_session(self, session: int, view: str) -> Answer:
         found = self.usable_session(session)
@@ -192,19 +208,20 @@ class ApplicationCalls(State):
         refuse(found.state != "READY", "XR_ERROR_SESSION_NOT_READY")
         refuse(view != "stereo", "XR_ERROR_VIEW_CONFIGURATION_TYPE_UNSUPPORTED")
         found.set_running(True)
+        self.settle()
         return found.answer()
 
     def end_session(self, session: int) -> Answer:
         found = self.running_session(session)
         refuse(found.state != "STOPPING", "XR_ERROR_SESSION_NOT_STOPPING")
         found.set_running(False)
-        self.tell(found.enter("IDLE", self.device.wish))
+        self.settle(found.enter("IDLE"))
         return found.answer()
 
     def request_exit_session(self, session: int) -> Answer:
         found = self.running_session(session)
         found.is_asked_to_exit = True
-        self.tell(found.settle(self.device.wish))
+        self.settle()
         return found.answer()
 
     # ---- spaces (chapter 7)
@@ -212,17 +229,17 @@ class ApplicationCalls(State):
     def create_reference_space(self, session: int, kind: str, offset: int) -> Answer:
         found = self.usable_session(session)
         refuse(kind == "stage" and not self.device.has_stage, "XR_ERROR_REFERENCE_SPACE_UNSUPPORTED")
-        return self.with_space(found, Space(offset, kind))
+        return self.with_space(found, Space(session, offset, kind))
 
     def create_action_space(self, session: int, action: int, sub: int, offset: int) -> Answer:
         self.live_session(session)
         of = live(self.actions, action)
         found = self.usable_session(session)
         refuse(of.kind != "pose", "XR_ERROR_ACTION_TYPE_MISMATCH")
-        return self.with_space(found, Space(offset, action=action, user=column_of(self.atoms, of, sub)))
+        return self.with_space(found, Space(session, offset, action=action, user=column_of(self.atoms, of, sub)))
 
     def with_space(self, session: Session, space: Space) -> Answer:
-        """A new space, which no session has without an offset, and none beside 64 others."""
+        """A new space, which no session has without an offset, and none beside 64 others of whatever session."""
         refuse(space.offset == 0, "XR_ERROR_POSE_INVALID")
         refuse(len(self.spaces) == MOST_SPACES, "XR_ERROR_LIMIT_REACHED")
         handle = self.give()
@@ -233,17 +250,18 @@ class ApplicationCalls(State):
         due(self.spaces.pop(space, None), NO_HANDLE)
 
     def locate_space(self, space: int, base: int, time: int) -> Answer:
-        one, other = live(self.spaces, space), live(self.spaces, base)
-        session = self.session_above()
+        one = live(self.spaces, space)
+        other = live(self.below(one.session, self.spaces), base)
+        session = self.session_above(one)
         refuse(time <= 0, "XR_ERROR_TIME_INVALID")
-        sample, base_sample = (self.pose_at(it, time) for it in (one, other))
+        sample, base_sample = (self.pose_at(session, it, time) for it in (one, other))
         is_known = sample is not None and base_sample is not None
         return session.answer(f"-{other.offset} -{base_sample} +{sample} +{one.offset}" if is_known else "missing")
 
-    def pose_at(self, space: Space, time: int) -> int | None:
-        """The pose of what a space moves with at a time, where it is known: of nothing, where its action is gone or its column is inactive."""
-        action = self.actions.get(space.action)
-        origin = space.kind or (action.columns[space.user] if action else INACTIVE).origin
+    def pose_at(self, session: Session, space: Space, time: int) -> int | None:
+        """The pose of what a session's space moves with at a time, where it is known: of nothing, where its action is gone or its column is
+        inactive there."""
+        origin = space.kind or session.columns.get((space.action, space.user), INACTIVE).origin
         return next((pose for since, pose in self.samples.get(origin or "", []) if since <= time), None)
 
     # ---- action sets and actions, and what is suggested for them (chapter 11)
@@ -258,11 +276,12 @@ class ApplicationCalls(State):
         return Answer(given=handle)
 
     def destroy_action_set(self, set: int) -> None:
-        """A set goes with its actions, and is attached no more."""
+        """A set goes with its actions, and is attached to no session any more."""
         due(self.sets.pop(set, None), NO_HANDLE)
         self.drop_actions([it.handle for it in self.actions.values() if it.set.handle == set])
-        if self.session and self.session.attached is not None:
-            self.session.attached.discard(set)
+        for session in self.sessions:
+            if session.attached is not None:
+                session.attached.discard(set)
 
     def create_action(self, set: int, name: str, type: str, subactions: list[int], localized: str) -> Answer:
         of = live(self.sets, set)
@@ -312,10 +331,9 @@ class ApplicationCalls(State):
         refuse(len(active) > MOST_SYNCED, "XR_ERROR_LIMIT_REACHED")
         listed = {*each(active, lambda it: (it[0], self.user_listed(found, *it)))}
         if found.state != "FOCUSED":
-            for action in self.actions.values():
-                action.deactivate()
+            found.columns = {}
             return Answer(NOT_FOCUSED)
-        self.device.sync(self.actions.values(), self.suggestions, listed)
+        found.columns = self.device.sync(self.actions.values(), found.columns, self.suggestions, listed)
         return found.answer()
 
     def user_listed(self, session: Session, handle: int, sub: int) -> str | None:
@@ -340,7 +358,7 @@ class ApplicationCalls(State):
         found.check_loss()
         refuse(of.set.handle not in (found.attached or ()), "XR_ERROR_ACTIONSET_NOT_ATTACHED")
         refuse(of.kind != kind, "XR_ERROR_ACTION_TYPE_MISMATCH")
-        return found, of.columns[column_of(self.atoms, of, sub)]
+        return found, found.columns.get((action, column_of(self.atoms, of, sub)), INACTIVE)
 
     # ---- swapchains and their images (chapter 10)
 
@@ -350,7 +368,7 @@ class ApplicationCalls(State):
         refuse(not (1 <= width <= MOST_SIDE and 1 <= height <= MOST_SIDE), "XR_ERROR_VALIDATION_FAILURE")
         refuse(not self.frames.has_place(self.chains), "XR_ERROR_LIMIT_REACHED")
         handle = self.give()
-        self.chains[handle] = Chain(handle, width, height, static)
+        self.chains[handle] = Chain(session, handle, width, height, static)
         return found.answer(given=handle)
 
     def destroy_swapchain(self, chain: int) -> None:
@@ -412,10 +430,10 @@ class ApplicationCalls(State):
     def end_frame(self, session: int, time: int, blend: str, layers: list[Fields]) -> Answer:
         found = self.running_session(session)
         refuse(not found.has_begun, "XR_ERROR_CALL_ORDER_INVALID")
-        self.frames.end(time, layers_of(time, blend, layers, self.spaces, self.chains))
+        self.frames.end(time, layers_of(time, blend, layers, self.below(session, self.spaces), self.below(session, self.chains)))
         found.has_begun = False
         if found.state == "READY":
-            self.tell(found.enter("SYNCHRONIZED", self.device.wish))
+            self.settle(found.enter("SYNCHRONIZED"))
         return found.answer()
 
     # ---- marks, and leaving: this project's own
@@ -439,14 +457,14 @@ class DeviceCalls(State):
     def tell_event(self, event: str) -> None:
         """An event of the device, by its line."""
         name, *words = event.split(" ")
-        device, session = self.device, self.session
+        device = self.device
         if name == "clock":
             device.clock = max(device.clock, int(words[0]))
         elif name == "grid":
             device.base, device.period = map(int, words)
         elif name == "wish":
             device.wish = words[0]
-            self.tell(session.settle(device.wish) if session else [])
+            self.settle()
         elif name == "stage":
             device.has_stage = words == ["on"]
         elif name == "profile":
@@ -469,12 +487,13 @@ class DeviceCalls(State):
         self.locked += 1
 
     def tell_loss(self, is_pending: bool) -> None:
-        """A loss is pending, or has come: by `lost`, or by what ends the device early, a fault or a garbled line."""
+        """A loss of all sessions is pending, or has come: by `lost`, or by what ends the device early, a fault or a garbled line."""
         self.published = self.locked + 1
-        if self.session and is_pending:
-            self.tell(self.session.lose())
-        elif self.session:
-            self.session.is_lost = True
+        if is_pending:
+            self.settle([event for it in self.sessions for event in it.lose()])
+            return
+        for it in self.sessions:
+            it.is_lost = True
 
 
 class Machine(ApplicationCalls, DeviceCalls):

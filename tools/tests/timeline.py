@@ -205,9 +205,11 @@ def drawn_as_it_was(tally: Tally, text: Text, is_exact: bool) -> bool:
     due = {(first[mark], place, not waited) for _, op, mark, place, _, waited in run.made if op == "await"}
     is_same = arrows == due if is_exact else {it[:2] for it in arrows} == {it[:2] for it in due}
     tally.check(is_same, f"{text.name}: the arrows {arrows ^ due} are drawn otherwise")
-    changes = [(s.ordinal, it) for s in scene.sessions for it in s.changes if it.states]
-    states = {it.place: [f"state {ordinal} {one}" for one in it.states] for ordinal, it in changes}
-    tally.same(states, run.states, f"{text.name}: the states")
+    states = {(it.place, s.ordinal): it.states for s in scene.sessions for it in s.changes if it.states}
+    told: dict[tuple[int, int], list[str]] = {}
+    for place, (_, ordinal, state) in ((place, it.split(" ")) for place, events in run.states.items() for it in events):
+        told.setdefault((place, int(ordinal)), []).append(state)
+    tally.same(states, told, f"{text.name}: the states")
     if any(column.is_bin for column in scene.columns) or len(scene.pieces) > 1:
         return False
     check_page(tally, text.name, html, report)

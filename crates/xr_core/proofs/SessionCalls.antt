@@ -12,12 +12,13 @@ use Rattle.xr_model.specs.machine.SessionLife.{Life}
 use Rattle.xr_model.specs.machine.LiveSessions.{session_at}
 use Rattle.xr_model.specs.machine.SessionRule.{loss_of, code_on}
 use Rattle.xr_model.specs.machine.Rules.Session.{life_of, with_change, changing_rule}
+use Rattle.xr_model.specs.machine.Target.{settled}
 use Rattle.xr_model.specs.machine.State.{CoreState, CellReads}
 use Rattle.xr_model.specs.machine.Rule.{Rule, done, refusals, nothing_done}
 use Rattle.xr_model.specs.machine.Machine.{rule_of}
 use Rattle.xr_model.specs.machine.PartAnswers.{code_by}
 use Rattle.xr_core.specs.inside.Deciding.{Decides}
-use Rattle.xr_core.specs.inside.Changes.{life_request, checks_of, change_of, refusals_of, changed_life, with_period, answer_to}
+use Rattle.xr_core.specs.inside.Changes.{life_request, checks_of, change_of, refusals_of, changed_alone, changed_life, with_period, answer_to}
 use Rattle.xr_core.specs.declared.halt.Halt.TheVariants.{Refused}
 use Rattle.xr_core.specs.declared.sessions.LifeCall.{LifeCall}
 use Rattle.xr_core.specs.declared.sessions.LifeCall.TheVariants.{Begin, End, RequestExit}
@@ -65,16 +66,16 @@ module _ (s : CoreState) (session : ℕ) (call : LifeCall) where
         by None e = absurd (failed (told ∙ ap code_by e))
         by (Some y) e =
             let is : code ≡ y.code = told ∙ ap code_by e in
-            let here : kept ≡ s = stays ∙ ap (λ (o : Option Refusal). unless o s (with_change s (session_at s.sessions session) (change_of s.device.wish call))) e in
+            let here : kept ≡ s = stays ∙ ap (λ (o : Option Refusal). unless o s (changed_alone s (session_at s.sessions session) (change_of s.device.wish call))) e in
             rw (is, here)
             (refused_decides s (life_request session call) y (λ who reads. ap (λ (r : Rule). first_of (refusals r)) (has_rule s session call who reads) ∙ first_live s session call live ∙ e) (first_plain (refusals_of call (life_of s session)) y (plain_life call (life_of s session)) e))
 
     -- nothing refuses it
-    pub life_done : code ≡ Success → Decides s (life_request session call) (with_period kept call) (Ok (record { code = code_on (loss_of (life_of s session)) Success; gives = Nothing; place = 0 }))
+    pub life_done : code ≡ Success → Decides s (life_request session call) (with_period (settled kept) call) (Ok (record { code = code_on (loss_of (life_of s session)) Success; gives = Nothing; place = 0 }))
     unfolding changed_life answer_to
     life_done good =
         let none = passed_is_ok (refusals_of call (life_of s session)) code (plain_life call (life_of s session)) told good in
-        let here : kept ≡ with_change s (session_at s.sessions session) (change_of s.device.wish call) = stays ∙ ap (λ (o : Option Refusal). unless o s (with_change s (session_at s.sessions session) (change_of s.device.wish call))) none in
+        let here : kept ≡ changed_alone s (session_at s.sessions session) (change_of s.device.wish call) = stays ∙ ap (λ (o : Option Refusal). unless o s (changed_alone s (session_at s.sessions session) (change_of s.device.wish call))) none in
         rw here
         (effect_decides s (life_request session call) (λ given. life_rule s session call) (with_period (with_change s (session_at s.sessions session) (change_of s.device.wish call)) call) (code_on (loss_of (life_of s session)) Success) Nothing nothing_done
         (has_rule s session call) (first_live s session call live ∙ none) refl refl refl (success_found (loss_of (life_of s session))))

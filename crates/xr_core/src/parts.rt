@@ -16,13 +16,14 @@ ghost use Rattle.xr_model.specs.machine.Rules.Session.{life_of};
 ghost use Rattle.xr_model.specs.machine.Rules.Spaces.{session_above};
 ghost use Rattle.xr_model.specs.machine.State.{with_apps, opening_core};
 ghost use Rattle.xr_model.specs.machine.Machine.{IsPresent};
-ghost use Rattle.xr_core.specs.inside.Changes.{change_by, with_places_left};
+ghost use Rattle.xr_model.specs.machine.Target.{settled};
+ghost use Rattle.xr_core.specs.inside.Changes.{change_by, taken_out, with_places_left};
 ghost use Rattle.xr_model.specs.machine.PartAnswers.{or_refused};
 ghost use Rattle.xr_core.specs.inside.Refusing.{success_on};
 
 use crate::device_values::DeviceValues;
 use crate::ranking::Ranking;
-use crate::sessions::{Change, Session, change_each, forget_attached, session_at};
+use crate::sessions::{Change, Session, change_each, forget_attached, session_at, target_of};
 use crate::standing::Kept;
 use arrayvec::ArrayVec;
 use std::alloc::Global;
@@ -271,9 +272,9 @@ impl Parts {
         }
     }
 
-    /// Takes a handle and all below it out of all parts but the swapchains.
-    fn remove(&mut self, handle: u64)
-        ensures { self.new ≡ record (without_handle self.old handle) { chains = self.old.chains } }
+    /// Takes a handle and all below it out of all parts but the swapchains. The sessions that are left haven't settled.
+    fn take_out(&mut self, handle: u64)
+        ensures { self.new ≡ taken_out self.old handle }
     {
         let shows = shows_all(&self.handles, handle);
         let mut destroyed: ArrayVec<u64, MOST_HANDLES> = ArrayVec::new();
@@ -284,6 +285,14 @@ impl Parts {
         forget_sets(&mut self.inputs, destroyed.as_slice());
         forget_suggestions(&mut self.bindings, destroyed.as_slice());
         self.leave_places(shows);
+    }
+
+    /// Takes a handle and all below it out of all parts but the swapchains. All sessions settle.
+    fn remove(&mut self, handle: u64)
+        ensures { self.new ≡ record (without_handle self.old handle) { chains = self.old.chains } }
+    {
+        self.take_out(handle);
+        self.settle();
     }
 
     /// What actions show, and what spaces move with, is gone where no action stands. What they show is gone altogether where
@@ -354,5 +363,16 @@ impl Parts {
         ensures { self.new ≡ with_changes self.old (change_by change) }
     {
         change_each(self.sessions.as_mut_slice(), change, &mut self.events);
+    }
+
+    /// All live sessions settle under the device's wish: in the order of their creation those that aren't its target, and then the
+    /// target. OpenXR 1.0 chapter 9, "Session Lifecycle"; which session is the target is this project's own.
+    pub(crate) fn settle(&mut self)
+        ensures { self.new ≡ settled self.old }
+    {
+        let wish = self.device.wish();
+        let target = target_of(self.sessions.as_slice());
+        self.change_all(Change::Others { wish, target });
+        self.change_all(Change::Target { wish, target });
     }
 }

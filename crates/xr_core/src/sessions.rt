@@ -3,12 +3,14 @@ ghost use Rattle.std.specs.Option.{option_copied};
 ghost use Rattle.std.specs.Prelude.{◌≡◌, ◌<◌, ◌||◌, [], ◌∷◌, length, map, not, is_some, Some, None};
 ghost use Rattle.std.specs.List.{filter};
 ghost use Rattle.xr_types.specs.declared.code.Code.TheVariants.{Success};
+ghost use Rattle.xr_types.specs.declared.device.Wish.TheVariants as wish;
 ghost use Rattle.xr_model.specs.machine.SessionLife.{started_session, synced_session, is_lost, is_state};
 ghost use Rattle.xr_model.specs.machine.Handles.{is_among};
 ghost use Rattle.xr_model.specs.machine.Publication.{is_attached};
 ghost use Rattle.xr_model.specs.machine.Refusals.{first_of};
 ghost use Rattle.xr_model.specs.machine.LiveSessions.{session_at, life_in, with_life, with_life_at, with_session_at, with_attached, without_sets, each_changed, told_states, told_changes};
 ghost use Rattle.xr_model.specs.machine.SessionRule.{loss_of, code_on};
+ghost use Rattle.xr_model.specs.machine.Target.{is_candidate, target_of, without_focus, other_settled, target_settled};
 ghost use Rattle.xr_core.specs.inside.Changes.{change_by, place_at, ordinal_in, life_after, told_after, answer_to};
 ghost use Rattle.xr_model.specs.machine.PartAnswers.{or_refused};
 
@@ -48,9 +50,22 @@ pub(crate) enum LifeCall {
 /// What happens to all sessions.
 #[derive(Clone, Copy)]
 pub(crate) enum Change {
-    Settle(Wish),
+    /// All but the target, which is told by its ordinal, settle without the focus.
+    Others { wish: Wish, target: u64 },
+    /// The target settles.
+    Target { wish: Wish, target: u64 },
     Loss,
     Lost,
+}
+
+/// What is left of the device's wish for a session that isn't the target.
+fn without_focus(wish: Wish) -> Wish
+    ensures { result ≡ without_focus wish }
+{
+    match wish {
+        Wish::Focused => Wish::Visible,
+        other => other,
+    }
 }
 
 /// Takes these handles out of a list.
@@ -180,6 +195,17 @@ impl Session {
         )
     }
 
+    /// Whether it can be the target: a frame of its running period was ended, and nobody has asked for its end.
+    fn is_candidate(&self) -> bool
+        ensures { result ≡ is_candidate self.now.life }
+    {
+        let may = matches!(
+            self.life.state(),
+            SessionState::Synchronized | SessionState::Visible | SessionState::Focused
+        );
+        may && !self.life.exit()
+    }
+
     /// Whether it is focused.
     pub(crate) fn is_focused(&self) -> bool
         ensures { result ≡ is_state self.now.life.state SessionState.Focused }
@@ -246,24 +272,47 @@ impl Session {
         code
     }
 
-    /// A frame of it was ended; tells what it went through.
-    fn sync(&mut self, wish: Wish, events: &mut Events)
-        ensures life { self.new ≡ with_life (synced_session wish self.old.life).life self.old }
-        ensures events { events.new ≡ told_states events.old self.old.ordinal self.old.handle (synced_session wish self.old.life).through }
+    /// A frame of it was ended: a ready session enters `Synchronized`, as far as it goes before all settle. Tells what it went through.
+    fn sync(&mut self, events: &mut Events)
+        ensures life { self.new ≡ with_life (synced_session wish.Ready self.old.life).life self.old }
+        ensures events { events.new ≡ told_states events.old self.old.ordinal self.old.handle (synced_session wish.Ready self.old.life).through }
     {
         let mut changes = Changes::new();
-        self.life.synced(wish, &mut changes);
+        self.life.synced(Wish::Ready, &mut changes);
         tell(events, self.ordinal, self.handle, &changes);
+    }
+
+    /// Settles without the focus, unless it is the target.
+    fn settle_beside(&mut self, wish: Wish, target: u64, changes: &mut Changes)
+        requires { changes.old ≡ [] }
+        ensures life { self.new ≡ with_life (other_settled wish target self.old).life self.old }
+        ensures through { changes.new ≡ (other_settled wish target self.old).through }
+    {
+        if self.ordinal != target {
+            self.life.wish(without_focus(wish), changes);
+        }
+    }
+
+    /// Settles, if it is the target.
+    fn settle_as(&mut self, wish: Wish, target: u64, changes: &mut Changes)
+        requires { changes.old ≡ [] }
+        ensures life { self.new ≡ with_life (target_settled wish target self.old).life self.old }
+        ensures through { changes.new ≡ (target_settled wish target self.old).through }
+    {
+        if self.ordinal == target {
+            self.life.wish(wish, changes);
+        }
     }
 
     /// Changes with all others, and tells what it went through.
     fn change(&mut self, change: Change, events: &mut Events)
-        ensures life { self.new ≡ with_life (change_by change self.old.life).life self.old }
-        ensures events { events.new ≡ told_states events.old self.old.ordinal self.old.handle (change_by change self.old.life).through }
+        ensures life { self.new ≡ with_life (change_by change self.old).life self.old }
+        ensures events { events.new ≡ told_states events.old self.old.ordinal self.old.handle (change_by change self.old).through }
     {
         let mut changes = Changes::new();
         match change {
-            Change::Settle(wish) => self.life.wish(wish, &mut changes),
+            Change::Others { wish, target } => self.settle_beside(wish, target, &mut changes),
+            Change::Target { wish, target } => self.settle_as(wish, target, &mut changes),
             Change::Loss => self.life.loss(&mut changes),
             Change::Lost => self.life.lose(),
         }
@@ -279,6 +328,19 @@ pub(crate) fn change_each(sessions: &mut [Session], change: Change, events: &mut
     for session in sessions.iter_mut() {
         session.change(change, events);
     }
+}
+
+/// The session that the device's wish is for, by its ordinal, 0 where there is none: of those that can be, the one that was created last.
+pub(crate) fn target_of(sessions: &[Session]) -> u64
+    ensures { result ≡ target_of sessions.now }
+{
+    let mut target = 0;
+    for session in sessions {
+        if session.is_candidate() {
+            target = session.ordinal.max(target);
+        }
+    }
+    target
 }
 
 /// These handles went: none of these sessions has any of them attached.
@@ -345,15 +407,14 @@ pub(crate) fn sync_at(
     sessions: &mut ArrayVec<Session, SESSIONS>,
     handle: u64,
     place: usize,
-    wish: Wish,
     events: &mut Events,
 )
     requires found { place_at sessions.old.items handle ≡ Some place }
     requires within { place < length sessions.old.items }
-    ensures sessions { sessions.new.items ≡ with_life_at handle (synced_session wish (life_in (session_at sessions.old.items handle))).life sessions.old.items }
-    ensures events { events.new ≡ told_states events.old (ordinal_in (session_at sessions.old.items handle)) handle (synced_session wish (life_in (session_at sessions.old.items handle))).through }
+    ensures sessions { sessions.new.items ≡ with_life_at handle (synced_session wish.Ready (life_in (session_at sessions.old.items handle))).life sessions.old.items }
+    ensures events { events.new ≡ told_states events.old (ordinal_in (session_at sessions.old.items handle)) handle (synced_session wish.Ready (life_in (session_at sessions.old.items handle))).through }
 {
-    sessions[place].sync(wish, events);
+    sessions[place].sync(events);
 }
 
 /// The session in a place has attached these action sets.

@@ -6,7 +6,7 @@ use Rattle.xr_types.specs.declared.handles.Kind.TheVariants as kind
 use Rattle.xr_model.specs.machine.Calls.{Entry}
 use Rattle.xr_model.specs.machine.Handles.{Handles, has, is_live, is_among, destroyed_by, with_handle, without}
 use Rattle.xr_model.specs.machine.LiveSessions.{Session, with_life, with_attached, with_session_at, without_sets, still_live}
-use Rattle.xr_model.specs.machine.SessionLife.{Life, Changed, unchanged, lost_session}
+use Rattle.xr_model.specs.machine.SessionLife.{Changed, unchanged, lost_session}
 use Rattle.xr_model.specs.machine.Sets.{Set, Sets, sets_named}
 use Rattle.xr_model.specs.machine.State.{Settings, State, opening}
 use Rattle.xr_model.specs.machine.Machine.{step, reads_of}
@@ -82,8 +82,8 @@ attached_step s e once kept each = kept_by_step AttachLive s.core (reads_of s e.
   chain_alone = λ d c chain. each;
   lives = λ d c session f named same keeps. all_lives (attaches_live s.core.handles) session f (λ x live. ap (λ o. list_all (is_live s.core.handles kind.ActionSet) (unwrap_or o [])) (keeps x) ∙ live) s.core.sessions each;
   attach = λ d c session sets. all_lives (attaches_live s.core.handles) session (with_attached (sets_named s.core.inputs sets)) (λ x live. named_live s.core.handles s.core.inputs sets kept.sets) s.core.sessions each;
-  each = λ d c f keeps. changed f;
-  lost = λ d c. changed (λ life. unchanged (lost_session life));
+  each = λ h xs f keeps there. changed h xs f there;
+  lost = λ d c. changed s.core.handles s.core.sessions (λ x. unchanged (lost_session x.life)) each;
 })
   where
     still : (instance k : ℕ) → is_live s.core.handles kind.ActionSet k ≡ true → is_live (with_handle s.core.handles kind.ActionSet instance e.given) kind.ActionSet k ≡ true
@@ -91,8 +91,8 @@ attached_step s e once kept each = kept_by_step AttachLive s.core (reads_of s e.
         let two = both_of (not (k == 0)) (has s.core.handles.sets k) live in
         rw (two.0, has_put (record { handle = e.given; parent = instance }) s.core.handles.sets k (not_true (k == 0) two.0) two.1) refl
 
-    changed : (f : Life → Changed) → list_all (attaches_live s.core.handles) (map (λ x. with_life (f x.life).life x) s.core.sessions) ≡ true
-    changed f = all_map (attaches_live s.core.handles) (attaches_live s.core.handles) (λ x. with_life (f x.life).life x) (λ x live. live) s.core.sessions each
+    changed : (h : Handles) (xs : List Session) (f : Session → Changed) → AttachLive h xs → list_all (attaches_live h) (map (λ x. with_life (f x).life x) xs) ≡ true
+    changed h xs f there = all_map (attaches_live h) (attaches_live h) (λ x. with_life (f x).life x) (λ x live. live) xs there
 
 attached_after : (s : State) (clocks : List ℤ) (es : List Entry) → IsLegalFrom s clocks es → AreKnown s.core.handles → StandOnce s.core.handles → Has Kept s.core → AttachLive s.core.handles s.core.sessions → AttachLive (after s es).core.handles (after s es).core.sessions
 attached_after s clocks [] legal known once kept each = each

@@ -9,7 +9,7 @@ use Rattle.xr_types.specs.declared.calls.Call.{Call}
 use Rattle.xr_types.specs.declared.calls.Call.TheVariants as ask
 use Rattle.xr_model.specs.machine.Handles.{Handles, has, is_live, no_handle, was_given, without, destroyed_by, is_among}
 use Rattle.xr_model.specs.machine.Refusals.{Refusal, when, first_of}
-use Rattle.xr_model.specs.machine.SessionLife.{Life, is_lost, Changed, unchanged, lost_session, started_session}
+use Rattle.xr_model.specs.machine.SessionLife.{is_lost, Changed, unchanged, lost_session, started_session}
 use Rattle.xr_model.specs.machine.LiveSessions.{Session, session_at, attached_in, with_life, with_attached, with_session_at, without_sets, still_live, each_changed}
 use Rattle.xr_model.specs.machine.Rule.{Rule, Effect, refusals, unless_refused, told_on}
 use Rattle.xr_model.specs.machine.Rules.Session.{life_of, new_session}
@@ -70,10 +70,10 @@ module _ (s : State) (e : Entry) (allowed : IsAllowed s e) (session : ℕ) (has_
   more : (given : ℕ) → (given == session) || was_given s.core.handles session ≡ true
   more given = or_given (given == session) (was_given s.core.handles session) has_some.given
 
-  each : (f : Life → Changed) → Has session s.core.handles (each_changed f s.core.sessions)
-  each f = record {
-    given = has_some.given;
-    attached = λ x found. let one = which_map (λ (y : Session). y.handle) (λ y. with_life (f y.life).life y) (λ y. refl) s.core.sessions session x found in ap (λ (y : Session). is_some y.attached) one.2 ∙ has_some.attached one.0 one.1;
+  each : (h : Handles) (xs : List Session) (f : Session → Changed) → Has session h xs → Has session h (each_changed f xs)
+  each h xs f there = record {
+    given = there.given;
+    attached = λ x found. let one = which_map (λ (y : Session). y.handle) (λ y. with_life (f y).life y) (λ y. refl) xs session x found in ap (λ (y : Session). is_some y.attached) one.2 ∙ there.attached one.0 one.1;
   }
 
   has_step : Has session (step s e).0.core.handles (step s e).0.core.sessions
@@ -99,8 +99,8 @@ module _ (s : State) (e : Entry) (allowed : IsAllowed s e) (session : ℕ) (has_
       given = has_some.given;
       attached = λ x found. changed (with_attached (sets_named s.core.inputs sets)) (λ y has. refl) x (which_lives s.core.sessions handle (with_attached (sets_named s.core.inputs sets)) (λ y. refl) session x found);
     };
-    each = λ d c f same. each f;
-    lost = λ d c. each (λ life. unchanged (lost_session life));
+    each = λ h xs f same there. each h xs f there;
+    lost = λ d c. each s.core.handles s.core.sessions (λ x. unchanged (lost_session x.life)) has_some;
   })
     where
       added : {z : Session} → was_given s.core.handles e.given ≡ false → (x : Session) → (session_at s.core.sessions session ≡ Some x) ⊎ ((e.given ≡ session) × (x ≡ z)) → is_some x.attached ≡ true
@@ -223,6 +223,15 @@ new_sessions_are_bare settings es e legal allowed creates good = bare (after (op
     none_of None each = refl
     none_of (Some x) each = each x refl
 
+    changed_bare : (f : Session → Changed) (xs : List Session) (k : ℕ) → attached_in (session_at xs k) ≡ None → attached_in (session_at (each_changed f xs) k) ≡ None
+    changed_bare f [] k none = refl
+    changed_bare f (x ∷ xs) k none = by (x.handle == k) none (changed_bare f xs k)
+      where
+        by : (b : Bool) → attached_in (if b then Some x else session_at xs k) ≡ None → (attached_in (session_at xs k) ≡ None → attached_in (session_at (each_changed f xs) k) ≡ None)
+            → attached_in (if b then Some (with_life (f x).life x) else session_at (each_changed f xs) k) ≡ None
+        by true none more = none
+        by false none more = more none
+
     bare : (s : State) (e : Entry) → IsAllowed s e → AreKnown s.core.handles → AreListed s.core.handles s.core.sessions → is_session_creation e.call ≡ true → is_success (step s e).1.reply.code ≡ true → attached_in (session_at (step s e).0.core.sessions e.given) ≡ None
     bare s e allowed known listed creates good =
         kept_by_step (λ h xs. is_success (step s e).1.reply.code ≡ true → attached_in (session_at xs e.given) ≡ None) s.core (reads_of s e.call) e (record {
@@ -238,7 +247,7 @@ new_sessions_are_bare settings es e legal allowed creates good = bare (after (op
           chain_alone = λ d c. absurd (true≢false (sym creates ∙ c));
           lives = λ d c. absurd (true≢false (sym creates ∙ c));
           attach = λ d c. absurd (true≢false (sym creates ∙ c));
-          each = λ d c. absurd (true≢false (sym creates ∙ c));
+          each = λ h xs f keeps there good. changed_bare f xs e.given (there good);
           lost = λ d c. absurd (true≢false (sym creates ∙ c));
         }) good
       where

@@ -12,6 +12,7 @@ use Rattle.xr_types.specs.declared.calls.Call.{Call}
 use Rattle.xr_types.specs.declared.calls.Call.TheVariants as ask
 use Rattle.xr_types.specs.declared.device.DeviceEvent.{DeviceEvent}
 use Rattle.xr_types.specs.declared.device.DeviceEvent.TheVariants as event
+use Rattle.xr_types.specs.declared.device.Wish.{Wish}
 use Rattle.xr_types.specs.declared.input.Profile.{Profile}
 use Rattle.xr_types.specs.declared.input.TheConstants.{ROWS}
 use Rattle.xr_types.specs.declared.input.User.{User}
@@ -22,12 +23,13 @@ use Rattle.xr_types.specs.declared.users.TheConstants.{USERS}
 use Rattle.xr_model.specs.machine.Calls.{Entry}
 use Rattle.xr_model.specs.machine.Device.{Device}
 use Rattle.xr_model.specs.machine.Inputs.{values_at, pressed_at, value_at, is_pressed_at, no_values, none_pressed}
-use Rattle.xr_model.specs.machine.LiveSessions.{Session, session_at, with_life}
+use Rattle.xr_model.specs.machine.LiveSessions.{Session, session_at, with_life, each_changed, told_changes}
 use Rattle.xr_model.specs.machine.Refusals.{Refusal}
 use Rattle.xr_model.specs.machine.Rule.{Effect, refusal, told_on, unless_refused}
 use Rattle.xr_model.specs.machine.Rules.Device.{behind_event, later_of}
-use Rattle.xr_model.specs.machine.SessionLife.{Life, losing_session}
+use Rattle.xr_model.specs.machine.SessionLife.{Life, next_state, losing_session}
 use Rattle.xr_model.specs.machine.State.{CoreState, Settings, State, opening}
+use Rattle.xr_model.specs.machine.Target.{target_of, own_wish, Standing, rounds, most_rounds}
 use Rattle.xr_model.specs.machine.Machine.{reads_of, rule, step}
 use Rattle.xr_model.specs.machine.History.{after}
 use Rattle.xr_model.specs.machine.Sync.{is_same_user}
@@ -37,6 +39,7 @@ use Rattle.xr_model.specs.laws.WordLaws.{has_good_numbers}
 use Rattle.xr_model.specs.laws.StateLaws.{lost_to}
 use Rattle.xr_model.proofs.Rows.{both_of, same_key}
 use Rattle.xr_model.proofs.SessionLives.{found_each}
+use Rattle.xr_model.proofs.Targets.{AreSettled, quiet_rounds}
 
 -- ---- only the device's own calls change it
 
@@ -403,21 +406,48 @@ profiles_are_as_told settings es who checked = (inputs_after (opening settings) 
 
 -- ---- a loss
 
+losing : (life : Life) → (losing_session life).life ≡ record life { state = lost_to life.state }
+losing life = by life.state
+  where
+    by : (state : SessionState) → (losing_session (record life { state = state })).life ≡ record life { state = lost_to state }
+    by Idle = refl
+    by Ready = refl
+    by Synchronized = refl
+    by Visible = refl
+    by Focused = refl
+    by Stopping = refl
+    by LossPending = refl
+    by Exiting = refl
+
+-- no row fits the states of a loss, so nothing is left to settle behind it
+losing_settles : (w : Wish) (target : ℕ) (xs : List Session) → AreSettled w target (each_changed (λ x. losing_session x.life) xs)
+losing_settles w target [] = tt
+losing_settles w target (x ∷ xs) = (rw (losing x.life) (by x.life.state), losing_settles w target xs)
+  where
+    by : (state : SessionState) → next_state (own_wish w target x) x.life.exit (lost_to state) ≡ None
+    by Idle = refl
+    by Ready = refl
+    by Synchronized = refl
+    by Visible = refl
+    by Focused = refl
+    by Stopping = refl
+    by LossPending = refl
+    by Exiting = refl
+
 pub loss_takes_each : LossTakesEach
-loss_takes_each s e session x is found = subst (λ (r : Call). session_at (step s (record e { call = r })).0.core.sessions session ≡ Some lost_one) (sym is) (found_each losing_session session s.core.sessions ∙ rw found (ap (λ (life : Life). Some (with_life life x)) (losing x.life)))
+loss_takes_each s e session x is found =
+    subst (λ (r : Call). session_at (step s (record e { call = r })).0.core.sessions session ≡ Some lost_one) (sym is)
+    (subst (λ (t : Standing). session_at t.sessions session ≡ Some lost_one) (sym quiet)
+    (found_each (λ y. losing_session y.life) session s.core.sessions ∙ rw found (ap (λ (life : Life). Some (with_life life x)) (losing x.life))))
   where
     lost_one : Session
     lost_one = record x { life = record x.life { state = lost_to x.life.state } }
 
-    losing : (life : Life) → (losing_session life).life ≡ record life { state = lost_to life.state }
-    losing life = by life.state
-      where
-        by : (state : SessionState) → (losing_session (record life { state = state })).life ≡ record life { state = lost_to state }
-        by Idle = refl
-        by Ready = refl
-        by Synchronized = refl
-        by Visible = refl
-        by Focused = refl
-        by Stopping = refl
-        by LossPending = refl
-        by Exiting = refl
+    left : Standing
+    left = record {
+      sessions = each_changed (λ y. losing_session y.life) s.core.sessions;
+      events = told_changes s.core.events (λ y. losing_session y.life) s.core.sessions;
+    }
+
+    quiet : rounds most_rounds s.core.device.wish left ≡ left
+    quiet = quiet_rounds s.core.device.wish left (losing_settles s.core.device.wish (target_of left.sessions) s.core.sessions)

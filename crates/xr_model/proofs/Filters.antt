@@ -12,7 +12,11 @@ use Rattle.xr_types.specs.declared.calls.Call.{Call}
 use Rattle.xr_types.specs.declared.calls.Call.TheVariants as ask
 use Rattle.xr_model.specs.machine.Handles.{Handles, has, is_live, is_among, destroyed_by, without, without_alone}
 use Rattle.xr_model.specs.machine.LiveSessions as sessions
-use Rattle.xr_model.specs.machine.LiveSessions.{without_sets, still_live}
+use Rattle.xr_types.specs.declared.device.Wish.{Wish}
+use Rattle.xr_model.specs.machine.SessionLife.{Changed}
+use Rattle.xr_model.specs.machine.Target.{Standing, rounds, most_rounds}
+use Rattle.xr_model.proofs.Targets.{Steady, rounds_keep}
+use Rattle.xr_model.specs.machine.LiveSessions.{each_changed, sessions_left, without_sets, still_live}
 use Rattle.xr_model.specs.machine.Sets as inputs
 use Rattle.xr_model.specs.machine.Sets.{Set}
 use Rattle.xr_model.specs.machine.Spaces as spaces
@@ -28,7 +32,7 @@ use Rattle.xr_model.specs.machine.Machine.{step, effect, rule, reads_of}
 use Rattle.xr_model.specs.machine.History.{after}
 use Rattle.xr_model.specs.laws.HandleLaws.{count_in, StandOnce, AreUnder, is_within, destroys}
 use Rattle.xr_model.specs.laws.SessionLaws.{AreListed}
-use Rattle.xr_model.specs.laws.ListLaws.{standing, AreFiltered, DestroyingFilters, without_attached, attaches_live}
+use Rattle.xr_model.specs.laws.ListLaws.{but_state, standing, AreFiltered, DestroyingFilters, without_attached, attaches_live}
 use Rattle.xr_model.proofs.Rows.{same_key, both_of, not_true}
 use Rattle.xr_model.proofs.Keyed.{all_found, filters_agree}
 use Rattle.xr_model.proofs.Orphans.{no_orphans}
@@ -87,6 +91,15 @@ option_itself : (live q : ℕ → Bool) (o : Option (List ℕ)) → list_all liv
 option_itself live q None each same = refl
 option_itself live q (Some sets) each same = ap Some (sym (filters_agree (λ k. true) q live sets each same) ∙ sym (filter_all sets))
 
+-- ---- settling changes states alone
+
+same_but_state : (w : Wish) (t : Standing) → map but_state (rounds most_rounds w t).sessions ≡ map but_state t.sessions
+same_but_state w t = rounds_keep (λ xs. map but_state xs ≡ map but_state t.sessions) (λ f steady xs there. each_same f steady xs ∙ there) w t refl
+  where
+    each_same : (f : sessions.Session → Changed) → ((x : sessions.Session) → Steady x.life (f x).life) → (xs : List sessions.Session) → map but_state (each_changed f xs) ≡ map but_state xs
+    each_same f steady [] = refl
+    each_same f steady (x ∷ xs) = rw (steady x, each_same f steady xs) refl
+
 -- ---- one handle is destroyed
 
 module _ (s : CoreState) (listed : AreListed s.handles s.sessions) (kept : Has Kept s) (attached : AttachLive s.handles s.sessions) (once : StandOnce s.handles) (under : AreUnder s.handles) (roots : AreRoots s.handles) (top : ℕ) (some : (top == 0) ≡ false) where
@@ -104,12 +117,14 @@ module _ (s : CoreState) (listed : AreListed s.handles s.sessions) (kept : Has K
   with_all_below : AreFiltered s (without_handle s top) (λ k. is_within 2 s.handles k top)
   with_all_below = record {
     sessions =
-        maps_same (without_sets (destroyed_by s.handles top)) (without_attached (λ k. is_within 2 s.handles k top)) (attaches_live s.handles) (still_live (without s.handles top) s.sessions)
+        same_but_state s.device.wish (record { sessions = sessions_left (without s.handles top) (destroyed_by s.handles top) s.sessions; events = s.events })
+        ∙ ap (map but_state)
+        (maps_same (without_sets (destroyed_by s.handles top)) (without_attached (λ k. is_within 2 s.handles k top)) (attaches_live s.handles) (still_live (without s.handles top) s.sessions)
         (all_left (attaches_live s.handles) (attaches_live s.handles) (λ x. is_live (without s.handles top) Session x.handle) (λ x live stays. live) s.sessions attached)
         (λ x live. ap (λ (o : Option (List ℕ)). record x { attached = o }) (options_agree (is_live s.handles ActionSet) (λ k. not (is_among (destroyed_by s.handles top) k)) (λ k. not (is_within 2 s.handles k top)) x.attached live set_agrees))
         ∙ ap (map (without_attached (λ k. is_within 2 s.handles k top)))
         (agree (λ (x : sessions.Session). x.handle) (λ k. is_live s.handles Session k) (λ k. is_live (without s.handles top) Session k) (λ k. not (is_within 2 s.handles k top)) s.sessions listed
-        (λ k live. without_takes s.handles top some once under roots Session k ∙ ap (λ b. b && not (is_within 2 s.handles k top)) live));
+        (λ k live. without_takes s.handles top some once under roots Session k ∙ ap (λ b. b && not (is_within 2 s.handles k top)) live)));
     sets = agree (λ (x : Set). x.handle) (λ k. is_live s.handles ActionSet k) (λ k. not (is_among (destroyed_by s.handles top) k)) (λ k. not (is_within 2 s.handles k top)) s.inputs.sets kept.sets set_agrees;
     actions = agree (λ (x : inputs.Action). x.handle) (λ k. is_live s.handles Action k) (λ k. not (is_among (destroyed_by s.handles top) k)) (λ k. not (is_within 2 s.handles k top)) s.inputs.actions kept.actions
         (λ k live. let two = both_of (not (k == 0)) (has s.handles.actions k) live in outside Action k _ live (ap (λ b. not (k == 0) && b) (action_gone s.handles top once k (not_true (k == 0) two.0) two.1)));
@@ -140,9 +155,10 @@ module _ (s : CoreState) (listed : AreListed s.handles s.sessions) (kept : Has K
     alone of_sessions of_sets of_actions sp chains of_spaces = record {
       sessions =
           let same = filter_all s.sessions ∙ agree (λ (x : sessions.Session). x.handle) (λ k. is_live s.handles Session k) (λ k. true) (λ k. not (is_within 2 s.handles k top)) s.sessions listed (others Session of_sessions) in
-          map_itself (without_attached (λ k. is_within 2 s.handles k top)) (attaches_live s.handles) s.sessions attached
+          ap (map but_state)
+          (map_itself (without_attached (λ k. is_within 2 s.handles k top)) (attaches_live s.handles) s.sessions attached
           (λ x live. ap (λ (o : Option (List ℕ)). record x { attached = o }) (option_itself (is_live s.handles ActionSet) (λ k. not (is_within 2 s.handles k top)) x.attached live (others ActionSet of_sets)))
-          ∙ ap (map (without_attached (λ k. is_within 2 s.handles k top))) same;
+          ∙ ap (map (without_attached (λ k. is_within 2 s.handles k top))) same);
       sets = filter_all s.inputs.sets ∙ agree (λ (x : Set). x.handle) (λ k. is_live s.handles ActionSet k) (λ k. true) (λ k. not (is_within 2 s.handles k top)) s.inputs.sets kept.sets (others ActionSet of_sets);
       actions = filter_all s.inputs.actions ∙ agree (λ (x : inputs.Action). x.handle) (λ k. is_live s.handles Action k) (λ k. true) (λ k. not (is_within 2 s.handles k top)) s.inputs.actions kept.actions (others Action of_actions);
       spaces = of_spaces;

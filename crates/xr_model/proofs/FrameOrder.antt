@@ -227,7 +227,7 @@ module _ (s : CoreState) (reads : CellReads) (e : Entry) (other : is_session_cre
     chain_alone = λ d c chain. record { row = refl; live = λ q live. live; given = λ q new. new };
     lives = λ d c session f named same has. fewer_same s.handles;
     attach = λ d c session sets. fewer_same s.handles;
-    each = λ d c f keeps. fewer_same s.handles;
+    each = λ h xs f keeps there. there;
     lost = λ d c. fewer_same s.handles;
   })
 

@@ -19,6 +19,7 @@ pub mod Attaching
 pub mod Places
 pub mod Samples
 pub mod Settling
+pub mod Targets
 pub mod Listed
 pub mod SessionSteps
 pub mod LostSessions
@@ -53,6 +54,7 @@ pub mod SessionLives
 pub mod Clock
 pub mod DeviceTold
 pub mod Settled
+pub mod Focus
 pub mod StateTable
 pub mod LostAndAsked
 pub mod Running

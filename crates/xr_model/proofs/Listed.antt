@@ -6,7 +6,7 @@ use Rattle.xr_types.specs.declared.handles.Kind.TheVariants as kind
 use Rattle.xr_types.specs.declared.handles.TheConstants.{SESSIONS}
 use Rattle.xr_model.specs.machine.Handles.{Handles, no_handles, is_live, has, has_room, with_handle, without, destroyed_instances, destroyed_by}
 use Rattle.xr_model.specs.machine.LiveSessions.{Session, session_at, with_life, with_session_at, without_sets, still_live, sessions_left, each_changed}
-use Rattle.xr_model.specs.machine.SessionLife.{Life, Changed}
+use Rattle.xr_model.specs.machine.SessionLife.{Changed}
 use Rattle.xr_model.specs.laws.SessionLaws.{AreListed}
 use Rattle.xr_model.proofs.Rows.{or_true, same_key, has_put, has_new, hasnt_put, hasnt_free, hasnt_cleared}
 use Rattle.xr_model.proofs.Keyed.{found_map}
@@ -53,15 +53,15 @@ handle_of (z ∷ xs) handle x found = by (z.handle == handle) refl found (λ the
 pub found_once : (xs : List Session) (handle : ℕ) (x y : Session) → session_at xs handle ≡ Some x → session_at xs x.handle ≡ Some y → x ≡ y
 found_once xs handle x y found there = some_is x y (sym found ∙ subst (λ (n : ℕ). session_at xs n ≡ Some y) (handle_of xs handle x found) there)
 
-found_each : (f : Life → Changed) (xs : List Session) (k : ℕ) → is_some (session_at (each_changed f xs) k) ≡ is_some (session_at xs k)
+found_each : (f : Session → Changed) (xs : List Session) (k : ℕ) → is_some (session_at (each_changed f xs) k) ≡ is_some (session_at xs k)
 found_each f [] k = refl
 found_each f (x ∷ xs) k = by (x.handle == k) (found_each f xs k)
   where
-    by : (b : Bool) → is_some (session_at (each_changed f xs) k) ≡ is_some (session_at xs k) → is_some (if b then Some (with_life (f x.life).life x) else session_at (each_changed f xs) k) ≡ is_some (if b then Some x else session_at xs k)
+    by : (b : Bool) → is_some (session_at (each_changed f xs) k) ≡ is_some (session_at xs k) → is_some (if b then Some (with_life (f x).life x) else session_at (each_changed f xs) k) ≡ is_some (if b then Some x else session_at xs k)
     by true more = refl
     by false more = more
 
-pub listed_each : (h : Handles) (f : Life → Changed) (xs : List Session) → AreListed h xs → AreListed h (each_changed f xs)
+pub listed_each : (h : Handles) (f : Session → Changed) (xs : List Session) → AreListed h xs → AreListed h (each_changed f xs)
 listed_each h f xs listed k = found_each f xs k ∙ listed k
 
 -- a session more

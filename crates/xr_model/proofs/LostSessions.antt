@@ -68,8 +68,8 @@ listed_step s e allowed listed = kept_by_step (λ h xs. AreListed h xs) s.core (
   chain_alone = λ d c chain. listed;
   lives = λ d c session f named same keeps. listed_lives s.core.handles s.core.sessions session f named listed;
   attach = λ d c session sets. listed_lives s.core.handles s.core.sessions session (with_attached (sets_named s.core.inputs sets)) (λ x. refl) listed;
-  each = λ d c f keeps. listed_each s.core.handles f s.core.sessions listed;
-  lost = λ d c. listed_each s.core.handles (λ life. unchanged (lost_session life)) s.core.sessions listed;
+  each = λ h xs f keeps there. listed_each h f xs there;
+  lost = λ d c. listed_each s.core.handles (λ x. unchanged (lost_session x.life)) s.core.sessions listed;
 })
 
 pub listed_after : (s : State) (clocks : List ℤ) (es : List Entry) → IsLegalFrom s clocks es → AreListed s.core.handles s.core.sessions → AreListed (after s es).core.handles (after s es).core.sessions
@@ -111,14 +111,14 @@ found_lives (z ∷ xs) handle f named same session x found = by (z.handle == han
     by false eb true ec found same more = (z, refl, ap (λ (w : Session). w.life.lost) (sym (some_is z x (rw ec at found))))
     by false eb false ec found same more = more same (rw ec at found)
 
-found_each : (f : Life → Changed) (xs : List Session) (session : ℕ) (x : Session) → session_at (each_changed f xs) session ≡ Some x → (y : Session) × (session_at xs session ≡ Some y) × (x.life ≡ (f y.life).life)
+found_each : (f : Session → Changed) (xs : List Session) (session : ℕ) (x : Session) → session_at (each_changed f xs) session ≡ Some x → (y : Session) × (session_at xs session ≡ Some y) × (x.life ≡ (f y).life)
 found_each f [] session x found = cc
 found_each f (z ∷ xs) session x found = by (z.handle == session) found (λ there. found_each f xs session x there)
   where
-    by : (c : Bool) → (if c then Some (with_life (f z.life).life z) else session_at (each_changed f xs) session) ≡ Some x
-        → (session_at (each_changed f xs) session ≡ Some x → (y : Session) × (session_at xs session ≡ Some y) × (x.life ≡ (f y.life).life))
-        → (y : Session) × ((if c then Some z else session_at xs session) ≡ Some y) × (x.life ≡ (f y.life).life)
-    by true found more = (z, refl, ap (λ (w : Session). w.life) (sym (some_is (with_life (f z.life).life z) x found)))
+    by : (c : Bool) → (if c then Some (with_life (f z).life z) else session_at (each_changed f xs) session) ≡ Some x
+        → (session_at (each_changed f xs) session ≡ Some x → (y : Session) × (session_at xs session ≡ Some y) × (x.life ≡ (f y).life))
+        → (y : Session) × ((if c then Some z else session_at xs session) ≡ Some y) × (x.life ≡ (f y).life)
+    by true found more = (z, refl, ap (λ (w : Session). w.life) (sym (some_is (with_life (f z).life z) x found)))
     by false found more = more found
 
 -- among the others, or the new one
@@ -227,8 +227,8 @@ module _ (s : State) (e : Entry) (allowed : IsAllowed s e) (known : AreKnown s.c
     attach = λ d c handle sets session x found.
         let one = found_lives s.core.sessions handle (with_attached (sets_named s.core.inputs sets)) (λ y. refl) (λ y there. refl) session x found in
         one.2 ∙ lost_before session one.0 one.1 ∙ as_before session d (uncreated session c);
-    each = λ d c f keeps session x found. let one = found_each f s.core.sessions session x found in ap (λ (l : Life). l.lost) one.2 ∙ keeps one.0.life ∙ lost_before session one.0 one.1 ∙ as_before session d (uncreated session c);
-    lost = λ d c session x found. let one = found_each (λ life. unchanged (lost_session life)) s.core.sessions session x found in ap (λ (l : Life). l.lost) one.2 ∙ rw (uncreated session c, d) (sym (or_true (before session)));
+    each = λ h xs f keeps known session x found. let one = found_each f xs session x found in ap (λ (l : Life). l.lost) one.2 ∙ keeps one.0 ∙ known session one.0 one.1;
+    lost = λ d c session x found. let one = found_each (λ x. unchanged (lost_session x.life)) s.core.sessions session x found in ap (λ (l : Life). l.lost) one.2 ∙ rw (uncreated session c, d) (sym (or_true (before session)));
   })
     where
       created : is_device_lost e.call ≡ false → is_session_creation e.call ≡ true → is_success (step s e).1.reply.code ≡ true → (session : ℕ) (x : Session) → Found s.core.sessions (new_session s.core e.given (started_session s.core.device.wish).life) session x → x.life.lost ≡ after_entry e before session

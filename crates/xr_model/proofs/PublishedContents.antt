@@ -6,6 +6,7 @@ use Rattle.xr_types.specs.declared.code.Code.{Code}
 use Rattle.xr_types.specs.declared.code.Code.TheVariants.{Success, CallOrderInvalid, SessionNotRunning, SessionNotStopping}
 use Rattle.xr_types.specs.declared.device.DeviceEvent.{DeviceEvent}
 use Rattle.xr_types.specs.declared.device.DeviceEvent.TheVariants as event
+use Rattle.xr_types.specs.declared.device.Wish.TheVariants as wish
 use Rattle.xr_types.specs.declared.handles.Kind.TheVariants as kind
 use Rattle.xr_types.specs.declared.input.User.{User}
 use Rattle.xr_types.specs.declared.input.User.TheVariants as user
@@ -21,16 +22,16 @@ use Rattle.xr_types.specs.declared.calls.Call.{Call}
 use Rattle.xr_types.specs.declared.calls.Call.TheVariants as ask
 use Rattle.xr_model.specs.machine.Rule.{Effect, refusal, unless_refused, told_on}
 use Rattle.xr_model.specs.machine.Rules.Device.{behind_event}
-use Rattle.xr_model.specs.machine.Rules.Session.{life_of, changed_in}
+use Rattle.xr_model.specs.machine.Rules.Session.{life_of, with_change}
 use Rattle.xr_model.specs.machine.Rules.Sync.{synced_code}
-use Rattle.xr_model.specs.machine.SessionLife.{Life, Changed, begun_session, unchanged, ended_session, exiting_session, synced_session, settled_session, is_state, is_lost}
+use Rattle.xr_model.specs.machine.SessionLife.{Life, Changed, begun_session, unchanged, ended_session, exiting_session, synced_session, is_state, is_lost}
 use Rattle.xr_model.specs.machine.SessionRule.{Loss, code_on, loss_of}
 use Rattle.xr_model.specs.machine.Sets.{is_declared}
 use Rattle.xr_model.specs.machine.State.{CoreState, CellReads}
 use Rattle.xr_model.specs.machine.Machine.{effect, rule}
 use Rattle.xr_model.proofs.HandleSteps.{first_fails}
 use Rattle.xr_model.proofs.ListSteps.{none_behind}
-use Rattle.xr_model.proofs.SeenSessions.{settled_loss, exiting_loss, ended_loss, synced_loss, change_seen, each_seen}
+use Rattle.xr_model.proofs.SeenSessions.{exiting_loss, ended_loss, synced_loss, change_seen, rounds_seen}
 use Rattle.xr_model.proofs.UserAtoms.{known_user, KnowsDeclared}
 
 -- ---- codes
@@ -78,11 +79,11 @@ module _ (s : CoreState) where
   atoms_alike text known = rw (atom_alike text known user.Left, atom_alike text known user.Right, atom_alike text known user.Head, atom_alike text known user.Gamepad, atom_alike text known user.Treadmill) refl
 
   changed : (session : ℕ) (f : Life → Changed) → ((x : Session) → session_at s.sessions session ≡ Some x → loss_of (f x.life).life ≡ loss_of x.life)
-      → publication_of (record s { sessions = changed_in (session_at s.sessions session) f s.sessions }) ≡ publication_of s
-  changed session f same = sessions_alike (changed_in (session_at s.sessions session) f s.sessions) (change_seen s.sessions session f same)
+      → publication_of (record s { sessions = (with_change s (session_at s.sessions session) f).sessions }) ≡ publication_of s
+  changed session f same = sessions_alike (with_change s (session_at s.sessions session) f).sessions (rounds_seen s.device.wish _ ∙ change_seen s.sessions session f same)
 
   events : (what : DeviceEvent) → publishes (ask.Device what) Success ≡ false → Alike (behind_event s what)
-  events (event.Wish wish) quiet = sessions_alike _ (each_seen (settled_session wish) s.sessions (settled_loss wish))
+  events (event.Wish wish) quiet = sessions_alike _ (rounds_seen wish (record { sessions = s.sessions; events = s.events }))
   events event.Loss quiet = absurd (true≢false quiet)
   events event.Lost quiet = absurd (true≢false quiet)
   events event.Fault quiet = absurd (true≢false quiet)
@@ -147,7 +148,7 @@ contents_stay s reads e known quiet = by e.call quiet
         kept s (refusal e.short f) (told_on f.on f.effect) (λ none. changed s session (exiting_session s.device.wish) (λ x there. exiting_loss s.device.wish x.life))
     by (ask.EndFrame session time blend layers) quiet =
         let f = rule s reads (record e { call = ask.EndFrame session time blend layers }) in
-        kept s (refusal e.short f) (told_on f.on f.effect) (λ none. changed s session (synced_session s.device.wish) (λ x there. synced_loss s.device.wish x.life))
+        kept s (refusal e.short f) (told_on f.on f.effect) (λ none. changed s session (synced_session wish.Ready) (λ x there. synced_loss wish.Ready x.life))
     by (ask.Device what) quiet = events s what (device_quiet what (effect s reads (record e { call = ask.Device what })).code quiet)
     by r quiet =
         let f = rule s reads (record e { call = r }) in

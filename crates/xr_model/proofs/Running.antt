@@ -1,17 +1,15 @@
 -- A session is running exactly where it was begun and not ended.
-use Rattle.std.proofs.Common.{true≢false, ◌≡◌, ◌==◌, ◌&&◌, ◌||◌, ℕ, ℤ, Bool, true, false, List, [], ◌∷◌, Option, Some, None, refl, sym, ap, subst, ◌∙◌}
+use Rattle.std.proofs.Common.{true≢false, ◌≡◌, ◌==◌, ◌&&◌, ℕ, ℤ, Bool, true, false, List, [], ◌∷◌, Option, Some, None, refl, sym, ap, subst, ◌∙◌}
 use Rattle.std.specs.Prelude.{is_some, if◌then◌else◌}
 use Rattle.xr_types.specs.Code.{is_success}
 use Rattle.xr_types.specs.declared.device.DeviceEvent.{DeviceEvent}
 use Rattle.xr_types.specs.declared.device.DeviceEvent.TheVariants as event
-use Rattle.xr_types.specs.declared.device.Wish.{Wish}
 use Rattle.xr_types.specs.declared.handles.Kind.TheVariants as kind
-use Rattle.xr_types.specs.declared.session.SessionState.TheVariants.{Ready, Synchronized, Exiting, LossPending}
 use Rattle.xr_model.specs.machine.Calls.{Entry}
 use Rattle.xr_types.specs.declared.calls.Call.{Call}
 use Rattle.xr_types.specs.declared.calls.Call.TheVariants as ask
 use Rattle.xr_model.specs.machine.Handles.{is_live, was_given}
-use Rattle.xr_model.specs.machine.SessionLife.{Life, is_state, unchanged, begun_session, ended_session, exiting_session, losing_session, started_session, entered}
+use Rattle.xr_model.specs.machine.SessionLife.{Life, started_session}
 use Rattle.xr_model.specs.machine.LiveSessions.{Session, session_at}
 use Rattle.xr_model.specs.machine.State.{State, opening}
 use Rattle.xr_model.specs.machine.Machine.{rule, step, reads_of, IsAllowed, IsGiven}
@@ -31,52 +29,34 @@ use Rattle.xr_model.specs.laws.Soundness.{AreKnown}
 abbrev runs : Bool → Bool → Bool → Bool
 runs begun ended before = if begun then true else (if ended then false else before)
 
-abbrev RunsAs : Life → Life → Type 0
-RunsAs life new = new.running ≡ life.running
-
-losing_runs : (life : Life) → RunsAs life (losing_session life).life
-losing_runs life = by (is_state life.state Exiting || is_state life.state LossPending)
+runs_after : (r : Call) (handle : ℕ) (good : Bool) (life : Life)
+    → (life_after r handle good life).running ≡ runs (begins r handle && good) (ends r handle && good) life.running
+runs_after r handle good life = by r
   where
-    by : (b : Bool)
-        → RunsAs life (if b then unchanged life else record { life = record life { state = LossPending }; through = LossPending ∷ [] }).life
-    by true = refl
-    by false = refl
-
-runs_after : (w : Wish) (r : Call) (handle : ℕ) (good : Bool) (life : Life)
-    → (life_after w r handle good life).running ≡ runs (begins r handle && good) (ends r handle && good) life.running
-runs_after w r handle good life = by r
-  where
-    begun : (good mine : Bool) → (if good && mine then begun_session life else life).running ≡ runs (mine && good) false life.running
+    begun : (good mine : Bool) → (if good && mine then record life { running = true } else life).running ≡ runs (mine && good) false life.running
     begun true true = refl
     begun true false = refl
     begun false true = refl
     begun false false = refl
 
-    ended : (good mine : Bool) → (if good && mine then (ended_session w life).life else life).running ≡ runs false (mine && good) life.running
+    ended : (good mine : Bool) → (if good && mine then record life { running = false } else life).running ≡ runs false (mine && good) life.running
     ended true true = refl
     ended true false = refl
     ended false true = refl
     ended false false = refl
 
-    asked : (b : Bool) → (if b then (exiting_session w life).life else life).running ≡ life.running
+    asked : (b : Bool) → (if b then record life { exit = true } else life).running ≡ life.running
     asked true = refl
     asked false = refl
 
-    synced : (a b : Bool) → (if a then (if b then entered w life Synchronized else unchanged life).life else life).running ≡ life.running
-    synced true true = refl
-    synced true false = refl
-    synced false b = refl
-
-    events : (what : DeviceEvent) → (life_after w (ask.Device what) handle good life).running ≡ life.running
-    events event.Loss = losing_runs life
-    events (event.Wish wish) = refl
+    events : (what : DeviceEvent) → (life_after (ask.Device what) handle good life).running ≡ life.running
+    events event.Lost = refl
     events _ = refl
 
-    by : (r : Call) → (life_after w r handle good life).running ≡ runs (begins r handle && good) (ends r handle && good) life.running
+    by : (r : Call) → (life_after r handle good life).running ≡ runs (begins r handle && good) (ends r handle && good) life.running
     by (ask.BeginSession session view) = begun good (session == handle)
     by (ask.EndSession session) = ended good (session == handle)
     by (ask.RequestExitSession session) = asked (good && (session == handle))
-    by (ask.EndFrame session time blend layers) = synced (good && (session == handle)) (is_state life.state Ready)
     by (ask.Device what) = events what
     by _ = refl
 
@@ -136,15 +116,15 @@ running_step s e allowed known listed before running session y found =
     some_is a b same = cc
 
     by : (o : Option Session) → session_at s.core.sessions session ≡ o → (n : Option Session) → n ≡ Some y
-        → Follows (life_after s.core.device.wish e.call session (is_success (step s e).1.reply.code)) (creates_session e session)
+        → Follows (life_after e.call session (is_success (step s e).1.reply.code)) (creates_session e session)
         (started_session s.core.device.wish).life o n
         → y.life.running ≡ begun_after s e session (before session)
     by o eo None found follows = cc
-    by None eo (Some z) found follows = rw (ap (λ (x : Session). x.life) (sym (some_is z y found)), follows.0, follows.1) refl
+    by None eo (Some z) found follows = ap (λ (x : Session). x.life.running) (sym (some_is z y found)) ∙ ap (λ (life : Life). life.running) follows.1 ∙ rw follows.0 refl
     by (Some x) eo (Some z) found follows =
         let old = unlisted s e session allowed known listed x eo in
-        rw (ap (λ (x : Session). x.life) (sym (some_is z y found)), old, follows, sym (running session x eo))
-        (runs_after s.core.device.wish e.call session (is_success (step s e).1.reply.code) x.life)
+        ap (λ (x : Session). x.life.running) (sym (some_is z y found)) ∙ ap (λ (life : Life). life.running) follows
+        ∙ rw (old, sym (running session x eo)) (runs_after e.call session (is_success (step s e).1.reply.code) x.life)
 
 running_after : (s : State) (clocks : List ℤ) (es : List Entry) → IsLegalFrom s clocks es
     → AreKnown s.core.handles → AreListed s.core.handles s.core.sessions

@@ -1,5 +1,5 @@
 -- Which changes of sessions change nothing of what is published: all but the device's loss.
-use Rattle.std.proofs.Common.{◌≡◌, ◌==◌, ℕ, Bool, true, false, List, [], ◌∷◌, Option, Some, None, refl, ap, sym, true≢false}
+use Rattle.std.proofs.Common.{◌≡◌, ◌==◌, ℕ, Bool, true, false, List, [], ◌∷◌, Option, Some, None, refl, ap, sym, ◌∙◌, true≢false}
 use Rattle.std.specs.Prelude.{if◌then◌else◌}
 use Rattle.xr_types.specs.declared.device.Wish.{Wish}
 use Rattle.xr_types.specs.declared.device.Wish.TheVariants as wish
@@ -8,9 +8,11 @@ use Rattle.xr_types.specs.declared.session.SessionState.TheVariants.{Idle, Ready
 use Rattle.xr_model.specs.machine.LiveSessions.{Session, session_at, with_session_at, with_life, each_changed}
 use Rattle.xr_model.specs.machine.Publication.{seen, first_seen}
 use Rattle.xr_model.specs.machine.Rules.Session.{changed_in}
-use Rattle.xr_model.specs.machine.SessionLife.{Life, Changed, changes, most_changes, last_of, is_state, settled_session, ended_session, exiting_session, synced_session}
+use Rattle.xr_model.specs.machine.SessionLife.{Life, Changed, unchanged, changes, most_changes, last_of, is_state, settled_session, ended_session, exiting_session, synced_session}
 use Rattle.xr_model.specs.machine.SessionRule.{loss_of}
+use Rattle.xr_model.specs.machine.Target.{target_of, is_target, own_wish, Standing, other_settled, target_settled, rounds, most_rounds}
 use Rattle.xr_model.proofs.Listed.{found_once}
+use Rattle.xr_model.proofs.Targets.{once_is_enough}
 
 -- ---- the table of states
 
@@ -78,6 +80,27 @@ change_seen xs session f same = by (session_at xs session) refl
     by (Some x) eo = seen_at xs x.handle (with_life (f x.life).life) (λ y there. let one = found_once xs session x y eo there in rw (same x eo, one) refl)
 
 -- each session settles
-pub each_seen : (f : Life → Changed) (xs : List Session) → ((life : Life) → loss_of (f life).life ≡ loss_of life) → first_seen (each_changed f xs) ≡ first_seen xs
+pub each_seen : (f : Session → Changed) (xs : List Session) → ((x : Session) → loss_of (f x).life ≡ loss_of x.life) → first_seen (each_changed f xs) ≡ first_seen xs
 each_seen f [] same = refl
-each_seen f (x ∷ xs) same = rw (same x.life) refl
+each_seen f (x ∷ xs) same = rw (same x) refl
+
+other_loss : (w : Wish) (target : ℕ) (x : Session) → loss_of (other_settled w target x).life ≡ loss_of x.life
+other_loss w target x = by (is_target target x)
+  where
+    by : (b : Bool) → loss_of (if b then unchanged x.life else settled_session (own_wish w target x) x.life).life ≡ loss_of x.life
+    by true = refl
+    by false = settled_loss (own_wish w target x) x.life
+
+target_loss : (w : Wish) (target : ℕ) (x : Session) → loss_of (target_settled w target x).life ≡ loss_of x.life
+target_loss w target x = by (is_target target x)
+  where
+    by : (b : Bool) → loss_of (if b then settled_session (own_wish w target x) x.life else unchanged x.life).life ≡ loss_of x.life
+    by true = settled_loss (own_wish w target x) x.life
+    by false = refl
+
+-- all sessions settle
+pub rounds_seen : (w : Wish) (t : Standing) → first_seen (rounds most_rounds w t).sessions ≡ first_seen t.sessions
+rounds_seen w t =
+    let target = target_of t.sessions in
+    ap (λ (u : Standing). first_seen u.sessions) (once_is_enough w t)
+    ∙ each_seen (target_settled w target) (each_changed (other_settled w target) t.sessions) (target_loss w target) ∙ each_seen (other_settled w target) t.sessions (other_loss w target)

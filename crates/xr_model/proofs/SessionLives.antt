@@ -1,11 +1,13 @@
 -- What an entry does to the life of one session, told by its handle: the one case split for laws on a session's life.
-use Rattle.std.proofs.Common.{◌≡◌, ◌==◌, ◌&&◌, ℕ, Bool, true, false, not, List, [], ◌∷◌, ◌++◌, map, Option, Some, None, option_map, refl, sym, ap, subst, ◌∙◌, true≢false}
+use Rattle.std.proofs.Common.{◌≡◌, ◌==◌, ◌&&◌, ◌||◌, ℕ, Bool, true, false, not, List, [], ◌∷◌, ◌++◌, map, Option, Some, None, option_map, refl, sym, ap, subst, ◌∙◌, true≢false}
 use Rattle.std.specs.Prelude.{if◌then◌else◌}
 use Rattle.std.specs.List.{filter}
 use Rattle.xr_types.specs.Code.{is_success}
 use Rattle.xr_types.specs.declared.device.DeviceEvent.{DeviceEvent}
 use Rattle.xr_types.specs.declared.device.DeviceEvent.TheVariants as event
 use Rattle.xr_types.specs.declared.device.Wish.{Wish}
+use Rattle.xr_types.specs.declared.device.Wish.TheVariants as wish
+use Rattle.xr_types.specs.declared.session.SessionState.TheVariants.{Ready, Synchronized, Exiting, LossPending}
 use Rattle.xr_types.specs.declared.handles.Kind.TheVariants as kind
 use Rattle.xr_model.specs.machine.Calls.{Entry}
 use Rattle.xr_types.specs.declared.calls.Call.{Call}
@@ -17,16 +19,16 @@ use Rattle.xr_model.specs.machine.Rule.{Effect, refusal, refusals, told_on, unle
 use Rattle.xr_model.specs.machine.SessionRule.{loss_of}
 use Rattle.xr_model.specs.machine.Rules.Device.{behind_event}
 use Rattle.xr_model.specs.machine.Rules.Session.{new_session, changed_in, life_of}
-use Rattle.xr_model.specs.machine.SessionLife.{Life, Changed, unchanged, started_session, settled_session, begun_session, ended_session, exiting_session, losing_session, lost_session, synced_session}
+use Rattle.xr_model.specs.machine.SessionLife.{Life, Changed, unchanged, is_state, entered, started_session, begun_session, ended_session, exiting_session, losing_session, lost_session, synced_session}
 use Rattle.xr_model.specs.machine.LiveSessions.{Session, session_at, with_session_at, with_life, with_attached, without_sets, still_live, sessions_left, each_changed}
 use Rattle.xr_model.specs.machine.Sets.{sets_named}
 use Rattle.xr_model.specs.laws.SessionLaws.{creates_session}
 use Rattle.xr_model.specs.machine.Machine.{core_step, rule}
+use Rattle.xr_model.specs.machine.Target.{Standing, rounds, most_rounds}
 use Rattle.xr_model.proofs.Rows.{same_key}
+use Rattle.xr_model.proofs.Targets.{Steady, rounds_keep}
 use Rattle.xr_model.proofs.Listed.{handle_of}
 use Rattle.xr_model.proofs.Successes.{success_succeeds}
-use Rattle.xr_model.specs.machine.Rules.Frames.{look_of}
-use Rattle.xr_model.proofs.LayerCodes.{layers_fail}
 use Rattle.xr_model.proofs.SessionAnswers.{none_in, first_none}
 
 -- ---- what is found by a handle, once the list has changed
@@ -35,7 +37,7 @@ apart : (a b c : ℕ) → (a == b) ≡ true → (a == c) ≡ false → (b == c) 
 apart a b c same other = subst (λ (n : ℕ). (n == c) ≡ false) (same_key a b same) other
 
 -- that with one handle has changed
-found_at : (handle k : ℕ) (f : Session → Session) → ((x : Session) → (f x).handle ≡ x.handle) → (xs : List Session)
+pub found_at : (handle k : ℕ) (f : Session → Session) → ((x : Session) → (f x).handle ≡ x.handle) → (xs : List Session)
     → session_at (with_session_at handle f xs) k ≡ option_map (λ x. if handle == k then f x else x) (session_at xs k)
 found_at handle k f named [] = refl
 found_at handle k f named (z ∷ xs) = by (z.handle == handle) refl (z.handle == k) refl (found_at handle k f named xs)
@@ -63,19 +65,19 @@ found_at handle k f named (z ∷ xs) = by (z.handle == handle) refl (z.handle ==
     by false eb false ec more = rw ec more
 
 -- each has changed
-pub found_each : (f : Life → Changed) (k : ℕ) (xs : List Session)
-    → session_at (each_changed f xs) k ≡ option_map (λ x. with_life (f x.life).life x) (session_at xs k)
+pub found_each : (f : Session → Changed) (k : ℕ) (xs : List Session)
+    → session_at (each_changed f xs) k ≡ option_map (λ x. with_life (f x).life x) (session_at xs k)
 found_each f k [] = refl
 found_each f k (z ∷ xs) = by (z.handle == k) (found_each f k xs)
   where
-    by : (b : Bool) → session_at (each_changed f xs) k ≡ option_map (λ x. with_life (f x.life).life x) (session_at xs k)
-        → (if b then Some (with_life (f z.life).life z) else session_at (each_changed f xs) k)
-        ≡ option_map (λ x. with_life (f x.life).life x) (if b then Some z else session_at xs k)
+    by : (b : Bool) → session_at (each_changed f xs) k ≡ option_map (λ x. with_life (f x).life x) (session_at xs k)
+        → (if b then Some (with_life (f z).life z) else session_at (each_changed f xs) k)
+        ≡ option_map (λ x. with_life (f x).life x) (if b then Some z else session_at xs k)
     by true more = refl
     by false more = more
 
 -- sets have gone from what each has attached
-found_without : (gone : List ℕ) (k : ℕ) (xs : List Session)
+pub found_without : (gone : List ℕ) (k : ℕ) (xs : List Session)
     → session_at (map (without_sets gone) xs) k ≡ option_map (without_sets gone) (session_at xs k)
 found_without gone k [] = refl
 found_without gone k (z ∷ xs) = by (z.handle == k) (found_without gone k xs)
@@ -87,10 +89,10 @@ found_without gone k (z ∷ xs) = by (z.handle == k) (found_without gone k xs)
     by false more = more
 
 -- some are left
-abbrev where_left : Bool → Option Session → Option Session
+abbrev pub where_left : Bool → Option Session → Option Session
 where_left left o = if left then o else None
 
-found_left : (p : ℕ → Bool) (k : ℕ) (xs : List Session) → session_at (filter (λ x. p x.handle) xs) k ≡ where_left (p k) (session_at xs k)
+pub found_left : (p : ℕ → Bool) (k : ℕ) (xs : List Session) → session_at (filter (λ x. p x.handle) xs) k ≡ where_left (p k) (session_at xs k)
 found_left p k [] = by (p k)
   where
     by : (b : Bool) → None ≡ where_left b None
@@ -108,11 +110,11 @@ found_left p k (z ∷ xs) = by (p z.handle) refl (z.handle == k) refl (found_lef
     by false eb false ec more = more
 
 -- one has joined
-abbrev or_new : Session → ℕ → Option Session → Option Session
+abbrev pub or_new : Session → ℕ → Option Session → Option Session
 or_new z k None = if z.handle == k then Some z else None
 or_new z k (Some x) = Some x
 
-found_more : (z : Session) (k : ℕ) (xs : List Session) → session_at (xs ++ z ∷ []) k ≡ or_new z k (session_at xs k)
+pub found_more : (z : Session) (k : ℕ) (xs : List Session) → session_at (xs ++ z ∷ []) k ≡ or_new z k (session_at xs k)
 found_more z k [] = refl
 found_more z k (y ∷ ys) = by (y.handle == k) (found_more z k ys)
   where
@@ -123,38 +125,40 @@ found_more z k (y ∷ ys) = by (y.handle == k) (found_more z k ys)
 
 -- ---- what an entry does to a life
 
--- the life of the session with a handle after a request, told whether it succeeds
-abbrev pub life_after : Wish → Call → ℕ → Bool → Life → Life
-life_after w (ask.BeginSession session view) handle good life = if good && (session == handle) then begun_session life else life
-life_after w (ask.EndSession session) handle good life = if good && (session == handle) then (ended_session w life).life else life
-life_after w (ask.RequestExitSession session) handle good life = if good && (session == handle) then (exiting_session w life).life else life
-life_after w (ask.EndFrame session time blend layers) handle good life = if good && (session == handle) then (synced_session w life).life else life
-life_after w (ask.Device (event.Wish wish)) handle good life = (settled_session wish life).life
-life_after w (ask.Device event.Loss) handle good life = (losing_session life).life
-life_after w (ask.Device event.Lost) handle good life = lost_session life
-life_after w (ask.Device event.Fault) handle good life = lost_session life
-life_after w (ask.Device (event.Garbled line)) handle good life = lost_session life
-life_after w _ handle good life = life
+-- what the life of the session with a handle is after a request, told whether it succeeds, but for the state
+abbrev pub life_after : Call → ℕ → Bool → Life → Life
+life_after (ask.BeginSession session view) handle good life = if good && (session == handle) then record life { running = true } else life
+life_after (ask.EndSession session) handle good life = if good && (session == handle) then record life { running = false } else life
+life_after (ask.RequestExitSession session) handle good life = if good && (session == handle) then record life { exit = true } else life
+life_after (ask.Device event.Lost) handle good life = lost_session life
+life_after (ask.Device event.Fault) handle good life = lost_session life
+life_after (ask.Device (event.Garbled line)) handle good life = lost_session life
+life_after _ handle good life = life
 
--- What is found after is what was found before, with a life that follows so from the life before; or it is new.
+-- What is found after is what was found before, with a life that follows so from the life before, whatever its state; or it is new.
 abbrev pub Follows : (Life → Life) → Bool → Life → Option Session → Option Session → Type 0
 Follows f created new before None = Unit {0}
-Follows f created new None (Some y) = (created ≡ true) × (y.life ≡ new)
-Follows f created new (Some x) (Some y) = y.life ≡ f x.life
+Follows f created new None (Some y) = (created ≡ true) × Steady new y.life
+Follows f created new (Some x) (Some y) = Steady (f x.life) y.life
+
+steadily : (a b c : Life) → Steady a b → Steady b c → Steady a c
+steadily a b c one two = two ∙ ap (λ (life : Life). record life { state = c.state }) one
 
 follows_same : (f : Life → Life) (created : Bool) (new : Life) → ((life : Life) → f life ≡ life) → (o : Option Session) → Follows f created new o o
 follows_same f created new same None = tt
-follows_same f created new same (Some x) = sym (same x.life)
+follows_same f created new same (Some x) = rw (same x.life) refl
 
-follows_each : (f : Life → Changed) (created : Bool) (new : Life) (o : Option Session)
-    → Follows (λ life. (f life).life) created new o (option_map (λ x. with_life (f x.life).life x) o)
-follows_each f created new None = tt
-follows_each f created new (Some x) = refl
+-- each changes once more, but for its state it stays
+follows_on : (f : Life → Life) (created : Bool) (new : Life) (g : Session → Changed) → ((x : Session) → Steady x.life (g x).life) → (o n : Option Session)
+    → Follows f created new o n → Follows f created new o (option_map (λ x. with_life (g x).life x) n)
+follows_on f created new g steady o None follows = tt
+follows_on f created new g steady None (Some y) follows = (follows.0, steadily new y.life (g y).life follows.1 (steady y))
+follows_on f created new g steady (Some x) (Some y) follows = steadily (f x.life) y.life (g y).life follows (steady y)
 
 follows_left : (f : Life → Life) (created : Bool) (new : Life) → ((life : Life) → f life ≡ life) → (gone : List ℕ) (left : Bool) (o : Option Session)
     → Follows f created new o (option_map (without_sets gone) (where_left left o))
 follows_left f created new same gone true None = tt
-follows_left f created new same gone true (Some x) = sym (same x.life)
+follows_left f created new same gone true (Some x) = rw (same x.life) refl
 follows_left f created new same gone false None = tt
 follows_left f created new same gone false (Some x) = tt
 
@@ -174,36 +178,50 @@ follows_more f new handle same None = by (new.handle == handle)
     by : (b : Bool) → Follows f b new.life None (if b then Some new else None)
     by true = (refl, refl)
     by false = tt
-follows_more f new handle same (Some x) = sym (same x.life)
+follows_more f new handle same (Some x) = rw (same x.life) refl
 
 -- the session has changed by a test of whether it is the one
-abbrev where_it : Bool → (Life → Changed) → Life → Life
-where_it it f life = if it then (f life).life else life
+abbrev where_it : Bool → (Life → Life) → Life → Life
+where_it it f life = if it then f life else life
 
-follows_changed : (f : Life → Changed) (created : Bool) (new : Life) (xs : List Session) (session handle : ℕ)
-    → Follows (where_it (session == handle) f) created new (session_at xs handle) (session_at (changed_in (session_at xs session) f xs) handle)
-follows_changed f created new xs session handle = by (session_at xs session) refl
+follows_changed : (f : Life → Changed) (g : Life → Life) → ((life : Life) → Steady (g life) (f life).life) → (created : Bool) (new : Life) (xs : List Session) (session handle : ℕ)
+    → Follows (where_it (session == handle) g) created new (session_at xs handle) (session_at (changed_in (session_at xs session) f xs) handle)
+follows_changed f g steady created new xs session handle = by (session_at xs session) refl
   where
     none : (b : Bool) → (session == handle) ≡ b → session_at xs session ≡ None
-        → Follows (where_it b f) created new (session_at xs handle) (session_at xs handle)
+        → Follows (where_it b g) created new (session_at xs handle) (session_at xs handle)
     none true eb eo = let away : session_at xs handle ≡ None = subst (λ (n : ℕ). session_at xs n ≡ None) (same_key session handle eb) eo in rw away tt
     none false eb eo = follows_same (λ life. life) created new (λ life. refl) (session_at xs handle)
 
     one : (z : Session) → session_at xs session ≡ Some z → (b : Bool) → (session == handle) ≡ b → (o : Option Session) → session_at xs handle ≡ o
-        → Follows (where_it b f) created new o (option_map (λ x. if b then with_life (f z.life).life x else x) o)
+        → Follows (where_it b g) created new o (option_map (λ x. if b then with_life (f z.life).life x else x) o)
     one z ez b eb None eo = tt
     one z ez false eb (Some x) eo = refl
     one z ez true eb (Some x) eo =
         let found : session_at xs handle ≡ Some z = subst (λ (n : ℕ). session_at xs n ≡ Some z) (same_key session handle eb) ez in
-        ap (λ (y : Session). (f y.life).life) (some_is z x (sym found ∙ eo))
+        subst (λ (y : Session). Steady (g y.life) (f z.life).life) (some_is z x (sym found ∙ eo)) (steady z.life)
 
     by : (o : Option Session) → session_at xs session ≡ o
-        → Follows (where_it (session == handle) f) created new (session_at xs handle) (session_at (changed_in o f xs) handle)
+        → Follows (where_it (session == handle) g) created new (session_at xs handle) (session_at (changed_in o f xs) handle)
     by None eo = none (session == handle) refl eo
     by (Some z) eo =
         let named = handle_of xs session z eo in
         rw (found_at z.handle handle (with_life (f z.life).life) (λ x. refl) xs, named)
         (one z eo (session == handle) refl (session_at xs handle) refl)
+
+losing_steady : (life : Life) → Steady life (losing_session life).life
+losing_steady life = by (is_state life.state Exiting || is_state life.state LossPending)
+  where
+    by : (b : Bool) → Steady life (if b then unchanged life else record { life = record life { state = LossPending }; through = LossPending ∷ [] }).life
+    by true = refl
+    by false = refl
+
+synced_steady : (w : Wish) (life : Life) → Steady life (synced_session w life).life
+synced_steady w life = by (is_state life.state Ready)
+  where
+    by : (b : Bool) → Steady life (if b then entered w life Synchronized else unchanged life).life
+    by true = refl
+    by false = refl
 
 -- ---- the one case split
 
@@ -233,37 +251,55 @@ module _ (s : CoreState) (reads : CellReads) (e : Entry) (handle : ℕ) where
   -- what is found after the request, told what is listed then and whether it succeeds
   abbrev Lives : Call → List Session → Bool → Type 0
   Lives r xs good =
-      Follows (life_after s.device.wish r handle good) (creates_session (record e { call = r }) handle) fresh
+      Follows (life_after r handle good) (creates_session (record e { call = r }) handle) fresh
       (session_at s.sessions handle) (session_at xs handle)
 
   abbrev good : Call → Bool
   good r = is_success (core_step s reads (record e { call = r })).1.reply.code
 
-  gone : (r : Call) → ((life : Life) → life_after s.device.wish r handle (good r) life ≡ life) → (top : ℕ)
+  gone : (r : Call) → ((life : Life) → life_after r handle (good r) life ≡ life) → (top : ℕ)
       → Lives r (sessions_left (without s.handles top) (destroyed_by s.handles top) s.sessions) (good r)
   gone r same top =
       let left = without s.handles top in
       let sets = destroyed_by s.handles top in
       rw (found_without sets handle (still_live left s.sessions), found_left (λ n. is_live left kind.Session n) handle s.sessions)
-      (follows_left (life_after s.device.wish r handle (good r)) (creates_session (record e { call = r }) handle) fresh same
+      (follows_left (life_after r handle (good r)) (creates_session (record e { call = r }) handle) fresh same
       sets (is_live left kind.Session handle) (session_at s.sessions handle))
-
-  each : (f : Life → Changed)
-      → Follows (λ life. (f life).life) false fresh (session_at s.sessions handle) (session_at (each_changed f s.sessions) handle)
-  each f = rw (found_each f handle s.sessions) (follows_each f false fresh (session_at s.sessions handle))
 
   all_same : Follows (λ life. life) false fresh (session_at s.sessions handle) (session_at s.sessions handle)
   all_same = follows_same (λ life. life) false fresh (λ life. refl) (session_at s.sessions handle)
 
+  -- all settle, and what was found follows on
+  settles : (f : Life → Life) (created : Bool) (new : Life) (w : Wish) (t : Standing)
+      → Follows f created new (session_at s.sessions handle) (session_at t.sessions handle)
+      → Follows f created new (session_at s.sessions handle) (session_at (rounds most_rounds w t).sessions handle)
+  settles f created new w t follows =
+      rounds_keep (λ xs. Follows f created new (session_at s.sessions handle) (session_at xs handle))
+      (λ g steady xs there. rw (found_each g handle xs) (follows_on f created new g steady (session_at s.sessions handle) (session_at xs handle) there)) w t follows
+
+  each : (f : Session → Changed) → ((x : Session) → Steady x.life (f x).life)
+      → Follows (λ life. life) false fresh (session_at s.sessions handle) (session_at (each_changed f s.sessions) handle)
+  each f steady = rw (found_each f handle s.sessions) (follows_on (λ life. life) false fresh f steady (session_at s.sessions handle) (session_at s.sessions handle) all_same)
+
+  lost : Follows lost_session false fresh (session_at s.sessions handle) (session_at (each_changed (λ x. unchanged (lost_session x.life)) s.sessions) handle)
+  lost = rw (found_each (λ x. unchanged (lost_session x.life)) handle s.sessions) (by (session_at s.sessions handle))
+    where
+      by : (o : Option Session) → Follows lost_session false fresh o (option_map (λ x. with_life (lost_session x.life) x) o)
+      by None = tt
+      by (Some x) = refl
+
   events : (what : DeviceEvent) → Lives (ask.Device what) (behind_event s what).sessions true
-  events (event.Wish wish) = each (settled_session wish)
-  events event.Loss = each losing_session
-  events event.Lost = each (λ life. unchanged (lost_session life))
-  events event.Fault = each (λ life. unchanged (lost_session life))
-  events (event.Garbled line) = each (λ life. unchanged (lost_session life))
+  events (event.Wish wish) = settles (λ life. life) false fresh wish _ all_same
+  events event.Loss = settles (λ life. life) false fresh s.device.wish _ (each (λ x. losing_session x.life) (λ x. losing_steady x.life))
+  events event.Lost = lost
+  events event.Fault = lost
+  events (event.Garbled line) = lost
   events _ = all_same
 
-  pub lived : Follows (life_after s.device.wish e.call handle (is_success (core_step s reads e).1.reply.code)) (creates_session e handle)
+  joined : (new : Session) → Follows (λ life. life) (new.handle == handle) new.life (session_at s.sessions handle) (session_at (s.sessions ++ new ∷ []) handle)
+  joined new = rw (found_more new handle s.sessions) (follows_more (λ life. life) new handle (λ life. refl) (session_at s.sessions handle))
+
+  pub lived : Follows (life_after e.call handle (is_success (core_step s reads e).1.reply.code)) (creates_session e handle)
       (started_session s.device.wish).life (session_at s.sessions handle) (session_at (core_step s reads e).0.sessions handle)
   lived = by e.call
     where
@@ -273,27 +309,30 @@ module _ (s : CoreState) (reads : CellReads) (e : Entry) (handle : ℕ) where
           let new = new_session s e.given fresh in
           kept (λ xs. Lives (ask.CreateSession instance system) xs true) s (refusal e.short f) (told_on f.on f.effect)
           (follows_same (λ life. life) (e.given == handle) new.life (λ life. refl) (session_at s.sessions handle))
-          (rw (found_more new handle s.sessions) (follows_more (λ life. life) new handle (λ life. refl) (session_at s.sessions handle)))
+          (settles (λ life. life) (e.given == handle) new.life s.device.wish _ (joined new))
       by (ask.BeginSession session view) =
           let f = rule s reads (record e { call = ask.BeginSession session view }) in
           carried (Lives (ask.BeginSession session view)) s (refusal e.short f) (told_on f.on f.effect) (first_none is_success (refusals f) refl)
           (success_succeeds (loss_of (life_of s session))) all_same
-          (follows_changed (λ life. unchanged (begun_session life)) false fresh s.sessions session handle)
+          (settles (where_it (session == handle) begun_session) false fresh s.device.wish _ (follows_changed (λ life. unchanged (begun_session life)) begun_session (λ life. refl) false fresh s.sessions session handle))
       by (ask.EndSession session) =
           let f = rule s reads (record e { call = ask.EndSession session }) in
           carried (Lives (ask.EndSession session)) s (refusal e.short f) (told_on f.on f.effect) (first_none is_success (refusals f) refl)
           (success_succeeds (loss_of (life_of s session))) all_same
-          (follows_changed (ended_session s.device.wish) false fresh s.sessions session handle)
+          (settles (where_it (session == handle) (λ life. record life { running = false })) false fresh s.device.wish _ (follows_changed (ended_session s.device.wish) (λ life. record life { running = false }) (λ life. refl) false fresh s.sessions session handle))
       by (ask.RequestExitSession session) =
           let f = rule s reads (record e { call = ask.RequestExitSession session }) in
           carried (Lives (ask.RequestExitSession session)) s (refusal e.short f) (told_on f.on f.effect) (first_none is_success (refusals f) refl)
           (success_succeeds (loss_of (life_of s session))) all_same
-          (follows_changed (exiting_session s.device.wish) false fresh s.sessions session handle)
+          (settles (where_it (session == handle) (λ life. record life { exit = true })) false fresh s.device.wish _ (follows_changed (exiting_session s.device.wish) (λ life. record life { exit = true }) (λ life. refl) false fresh s.sessions session handle))
       by (ask.EndFrame session time blend layers) =
           let f = rule s reads (record e { call = ask.EndFrame session time blend layers }) in
-          carried (Lives (ask.EndFrame session time blend layers)) s (refusal e.short f) (told_on f.on f.effect) (first_none is_success (refusals f) (layers_fail (look_of s) layers))
-          (success_succeeds (loss_of (life_of s session))) all_same
-          (follows_changed (synced_session s.device.wish) false fresh s.sessions session handle)
+          kept (λ xs. Lives (ask.EndFrame session time blend layers) xs true) s (refusal e.short f) (told_on f.on f.effect) all_same
+          (settles (λ life. life) false fresh s.device.wish _ (synced (session == handle) (session_at (changed_in (session_at s.sessions session) (synced_session wish.Ready) s.sessions) handle) (follows_changed (synced_session wish.Ready) (λ life. life) (synced_steady wish.Ready) false fresh s.sessions session handle)))
+        where
+          synced : (b : Bool) (n : Option Session) → Follows (where_it b (λ life. life)) false fresh (session_at s.sessions handle) n → Follows (λ life. life) false fresh (session_at s.sessions handle) n
+          synced true n follows = follows
+          synced false n follows = follows
       by (ask.AttachSets session sets) =
           let f = rule s reads (record e { call = ask.AttachSets session sets }) in
           kept (λ xs. Lives (ask.AttachSets session sets) xs true) s (refusal e.short f) (told_on f.on f.effect) all_same
@@ -302,19 +341,19 @@ module _ (s : CoreState) (reads : CellReads) (e : Entry) (handle : ℕ) where
       by (ask.DestroyInstance instance) =
           let f = rule s reads (record e { call = ask.DestroyInstance instance }) in
           kept (λ xs. Lives (ask.DestroyInstance instance) xs true) s (refusal e.short f) (told_on f.on f.effect) all_same
-          (gone (ask.DestroyInstance instance) (λ life. refl) instance)
+          (settles (λ life. life) false fresh s.device.wish _ (gone (ask.DestroyInstance instance) (λ life. refl) instance))
       by (ask.DestroySession session) =
           let f = rule s reads (record e { call = ask.DestroySession session }) in
           kept (λ xs. Lives (ask.DestroySession session) xs true) s (refusal e.short f) (told_on f.on f.effect) all_same
-          (gone (ask.DestroySession session) (λ life. refl) session)
+          (settles (λ life. life) false fresh s.device.wish _ (gone (ask.DestroySession session) (λ life. refl) session))
       by (ask.DestroyActionSet set) =
           let f = rule s reads (record e { call = ask.DestroyActionSet set }) in
           kept (λ xs. Lives (ask.DestroyActionSet set) xs true) s (refusal e.short f) (told_on f.on f.effect) all_same
-          (gone (ask.DestroyActionSet set) (λ life. refl) set)
+          (settles (λ life. life) false fresh s.device.wish _ (gone (ask.DestroyActionSet set) (λ life. refl) set))
       by (ask.DestroyAction action) =
           let f = rule s reads (record e { call = ask.DestroyAction action }) in
           kept (λ xs. Lives (ask.DestroyAction action) xs true) s (refusal e.short f) (told_on f.on f.effect) all_same
-          (gone (ask.DestroyAction action) (λ life. refl) action)
+          (settles (λ life. life) false fresh s.device.wish _ (gone (ask.DestroyAction action) (λ life. refl) action))
       by (ask.Device what) = events what
       by r =
           let f = rule s reads (record e { call = r }) in
@@ -323,15 +362,15 @@ module _ (s : CoreState) (reads : CellReads) (e : Entry) (handle : ℕ) where
 -- of a session that is found before and after
 pub lived_on : (s : CoreState) (reads : CellReads) (e : Entry) (handle : ℕ) (x y : Session)
     → session_at s.sessions handle ≡ Some x → session_at (core_step s reads e).0.sessions handle ≡ Some y
-    → y.life ≡ life_after s.device.wish e.call handle (is_success (core_step s reads e).1.reply.code) x.life
+    → Steady (life_after e.call handle (is_success (core_step s reads e).1.reply.code) x.life) y.life
 lived_on s reads e handle x y before later =
     by (session_at s.sessions handle) (session_at (core_step s reads e).0.sessions handle) before later (lived s reads e handle)
   where
     f : Life → Life
-    f = life_after s.device.wish e.call handle (is_success (core_step s reads e).1.reply.code)
+    f = life_after e.call handle (is_success (core_step s reads e).1.reply.code)
 
     by : (o n : Option Session) → o ≡ Some x → n ≡ Some y
-        → Follows f (creates_session e handle) (started_session s.device.wish).life o n → y.life ≡ f x.life
+        → Follows f (creates_session e handle) (started_session s.device.wish).life o n → Steady (f x.life) y.life
     by None n before later follows = cc
     by (Some a) None before later follows = cc
     by (Some a) (Some b) before later follows = rw (some_is x a (sym before), some_is y b (sym later)) follows

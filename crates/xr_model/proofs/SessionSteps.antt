@@ -16,13 +16,24 @@ use Rattle.xr_model.specs.machine.Rule.{Effect, refusal, told_on, unless_refused
 use Rattle.xr_model.specs.machine.Rules.Instance.{the_system}
 use Rattle.xr_model.specs.machine.Rules.Device.{behind_event}
 use Rattle.xr_model.specs.machine.Rules.Session.{new_session, with_change}
-use Rattle.xr_model.specs.machine.SessionLife.{Life, Changed, unchanged, started_session, settled_session, begun_session, ended_session, exiting_session, losing_session, lost_session, synced_session, entered, is_state}
+use Rattle.xr_model.specs.machine.SessionLife.{Life, Changed, unchanged, started_session, begun_session, ended_session, exiting_session, losing_session, lost_session, synced_session, entered, is_state}
 use Rattle.xr_model.specs.machine.LiveSessions.{Session, session_at, with_session_at, with_life, with_attached, sessions_left, each_changed}
 use Rattle.xr_model.specs.laws.SessionLaws.{is_device_lost, is_session_creation}
 use Rattle.xr_model.specs.machine.Machine.{core_step, rule}
+use Rattle.xr_model.specs.machine.Target.{Standing, rounds, most_rounds}
 use Rattle.xr_model.proofs.Listed.{found_once}
+use Rattle.xr_model.proofs.Targets.{rounds_keep}
 use Rattle.xr_types.specs.declared.device.Wish.{Wish}
+use Rattle.xr_types.specs.declared.device.Wish.TheVariants as wish
 use Rattle.xr_types.specs.declared.session.SessionState.TheVariants.{Ready, Synchronized, Exiting, LossPending}
+
+-- changes of all sessions that leave whether they are lost keep a property
+abbrev pub Closed : (Handles → List Session → Type 0) → Type 0
+Closed P = (h : Handles) (xs : List Session) (f : Session → Changed) → ((x : Session) → (f x).life.lost ≡ x.life.lost) → P h xs → P h (each_changed f xs)
+
+-- so it holds where the sessions have settled
+settles : (P : Handles → List Session → Type 0) → Closed P → (h : Handles) (w : Wish) (t : Standing) → P h t.sessions → P h (rounds most_rounds w t).sessions
+settles P closed h w t has = rounds_keep (P h) (λ f steady xs there. closed h xs f (λ x. ap (λ (life : Life). life.lost) (steady x)) there) w t has
 
 -- a property that the handles and the sessions have before an entry, and that each thing that it may do keeps
 pub record Keeps (P : Handles → List Session → Type 0) (s : CoreState) (reads : CellReads) (e : Entry) : Type 0 where
@@ -39,8 +50,8 @@ pub record Keeps (P : Handles → List Session → Type 0) (s : CoreState) (read
   pub chain_alone : is_device_lost e.call ≡ false → is_session_creation e.call ≡ false → (chain : ℕ) → P (without_alone s.handles kind.Swapchain chain) s.sessions
   pub lives : is_device_lost e.call ≡ false → is_session_creation e.call ≡ false → (session : ℕ) (f : Session → Session) → ((x : Session) → (f x).handle ≡ x.handle) → ((x : Session) → session_at s.sessions session ≡ Some x → (f x).life.lost ≡ x.life.lost) → ((x : Session) → (f x).attached ≡ x.attached) → P s.handles (with_session_at session f s.sessions)
   pub attach : is_device_lost e.call ≡ false → is_session_creation e.call ≡ false → (session : ℕ) (sets : List ℕ) → P s.handles (with_session_at session (with_attached (sets_named s.inputs sets)) s.sessions)
-  pub each : is_device_lost e.call ≡ false → is_session_creation e.call ≡ false → (f : Life → Changed) → ((life : Life) → (f life).life.lost ≡ life.lost) → P s.handles (each_changed f s.sessions)
-  pub lost : is_device_lost e.call ≡ true → is_session_creation e.call ≡ false → P s.handles (each_changed (λ life. unchanged (lost_session life)) s.sessions)
+  pub each : Closed P
+  pub lost : is_device_lost e.call ≡ true → is_session_creation e.call ≡ false → P s.handles (each_changed (λ x. unchanged (lost_session x.life)) s.sessions)
 
 abbrev Has : (Handles → List Session → Type 0) → CoreState → Type 0
 Has P s = P s.handles s.sessions
@@ -65,15 +76,15 @@ synced_keeps w life = by (is_state life.state Ready)
     by false = refl
 
 module _ (P : Handles → List Session → Type 0) (s : CoreState) (reads : CellReads) (e : Entry) where
-  changed : (session : ℕ) (f : Life → Changed) (o : Option Session) → session_at s.sessions session ≡ o → Has P s → ((x : Session) → session_at s.sessions session ≡ Some x → P s.handles (with_session_at x.handle (with_life (f x.life).life) s.sessions)) → Has P (with_change s o f)
-  changed session f None found same lives = same
-  changed session f (Some x) found same lives = lives x found
+  changed : Closed P → (session : ℕ) (f : Life → Changed) (o : Option Session) → session_at s.sessions session ≡ o → Has P s → ((x : Session) → session_at s.sessions session ≡ Some x → P s.handles (with_session_at x.handle (with_life (f x.life).life) s.sessions)) → Has P (with_change s o f)
+  changed closed session f None found same lives = settles P closed s.handles s.device.wish _ same
+  changed closed session f (Some x) found same lives = settles P closed s.handles s.device.wish _ (lives x found)
 
   events : (what : DeviceEvent) → Keeps P s reads (record e { call = ask.Device what }) → Has P (behind_event s what)
   events (event.Clock time) k = k.same refl refl
   events (event.Grid base period) k = k.same refl refl
-  events (event.Wish wish) k = k.each refl refl (settled_session wish) (λ life. refl)
-  events event.Loss k = k.each refl refl losing_session losing_keeps
+  events (event.Wish wish) k = settles P k.each s.handles wish _ (k.same refl refl)
+  events event.Loss k = settles P k.each s.handles s.device.wish _ (k.each s.handles s.sessions (λ x. losing_session x.life) (λ x. losing_keeps x.life) (k.same refl refl))
   events event.Lost k = k.lost refl refl
   events (event.Mark mark) k = k.same refl refl
   events event.Fault k = k.lost refl refl
@@ -92,7 +103,7 @@ module _ (P : Handles → List Session → Type 0) (s : CoreState) (reads : Cell
       by false ea b eb c ec = rw ea (k.same refl (rw ea refl))
       by true ea false eb c ec = rw (ea, eb) (k.same refl (rw (ea, eb) refl))
       by true ea true eb false ec = rw (ea, eb, ec) (k.same refl (rw (ea, eb, ec) refl))
-      by true ea true eb true ec = rw (ea, eb, ec) (k.session refl refl (rw (ea, eb, ec) refl) ec instance)
+      by true ea true eb true ec = rw (ea, eb, ec) (settles P k.each _ s.device.wish _ (k.session refl refl (rw (ea, eb, ec) refl) ec instance))
 
 -- the property holds after the entry
 pub kept_by_step : (P : Handles → List Session → Type 0) (s : CoreState) (reads : CellReads) (e : Entry) → Keeps P s reads e → Has P (core_step s reads e).0
@@ -105,7 +116,7 @@ kept_by_step P s reads e = by e.call
     by (ask.CreateSession instance system) k = created P s reads e instance system k
     by (ask.DestroyInstance instance) k =
         let f = rule s reads (record e { call = ask.DestroyInstance instance }) in
-        kept P s (refusal e.short f) (told_on f.on f.effect) (k.same refl refl) (λ none. k.without refl refl instance)
+        kept P s (refusal e.short f) (told_on f.on f.effect) (k.same refl refl) (λ none. settles P k.each _ s.device.wish _ (k.without refl refl instance))
     by (ask.CreateReferenceSpace session what offset) k =
         let f = rule s reads (record e { call = ask.CreateReferenceSpace session what offset }) in
         kept P s (refusal e.short f) (told_on f.on f.effect) (k.same refl refl) (λ none. k.space refl refl session)
@@ -126,30 +137,30 @@ kept_by_step P s reads e = by e.call
         kept P s (refusal e.short f) (told_on f.on f.effect) (k.same refl refl) (λ none. k.set refl refl instance)
     by (ask.DestroyActionSet set) k =
         let f = rule s reads (record e { call = ask.DestroyActionSet set }) in
-        kept P s (refusal e.short f) (told_on f.on f.effect) (k.same refl refl) (λ none. k.without refl refl set)
+        kept P s (refusal e.short f) (told_on f.on f.effect) (k.same refl refl) (λ none. settles P k.each _ s.device.wish _ (k.without refl refl set))
     by (ask.CreateAction set name type subs localized) k =
         let f = rule s reads (record e { call = ask.CreateAction set name type subs localized }) in
         kept P s (refusal e.short f) (told_on f.on f.effect) (k.same refl refl) (λ none. k.action refl refl set)
     by (ask.DestroyAction action) k =
         let f = rule s reads (record e { call = ask.DestroyAction action }) in
-        kept P s (refusal e.short f) (told_on f.on f.effect) (k.same refl refl) (λ none. k.without refl refl action)
+        kept P s (refusal e.short f) (told_on f.on f.effect) (k.same refl refl) (λ none. settles P k.each _ s.device.wish _ (k.without refl refl action))
     by (ask.DestroySession session) k =
         let f = rule s reads (record e { call = ask.DestroySession session }) in
-        kept P s (refusal e.short f) (told_on f.on f.effect) (k.same refl refl) (λ none. k.without refl refl session)
+        kept P s (refusal e.short f) (told_on f.on f.effect) (k.same refl refl) (λ none. settles P k.each _ s.device.wish _ (k.without refl refl session))
     by (ask.BeginSession session view) k =
         let f = rule s reads (record e { call = ask.BeginSession session view }) in
-        kept P s (refusal e.short f) (told_on f.on f.effect) (k.same refl refl) (λ none. changed P s reads e session (λ life. unchanged (begun_session life)) (session_at s.sessions session) refl (k.same refl refl) (λ x found. k.lives refl refl x.handle (with_life _) (λ y. refl) (λ y there. ap (λ (z : Session). z.life.lost) (found_once s.sessions session x y found there)) (λ y. refl)))
+        kept P s (refusal e.short f) (told_on f.on f.effect) (k.same refl refl) (λ none. changed P s reads e k.each session (λ life. unchanged (begun_session life)) (session_at s.sessions session) refl (k.same refl refl) (λ x found. k.lives refl refl x.handle (with_life _) (λ y. refl) (λ y there. ap (λ (z : Session). z.life.lost) (found_once s.sessions session x y found there)) (λ y. refl)))
     by (ask.EndSession session) k =
         let f = rule s reads (record e { call = ask.EndSession session }) in
-        kept P s (refusal e.short f) (told_on f.on f.effect) (k.same refl refl) (λ none. changed P s reads e session (ended_session s.device.wish) (session_at s.sessions session) refl (k.same refl refl) (λ x found. k.lives refl refl x.handle (with_life _) (λ y. refl) (λ y there. ap (λ (z : Session). z.life.lost) (found_once s.sessions session x y found there)) (λ y. refl)))
+        kept P s (refusal e.short f) (told_on f.on f.effect) (k.same refl refl) (λ none. changed P s reads e k.each session (ended_session s.device.wish) (session_at s.sessions session) refl (k.same refl refl) (λ x found. k.lives refl refl x.handle (with_life _) (λ y. refl) (λ y there. ap (λ (z : Session). z.life.lost) (found_once s.sessions session x y found there)) (λ y. refl)))
     by (ask.RequestExitSession session) k =
         let f = rule s reads (record e { call = ask.RequestExitSession session }) in
-        kept P s (refusal e.short f) (told_on f.on f.effect) (k.same refl refl) (λ none. changed P s reads e session (exiting_session s.device.wish) (session_at s.sessions session) refl (k.same refl refl) (λ x found. k.lives refl refl x.handle (with_life _) (λ y. refl) (λ y there. ap (λ (z : Session). z.life.lost) (found_once s.sessions session x y found there)) (λ y. refl)))
+        kept P s (refusal e.short f) (told_on f.on f.effect) (k.same refl refl) (λ none. changed P s reads e k.each session (exiting_session s.device.wish) (session_at s.sessions session) refl (k.same refl refl) (λ x found. k.lives refl refl x.handle (with_life _) (λ y. refl) (λ y there. ap (λ (z : Session). z.life.lost) (found_once s.sessions session x y found there)) (λ y. refl)))
     by (ask.AttachSets session handles) k =
         let f = rule s reads (record e { call = ask.AttachSets session handles }) in
         kept P s (refusal e.short f) (told_on f.on f.effect) (k.same refl refl) (λ none. k.attach refl refl session handles)
     by (ask.EndFrame session time blend layers) k =
         let f = rule s reads (record e { call = ask.EndFrame session time blend layers }) in
-        kept P s (refusal e.short f) (told_on f.on f.effect) (k.same refl refl) (λ none. changed P s reads e session (synced_session s.device.wish) (session_at s.sessions session) refl (k.same refl refl) (λ x found. k.lives refl refl x.handle (with_life _) (λ y. refl) (λ y there. synced_keeps s.device.wish x.life ∙ ap (λ (z : Session). z.life.lost) (found_once s.sessions session x y found there)) (λ y. refl)))
+        kept P s (refusal e.short f) (told_on f.on f.effect) (k.same refl refl) (λ none. changed P s reads e k.each session (synced_session wish.Ready) (session_at s.sessions session) refl (k.same refl refl) (λ x found. k.lives refl refl x.handle (with_life _) (λ y. refl) (λ y there. synced_keeps wish.Ready x.life ∙ ap (λ (z : Session). z.life.lost) (found_once s.sessions session x y found there)) (λ y. refl)))
     by (ask.Device what) k = events P s reads e what k
     by r k = let f = rule s reads (record e { call = r }) in kept P s (refusal e.short f) (told_on f.on f.effect) (k.same refl refl) (λ none. k.same refl refl)

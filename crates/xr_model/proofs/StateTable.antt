@@ -1,5 +1,5 @@
 -- Where the table of states leads, and the sessions of a history with it.
-use Rattle.std.proofs.Common.{◌≡◌, ◌==◌, ◌&&◌, ℕ, Bool, true, false, List, [], ◌∷◌, Option, Some, None, refl, sym, ap, ◌∙◌, true≢false}
+use Rattle.std.proofs.Common.{◌≡◌, ◌==◌, ℕ, Bool, true, false, not, List, [], ◌∷◌, ◌++◌, Option, Some, None, option_map, refl, sym, ap, subst, ◌∙◌, true≢false}
 use Rattle.std.specs.Prelude.{if◌then◌else◌}
 use Rattle.xr_types.specs.Code.{is_success}
 use Rattle.xr_types.specs.declared.calls.Call.{Call}
@@ -10,16 +10,32 @@ use Rattle.xr_types.specs.declared.device.Wish.{Wish}
 use Rattle.xr_types.specs.declared.device.Wish.TheVariants as wish
 use Rattle.xr_types.specs.declared.session.SessionState.{SessionState}
 use Rattle.xr_types.specs.declared.session.SessionState.TheVariants.{Idle, Ready, Synchronized, Visible, Focused, Stopping, LossPending, Exiting}
-use Rattle.xr_model.specs.machine.LiveSessions.{Session, session_at}
-use Rattle.xr_model.specs.machine.SessionLife.{Life, next_state, changes, most_changes, last_of, begun_session, ended_session, exiting_session, losing_session, started_session, synced_session}
-use Rattle.xr_model.specs.machine.State.{State, opening}
-use Rattle.xr_model.specs.machine.Machine.{reads_of, step}
+use Rattle.xr_types.specs.declared.handles.Kind.TheVariants as kind
+use Rattle.xr_model.specs.machine.Calls.{Entry}
+use Rattle.xr_model.specs.machine.Destroyed.{without_handle}
+use Rattle.xr_model.specs.machine.Handles.{is_live, without, destroyed_by}
+use Rattle.xr_model.specs.machine.LiveSessions.{Session, session_at, with_session_at, with_life, with_attached, without_sets, still_live, sessions_left, each_changed}
+use Rattle.xr_model.specs.machine.Refusals.{Refusal}
+use Rattle.xr_model.specs.machine.Rule.{Effect, refusal, refusals, told_on, unless_refused}
+use Rattle.xr_model.specs.machine.Rules.Device.{behind_event}
+use Rattle.xr_model.specs.machine.Rules.Frames.{look_of}
+use Rattle.xr_model.specs.machine.Rules.Session.{new_session, changed_in, life_of}
+use Rattle.xr_model.specs.machine.SessionLife.{Life, Changed, unchanged, next_state, changes, most_changes, last_of, begun_session, ended_session, exiting_session, losing_session, lost_session, started_session, synced_session}
+use Rattle.xr_model.specs.machine.SessionRule.{loss_of}
+use Rattle.xr_model.specs.machine.Sets.{sets_named}
+use Rattle.xr_model.specs.machine.State.{CoreState, State, opening}
+use Rattle.xr_model.specs.machine.Target.{target_of, without_focus, own_wish, Standing, other_settled, target_settled, rounds, most_rounds}
+use Rattle.xr_model.specs.machine.Machine.{rule, reads_of, step}
 use Rattle.xr_model.specs.machine.History.{after}
-use Rattle.xr_model.specs.laws.SessionLaws.{is_session_creation, creates_session}
-use Rattle.xr_model.specs.laws.StateLaws.{NextStates, rests_at, first_frame, brought_to, state_before, StatesFollowTheTable}
-use Rattle.xr_model.proofs.Rows.{both_of}
-use Rattle.xr_model.proofs.SessionLives.{life_after, Follows, lived}
-use Rattle.xr_model.proofs.Settled.{HasSettled, wish_after, is_wish_after, sessions_have_settled}
+use Rattle.xr_model.specs.laws.StateLaws.{NextStates, rests_at, first_frame, lost_to, brought_to, state_before, StatesFollowTheTable}
+use Rattle.xr_model.proofs.Rows.{same_key}
+use Rattle.xr_model.proofs.LayerCodes.{layers_fail}
+use Rattle.xr_model.proofs.Listed.{handle_of}
+use Rattle.xr_model.proofs.SessionAnswers.{none_in, first_none}
+use Rattle.xr_model.proofs.SessionLives.{found_at, found_each, found_without, where_left, found_left, found_more}
+use Rattle.xr_model.proofs.Settled.{IsSound, lost_sound, attached_sound, sound_after, each_found}
+use Rattle.xr_model.proofs.Successes.{success_succeeds}
+use Rattle.xr_model.proofs.Targets.{Settles, AreSettled, in_round, one_in_round, own_stays, once_is_enough}
 
 pub next_states : NextStates
 next_states wish.Rest true Idle = refl
@@ -159,100 +175,351 @@ last_none : (state : SessionState) (o : Option SessionState) → o ≡ None → 
 last_none state None none more = refl
 last_none state (Some to) none more = cc
 
-stays : (w : Wish) (life : Life) → HasSettled w life → life.state ≡ rests_at life.state w life.exit
+stays : (w : Wish) (life : Life) → next_state w life.exit life.state ≡ None → life.state ≡ rests_at life.state w life.exit
 stays w life settled = sym (last_none life.state (next_state w life.exit life.state) settled (λ to. to ∷ changes 3 w life.exit to)) ∙ settles w life.exit life.state
 
-abbrev Rests : Wish → Life → SessionState → Type 0
-Rests w new state = new.state ≡ rests_at state w new.exit
+-- ---- where settling leads
 
-rests_after : (w : Wish) (r : Call) (handle : ℕ) (good : Bool) (life : Life) → HasSettled w life
-    → Rests (wish_after w r) (life_after w r handle good life) (brought_to r handle good life.state)
-rests_after w r handle good life settled = by r
+-- a session's own part of a wish, told whether it is the target
+abbrev part : Wish → Bool → Wish
+part w it = if it then w else without_focus w
+
+-- under this wish a life comes to rest where this state leads
+abbrev LeadsTo : Wish → Life → SessionState → Type 0
+LeadsTo w life to = rests_at life.state w life.exit ≡ rests_at to w life.exit
+
+-- what is found comes to rest where this state leads, under either part of the wish
+abbrev Comes : Wish → SessionState → Option Session → Type 0
+Comes w to None = Unit {0}
+Comes w to (Some x) = (it : Bool) → LeadsTo (part w it) x.life to
+
+-- what is found rests there, under its own part of the wish
+abbrev Rests : Wish → ℕ → SessionState → Option Session → Type 0
+Rests w target to None = Unit {0}
+Rests w target to (Some y) = y.life.state ≡ rests_at to (own_wish w target y) y.life.exit
+
+-- what has not changed does, from its own state
+unchanged_comes : (w : Wish) (o : Option Session) → Comes w (state_before o) o
+unchanged_comes w None = tt
+unchanged_comes w (Some x) = λ it. refl
+
+in_round_rests : (w : Wish) (target : ℕ) (to : SessionState) (x : Session) → Comes w to (Some x) → Rests w target to (Some (one_in_round w target x))
+in_round_rests w target to x comes = by (x.ordinal == target) refl
   where
-    still : Rests w life life.state
-    still = stays w life settled
+    by : (b : Bool) → (x.ordinal == target) ≡ b → Rests w target to (Some (one_in_round w target x))
+    by true eb = rw eb (settles w x.life.exit x.life.state ∙ comes true)
+    by false eb = rw eb (settles (without_focus w) x.life.exit x.life.state ∙ comes false)
 
-    begun : (b : Bool) → Rests w (if b then begun_session life else life) life.state
-    begun true = still
-    begun false = still
+rounds_rest : (w : Wish) (t : Standing) (to : SessionState) (handle : ℕ) → Comes w to (session_at t.sessions handle)
+    → Rests w (target_of (rounds most_rounds w t).sessions) to (session_at (rounds most_rounds w t).sessions handle)
+rounds_rest w t to handle comes =
+    subst (λ (u : Standing). Rests w (target_of u.sessions) to (session_at u.sessions handle)) (sym (once_is_enough w t))
+    (subst (λ (o : Option Session). Rests w (target_of new) to o) (sym found) (by (session_at t.sessions handle) comes))
+  where
+    target : ℕ
+    target = target_of t.sessions
 
-    ended : (b : Bool) → Rests w (if b then (ended_session w life).life else life) (if b then Idle else life.state)
-    ended true = settles w life.exit Idle
-    ended false = still
+    new : List Session
+    new = in_round w target t.sessions
 
-    asked : (b : Bool) → Rests w (if b then (exiting_session w life).life else life) life.state
-    asked true = settles w true life.state
-    asked false = still
+    others : Session → Session
+    others x = with_life (other_settled w target x).life x
 
-    -- the first frame of a period
-    synced : (state : SessionState) → state ≡ rests_at state w life.exit → Rests w (synced_session w (record life { state = state })).life (first_frame state)
-    synced Idle rest = rest
-    synced Ready rest = settles w life.exit Synchronized
-    synced Synchronized rest = rest
-    synced Visible rest = rest
-    synced Focused rest = rest
-    synced Stopping rest = rest
-    synced LossPending rest = rest
-    synced Exiting rest = rest
+    its : Session → Session
+    its x = with_life (target_settled w target x).life x
 
-    framed : (b : Bool) → Rests w (if b then (synced_session w life).life else life) (if b then first_frame life.state else life.state)
-    framed true = synced life.state still
-    framed false = still
+    found : session_at new handle ≡ option_map its (option_map others (session_at t.sessions handle))
+    found =
+        found_each (target_settled w target) handle (each_changed (other_settled w target) t.sessions)
+        ∙ ap (option_map its) (found_each (other_settled w target) handle t.sessions)
 
-    events : (what : DeviceEvent) → Rests (wish_after w (ask.Device what)) (life_after w (ask.Device what) handle good life) (brought_to (ask.Device what) handle good life.state)
-    events (event.Wish wish) = settles wish life.exit life.state
-    events event.Loss = lost life.state still
-      where
-        lost : (state : SessionState) → state ≡ rests_at state w life.exit → Rests w (losing_session (record life { state = state })).life (brought_to (ask.Device event.Loss) handle good state)
-        lost Idle rest = refl
-        lost Ready rest = refl
-        lost Synchronized rest = refl
-        lost Visible rest = refl
-        lost Focused rest = refl
-        lost Stopping rest = refl
-        lost LossPending rest = refl
-        lost Exiting rest = refl
-    events _ = still
+    by : (o : Option Session) → Comes w to o → Rests w (target_of new) to (option_map its (option_map others o))
+    by None comes = tt
+    by (Some x) comes =
+        in_round_rests w target to x comes
+        ∙ ap (λ (v : Wish). rests_at to v (one_in_round w target x).life.exit) (sym (own_stays w t.sessions x))
 
-    by : (r : Call) → Rests (wish_after w r) (life_after w r handle good life) (brought_to r handle good life.state)
-    by (ask.BeginSession session view) = begun (good && (session == handle))
-    by (ask.EndSession session) = ended (good && (session == handle))
-    by (ask.RequestExitSession session) = asked (good && (session == handle))
-    by (ask.EndFrame session time blend layers) = framed (good && (session == handle))
-    by (ask.Device what) = events what
-    by _ = still
+-- where all have settled each rests in its state
+settled_rest : (w : Wish) (xs : List Session) → AreSettled w (target_of xs) xs → (handle : ℕ)
+    → Rests w (target_of xs) (state_before (session_at xs handle)) (session_at xs handle)
+settled_rest w xs each handle = by (session_at xs handle) refl
+  where
+    by : (o : Option Session) → session_at xs handle ≡ o → Rests w (target_of xs) (state_before o) o
+    by None eo = tt
+    by (Some x) eo = stays (own_wish w (target_of xs) x) x.life (each_found (Settles w (target_of xs)) xs each handle x eo)
+
+-- ---- what an entry makes of one session before all settle
+
+-- an idle session, whatever the wish was
+idle_again : (w : Wish) (exit it : Bool) → rests_at (last_of Idle (changes most_changes w exit Idle)) (part w it) exit ≡ rests_at Idle (part w it) exit
+idle_again wish.Rest true true = refl
+idle_again wish.Rest true false = refl
+idle_again wish.Rest false true = refl
+idle_again wish.Rest false false = refl
+idle_again wish.Ready true true = refl
+idle_again wish.Ready true false = refl
+idle_again wish.Ready false true = refl
+idle_again wish.Ready false false = refl
+idle_again wish.Visible true true = refl
+idle_again wish.Visible true false = refl
+idle_again wish.Visible false true = refl
+idle_again wish.Visible false false = refl
+idle_again wish.Focused true true = refl
+idle_again wish.Focused true false = refl
+idle_again wish.Focused false true = refl
+idle_again wish.Focused false false = refl
+
+-- one whose end was asked for
+asked_again : (w v : Wish) (state : SessionState) → rests_at (last_of state (changes most_changes w true state)) v true ≡ rests_at state v true
+asked_again w v state = rw (settles w true state) (by state)
+  where
+    by : (state : SessionState) → rests_at (rests_at state w true) v true ≡ rests_at state v true
+    by Idle = refl
+    by Ready = refl
+    by Synchronized = refl
+    by Visible = refl
+    by Focused = refl
+    by Stopping = refl
+    by LossPending = refl
+    by Exiting = refl
+
+-- one whose first frame of a period is ended
+synced_again : (v : Wish) (life : Life) → LeadsTo v (synced_session wish.Ready life).life (first_frame life.state)
+synced_again v life = by life.state life.exit
+  where
+    by : (state : SessionState) (exit : Bool) → LeadsTo v (synced_session wish.Ready (record life { state = state; exit = exit })).life (first_frame state)
+    by Idle exit = refl
+    by Ready true = refl
+    by Ready false = refl
+    by Synchronized exit = refl
+    by Visible exit = refl
+    by Focused exit = refl
+    by Stopping exit = refl
+    by LossPending exit = refl
+    by Exiting exit = refl
+
+lost_again : (v : Wish) (life : Life) → LeadsTo v (losing_session life).life (lost_to life.state)
+lost_again v life = by life.state
+  where
+    by : (state : SessionState) → LeadsTo v (losing_session (record life { state = state })).life (lost_to state)
+    by Idle = refl
+    by Ready = refl
+    by Synchronized = refl
+    by Visible = refl
+    by Focused = refl
+    by Stopping = refl
+    by LossPending = refl
+    by Exiting = refl
+
+-- the session with one handle changes, and comes where that leads
+module _ (w : Wish) (f : Life → Changed) (to : SessionState → SessionState)
+    (leads : (life : Life) (it : Bool) → LeadsTo (part w it) (f life).life (to life.state)) where
+  -- where it is this one
+  abbrev where_it : Bool → SessionState → SessionState
+  where_it it state = if it then to state else state
+
+  changed_comes : (xs : List Session) (session handle : ℕ)
+      → Comes w (where_it (session == handle) (state_before (session_at xs handle))) (session_at (changed_in (session_at xs session) f xs) handle)
+  changed_comes xs session handle = by (session_at xs session) refl
+    where
+      some_is : (x y : Session) → Some x ≡ Some y → x ≡ y
+      some_is x y same = cc
+
+      none : (b : Bool) → (session == handle) ≡ b → session_at xs session ≡ None → Comes w (where_it b (state_before (session_at xs handle))) (session_at xs handle)
+      none true eb eo = let away : session_at xs handle ≡ None = subst (λ (n : ℕ). session_at xs n ≡ None) (same_key session handle eb) eo in rw away tt
+      none false eb eo = unchanged_comes w (session_at xs handle)
+
+      one : (z : Session) → session_at xs session ≡ Some z → (b : Bool) → (session == handle) ≡ b → (o : Option Session) → session_at xs handle ≡ o
+          → Comes w (where_it b (state_before o)) (option_map (λ x. if b then with_life (f z.life).life x else x) o)
+      one z ez b eb None eo = tt
+      one z ez false eb (Some x) eo = λ it. refl
+      one z ez true eb (Some x) eo =
+          let found : session_at xs handle ≡ Some z = subst (λ (n : ℕ). session_at xs n ≡ Some z) (same_key session handle eb) ez in
+          subst (λ (y : Session). Comes w (to y.life.state) (Some (with_life (f z.life).life y))) (some_is z x (sym found ∙ eo)) (λ it. leads z.life it)
+
+      by : (o : Option Session) → session_at xs session ≡ o
+          → Comes w (where_it (session == handle) (state_before (session_at xs handle))) (session_at (changed_in o f xs) handle)
+      by None eo = none (session == handle) refl eo
+      by (Some z) eo =
+          let named = handle_of xs session z eo in
+          rw (found_at z.handle handle (with_life (f z.life).life) (λ x. refl) xs, named)
+          (one z eo (session == handle) refl (session_at xs handle) refl)
 
 -- ---- a history
 
-wish_left : (w : Wish) (r : Call) → is_session_creation r ≡ true → wish_after w r ≡ w
-wish_left w (ask.CreateSession instance system) creates = refl
-wish_left w _ creates = absurd (true≢false (sym creates))
+-- a call that brings a session to the same state, refused or not
+kept : (P : CoreState → Type 0) (s : CoreState) (o : Option Refusal) (x : Effect) → P s → P x.state → P (unless_refused s o x).state
+kept P s None x same done = done
+kept P s (Some r) x same done = same
 
-brought_new : (r : Call) (handle : ℕ) (good : Bool) → is_session_creation r ≡ true → brought_to r handle good Idle ≡ Idle
-brought_new (ask.CreateSession instance system) handle good creates = refl
-brought_new _ handle good creates = absurd (true≢false (sym creates))
+-- a call none of whose refusals is a success
+carried : (P : CoreState → Bool → Type 0) (s : CoreState) (o : Option Refusal) (x : Effect)
+    → none_in is_success o ≡ true → is_success x.code ≡ true → P s false → P x.state true
+    → P (unless_refused s o x).state (is_success (unless_refused s o x).code)
+carried P s None x none good same done = rw good done
+carried P s (Some r) x none good same done = rw (refused (is_success r.code) none) same
+  where
+    refused : (b : Bool) → not b ≡ true → b ≡ false
+    refused true none = absurd (true≢false (sym none))
+    refused false none = refl
+
+module _ (s : State) (e : Entry) (handle : ℕ) (sound : IsSound s) where
+  abbrev before : SessionState
+  before = state_before (session_at s.core.sessions handle)
+
+  -- what is found in these sessions rests where this state leads
+  abbrev RestsAmong : Wish → SessionState → List Session → Type 0
+  RestsAmong w to xs = Rests w (target_of xs) to (session_at xs handle)
+
+  abbrev RestsIn : SessionState → CoreState → Type 0
+  RestsIn to t = RestsAmong t.device.wish to t.sessions
+
+  still : RestsIn before s.core
+  still = settled_rest s.core.device.wish s.core.sessions sound.1 handle
+
+  -- a session joins
+  joined : (new : Session) → new.life ≡ (started_session s.core.device.wish).life → Comes s.core.device.wish before (session_at (s.core.sessions ++ new ∷ []) handle)
+  joined new is = rw (found_more new handle s.core.sessions) (by (session_at s.core.sessions handle) (new.handle == handle))
+    where
+      by : (o : Option Session) (b : Bool) → Comes s.core.device.wish (state_before o) (elim o [ None ↦ if b then Some new else None | Some x ↦ Some x ])
+      by None true = rw is (λ it. idle_again s.core.device.wish false it)
+      by None false = tt
+      by (Some x) b = λ it. refl
+
+  -- some go
+  left : (top : ℕ) → Comes s.core.device.wish before (session_at (sessions_left (without s.core.handles top) (destroyed_by s.core.handles top) s.core.sessions) handle)
+  left top =
+      let h = without s.core.handles top in
+      let sets = destroyed_by s.core.handles top in
+      rw (found_without sets handle (still_live h s.core.sessions), found_left (λ n. is_live h kind.Session n) handle s.core.sessions)
+      (by sets (is_live h kind.Session handle) (session_at s.core.sessions handle))
+    where
+      by : (gone : List ℕ) (b : Bool) (o : Option Session) → Comes s.core.device.wish (state_before o) (option_map (without_sets gone) (where_left b o))
+      by gone true None = tt
+      by gone true (Some x) = λ it. refl
+      by gone false None = tt
+      by gone false (Some x) = tt
+
+  gone : (top : ℕ) → RestsIn before (without_handle s.core top)
+  gone top = rounds_rest s.core.device.wish _ before handle (left top)
+
+  -- one attaches its sets
+  attached : (session : ℕ) (sets : List ℕ) → RestsAmong s.core.device.wish before (with_session_at session (with_attached sets) s.core.sessions)
+  attached session sets =
+      let new = with_session_at session (with_attached sets) s.core.sessions in
+      let there = attached_sound s.core sound session sets in
+      subst (λ (to : SessionState). RestsAmong s.core.device.wish to new)
+      (ap state_before (found_at session handle (with_attached sets) (λ x. refl) s.core.sessions) ∙ same (session == handle) (session_at s.core.sessions handle))
+      (settled_rest s.core.device.wish new there.1 handle)
+    where
+      same : (b : Bool) (o : Option Session) → state_before (option_map (λ x. if b then with_attached sets x else x) o) ≡ state_before o
+      same b None = refl
+      same true (Some x) = refl
+      same false (Some x) = refl
+
+  -- the device is lost
+  lost : RestsAmong s.core.device.wish before (each_changed (λ x. unchanged (lost_session x.life)) s.core.sessions)
+  lost =
+      let new = each_changed (λ x. unchanged (lost_session x.life)) s.core.sessions in
+      let there = lost_sound s.core sound in
+      subst (λ (to : SessionState). RestsAmong s.core.device.wish to new)
+      (ap state_before (found_each (λ x. unchanged (lost_session x.life)) handle s.core.sessions) ∙ same (session_at s.core.sessions handle))
+      (settled_rest s.core.device.wish new there.1 handle)
+    where
+      same : (o : Option Session) → state_before (option_map (λ x. with_life (lost_session x.life) x) o) ≡ state_before o
+      same None = refl
+      same (Some x) = refl
+
+  -- one changes, and all settle
+  changed : (f : Life → Changed) (to : SessionState → SessionState) → ((life : Life) (it : Bool) → LeadsTo (part s.core.device.wish it) (f life).life (to life.state))
+      → (session : ℕ) (t : Standing) → t.sessions ≡ changed_in (session_at s.core.sessions session) f s.core.sessions
+      → RestsAmong s.core.device.wish (if session == handle then to before else before) (rounds most_rounds s.core.device.wish t).sessions
+  changed f to leads session t is =
+      rounds_rest s.core.device.wish t (if session == handle then to before else before) handle
+      (rw is (changed_comes s.core.device.wish f to leads s.core.sessions session handle))
+
+  -- one changes, and still comes where its state leads
+  kept_on : (f : Life → Changed) → ((life : Life) (it : Bool) → LeadsTo (part s.core.device.wish it) (f life).life life.state)
+      → (session : ℕ) (t : Standing) → t.sessions ≡ changed_in (session_at s.core.sessions session) f s.core.sessions
+      → RestsAmong s.core.device.wish before (rounds most_rounds s.core.device.wish t).sessions
+  kept_on f leads session t is =
+      subst (λ (to : SessionState). RestsAmong s.core.device.wish to (rounds most_rounds s.core.device.wish t).sessions)
+      (same (session == handle)) (changed f (λ state. state) leads session t is)
+    where
+      same : (b : Bool) → (if b then before else before) ≡ before
+      same true = refl
+      same false = refl
+
+  losing : Comes s.core.device.wish (lost_to before) (session_at (each_changed (λ x. losing_session x.life) s.core.sessions) handle)
+  losing = rw (found_each (λ x. losing_session x.life) handle s.core.sessions) (by (session_at s.core.sessions handle))
+    where
+      by : (o : Option Session) → Comes s.core.device.wish (lost_to (state_before o)) (option_map (λ x. with_life (losing_session x.life).life x) o)
+      by None = tt
+      by (Some x) = λ it. lost_again (part s.core.device.wish it) x.life
+
+  events : (what : DeviceEvent) → RestsIn (brought_to (ask.Device what) handle true before) (behind_event s.core what)
+  events (event.Wish w) = rounds_rest w (record { sessions = s.core.sessions; events = s.core.events }) before handle (unchanged_comes w (session_at s.core.sessions handle))
+  events event.Loss = rounds_rest s.core.device.wish _ (lost_to before) handle losing
+  events event.Lost = lost
+  events event.Fault = lost
+  events (event.Garbled line) = lost
+  events _ = still
+
+  rests_behind : RestsIn (brought_to e.call handle (is_success (step s e).1.reply.code) before) (step s e).0.core
+  rests_behind = by e.call
+    where
+      by : (r : Call) → RestsIn (brought_to r handle (is_success (step s (record e { call = r })).1.reply.code) before) (step s (record e { call = r })).0.core
+      by (ask.CreateSession instance system) =
+          let f = rule s.core (reads_of s (ask.CreateSession instance system)) (record e { call = ask.CreateSession instance system }) in
+          kept (RestsIn before) s.core (refusal e.short f) (told_on f.on f.effect) still
+          (rounds_rest s.core.device.wish _ before handle (joined (new_session s.core e.given (started_session s.core.device.wish).life) refl))
+      by (ask.BeginSession session view) =
+          let f = rule s.core (reads_of s (ask.BeginSession session view)) (record e { call = ask.BeginSession session view }) in
+          kept (RestsIn before) s.core (refusal e.short f) (told_on f.on f.effect) still
+          (kept_on (λ life. unchanged (begun_session life)) (λ life it. refl) session _ refl)
+      by (ask.EndSession session) =
+          let f = rule s.core (reads_of s (ask.EndSession session)) (record e { call = ask.EndSession session }) in
+          carried (λ t good. RestsIn (brought_to (ask.EndSession session) handle good before) t) s.core (refusal e.short f) (told_on f.on f.effect)
+          (first_none is_success (refusals f) refl)
+          (success_succeeds (loss_of (life_of s.core session))) still
+          (changed (ended_session s.core.device.wish) (λ state. Idle) (λ life it. idle_again s.core.device.wish life.exit it) session _ refl)
+      by (ask.RequestExitSession session) =
+          let f = rule s.core (reads_of s (ask.RequestExitSession session)) (record e { call = ask.RequestExitSession session }) in
+          kept (RestsIn before) s.core (refusal e.short f) (told_on f.on f.effect) still
+          (kept_on (exiting_session s.core.device.wish) (λ life it. asked_again s.core.device.wish (part s.core.device.wish it) life.state) session _ refl)
+      by (ask.EndFrame session time blend layers) =
+          let f = rule s.core (reads_of s (ask.EndFrame session time blend layers)) (record e { call = ask.EndFrame session time blend layers }) in
+          carried (λ t good. RestsIn (brought_to (ask.EndFrame session time blend layers) handle good before) t) s.core (refusal e.short f) (told_on f.on f.effect)
+          (first_none is_success (refusals f) (layers_fail (look_of s.core) layers))
+          (success_succeeds (loss_of (life_of s.core session))) still
+          (changed (synced_session wish.Ready) first_frame (λ life it. synced_again (part s.core.device.wish it) life) session _ refl)
+      by (ask.AttachSets session sets) =
+          let f = rule s.core (reads_of s (ask.AttachSets session sets)) (record e { call = ask.AttachSets session sets }) in
+          kept (RestsIn before) s.core (refusal e.short f) (told_on f.on f.effect) still (attached session (sets_named s.core.inputs sets))
+      by (ask.DestroyInstance top) =
+          let f = rule s.core (reads_of s (ask.DestroyInstance top)) (record e { call = ask.DestroyInstance top }) in
+          kept (RestsIn before) s.core (refusal e.short f) (told_on f.on f.effect) still (gone top)
+      by (ask.DestroySession top) =
+          let f = rule s.core (reads_of s (ask.DestroySession top)) (record e { call = ask.DestroySession top }) in
+          kept (RestsIn before) s.core (refusal e.short f) (told_on f.on f.effect) still (gone top)
+      by (ask.DestroyActionSet top) =
+          let f = rule s.core (reads_of s (ask.DestroyActionSet top)) (record e { call = ask.DestroyActionSet top }) in
+          kept (RestsIn before) s.core (refusal e.short f) (told_on f.on f.effect) still (gone top)
+      by (ask.DestroyAction top) =
+          let f = rule s.core (reads_of s (ask.DestroyAction top)) (record e { call = ask.DestroyAction top }) in
+          kept (RestsIn before) s.core (refusal e.short f) (told_on f.on f.effect) still (gone top)
+      by (ask.Device what) = events what
+      by r =
+          let f = rule s.core (reads_of s r) (record e { call = r }) in
+          kept (RestsIn before) s.core (refusal e.short f) (told_on f.on f.effect) still still
 
 pub states_follow_the_table : StatesFollowTheTable
 states_follow_the_table settings es e session y found =
-    by (session_at s.core.sessions session) refl (session_at (step s e).0.core.sessions session) found (lived s.core (reads_of s e.call) e session)
+    subst (Rests (step s e).0.core.device.wish (target_of (step s e).0.core.sessions) to) found
+    (rests_behind s e session (sound_after (opening settings) es ((tt, tt), tt)))
   where
     s : State
     s = after (opening settings) es
 
-    good : Bool
-    good = is_success (step s e).1.reply.code
-
-    some_is : (a b : Session) → Some a ≡ Some b → a ≡ b
-    some_is a b same = cc
-
-    by : (o : Option Session) → session_at s.core.sessions session ≡ o → (n : Option Session) → n ≡ Some y
-        → Follows (life_after s.core.device.wish e.call session good) (creates_session e session) (started_session s.core.device.wish).life o n
-        → Rests (step s e).0.core.device.wish y.life (brought_to e.call session good (state_before o))
-    by o eo None found follows = cc
-    by None eo (Some z) found follows =
-        let creates = (both_of (is_session_creation e.call) (e.given == session) follows.0).0 in
-        rw (ap (λ (x : Session). x.life) (sym (some_is z y found)), is_wish_after s e, wish_left s.core.device.wish e.call creates, brought_new e.call session good creates, follows.1)
-        (settles s.core.device.wish false Idle)
-    by (Some x) eo (Some z) found follows =
-        rw (ap (λ (x : Session). x.life) (sym (some_is z y found)), is_wish_after s e, follows)
-        (rests_after s.core.device.wish e.call session good x.life (sessions_have_settled settings es session x eo))
+    to : SessionState
+    to = brought_to e.call session (is_success (step s e).1.reply.code) (state_before (session_at s.core.sessions session))

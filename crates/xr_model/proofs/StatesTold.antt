@@ -10,13 +10,16 @@ use Rattle.xr_types.specs.declared.calls.Call.{Call}
 use Rattle.xr_types.specs.declared.calls.Call.TheVariants as ask
 use Rattle.xr_types.specs.declared.session.Event.{Event}
 use Rattle.xr_types.specs.declared.device.Wish.{Wish}
+use Rattle.xr_types.specs.declared.device.Wish.TheVariants as wish
 use Rattle.xr_types.specs.declared.session.SessionState.{SessionState}
 use Rattle.xr_model.specs.machine.Events.{Queue}
 use Rattle.xr_model.specs.machine.Handles.{is_live, without, destroyed_by, was_given}
 use Rattle.xr_model.specs.machine.Sets.{sets_named}
 use Rattle.xr_model.specs.machine.Refusals.{Refusal}
 use Rattle.xr_model.specs.machine.SessionLife.{Life, Changed, unchanged, started_session, begun_session, settled_session, ended_session, exiting_session, losing_session, lost_session, synced_session, entered, last_of, is_state}
-use Rattle.xr_model.specs.machine.LiveSessions.{Session, session_at, with_session_at, with_attached, without_sets, still_live, sessions_left, told_states, each_changed, told_changes}
+use Rattle.xr_model.specs.machine.Target.{target_of, is_target, own_wish, Standing, other_settled, target_settled, rounds, most_rounds}
+use Rattle.xr_model.specs.machine.Destroyed.{without_handle}
+use Rattle.xr_model.specs.machine.LiveSessions.{Session, session_at, with_life, with_session_at, with_attached, without_sets, still_live, sessions_left, told_states, each_changed, told_changes}
 use Rattle.xr_model.specs.machine.State.{CoreState, Settings, State, opening}
 use Rattle.xr_model.specs.machine.Rule.{Effect, refusal, told_on, unless_refused}
 use Rattle.xr_model.specs.machine.Rules.Device.{behind_event}
@@ -24,7 +27,7 @@ use Rattle.xr_model.specs.machine.Rules.Session.{new_session, changed_in, told_o
 use Rattle.xr_model.specs.machine.Machine.{rule, reads_of, step, IsAllowed}
 use Rattle.xr_model.specs.machine.History.{after, opening_clocks, clocks_after, IsLegalFrom, IsLegal}
 use Rattle.xr_model.specs.laws.SessionLaws.{AreListed}
-use Rattle.xr_model.specs.laws.EventLaws.{state_at, last_told, AreTold, polls, ends, StatesAreTold}
+use Rattle.xr_model.specs.laws.EventLaws.{pushed_all, is_of_session, state_at, last_told, AreTold, polls, ends, StatesAreTold}
 use Rattle.xr_model.proofs.Rows.{itself, same_key, is_false}
 use Rattle.xr_model.proofs.Destroying.{known_step, known_after, known_opening}
 use Rattle.xr_model.proofs.DestroyedForGood.{legal_behind}
@@ -33,8 +36,9 @@ use Rattle.xr_model.proofs.Histories.{fronts_are_legal}
 use Rattle.xr_model.proofs.Listed.{handle_of, listed_none}
 use Rattle.xr_model.proofs.LostSessions.{new_session_given, listed_after, sessions_are_listed}
 use Rattle.xr_model.proofs.SessionSteps.{kept_by_step}
-use Rattle.xr_model.proofs.ToldStates.{states_of, one_told, last_here, last_else, last_new, own_states, AreApart, listed_state, state_before, state_new, ordinal_new, apart_more, apart_lives, state_else, state_here, ordinal_here, state_found, state_attached, left_state, apart_left, state_map, apart_map, changes_of, each_told, listed_each, apart_each, own_each, last_each}
 use Rattle.xr_model.specs.laws.Soundness.{AreKnown}
+use Rattle.xr_model.proofs.Targets.{once_is_enough}
+use Rattle.xr_model.proofs.ToldStates.{pushed_more, all_more, last_more, all_still_own, states_of, one_told, last_here, last_else, last_new, own_states, AreApart, listed_state, state_before, state_new, ordinal_new, apart_more, apart_lives, state_else, state_here, ordinal_here, state_found, state_attached, left_state, apart_left, state_map, apart_map, changes_of, each_told, listed_each, apart_each, own_each, last_each}
 
 -- ---- listed sessions have handles of their own
 
@@ -57,8 +61,8 @@ apart_step s e allowed known listed apart = kept_by_step (λ h xs. AreApart xs) 
   chain_alone = λ d c chain. apart;
   lives = λ d c session f named same keeps. apart_lives session f named s.core.sessions apart;
   attach = λ d c session sets. apart_lives session (with_attached (sets_named s.core.inputs sets)) (λ x. refl) s.core.sessions apart;
-  each = λ d c f keeps. apart_each f s.core.sessions apart;
-  lost = λ d c. apart_each (λ life. unchanged (lost_session life)) s.core.sessions apart;
+  each = λ h xs f keeps there. apart_each f xs there;
+  lost = λ d c. apart_each (λ x. unchanged (lost_session x.life)) s.core.sessions apart;
 })
 
 apart_after : (s : State) (clocks : List ℤ) (es : List Entry) → IsLegalFrom s clocks es → AreKnown s.core.handles → AreListed s.core.handles s.core.sessions → AreApart s.core.sessions → AreApart (after s es).core.sessions
@@ -121,7 +125,7 @@ module _ (q : Queue) (xs : List Session) where
       by k false eb = last_else k x.ordinal x.handle (f x.life).through [] (state_at xs k) eb ∙ sym (state_else x.handle (f x.life).life xs k eb)
 
   -- each session changes
-  each : AreApart xs → (f : Life → Changed) → ((life : Life) → (f life).life.state ≡ last_of life.state (f life).through) → Tells q (told_changes q f xs) xs (each_changed f xs)
+  each : AreApart xs → (f : Session → Changed) → ((x : Session) → (f x).life.state ≡ last_of x.life.state (f x).through) → Tells q (told_changes q f xs) xs (each_changed f xs)
   each apart f truly = (
     changes_of f xs,
     record {
@@ -130,6 +134,53 @@ module _ (q : Queue) (xs : List Session) where
       last = λ k there. last_each f truly xs apart k (sym (listed_each f xs k) ∙ there);
     },
   )
+
+-- sessions that have changed change again
+then_each : (q mid : Queue) (xs ys : List Session) → AreApart ys → (f : Session → Changed) → ((x : Session) → (f x).life.state ≡ last_of x.life.state (f x).through)
+    → Tells q mid xs ys → Tells q (told_changes mid f ys) xs (each_changed f ys)
+then_each q mid xs ys apart f truly (first, one) = (
+  first ++ changes_of f ys,
+  record {
+    queue = each_told f mid ys ∙ ap (λ (r : Queue). pushed_all r (changes_of f ys)) one.queue ∙ sym (pushed_more q first (changes_of f ys));
+    own = all_more (is_of_session (each_changed f ys)) first (changes_of f ys) (all_still_own f ys first one.own) (own_each f ys apart);
+    last = λ k there.
+        let here : is_some (state_at ys k) ≡ true = sym (listed_each f ys k) ∙ there in
+        last_more k (state_at xs k) first (changes_of f ys) ∙ ap (λ (o : Option SessionState). last_told k o (changes_of f ys)) (one.last k here) ∙ last_each f truly ys apart k here;
+  },
+)
+
+other_truly : (w : Wish) (target : ℕ) (x : Session) → (other_settled w target x).life.state ≡ last_of x.life.state (other_settled w target x).through
+other_truly w target x = by (is_target target x)
+  where
+    by : (b : Bool) → (if b then unchanged x.life else settled_session (own_wish w target x) x.life).life.state ≡ last_of x.life.state (if b then unchanged x.life else settled_session (own_wish w target x) x.life).through
+    by true = refl
+    by false = refl
+
+target_truly : (w : Wish) (target : ℕ) (x : Session) → (target_settled w target x).life.state ≡ last_of x.life.state (target_settled w target x).through
+target_truly w target x = by (is_target target x)
+  where
+    by : (b : Bool) → (if b then settled_session (own_wish w target x) x.life else unchanged x.life).life.state ≡ last_of x.life.state (if b then settled_session (own_wish w target x) x.life else unchanged x.life).through
+    by true = refl
+    by false = refl
+
+-- they settle
+then_all : (w : Wish) (q mid : Queue) (xs ys : List Session) → AreApart ys → Tells q mid xs ys
+    → Tells q (rounds most_rounds w (record { sessions = ys; events = mid })).events xs (rounds most_rounds w (record { sessions = ys; events = mid })).sessions
+then_all w q mid xs ys apart one =
+    subst (λ (t : Standing). Tells q t.events xs t.sessions) (sym (once_is_enough w (record { sessions = ys; events = mid })))
+    (then_each q (told_changes mid (other_settled w (target_of ys)) ys) xs (each_changed (other_settled w (target_of ys)) ys) (apart_each (other_settled w (target_of ys)) ys apart)
+    (target_settled w (target_of ys)) (target_truly w (target_of ys)) (then_each q mid xs ys apart (other_settled w (target_of ys)) (other_truly w (target_of ys)) one))
+
+-- one session changes, and all settle
+then_changed : (w : Wish) (q : Queue) (xs : List Session) → AreApart xs → (f : Life → Changed) → ((life : Life) → (f life).life.state ≡ last_of life.state (f life).through) → (session : ℕ)
+    → Tells q (rounds most_rounds w (record { sessions = changed_in (session_at xs session) f xs; events = told_of (session_at xs session) f q })).events xs
+    (rounds most_rounds w (record { sessions = changed_in (session_at xs session) f xs; events = told_of (session_at xs session) f q })).sessions
+then_changed w q xs apart f truly session =
+    then_all w q (told_of (session_at xs session) f q) xs (changed_in (session_at xs session) f xs) (still_apart (session_at xs session)) (changed q xs f truly session (session_at xs session) refl)
+  where
+    still_apart : (o : Option Session) → AreApart (changed_in o f xs)
+    still_apart None = apart
+    still_apart (Some x) = apart_lives x.handle (with_life (f x.life).life) (λ y. refl) xs apart
 
 -- a session comes
 created : (s : CoreState) (given : ℕ) → is_some (state_at s.sessions given) ≡ false
@@ -159,19 +210,29 @@ module _ (s : State) (apart : AreApart s.core.sessions) where
   as_before = nothing s.core.events s.core.sessions s.core.sessions (λ k there. refl)
 
   -- sessions go, of which nothing is told
-  gone : (handle : ℕ) → Told s.core.events (sessions_left (without s.core.handles handle) (destroyed_by s.core.handles handle) s.core.sessions)
-  gone handle =
+  went : (handle : ℕ) → Told s.core.events (sessions_left (without s.core.handles handle) (destroyed_by s.core.handles handle) s.core.sessions)
+  went handle =
       nothing s.core.events s.core.sessions (sessions_left (without s.core.handles handle) (destroyed_by s.core.handles handle) s.core.sessions)
       (λ k there.
       let same = state_map (without_sets (destroyed_by s.core.handles handle)) (λ x. refl) (λ x. refl) (still_live (without s.core.handles handle) s.core.sessions) k in
       left_state (λ n. is_live (without s.core.handles handle) kind.Session n) s.core.sessions k (ap (λ (o : Option SessionState). is_some o) (sym same) ∙ there) ∙ sym same)
 
+  -- and those that are left settle
+  gone : (handle : ℕ) → Tells s.core.events (without_handle s.core handle).events s.core.sessions (without_handle s.core handle).sessions
+  gone handle =
+      let left = sessions_left (without s.core.handles handle) (destroyed_by s.core.handles handle) s.core.sessions in
+      let still = apart_map (without_sets (destroyed_by s.core.handles handle)) (λ x. refl) (λ x. refl) (still_live (without s.core.handles handle) s.core.sessions)
+      (apart_left (λ n. is_live (without s.core.handles handle) kind.Session n) s.core.sessions apart) in
+      then_all s.core.device.wish s.core.events s.core.events s.core.sessions left still (went handle)
+
   events : (what : DeviceEvent) → Told (behind_event s.core what).events (behind_event s.core what).sessions
-  events (event.Wish wish) = each s.core.events s.core.sessions apart (settled_session wish) (λ life. refl)
-  events event.Loss = each s.core.events s.core.sessions apart losing_session losing_truly
-  events event.Lost = each s.core.events s.core.sessions apart (λ life. unchanged (lost_session life)) (λ life. refl)
-  events event.Fault = each s.core.events s.core.sessions apart (λ life. unchanged (lost_session life)) (λ life. refl)
-  events (event.Garbled line) = each s.core.events s.core.sessions apart (λ life. unchanged (lost_session life)) (λ life. refl)
+  events (event.Wish wish) = then_all wish s.core.events s.core.events s.core.sessions s.core.sessions apart as_before
+  events event.Loss =
+      then_all s.core.device.wish s.core.events _ s.core.sessions _ (apart_each (λ x. losing_session x.life) s.core.sessions apart)
+      (each s.core.events s.core.sessions apart (λ x. losing_session x.life) (λ x. losing_truly x.life))
+  events event.Lost = each s.core.events s.core.sessions apart (λ x. unchanged (lost_session x.life)) (λ x. refl)
+  events event.Fault = each s.core.events s.core.sessions apart (λ x. unchanged (lost_session x.life)) (λ x. refl)
+  events (event.Garbled line) = each s.core.events s.core.sessions apart (λ x. unchanged (lost_session x.life)) (λ x. refl)
   events _ = as_before
 
 pub told_step : (s : State) (e : Entry) → IsAllowed s e → AreKnown s.core.handles → AreListed s.core.handles s.core.sessions → AreApart s.core.sessions → polls s e ≡ false → ends s e ≡ false
@@ -191,23 +252,25 @@ told_step s e allowed known listed apart = by e.call allowed
         let e' : Entry = record e { call = ask.CreateSession instance system } in
         let f = rule s.core (reads_of s (ask.CreateSession instance system)) e' in
         unless (λ q ys. Tells s.core.events q s.core.sessions ys) s.core (refusal e.short f) (told_on f.on f.effect) (as_before s apart)
-        (λ none. created s.core e.given (unlisted s e.given known listed (new_session_given s e' allowed refl (succeeds s.core (refusal e.short f) (told_on f.on f.effect) refl none))))
+        (λ none.
+        let fresh = unlisted s e.given known listed (new_session_given s e' allowed refl (succeeds s.core (refusal e.short f) (told_on f.on f.effect) refl none)) in
+        then_all s.core.device.wish s.core.events _ s.core.sessions _ (apart_more s.core.sessions (new_session s.core e.given (started_session s.core.device.wish).life) apart fresh) (created s.core e.given fresh))
     by (ask.BeginSession session view) allowed no_poll no_end =
         let f = rule s.core (reads_of s (ask.BeginSession session view)) (record e { call = ask.BeginSession session view }) in
         unless (λ q ys. Tells s.core.events q s.core.sessions ys) s.core (refusal e.short f) (told_on f.on f.effect) (as_before s apart)
-        (λ none. changed s.core.events s.core.sessions (λ life. unchanged (begun_session life)) (λ life. refl) session (session_at s.core.sessions session) refl)
+        (λ none. then_changed s.core.device.wish s.core.events s.core.sessions apart (λ life. unchanged (begun_session life)) (λ life. refl) session)
     by (ask.EndSession session) allowed no_poll no_end =
         let f = rule s.core (reads_of s (ask.EndSession session)) (record e { call = ask.EndSession session }) in
         unless (λ q ys. Tells s.core.events q s.core.sessions ys) s.core (refusal e.short f) (told_on f.on f.effect) (as_before s apart)
-        (λ none. changed s.core.events s.core.sessions (ended_session s.core.device.wish) (λ life. refl) session (session_at s.core.sessions session) refl)
+        (λ none. then_changed s.core.device.wish s.core.events s.core.sessions apart (ended_session s.core.device.wish) (λ life. refl) session)
     by (ask.RequestExitSession session) allowed no_poll no_end =
         let f = rule s.core (reads_of s (ask.RequestExitSession session)) (record e { call = ask.RequestExitSession session }) in
         unless (λ q ys. Tells s.core.events q s.core.sessions ys) s.core (refusal e.short f) (told_on f.on f.effect) (as_before s apart)
-        (λ none. changed s.core.events s.core.sessions (exiting_session s.core.device.wish) (λ life. refl) session (session_at s.core.sessions session) refl)
+        (λ none. then_changed s.core.device.wish s.core.events s.core.sessions apart (exiting_session s.core.device.wish) (λ life. refl) session)
     by (ask.EndFrame session time blend layers) allowed no_poll no_end =
         let f = rule s.core (reads_of s (ask.EndFrame session time blend layers)) (record e { call = ask.EndFrame session time blend layers }) in
         unless (λ q ys. Tells s.core.events q s.core.sessions ys) s.core (refusal e.short f) (told_on f.on f.effect) (as_before s apart)
-        (λ none. changed s.core.events s.core.sessions (synced_session s.core.device.wish) (synced_truly s.core.device.wish) session (session_at s.core.sessions session) refl)
+        (λ none. then_changed s.core.device.wish s.core.events s.core.sessions apart (synced_session wish.Ready) (synced_truly wish.Ready) session)
     by (ask.AttachSets session handles) allowed no_poll no_end =
         let f = rule s.core (reads_of s (ask.AttachSets session handles)) (record e { call = ask.AttachSets session handles }) in
         unless (λ q ys. Tells s.core.events q s.core.sessions ys) s.core (refusal e.short f) (told_on f.on f.effect) (as_before s apart)

@@ -17,7 +17,7 @@ pub states_of : ℕ → ℕ → List SessionState → List Event
 states_of ordinal handle [] = []
 states_of ordinal handle (state ∷ states) = State ordinal handle state ∷ states_of ordinal handle states
 
-pushed_more : (q : Queue) (xs ys : List Event) → pushed_all q (xs ++ ys) ≡ pushed_all (pushed_all q xs) ys
+pub pushed_more : (q : Queue) (xs ys : List Event) → pushed_all q (xs ++ ys) ≡ pushed_all (pushed_all q xs) ys
 pushed_more q [] ys = refl
 pushed_more q (x ∷ xs) ys = pushed_more (pushed q x) xs ys
 
@@ -45,7 +45,7 @@ pub last_new : (k ordinal handle : ℕ) (to : SessionState) (states : List Sessi
 unfolding states_of
 last_new k ordinal handle to states before same = ap (λ (b : Bool). last_told k (if b then Some to else before) (states_of ordinal handle states ++ [])) same ∙ last_here k ordinal handle states [] to same
 
-all_more : (p : Event → Bool) (xs ys : List Event) → list_all p xs ≡ true → list_all p ys ≡ true → list_all p (xs ++ ys) ≡ true
+pub all_more : (p : Event → Bool) (xs ys : List Event) → list_all p xs ≡ true → list_all p ys ≡ true → list_all p (xs ++ ys) ≡ true
 all_more p [] ys one two = two
 all_more p (x ∷ xs) ys one two = let both = both_of (p x) (list_all p xs) one in rw both.0 (all_more p xs ys both.1 two)
 
@@ -53,6 +53,12 @@ pub own_states : (ys : List Session) (ordinal handle : ℕ) (states : List Sessi
 unfolding states_of
 own_states ys ordinal handle [] rest own more = more
 own_states ys ordinal handle (state ∷ states) rest own more = rw own (own_states ys ordinal handle states rest own more)
+
+-- what is told last of two lists of events
+pub last_more : (k : ℕ) (before : Option SessionState) (xs ys : List Event) → last_told k before (xs ++ ys) ≡ last_told k (last_told k before xs) ys
+last_more k before [] ys = refl
+last_more k before (State ordinal other state ∷ xs) ys = last_more k (if other == k then Some state else before) xs ys
+last_more k before (Lost n ∷ xs) ys = last_more k before xs ys
 
 -- ---- handles of their own
 
@@ -246,17 +252,35 @@ module _ (g : Session → Session) (named : (x : Session) → (g x).handle ≡ x
       (ap (λ (n : ℕ). is_some (state_at (map g xs) n)) (named x) ∙ ap (λ (o : Option SessionState). is_some o) (state_map xs x.handle) ∙ apart.0, apart_map xs apart.1)
 
 -- all sessions change
-module _ (f : Life → Changed) where
+module _ (f : Session → Changed) where
   pub changes_of : List Session → List Event
   changes_of [] = []
-  changes_of (x ∷ xs) = states_of x.ordinal x.handle (f x.life).through ++ changes_of xs
+  changes_of (x ∷ xs) = states_of x.ordinal x.handle (f x).through ++ changes_of xs
 
   pub each_told : (q : Queue) (xs : List Session) → told_changes q f xs ≡ pushed_all q (changes_of xs)
   unfolding changes_of
   each_told q [] = refl
   each_told q (x ∷ xs) =
-      each_told (told_states q x.ordinal x.handle (f x.life).through) xs ∙ ap (λ (r : Queue). pushed_all r (changes_of xs)) (all_told q x.ordinal x.handle (f x.life).through)
-      ∙ sym (pushed_more q (states_of x.ordinal x.handle (f x.life).through) (changes_of xs))
+      each_told (told_states q x.ordinal x.handle (f x).through) xs ∙ ap (λ (r : Queue). pushed_all r (changes_of xs)) (all_told q x.ordinal x.handle (f x).through)
+      ∙ sym (pushed_more q (states_of x.ordinal x.handle (f x).through) (changes_of xs))
+
+  -- a session that changes keeps its ordinal
+  ordinal_each : (xs : List Session) (k ordinal : ℕ) → has_ordinal (each_changed f xs) k ordinal ≡ has_ordinal xs k ordinal
+  ordinal_each [] k ordinal = refl
+  ordinal_each (x ∷ xs) k ordinal = by (x.handle == k) (ordinal_each xs k ordinal)
+    where
+      by : (b : Bool) → has_ordinal (each_changed f xs) k ordinal ≡ has_ordinal xs k ordinal → (if b then x.ordinal == ordinal else has_ordinal (each_changed f xs) k ordinal) ≡ (if b then x.ordinal == ordinal else has_ordinal xs k ordinal)
+      by true more = refl
+      by false more = more
+
+  still_own : (xs : List Session) (event : Event) → is_of_session (each_changed f xs) event ≡ is_of_session xs event
+  still_own xs (State ordinal session state) = ordinal_each xs session ordinal
+  still_own xs (Lost n) = refl
+
+  pub all_still_own : (xs : List Session) (events : List Event) → list_all (is_of_session xs) events ≡ true → list_all (is_of_session (each_changed f xs)) events ≡ true
+  all_still_own xs [] own = refl
+  all_still_own xs (event ∷ events) own =
+      let two = both_of (is_of_session xs event) (list_all (is_of_session xs) events) own in rw (still_own xs event, two.0) (all_still_own xs events two.1)
 
   none_told : (xs : List Session) (k : ℕ) (before : Option SessionState) → is_some (state_at xs k) ≡ false → last_told k before (changes_of xs) ≡ before
   unfolding changes_of
@@ -265,13 +289,13 @@ module _ (f : Life → Changed) where
     where
       by : (b : Bool) → (x.handle == k) ≡ b → is_some (if b then Some x.life.state else state_at xs k) ≡ false → (is_some (state_at xs k) ≡ false → last_told k before (changes_of xs) ≡ before) → last_told k before (changes_of (x ∷ xs)) ≡ before
       by true eb none more = absurd (true≢false none)
-      by false eb none more = last_else k x.ordinal x.handle (f x.life).through (changes_of xs) before eb ∙ more none
+      by false eb none more = last_else k x.ordinal x.handle (f x).through (changes_of xs) before eb ∙ more none
 
   pub listed_each : (xs : List Session) (k : ℕ) → is_some (state_at (each_changed f xs) k) ≡ is_some (state_at xs k)
   listed_each [] k = refl
   listed_each (x ∷ xs) k = by (x.handle == k) (listed_each xs k)
     where
-      by : (b : Bool) → is_some (state_at (each_changed f xs) k) ≡ is_some (state_at xs k) → is_some (if b then Some (f x.life).life.state else state_at (each_changed f xs) k) ≡ is_some (if b then Some x.life.state else state_at xs k)
+      by : (b : Bool) → is_some (state_at (each_changed f xs) k) ≡ is_some (state_at xs k) → is_some (if b then Some (f x).life.state else state_at (each_changed f xs) k) ≡ is_some (if b then Some x.life.state else state_at xs k)
       by true more = refl
       by false more = more
 
@@ -303,18 +327,18 @@ module _ (f : Life → Changed) where
   unfolding changes_of
   own_each [] apart = refl
   own_each (x ∷ xs) apart =
-      let new = with_life (f x.life).life x in
-      own_states (new ∷ each_changed f xs) x.ordinal x.handle (f x.life).through (changes_of xs) (rw (itself x.handle) (itself x.ordinal))
+      let new = with_life (f x).life x in
+      own_states (new ∷ each_changed f xs) x.ordinal x.handle (f x).through (changes_of xs) (rw (itself x.handle) (itself x.ordinal))
       (all_own new (each_changed f xs) (changes_of xs) (listed_each xs x.handle ∙ apart.0) (own_each xs apart.1))
 
-  pub last_each : ((life : Life) → (f life).life.state ≡ last_of life.state (f life).through) → (xs : List Session) → AreApart xs → (k : ℕ) → is_some (state_at xs k) ≡ true → last_told k (state_at xs k) (changes_of xs) ≡ state_at (each_changed f xs) k
+  pub last_each : ((x : Session) → (f x).life.state ≡ last_of x.life.state (f x).through) → (xs : List Session) → AreApart xs → (k : ℕ) → is_some (state_at xs k) ≡ true → last_told k (state_at xs k) (changes_of xs) ≡ state_at (each_changed f xs) k
   unfolding changes_of
   last_each truly [] apart k there = absurd (true≢false (sym there))
   last_each truly (x ∷ xs) apart k there = by (x.handle == k) refl there (last_each truly xs apart.1 k)
     where
       by : (b : Bool) → (x.handle == k) ≡ b → is_some (if b then Some x.life.state else state_at xs k) ≡ true → (is_some (state_at xs k) ≡ true → last_told k (state_at xs k) (changes_of xs) ≡ state_at (each_changed f xs) k)
-          → last_told k (if b then Some x.life.state else state_at xs k) (changes_of (x ∷ xs)) ≡ (if b then Some (f x.life).life.state else state_at (each_changed f xs) k)
+          → last_told k (if b then Some x.life.state else state_at xs k) (changes_of (x ∷ xs)) ≡ (if b then Some (f x).life.state else state_at (each_changed f xs) k)
       by true eb there more =
-          last_here k x.ordinal x.handle (f x.life).through (changes_of xs) x.life.state eb
-          ∙ none_told xs k (Some (last_of x.life.state (f x.life).through)) (subst (λ (n : ℕ). is_some (state_at xs n) ≡ false) (same_key x.handle k eb) apart.0) ∙ ap Some (sym (truly x.life))
-      by false eb there more = last_else k x.ordinal x.handle (f x.life).through (changes_of xs) (state_at xs k) eb ∙ more there
+          last_here k x.ordinal x.handle (f x).through (changes_of xs) x.life.state eb
+          ∙ none_told xs k (Some (last_of x.life.state (f x).through)) (subst (λ (n : ℕ). is_some (state_at xs n) ≡ false) (same_key x.handle k eb) apart.0) ∙ ap Some (sym (truly x))
+      by false eb there more = last_else k x.ordinal x.handle (f x).through (changes_of xs) (state_at xs k) eb ∙ more there

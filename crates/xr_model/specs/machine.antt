@@ -23,6 +23,7 @@ pub mod Layers
 pub mod CellCalls
 pub mod PlainImages
 pub mod State
+pub mod Target
 pub mod Destroyed
 pub mod Rule
 pub mod SessionRule

@@ -17,9 +17,9 @@ ghost use Rattle.xr_model.specs.laws.MarkLaws.{AwaitGivesTheLastValue, DeviceAwa
 ghost use Rattle.xr_model.specs.laws.AnswerTableLaws.{RefusalsAreTheTable, AnswersAreTheTable};
 ghost use Rattle.xr_model.specs.laws.SuggestionLaws.{SuggestionsAreTheLastTaken};
 ghost use Rattle.xr_model.specs.laws.EventLaws.{EventsAddUp, StatesAreTold, EventsGo, HistoriesAddUp};
-ghost use Rattle.xr_model.specs.laws.SessionLifeLaws.{ClockNeverFalls, SessionsHaveSettled, LostStaysLost, OnlyItsCallAsksForTheEnd, RunningIsBegunAndNotEnded};
+ghost use Rattle.xr_model.specs.laws.SessionLifeLaws.{ClockNeverFalls, SessionsHaveSettled, SessionsAreInOrder, AtMostOneIsFocused, FocusedIsTheTarget, TheLastIsFocused, LostStaysLost, OnlyItsCallAsksForTheEnd, RunningIsBegunAndNotEnded};
 ghost use Rattle.xr_model.specs.laws.SpaceLaws.{SampleTimesFall, PoseIsTheNewestNotLater, SamplesAreTheirOrigins, OriginsHaveTheirPlaces, LaterPosesAreTaken};
-ghost use Rattle.xr_model.specs.laws.StateLaws.{NoRowFits};
+ghost use Rattle.xr_model.specs.laws.StateLaws.{NoRowFits, OneRoundIsEnough};
 ghost use Rattle.xr_model.specs.laws.PublicationLaws.{GettersChangeNothing, GettersAreReady, GettersRead, PublishedIsCurrent, GettersMove};
 ghost use Rattle.xr_model.specs.laws.SyncLaws.{BooleansAreDownOnce, FloatsAreLargest, VectorsAreLongest, PosesAreTheFirst, NothingIsInactive, ChangedIsActive, FirstColumnIsOfAll, UndeclaredIsInactive, PicksAreInRange};
 ghost use Rattle.xr_model.specs.laws.MomentLaws.{LegalGrows, CallsGrow, NoneLiesBetween, NumbersAreApart, EntriesAreByActors, ActorsStay, ClocksStay, HeldImagesStay};
@@ -126,6 +126,12 @@ pub fn no_row_fits()
     ensures { NoRowFits }
 {}
 
+/// One round is all that the sessions need to settle.
+#[tactic(auto, using(crate::proofs::Targets::once_is_enough))]
+pub fn one_round_is_enough()
+    ensures { OneRoundIsEnough }
+{}
+
 /// After every legal history, the live handles of sessions are those of the listed sessions.
 #[tactic(auto, using(crate::proofs::LostSessions::sessions_are_listed))]
 pub fn sessions_are_listed()
@@ -170,7 +176,8 @@ pub fn sealed_stays()
     ensures { SealedStays }
 {}
 
-/// In a legal history a call that destroys a handle takes exactly what is within it out of the lists, and keeps their order.
+/// In a legal history a call that destroys a handle takes exactly what is within it out of the lists, and keeps their order. Of
+/// a session that is left the state alone may change, since the target may go.
 pub fn destroying_filters()
     ensures { DestroyingFilters }
 {}
@@ -215,10 +222,35 @@ pub fn samples_are_few()
     ensures { SamplesAreFew }
 {}
 
-/// After every history, no row of the table of states fits a listed session under the device's wish.
+/// After every history, no row of the table of states fits a listed session under its own part of the device's wish.
 #[tactic(auto, using(crate::proofs::Settled::sessions_have_settled))]
 pub fn sessions_have_settled()
     ensures { SessionsHaveSettled }
+{}
+
+/// After every history, the sessions are listed in the order of their ordinals, which begin at 1.
+#[tactic(auto, using(crate::proofs::Settled::sessions_are_in_order))]
+pub fn sessions_are_in_order()
+    ensures { SessionsAreInOrder }
+{}
+
+/// After every history, at most one session is focused.
+#[tactic(auto, using(crate::proofs::Settled::at_most_one_is_focused))]
+pub fn at_most_one_is_focused()
+    ensures { AtMostOneIsFocused }
+{}
+
+/// After every history, a session that is focused is the target.
+#[tactic(auto, using(crate::proofs::Settled::focused_is_the_target))]
+pub fn focused_is_the_target()
+    ensures { FocusedIsTheTarget }
+{}
+
+/// After every history, a listed session is focused exactly where the device wishes the focus, a frame of its running period was ended, its
+/// end wasn't asked for, and no session of which that is true was created later.
+#[tactic(auto, using(crate::proofs::Focus::the_last_is_focused))]
+pub fn the_last_is_focused()
+    ensures { TheLastIsFocused }
 {}
 
 /// A session that is lost stays so as long as it is listed.

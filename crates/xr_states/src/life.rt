@@ -181,6 +181,13 @@ impl Life {
         self.running
     }
 
+    /// Whether the application has asked for the session's end.
+    pub fn exit(&self) -> bool
+        ensures { result ≡ self.now.exit }
+    {
+        self.exit
+    }
+
     /// Whether the session's device is lost.
     pub fn lost(&self) -> bool
         ensures { result ≡ self.now.lost }

@@ -1,31 +1,53 @@
--- What changes sessions, and what is left of inputs and spaces where actions are gone.
-use Rattle.std.specs.Prelude.{◌==◌, ℕ, Bool, ◌∷◌, List, [], Option, Some, None, if◌then◌else◌}
+-- What changes sessions before they settle, and what is left of inputs and spaces where actions are gone.
+use Rattle.std.specs.Prelude.{◌==◌, ◌+◌, ◌++◌, ◌||◌, ℕ, Bool, ◌∷◌, List, [], Option, Some, None, if◌then◌else◌}
 use Rattle.std.specs.List.{position_from}
 use Rattle.xr_types.specs.declared.code.Code.{Code}
 use Rattle.xr_types.specs.declared.device.Wish.{Wish}
 use Rattle.xr_types.specs.declared.session.SessionState.{SessionState}
-use Rattle.xr_model.specs.machine.Destroyed.{has_action}
-use Rattle.xr_model.specs.machine.Frames.{reset_loop}
+use Rattle.xr_types.specs.declared.handles.Kind.TheVariants as kind
+use Rattle.xr_model.specs.machine.Bindings.{without_suggestions}
+use Rattle.xr_model.specs.machine.Destroyed.{has_action, columns_left, spaces_left}
+use Rattle.xr_model.specs.machine.Frames.{new_loop, reset_loop}
+use Rattle.xr_model.specs.machine.Handles.{with_handle, without, destroyed_by}
 use Rattle.xr_model.specs.machine.Refusals.{Refusal, first_of, unless}
 use Rattle.xr_types.specs.declared.calls.Call.{Call}
 use Rattle.xr_types.specs.declared.calls.Call.TheVariants as ask
-use Rattle.xr_model.specs.machine.SessionLife.{Life, Changed, unchanged, settled_session, losing_session, lost_session, is_lost, begin_checks, begun_session, end_checks, ended_session, exit_checks, exiting_session}
+use Rattle.xr_model.specs.machine.SessionLife.{Life, Changed, unchanged, losing_session, lost_session, is_lost, begin_checks, begun_session, end_checks, ended_session, exit_checks, exiting_session}
 use Rattle.xr_model.specs.machine.PartAnswers.{code_by}
-use Rattle.xr_model.specs.machine.LiveSessions.{Session, session_at}
+use Rattle.xr_model.specs.machine.LiveSessions.{Session, session_at, sessions_left, told_states}
+use Rattle.xr_model.specs.machine.Sets.{without_inputs}
 use Rattle.xr_model.specs.machine.Spaces.{left_spaces}
 use Rattle.xr_model.specs.machine.State.{CoreState}
 use Rattle.xr_model.specs.machine.Sync.{no_columns, left_columns}
-use Rattle.xr_model.specs.machine.Rules.Session.{life_of, with_change, with_loop}
+use Rattle.xr_model.specs.machine.Target.{other_settled, target_settled}
+use Rattle.xr_model.specs.machine.Rules.Session.{life_of, new_session, changed_in, told_of, with_loop}
 use Rattle.xr_core.specs.declared.sessions.Change.{Change}
-use Rattle.xr_core.specs.declared.sessions.Change.TheVariants.{Settle, Loss, Lost}
+use Rattle.xr_core.specs.declared.sessions.Change.TheVariants.{Others, Target, Loss, Lost}
 use Rattle.xr_core.specs.declared.sessions.LifeCall.{LifeCall}
 use Rattle.xr_core.specs.declared.sessions.LifeCall.TheVariants.{Begin, End, RequestExit}
 
 -- what happens to all sessions does this to each
-abbrev pub change_by : Change → Life → Changed
-change_by (Settle wish) life = settled_session wish life
-change_by Loss life = losing_session life
-change_by Lost life = unchanged (lost_session life)
+abbrev pub change_by : Change → Session → Changed
+change_by (Others wish target) = other_settled wish target
+change_by (Target wish target) = target_settled wish target
+change_by Loss = λ x. losing_session x.life
+change_by Lost = λ x. unchanged (lost_session x.life)
+
+-- ---- one session before all settle
+
+-- a new session stands behind the others, and its first states are told
+abbrev pub session_added : CoreState → ℕ → ℕ → Changed → CoreState
+session_added s instance given c = record s {
+  handles = with_handle s.handles kind.Session instance given;
+  sessions = s.sessions ++ new_session s given c.life ∷ [];
+  frames = record s.frames { frame_loop = new_loop };
+  events = told_states s.events (s.created + 1) given c.through;
+  created = s.created + 1;
+}
+
+-- the session has changed, and its states are told
+abbrev pub changed_alone : CoreState → Option Session → (Life → Changed) → CoreState
+changed_alone s o f = record s { sessions = changed_in o f s.sessions; events = told_of o f s.events }
 
 -- ---- a call that changes one session
 
@@ -58,10 +80,10 @@ told_after w call life = unless (first_of (refusals_of call life)) [] (change_of
 unfoldable pub answer_to : LifeCall → Life → Code
 answer_to call life = code_by (first_of (refusals_of call life))
 
--- the core once the call was made of the session with this handle
+-- the core once the call was made of the session with this handle, and before all settle
 unfoldable pub changed_life : CoreState → ℕ → LifeCall → CoreState
 changed_life s session call =
-    unless (first_of (refusals_of call (life_of s session))) s (with_change s (session_at s.sessions session) (change_of s.device.wish call))
+    unless (first_of (refusals_of call (life_of s session))) s (changed_alone s (session_at s.sessions session) (change_of s.device.wish call))
 
 -- where the call begins or ends a running period, no frame is waited for or begun
 abbrev pub with_period : CoreState → LifeCall → CoreState
@@ -83,3 +105,14 @@ with_places_left all s = record s {
 -- where a session stands, from 0
 abbrev pub place_at : List Session → ℕ → Option ℕ
 place_at xs handle = position_from (λ x. x.handle == handle) 0 xs
+
+-- A handle and all below it are out of all parts but the swapchains. The sessions that are left haven't settled.
+abbrev pub taken_out : CoreState → ℕ → CoreState
+taken_out s handle = record s {
+  handles = without s.handles handle;
+  sessions = sessions_left (without s.handles handle) (destroyed_by s.handles handle) s.sessions;
+  inputs = without_inputs s.inputs (destroyed_by s.handles handle);
+  suggestions = without_suggestions s.suggestions (destroyed_by s.handles handle);
+  columns = columns_left s.handles handle s.columns;
+  room = spaces_left s.handles handle s.room;
+}

@@ -21,9 +21,12 @@ impl Parts {
             DeviceEvent::Grid { base, period } => self.device.set_grid(base, period),
             DeviceEvent::Wish(wish) => {
                 self.device.set_wish(wish);
-                self.change_all(Change::Settle(wish));
+                self.settle();
             }
-            DeviceEvent::Loss => self.change_all(Change::Loss),
+            DeviceEvent::Loss => {
+                self.change_all(Change::Loss);
+                self.settle();
+            }
             DeviceEvent::Lost | DeviceEvent::Fault | DeviceEvent::Garbled(_) => self.change_all(
                 Change::Lost,
             ),

@@ -1,5 +1,6 @@
 // The calls on frames (OpenXR 1.0 chapter 10).
 ghost use Rattle.std.specs.Prelude.{◌≡◌, ◌≤◌, ◌<◌, ◌^◌, ◌+◌, ◌||◌, ◌&&◌, is_none, slice_get, [], ◌∷◌, ◌++◌, None, Ok, Err, IfSome, not, true, false, length, if◌then◌else◌};
+ghost use Rattle.xr_types.specs.declared.device.Wish.TheVariants as wish;
 ghost use Rattle.xr_types.specs.declared.session.SessionState.TheVariants.{Visible, Focused};
 ghost use Rattle.xr_model.specs.machine.CellCalls.{MayCall, Leads, pin_calls};
 ghost use Rattle.xr_model.specs.machine.Frames.{waited_loop, begun_loop, ended_loop, is_frame_held_back};
@@ -11,6 +12,7 @@ ghost use Rattle.xr_model.specs.machine.Rule.{ahead, refusals};
 ghost use Rattle.xr_model.specs.machine.SessionLife.{is_state, synced_session};
 ghost use Rattle.xr_model.specs.machine.Rules.Frames.{not_running, next_time, wait_frame_rule, look_of, new_frame, end_frame_rule, is_frame_awaited, with_frame_taken};
 ghost use Rattle.xr_model.specs.machine.Rules.Session.{life_of, with_change, with_loop};
+ghost use Rattle.xr_core.specs.inside.Changes.{changed_alone};
 ghost use Rattle.xr_core.specs.inside.Deciding.{Decides, DecidesCells, MayTouch};
 ghost use Rattle.xr_core.specs.inside.Groups.{IsFrameCall};
 ghost use Rattle.xr_model.specs.machine.PartAnswers.{or_refused};
@@ -196,20 +198,23 @@ impl Parts {
         Ok(success)
     }
 
-    /// A frame of a session was ended: a ready session enters `Synchronized` by its first, and any other stays as it was.
-    fn sync(&mut self, session: u64)
-        ensures { self.new ≡ with_change self.old (session_at self.old.sessions session) (synced_session self.old.device.wish) }
+    /// A frame of a session was ended: a ready session enters `Synchronized` by its first, and any other stays as it was. The others
+    /// don't follow it yet.
+    fn sync_one(&mut self, session: u64)
+        ensures { self.new ≡ changed_alone self.old (session_at self.old.sessions session) (synced_session wish.Ready) }
     {
         let Some(place) = place_of(self.sessions.as_slice(), session) else {
             return;
         };
-        sync_at(
-            &mut self.sessions,
-            session,
-            place,
-            self.device.wish(),
-            &mut self.events,
-        );
+        sync_at(&mut self.sessions, session, place, &mut self.events);
+    }
+
+    /// A frame of a session was ended, behind which all sessions settle.
+    fn sync(&mut self, session: u64)
+        ensures { self.new ≡ with_change self.old (session_at self.old.sessions session) (synced_session wish.Ready) }
+    {
+        self.sync_one(session);
+        self.settle();
     }
 
     /// The frame that is begun is pending from now on.

@@ -5,7 +5,7 @@ ghost use Rattle.xr_model.specs.machine.Handles.{has_room, was_given};
 ghost use Rattle.xr_types.specs.declared.calls.Call.TheVariants as ask;
 ghost use Rattle.xr_model.specs.machine.SessionLife.{started_session};
 ghost use Rattle.xr_model.specs.machine.Rules.Session.{life_of, with_session, create_session_rule};
-ghost use Rattle.xr_core.specs.inside.Changes.{place_at, life_request, changed_life, with_period, answer_to};
+ghost use Rattle.xr_core.specs.inside.Changes.{place_at, life_request, session_added, changed_life, with_period, answer_to};
 ghost use Rattle.xr_core.specs.inside.Deciding.{Decides, DecidesCells, MayTouch};
 ghost use Rattle.xr_core.specs.inside.Groups.{IsSessionCall};
 ghost use Rattle.xr_core.specs.inside.Refusing.{unless_refused};
@@ -61,12 +61,12 @@ impl Parts {
         giving(Code::Success, Gives::Handle(handle))
     }
 
-    /// Gives the handle of a new session, where there is room for one.
-    fn new_session(&mut self, instance: u64) -> u64
+    /// Lists a new session, where there is room for one, and tells its first states. Gives its handle.
+    fn add_session(&mut self, instance: u64) -> u64
         requires given { length self.old.handles.given < 2 ^ 44 }
         requires created { self.old.created < 2 ^ 44 }
         requires room { has_room self.old.handles kind.Session ≡ true }
-        ensures state { self.new ≡ with_session self.old instance result (started_session self.old.device.wish) }
+        ensures state { self.new ≡ session_added self.old instance result (started_session self.old.device.wish) }
         ensures fresh { (result ≢ 0) × (was_given self.old.handles result ≡ false) }
     {
         let handle = give(&mut self.handles, Kind::Session, instance);
@@ -74,6 +74,19 @@ impl Parts {
         let session = Session::create(handle, self.created, self.device.wish(), &mut self.events);
         self.sessions.push(session);
         self.frames.renew();
+        handle
+    }
+
+    /// Gives the handle of a new session, where there is room for one. All sessions settle.
+    fn new_session(&mut self, instance: u64) -> u64
+        requires given { length self.old.handles.given < 2 ^ 44 }
+        requires created { self.old.created < 2 ^ 44 }
+        requires room { has_room self.old.handles kind.Session ≡ true }
+        ensures state { self.new ≡ with_session self.old instance result (started_session self.old.device.wish) }
+        ensures fresh { (result ≢ 0) × (was_given self.old.handles result ≡ false) }
+    {
+        let handle = self.add_session(instance);
+        self.settle();
         handle
     }
 
@@ -91,7 +104,7 @@ impl Parts {
         done(Code::Success)
     }
 
-    /// Makes the call of the session in a place.
+    /// Makes the call of the session in a place. The others don't follow it yet.
     fn change_life_at(&mut self, session: u64, place: usize, call: LifeCall) -> Code
         requires found { place_at self.old.sessions session ≡ Some place }
         requires within { place < length self.old.sessions }
@@ -130,6 +143,7 @@ impl Parts {
         if code != Code::Success {
             return refused(code);
         }
+        self.settle();
         self.end_frames(call);
         done(success)
     }

@@ -14,6 +14,7 @@ use Rattle.xr_model.specs.machine.Sets as inputs
 use Rattle.xr_model.specs.machine.Sets.{Set, set_at, action_at, is_sealed}
 use Rattle.xr_model.specs.machine.Spaces as spaces
 use Rattle.xr_model.specs.machine.Spaces.{Sample, space_at}
+use Rattle.xr_types.specs.declared.session.SessionState.TheVariants.{Idle}
 use Rattle.xr_types.specs.declared.spaces.TheConstants.{SAMPLES}
 use Rattle.std.specs.Prelude.{nat_le, length}
 use Rattle.xr_model.specs.machine.State.{CoreState, Settings, State, opening}
@@ -45,13 +46,17 @@ ListedWhereLive = (settings : Settings) (es : List Entry) → IsLegal settings e
 abbrev pub without_attached : (ℕ → Bool) → Session → Session
 without_attached gone x = record x { attached = option_map (filter (λ set. not (gone set))) x.attached }
 
+-- what a session keeps where others go: all but its state, since the target may go
+abbrev pub but_state : Session → Session
+but_state x = record x { life = record x.life { state = Idle } }
+
 -- what a space keeps also where its action goes: its handle and its offset
 abbrev pub standing : spaces.Space → ℕ × ℕ
 standing x = (x.handle, x.offset)
 
--- each list without what is below a handle, in its order, and nothing else is gone
+-- each list without what is below a handle, in its order, and nothing else is gone; of a session that is left the state may change
 pub record AreFiltered (s new : CoreState) (gone : ℕ → Bool) : Type 0 where
-  pub sessions : new.sessions ≡ map (without_attached gone) (filter (λ x. not (gone x.handle)) s.sessions)
+  pub sessions : map but_state new.sessions ≡ map but_state (map (without_attached gone) (filter (λ x. not (gone x.handle)) s.sessions))
   pub sets : new.inputs.sets ≡ filter (λ x. not (gone x.handle)) s.inputs.sets
   pub actions : new.inputs.actions ≡ filter (λ x. not (gone x.handle)) s.inputs.actions
   pub spaces : map standing new.room.spaces ≡ map standing (filter (λ x. not (gone x.handle)) s.room.spaces)

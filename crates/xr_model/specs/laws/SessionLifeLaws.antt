@@ -1,10 +1,15 @@
 -- What holds of a session from its creation to its end, and of the device's clock.
-use Rattle.std.specs.Prelude.{◌≡◌, ◌==◌, ◌&&◌, ◌||◌, ℕ, Bool, true, false, int_le, List, [], ◌∷◌, Some, None, if◌then◌else◌}
+use Rattle.std.specs.Prelude.{◌≡◌, ◌≤◌, ◌<◌, ◌==◌, ◌&&◌, ◌||◌, ℕ, Bool, true, false, int_le, nat_lt, not, length, List, [], ◌∷◌, Some, None, if◌then◌else◌}
+use Rattle.std.specs.List.{filter, list_any}
 use Rattle.xr_types.specs.Code.{is_success}
 use Rattle.xr_model.specs.machine.Calls.{Entry}
 use Rattle.xr_types.specs.declared.calls.Call.{Call}
 use Rattle.xr_types.specs.declared.calls.Call.TheVariants as ask
-use Rattle.xr_model.specs.machine.SessionLife.{next_state}
+use Rattle.xr_types.specs.declared.device.Wish.TheVariants as wish
+use Rattle.xr_types.specs.declared.session.SessionState.{SessionState}
+use Rattle.xr_types.specs.declared.session.SessionState.TheVariants.{Synchronized, Visible, Focused}
+use Rattle.xr_model.specs.machine.SessionLife.{is_state, is_wish, next_state}
+use Rattle.xr_model.specs.machine.Target.{target_of, is_target, own_wish}
 use Rattle.xr_model.specs.machine.LiveSessions.{Session, session_at}
 use Rattle.xr_model.specs.machine.State.{Settings, State, opening}
 use Rattle.xr_model.specs.machine.Machine.{step}
@@ -19,11 +24,55 @@ ClockNeverFalls = (s : State) (e : Entry) → int_le s.core.device.clock (step s
 
 -- ---- states
 
--- After every history no row of the table of states fits a listed session under the device's wish.
+-- After every history no row of the table of states fits a listed session under its own wish.
 abbrev pub SessionsHaveSettled : Type 0
 SessionsHaveSettled =
     (settings : Settings) (es : List Entry) (session : ℕ) (x : Session) → session_at (after (opening settings) es).core.sessions session ≡ Some x
-    → next_state (after (opening settings) es).core.device.wish x.life.exit x.life.state ≡ None
+    → next_state (own_wish (after (opening settings) es).core.device.wish (target_of (after (opening settings) es).core.sessions) x) x.life.exit x.life.state ≡ None
+
+-- ---- the focus
+
+-- these sessions are listed in the order of their ordinals, which are above this one
+abbrev pub AreRising : ℕ → List Session → Type 0
+AreRising n [] = Unit {0}
+AreRising n (x ∷ xs) = (n < x.ordinal) × AreRising x.ordinal xs
+
+-- After every history the sessions are listed in the order of their ordinals, which begin at 1.
+abbrev pub SessionsAreInOrder : Type 0
+SessionsAreInOrder = (settings : Settings) (es : List Entry) → AreRising 0 (after (opening settings) es).core.sessions
+
+abbrev pub is_focused : Session → Bool
+is_focused x = is_state x.life.state Focused
+
+-- After every history, legal or not, at most one session is focused.
+abbrev pub AtMostOneIsFocused : Type 0
+AtMostOneIsFocused = (settings : Settings) (es : List Entry) → length (filter is_focused (after (opening settings) es).core.sessions) ≤ 1
+
+-- After every history a session that is focused is the target.
+abbrev pub FocusedIsTheTarget : Type 0
+FocusedIsTheTarget =
+    (settings : Settings) (es : List Entry) (session : ℕ) (x : Session) → session_at (after (opening settings) es).core.sessions session ≡ Some x
+    → is_focused x ≡ true → is_target (target_of (after (opening settings) es).core.sessions) x ≡ true
+
+-- a session in one of these states takes part in the focus, unless its end was asked for
+abbrev pub takes_part : SessionState → Bool → Bool
+takes_part Synchronized false = true
+takes_part Visible false = true
+takes_part Focused false = true
+takes_part _ exit = false
+
+-- a session takes part that was created later than one with this ordinal
+abbrev pub is_later_one : ℕ → Session → Bool
+is_later_one ordinal y = takes_part y.life.state y.life.exit && nat_lt ordinal y.ordinal
+
+-- After every history a listed session is focused exactly where the device wishes the focus, the session takes part in it, and none that
+-- was created later does.
+abbrev pub TheLastIsFocused : Type 0
+TheLastIsFocused =
+    (settings : Settings) (es : List Entry) (session : ℕ) (x : Session) → session_at (after (opening settings) es).core.sessions session ≡ Some x
+    → is_focused x
+    ≡ (is_wish (after (opening settings) es).core.device.wish wish.Focused
+    && (takes_part x.life.state x.life.exit && not (list_any (is_later_one x.ordinal) (after (opening settings) es).core.sessions)))
 
 -- ---- the loss
 

@@ -1,4 +1,4 @@
--- What holds of the table of states, and of where it leads the sessions of a history.
+-- What holds of the table of states, of the rounds in which sessions settle, and of where both lead the sessions of a history.
 use Rattle.std.specs.Prelude.{◌≡◌, ◌==◌, ◌&&◌, ℕ, Bool, true, false, List, Option, Some, None, if◌then◌else◌}
 use Rattle.xr_types.specs.Code.{is_success}
 use Rattle.xr_types.specs.declared.calls.Call.{Call}
@@ -14,15 +14,20 @@ use Rattle.xr_model.specs.machine.SessionLife.{Life, next_state, settled_session
 use Rattle.xr_model.specs.machine.State.{Settings, opening}
 use Rattle.xr_model.specs.machine.Machine.{step}
 use Rattle.xr_model.specs.machine.History.{after}
+use Rattle.xr_model.specs.machine.Target.{Standing, target_of, round_for, rounds, most_rounds, own_wish}
 
 -- where a session has settled, no row fits
 abbrev pub NoRowFits : Type 0
 NoRowFits = (w : Wish) (life : Life) → next_state w (settled_session w life).life.exit (settled_session w life).life.state ≡ None
 
+-- One round is all of them: where the target has changed by then, nothing is left to change.
+abbrev pub OneRoundIsEnough : Type 0
+OneRoundIsEnough = (w : Wish) (t : Standing) → rounds most_rounds w t ≡ round_for w (target_of t.sessions) t
+
 -- ---- the table
 
--- Where a state leads by itself, told the device's wish and whether the session's end was asked for (OpenXR 1.0 chapter 9, "Session
--- Lifecycle"). A ready session waits for its first frame, and a stopping one for its end.
+-- Where a state leads by itself, told the session's part of the device's wish and whether its end was asked for (OpenXR 1.0 chapter 9,
+-- "Session Lifecycle"). A ready session waits for its first frame, and a stopping one for its end.
 abbrev pub leads_to : SessionState → Wish → Bool → Option SessionState
 leads_to Idle w true = Some Exiting
 leads_to Idle wish.Rest false = None
@@ -85,12 +90,12 @@ abbrev pub state_before : Option Session → SessionState
 state_before None = Idle
 state_before (Some x) = x.life.state
 
--- In every history a listed session rests, behind each entry, where the state leads to which the entry brings it, under the device's
--- wish and by whether its end was asked for.
+-- In every history a listed session rests, behind each entry, where the state leads to which the entry brings it, under its own part of
+-- the device's wish and by whether its end was asked for.
 abbrev pub StatesFollowTheTable : Type 0
 StatesFollowTheTable =
     (settings : Settings) (es : List Entry) (e : Entry) (session : ℕ) (y : Session)
     → session_at (step (after (opening settings) es) e).0.core.sessions session ≡ Some y
     → y.life.state
     ≡ rests_at (brought_to e.call session (is_success (step (after (opening settings) es) e).1.reply.code) (state_before (session_at (after (opening settings) es).core.sessions session)))
-    (step (after (opening settings) es) e).0.core.device.wish y.life.exit
+    (own_wish (step (after (opening settings) es) e).0.core.device.wish (target_of (step (after (opening settings) es) e).0.core.sessions) y) y.life.exit

@@ -13,6 +13,7 @@ use Rattle.xr_model.specs.machine.Sets.{without_inputs}
 use Rattle.xr_model.specs.machine.Spaces.{Spaces, without_spaces, left_spaces}
 use Rattle.xr_model.specs.machine.State.{CoreState}
 use Rattle.xr_model.specs.machine.Sync.{no_columns, left_columns}
+use Rattle.xr_model.specs.machine.Target.{settled}
 
 -- an action stands in a place
 abbrev pub has_action : List Slot → ℕ → Bool
@@ -28,8 +29,9 @@ abbrev pub columns_left : Handles → ℕ → List (List Column) → List (List 
 columns_left h handle columns =
     if is_live h kind.Session handle || is_live h kind.Instance handle then no_columns else left_columns (has_action (without h handle).actions) columns
 
+-- The sessions that are left settle, since the target may be gone.
 abbrev pub without_handle : CoreState → ℕ → CoreState
-without_handle s handle = record s {
+without_handle s handle = settled (record s {
   handles = without s.handles handle;
   sessions = sessions_left (without s.handles handle) (destroyed_by s.handles handle) s.sessions;
   inputs = without_inputs s.inputs (destroyed_by s.handles handle);
@@ -37,7 +39,7 @@ without_handle s handle = record s {
   columns = columns_left s.handles handle s.columns;
   room = spaces_left s.handles handle s.room;
   chains = left_in_places (without s.handles handle) (is_place_used s.frames.pending s.shown_images) 0 s.chains;
-}
+})
 
 -- the images that applications had waited for, and whose chains go with it
 abbrev pub freed_by : CoreState → ℕ → List Image

@@ -70,10 +70,10 @@ told_states q ordinal handle (state ∷ states) = told_states (pushed q (event.S
 
 -- ---- all sessions change
 
-abbrev pub each_changed : (Life → Changed) → List Session → List Session
-each_changed f xs = map (λ x. with_life (f x.life).life x) xs
+abbrev pub each_changed : (Session → Changed) → List Session → List Session
+each_changed f xs = map (λ x. with_life (f x).life x) xs
 
 -- what is told of that, session by session
-abbrev pub told_changes : Queue → (Life → Changed) → List Session → Queue
+abbrev pub told_changes : Queue → (Session → Changed) → List Session → Queue
 told_changes q f [] = q
-told_changes q f (x ∷ xs) = told_changes (told_states q x.ordinal x.handle (f x.life).through) f xs
+told_changes q f (x ∷ xs) = told_changes (told_states q x.ordinal x.handle (f x).through) f xs

@@ -50,7 +50,7 @@ pub record Row : Type 0 where
 abbrev pub row : SessionState → Bool → SessionState → Row
 row from test to = record { from = from; where_ = test; to = to }
 
--- by the device's wish, and whether the application has asked for the session's end
+-- by the session's part of the device's wish, and whether the application has asked for its end
 abbrev pub table : Wish → Bool → List Row
 table w exit =
     row Idle exit Exiting

@@ -7,6 +7,7 @@ use Rattle.xr_types.specs.declared.calls.Gives.TheVariants as gives
 use Rattle.xr_types.specs.declared.frames.Blend.{Blend}
 use Rattle.xr_types.specs.declared.frames.Image.{Image}
 use Rattle.xr_types.specs.declared.frames.Layer.{Layer}
+use Rattle.xr_types.specs.declared.device.Wish.TheVariants as wish
 use Rattle.xr_types.specs.declared.handles.Kind.TheVariants.{Session, Space, Swapchain}
 use Rattle.xr_types.specs.declared.session.FrameState.{FrameState}
 use Rattle.xr_types.specs.declared.session.SessionState.TheVariants.{Visible, Focused}
@@ -78,7 +79,7 @@ new_frame s time layers =
 
 -- a frame is pending from now on; the first one of a period synchronizes its session
 abbrev pub with_frame : CoreState → ℕ → PendingFrame → CoreState
-with_frame s session frame = record (with_change s (session_at s.sessions session) (synced_session s.device.wish)) {
+with_frame s session frame = record (with_change s (session_at s.sessions session) (synced_session wish.Ready)) {
   frames = record { frame_loop = ended_loop s.frames.frame_loop; pending = s.frames.pending ++ frame ∷ [] };
   ended = s.ended + 1;
 }

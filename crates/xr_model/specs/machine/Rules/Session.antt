@@ -12,6 +12,7 @@ use Rattle.xr_model.specs.machine.SessionLife.{Life, Changed, unchanged, started
 use Rattle.xr_model.specs.machine.LiveSessions as sessions
 use Rattle.xr_model.specs.machine.LiveSessions.{session_at, life_in, with_life_at, told_states}
 use Rattle.xr_model.specs.machine.State.{CoreState}
+use Rattle.xr_model.specs.machine.Target.{settled}
 use Rattle.xr_model.specs.machine.Destroyed.{without_handle, freed_by}
 use Rattle.xr_model.specs.machine.SessionRule.{loss_of}
 use Rattle.xr_model.specs.machine.Rule.{Rule, ordinary, done, destroying}
@@ -24,13 +25,13 @@ new_session s given life = record { handle = given; ordinal = s.created + 1; lif
 
 -- a new session stands behind the others with no sets attached and a new loop of frames, and its first states are told
 abbrev pub with_session : CoreState → ℕ → ℕ → Changed → CoreState
-with_session s instance given c = record s {
+with_session s instance given c = settled (record s {
   handles = with_handle s.handles Session instance given;
   sessions = s.sessions ++ new_session s given c.life ∷ [];
   frames = record s.frames { frame_loop = new_loop };
   events = told_states s.events (s.created + 1) given c.through;
   created = s.created + 1;
-}
+})
 
 -- xrCreateSession: of the one system, and as many sessions as may be live
 abbrev pub create_session_rule : CoreState → ℕ → ℕ → ℕ → Rule
@@ -60,9 +61,9 @@ abbrev pub told_of : Option sessions.Session → (Life → Changed) → Queue �
 told_of None f q = q
 told_of (Some x) f q = told_states q x.ordinal x.handle (f x.life).through
 
--- the session has changed, and its states are told
+-- the session has changed, its states are told, and all settle
 abbrev pub with_change : CoreState → Option sessions.Session → (Life → Changed) → CoreState
-with_change s o f = record s { sessions = changed_in o f s.sessions; events = told_of o f s.events }
+with_change s o f = settled (record s { sessions = changed_in o f s.sessions; events = told_of o f s.events })
 
 -- the loop of frames stands so
 abbrev pub with_loop : CoreState → FrameLoop → CoreState

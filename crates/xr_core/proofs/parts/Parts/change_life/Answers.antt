@@ -42,4 +42,4 @@ returns c =
     let here = sym (ap (λ (s : CoreState). is_live s.handles kind.Session c.args.session) c.self.view_is) ∙ live in
     let good : c.change_life_at-code.result ≡ Success = search rules in
     let code : c.success_of-success.result ≡ code_on (loss_of (life_of c.args.self.now c.args.session)) Success = search rules in
-    rw (c.done.ensures, code, c.end_frames.ensures) (life_done c.args.self.now c.args.session c.args.call here c.change_life_at-code.new.self c.change_life_at-code.result c.change_life_at-code.ensures.state c.change_life_at-code.ensures.code good)
+    rw (c.done.ensures, code, c.end_frames.ensures, c.settle.ensures) (life_done c.args.self.now c.args.session c.args.call here c.change_life_at-code.new.self c.change_life_at-code.result c.change_life_at-code.ensures.state c.change_life_at-code.ensures.code good)

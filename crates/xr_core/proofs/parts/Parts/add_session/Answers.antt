@@ -5,7 +5,7 @@ use Rattle.xr_model.specs.machine.Handles.{has_room, with_handle}
 use Rattle.xr_model.specs.machine.State.{CoreState}
 use Rattle.xr_core.proofs.Listed.{room_for_one, listed_give}
 use Rattle.xr_core.proofs.KeptLive.{kept_same}
-use Rattle.xr_core.proofs.parts.Parts.new_session.Goals as goal
+use Rattle.xr_core.proofs.parts.Parts.add_session.Goals as goal
 
 pub push-requires : goal.push-requires
 push-requires c =

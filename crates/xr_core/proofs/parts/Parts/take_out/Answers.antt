@@ -1,6 +1,6 @@
 use Rattle.xr_model.proofs.Listed.{listed_left}
 use Rattle.xr_core.proofs.KeptLive.{kept_left}
-use Rattle.xr_core.proofs.parts.Parts.remove.Goals as goal
+use Rattle.xr_core.proofs.parts.Parts.take_out.Goals as goal
 
 pub invariant_of-self : goal.invariant_of-self
 invariant_of-self c = (

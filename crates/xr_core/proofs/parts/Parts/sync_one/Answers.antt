@@ -1,16 +1,17 @@
 use Rattle.std.proofs.Common.{rules, ◌≡◌, take, Some, None, refl}
+use Rattle.xr_types.specs.declared.device.Wish.TheVariants as wish
 use Rattle.xr_model.specs.machine.SessionLife.{synced_session}
 use Rattle.xr_model.specs.machine.State.{CoreState}
 use Rattle.xr_model.proofs.Listed.{listed_lives}
 use Rattle.xr_core.specs.inside.Changes.{place_at}
 use Rattle.xr_core.proofs.Listed.{stands_within, stands_nowhere, found_at}
 use Rattle.xr_core.proofs.SessionEvents.{synced_so, changes_none}
-use Rattle.xr_core.proofs.parts.Parts.sync.Goals as goal
+use Rattle.xr_core.proofs.parts.Parts.sync_one.Goals as goal
 
 pub returns-in_default : goal.returns-in_default
 returns-in_default c =
     let none : place_at c.args.self.now.sessions c.args.session ≡ None = search rules in
-    changes_none c.args.self.now c.args.session (synced_session c.args.self.now.device.wish) (stands_nowhere c.args.self.now.sessions c.args.session none)
+    changes_none c.args.self.now c.args.session (synced_session wish.Ready) (stands_nowhere c.args.self.now.sessions c.args.session none)
 
 pub sync_at-requires-clause-within : goal.sync_at-requires-clause-within
 sync_at-requires-clause-within c =
@@ -51,4 +52,4 @@ returns c =
       locked = 0;
       published = 0;
     } in
-    rw (← c.self.view_is) (synced_so s c.args.session c.in-Some.place x c.wish.result c.sync_at.new.sessions.items c.sync_at.new.events found c.wish.ensures c.sync_at.ensures.sessions c.sync_at.ensures.events)
+    rw (← c.self.view_is) (synced_so s c.args.session c.in-Some.place x c.sync_at.new.sessions.items c.sync_at.new.events found c.sync_at.ensures.sessions c.sync_at.ensures.events)
