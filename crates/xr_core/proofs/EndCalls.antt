@@ -1,25 +1,46 @@
 -- How the end of a frame is decided beside cells.
-use Rattle.std.proofs.Common.{◌≡◌, ℕ, ℤ, List, append-nil, None, refl}
+use Rattle.std.proofs.Common.{◌≡◌, ◌+◌, ◌++◌, not, true, [], ◌∷◌, ℕ, ℤ, List, append-nil, None, refl, ap}
 use Rattle.std.specs.Prelude.{Ok, Err}
 use Rattle.xr_types.specs.declared.calls.Gives.TheVariants.{Nothing}
 use Rattle.xr_types.specs.declared.code.Code.{Code}
-use Rattle.xr_types.specs.declared.code.Code.TheVariants.{Success}
+use Rattle.xr_types.specs.declared.code.Code.TheVariants.{Success, CallOrderInvalid}
 use Rattle.xr_types.specs.declared.frames.Blend.{Blend}
 use Rattle.xr_types.specs.declared.frames.Layer.{Layer}
 use Rattle.xr_model.specs.machine.CellCalls.{CellCall, pin_calls, MayCall, Leads}
-use Rattle.xr_model.specs.machine.Refusals.{first_of}
+use Rattle.xr_model.specs.machine.Refusals.{when, first_of}
+use Rattle.xr_model.specs.machine.Frames.{ended_loop}
+use Rattle.xr_model.specs.machine.Handles.{is_live}
+use Rattle.xr_model.specs.machine.Layers.{frame_checks}
+use Rattle.xr_model.specs.machine.LiveSessions.{session_at}
+use Rattle.xr_model.specs.machine.SessionLife.{synced_session}
+use Rattle.xr_types.specs.Frames.{PendingFrame}
+use Rattle.xr_types.specs.declared.device.Wish.TheVariants as wish
+use Rattle.xr_types.specs.declared.handles.Kind.TheVariants as kind
 use Rattle.xr_types.specs.declared.calls.Call.{Call}
 use Rattle.xr_types.specs.declared.calls.Call.TheVariants as ask
-use Rattle.xr_model.specs.machine.Rule.{Did, refusals, nothing_done}
+use Rattle.xr_model.specs.machine.Rule.{Did, ahead, refusals, nothing_done}
 use Rattle.xr_model.specs.machine.SessionRule.{Loss, loss_of, code_on}
-use Rattle.xr_model.specs.machine.Rules.Frames.{end_frame_rule, new_frame, with_frame}
-use Rattle.xr_model.specs.machine.Rules.Session.{life_of}
+use Rattle.xr_model.specs.machine.Rules.Frames.{wait_frame_rule, end_frame_rule, look_of, new_frame, with_frame}
+use Rattle.xr_model.specs.machine.Rules.Session.{life_of, loop_of, with_change, with_loop}
 use Rattle.xr_model.specs.machine.State.{CoreState}
 use Rattle.xr_model.specs.machine.PartAnswers.{or_refused}
 use Rattle.xr_core.specs.declared.halt.Halt.TheVariants.{Refused}
 use Rattle.xr_core.specs.inside.Deciding.{DecidesCells, MayTouch}
 use Rattle.xr_core.proofs.Along.{refused_cells, done_cells, may_do}
-use Rattle.xr_core.proofs.Deciding.{success_found}
+use Rattle.xr_core.proofs.Deciding.{success_found, none_first}
+use Rattle.xr_core.proofs.FrameCalls.{live_where}
+use Rattle.xr_core.proofs.LoopChanges.{changes_looped}
+
+-- where nothing refuses the end of a frame, its session is live
+pub live_at_end : (s : CoreState) (session : ℕ) (time : ℤ) (blend : Blend) (layers : List Layer) → first_of (refusals (end_frame_rule s session time blend layers)) ≡ None → is_live s.handles kind.Session session ≡ true
+live_at_end s session time blend layers none =
+    live_where s session (none_first (ahead (wait_frame_rule s session)) (when (not (loop_of s session).has_begun) CallOrderInvalid ∷ frame_checks (look_of s) time blend layers) none)
+
+-- a frame is pending before its session is synchronized by it
+pub frame_ended : (s : CoreState) (session : ℕ) (frame : PendingFrame)
+    → (let t : CoreState = record (with_loop s session (ended_loop (loop_of s session))) { frames = record { pending = s.frames.pending ++ frame ∷ [] }; ended = s.ended + 1 } in with_change t (session_at t.sessions session) (synced_session wish.Ready)) ≡ with_frame s session frame
+frame_ended s session frame =
+    ap (λ (t : CoreState). let u : CoreState = record t { frames = record { pending = s.frames.pending ++ frame ∷ [] }; ended = s.ended + 1 } in u) (changes_looped s session (ended_loop (loop_of s session)) (synced_session wish.Ready))
 
 module _ {C : Type 0} (does : C → CellCall → C → Type 0) (s : CoreState) (session : ℕ) (time : ℤ) (blend : Blend) (layers : List Layer) where
   abbrev loss : Loss

@@ -17,7 +17,7 @@ use Rattle.xr_types.specs.Printed.{all_users}
 use Rattle.xr_model.specs.machine.HandlePlaces.{place_among}
 use Rattle.xr_model.specs.machine.LiveSessions.{Session}
 use Rattle.xr_model.specs.machine.PartAnswers.{or_refused}
-use Rattle.xr_model.specs.machine.Publication.{Publication, PublishedAction, ShownColumn, first_seen, seen, publication_of, published_at, published_action, is_session, is_attached, is_attached_action, is_action_of, is_same_type, column_by, column_read, column_from, atom_of_user, user_atom, getter_gives, shown_by, shown_of}
+use Rattle.xr_model.specs.machine.Publication.{Publication, PublishedAction, ShownColumn, SeenSession, first_seen, seen, publication_of, published_at, published_action, is_session, is_attached, is_attached_action, is_action_of, is_same_type, column_by, column_read, column_from, atom_of_user, user_atom, getter_gives, shown_by, shown_of}
 use Rattle.xr_model.specs.machine.Refusals.{Refusal, when, first_of}
 use Rattle.xr_model.specs.machine.CoreCalls.{given_by}
 use Rattle.xr_model.specs.machine.Machine.{rule_of}
@@ -63,13 +63,18 @@ module _ {T : Type 0} (a b lost d t u : Bool) (v : T) where
 
 -- ---- the session
 
-named_is_first : (xs : List Session) (session : ℕ) (x : Session) → named_first xs session ≡ Some x → (first_seen xs ≡ Some (seen x)) × (not (session == 0) && (session == x.handle) ≡ true)
-named_is_first [] session x named = cc
-named_is_first (y ∷ ys) session x named = by (not (session == 0) && (session == y.handle)) refl named
+named_is_first : (first : Option SeenSession) (session : ℕ) (x : SeenSession) → named_first first session ≡ Some x → (first ≡ Some x) × (not (session == 0) && (session == x.handle) ≡ true)
+named_is_first None session x named = cc
+named_is_first (Some y) session x named = by (not (session == 0) && (session == y.handle)) refl named
   where
-    by : (b : Bool) → not (session == 0) && (session == y.handle) ≡ b → (if b then Some y else None) ≡ Some x → (Some (seen y) ≡ Some (seen x)) × (not (session == 0) && (session == x.handle) ≡ true)
-    by true eb named = let is : y ≡ x = cc in (ap (λ (z : Session). Some (seen z)) is, subst (λ (z : Session). not (session == 0) && (session == z.handle) ≡ true) is eb)
+    by : (b : Bool) → not (session == 0) && (session == y.handle) ≡ b → (if b then Some y else None) ≡ Some x → (Some y ≡ Some x) × (not (session == 0) && (session == x.handle) ≡ true)
+    by true eb named = let is : y ≡ x = cc in (ap Some is, subst (λ (z : SeenSession). not (session == 0) && (session == z.handle) ≡ true) is eb)
     by false eb named = cc
+
+-- the first session is named by its handle
+pub first_named : (xs : List Session) (session : ℕ) (x : Session) → slice_get xs 0 ≡ Some x → (session == 0) ≡ false → (session == x.handle) ≡ true → Some (seen x) ≡ named_first (first_seen xs) session
+first_named [] session x is nz named = cc
+first_named (y ∷ ys) session x is nz named = let same : y ≡ x = cc in rw (same, nz, named) refl
 
 -- ---- the action
 
@@ -173,12 +178,12 @@ module _ (s : CoreState) (wanted : ActionType) (session action sub : ℕ) where
   published : found ≡ option_map (published_action (first_seen s.sessions) s.handles s.columns) (action_at s.inputs action)
   published = find_map (published_action (first_seen s.sessions) s.handles s.columns) (λ (x : PublishedAction). x.handle == action) (λ (x : sets.Action). x.handle == action) (λ x. refl) s.inputs.actions
 
-  module _ (x : Session) (named : named_first s.sessions session ≡ Some x) where
+  module _ (x : Session) (named : named_first (first_seen s.sessions) session ≡ Some (seen x)) where
     first : first_seen s.sessions ≡ Some (seen x)
-    first = (named_is_first s.sessions session x named).0
+    first = (named_is_first (first_seen s.sessions) session (seen x) named).0
 
     is_it : a ≡ false
-    is_it = rw (first, (named_is_first s.sessions session x named).1) refl
+    is_it = rw (first, (named_is_first (first_seen s.sessions) session (seen x) named).1) refl
 
     loss : p.loss ≡ loss_of x.life
     loss = rw first refl

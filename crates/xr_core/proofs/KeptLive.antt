@@ -14,7 +14,7 @@ use Rattle.xr_core.proofs.LeftPlaces.{names_stay}
 -- ---- the handles of what is kept
 
 -- those of a list with one more
-names_more : {T : Type 0} (f : T → ℕ) (xs : List T) (x : T) → map f (xs ++ x ∷ []) ≡ map f xs ++ f x ∷ []
+pub names_more : {T : Type 0} (f : T → ℕ) (xs : List T) (x : T) → map f (xs ++ x ∷ []) ≡ map f xs ++ f x ∷ []
 names_more f [] x = refl
 names_more f (y ∷ ys) x = ap (λ (l : List ℕ). f y ∷ l) (names_more f ys x)
 

@@ -15,12 +15,17 @@ pub mod CheckedFrame
 pub mod ChainCalls
 pub mod EndCalls
 pub mod AcquireCalls
+pub mod LoopChanges
 pub mod FrameCalls
 pub mod PathCalls
 pub mod SetCalls
 pub mod SessionCalls
 pub mod Housed
 pub mod Listed
+pub mod Seats
+pub mod Seated
+pub mod KeptSeats
+pub mod SlotCalls
 pub mod LeftPlaces
 pub mod KeptLive
 pub mod DestroyedAtOnce
@@ -30,3 +35,5 @@ pub mod CountAside
 pub mod Counting
 pub mod PlainPairs
 pub mod Viewed
+pub mod Settling
+pub mod ChainChanges

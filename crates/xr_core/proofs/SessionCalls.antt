@@ -22,12 +22,13 @@ use Rattle.xr_core.specs.inside.Changes.{life_request, checks_of, change_of, ref
 use Rattle.xr_core.specs.declared.halt.Halt.TheVariants.{Refused}
 use Rattle.xr_core.specs.declared.sessions.LifeCall.{LifeCall}
 use Rattle.xr_core.specs.declared.sessions.LifeCall.TheVariants.{Begin, End, RequestExit}
+use Rattle.xr_core.proofs.LoopChanges.{period_behind}
 use Rattle.xr_core.proofs.Plain.{are_plain, first_plain}
 use Rattle.xr_core.proofs.Deciding.{refused_decides, effect_decides, passed_is_ok, success_found}
 
 abbrev life_rule : CoreState → ℕ → LifeCall → Rule
 life_rule s session call = record (changing_rule s session (checks_of call (life_of s session)) (change_of s.device.wish call)) {
-  effect = done (with_period (with_change s (session_at s.sessions session) (change_of s.device.wish call)) call) Nothing;
+  effect = done (with_change (with_period s session call) (session_at s.sessions session) (change_of s.device.wish call)) Nothing;
 }
 
 has_rule : (s : CoreState) (session : ℕ) (call : LifeCall) (who : Actor) (reads : CellReads) → rule_of s reads who 0 (life_request session call) ≡ life_rule s session call
@@ -56,6 +57,15 @@ module _ (s : CoreState) (session : ℕ) (call : LifeCall) where
   no_session dead =
       refused_decides s (life_request session call) (when true HandleInvalid) (λ who reads. ap (λ (r : Rule). first_of (refusals r)) (has_rule s session call who reads) ∙ first_dead s session call dead) (record { gives = refl; memory = refl; fails = refl })
 
+  -- the call leaves the handles
+  pub still_alive : is_live s.handles kind.Session session ≡ true → is_live (changed_life s session call).handles kind.Session session ≡ true
+  unfolding changed_life
+  still_alive live = by (first_of (refusals_of call (life_of s session)))
+    where
+      by : (o : Option Refusal) → is_live (unless o s (changed_alone s (session_at s.sessions session) (change_of s.device.wish call))).handles kind.Session session ≡ true
+      by None = live
+      by (Some r) = live
+
   module _ (live : is_live s.handles kind.Session session ≡ true) (kept : CoreState) (code : Code) (stays : kept ≡ changed_life s session call) (told : code ≡ answer_to call (life_of s session)) where
     -- it is refused by the session
     pub life_refused : (code ≡ Success → ⊥) → Decides s (life_request session call) kept (Err (Refused code))
@@ -71,11 +81,11 @@ module _ (s : CoreState) (session : ℕ) (call : LifeCall) where
             (refused_decides s (life_request session call) y (λ who reads. ap (λ (r : Rule). first_of (refusals r)) (has_rule s session call who reads) ∙ first_live s session call live ∙ e) (first_plain (refusals_of call (life_of s session)) y (plain_life call (life_of s session)) e))
 
     -- nothing refuses it
-    pub life_done : code ≡ Success → Decides s (life_request session call) (with_period (settled kept) call) (Ok (record { code = code_on (loss_of (life_of s session)) Success; gives = Nothing; place = 0 }))
+    pub life_done : code ≡ Success → Decides s (life_request session call) (settled (with_period kept session call)) (Ok (record { code = code_on (loss_of (life_of s session)) Success; gives = Nothing; place = 0 }))
     unfolding changed_life answer_to
     life_done good =
         let none = passed_is_ok (refusals_of call (life_of s session)) code (plain_life call (life_of s session)) told good in
         let here : kept ≡ changed_alone s (session_at s.sessions session) (change_of s.device.wish call) = stays ∙ ap (λ (o : Option Refusal). unless o s (changed_alone s (session_at s.sessions session) (change_of s.device.wish call))) none in
-        rw here
-        (effect_decides s (life_request session call) (λ given. life_rule s session call) (with_period (with_change s (session_at s.sessions session) (change_of s.device.wish call)) call) (code_on (loss_of (life_of s session)) Success) Nothing nothing_done
+        rw (here, period_behind s session (change_of s.device.wish call) call)
+        (effect_decides s (life_request session call) (λ given. life_rule s session call) (with_change (with_period s session call) (session_at s.sessions session) (change_of s.device.wish call)) (code_on (loss_of (life_of s session)) Success) Nothing nothing_done
         (has_rule s session call) (first_live s session call live ∙ none) refl refl refl (success_found (loss_of (life_of s session))))

@@ -12,7 +12,7 @@ use Rattle.xr_model.specs.machine.Publication.{SeenSession, first_seen, shown_of
 use Rattle.xr_model.specs.machine.PublicationWords.{column_words, action_words, row_words, words}
 use Rattle.xr_model.specs.machine.Sets.{Action}
 use Rattle.xr_model.specs.machine.State.{CoreState}
-use Rattle.xr_core.specs.inside.Viewing.{words_of_row, what_word, words_of_action, words_of_columns, contents_words}
+use Rattle.xr_core.specs.inside.Viewing.{words_of_row, words_of_action, words_of_columns, contents_words}
 
 module _ {T : Type 0} (f : T → List ℕ) where
   -- one more of a list

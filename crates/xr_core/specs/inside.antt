@@ -7,6 +7,7 @@ pub mod Housed
 pub mod Plainly
 pub mod Ranked
 pub mod Refusing
+pub mod Seats
 pub mod Sights
 pub mod Users
 pub mod Viewing

@@ -113,8 +113,8 @@ impl Core {
         self.inside.parts.mark_value(mark).is_none()
     }
 
-    /// Whether `WaitFrame` of this session has to wait: a frame is waited for, or more than two are pending or begun, and nothing
-    /// refuses the call.
+    /// Whether `WaitFrame` of this session has to wait: a frame of it is waited for, or more than two are pending, of all sessions,
+    /// or begun, of its own; and nothing refuses the call.
     pub fn wait_frame_waits(&self, session: u64) -> bool
         ensures { result ≡ ((wait_frame_rule self.now.kept session).waits && is_none (first_of (refusals (wait_frame_rule self.now.kept session)))) }
     {

@@ -1,11 +1,11 @@
 // What a core keeps, and what all calls do to it. It counts no call, and touches no part's inside.
-ghost use Rattle.std.specs.Prelude.{◌≡◌, ◌≤ℤ◌, pos, ◌≢◌, ◌≤◌, ◌<◌, ◌^◌, ◌↔◌, ◌||◌, [], ◌∷◌, IfOk, IsTrue, true, false, length, map};
+ghost use Rattle.std.specs.Prelude.{◌≡◌, ◌≤ℤ◌, pos, ◌≢◌, ◌≤◌, ◌<◌, ◌^◌, ◌↔◌, ◌||◌, [], ◌∷◌, IfOk, IsTrue, Some, true, false, length, map};
 ghost use Rattle.xr_model.specs.machine.Bindings.{without_suggestions};
 ghost use Rattle.xr_model.specs.machine.CellCalls.{MayCall, Leads, free_calls};
 ghost use Rattle.xr_model.specs.machine.Chains.{is_place_used, left_in_places, freed_in_places};
 ghost use Rattle.xr_model.specs.machine.Destroyed.{without_handle, freed_by};
 ghost use Rattle.xr_model.specs.machine.Handles.{is_live, row_of, has_room, no_handle, no_room, was_given, with_handle};
-ghost use Rattle.xr_model.specs.machine.HandlePlaces.{limit_of};
+ghost use Rattle.xr_model.specs.machine.HandlePlaces.{limit_of, place_in};
 ghost use Rattle.xr_model.specs.machine.LiveSessions.{still_live};
 ghost use Rattle.xr_model.specs.machine.Refusals.{first_of};
 ghost use Rattle.xr_model.specs.machine.Sets.{without_inputs};
@@ -23,7 +23,9 @@ ghost use Rattle.xr_core.specs.inside.Refusing.{success_on};
 
 use crate::device_values::DeviceValues;
 use crate::ranking::Ranking;
-use crate::sessions::{Change, Session, change_each, forget_attached, session_at, target_of};
+use crate::sessions::{
+    Change, Session, change_each, forget_attached, have_settled, session_at, target_of,
+};
 use crate::standing::Kept;
 use arrayvec::ArrayVec;
 use std::alloc::Global;
@@ -65,7 +67,7 @@ pub(crate) struct Parts {
     pub(crate) bindings: Bindings,
     /// The live spaces, in the order of their creation, and the samples of their origins.
     pub(crate) room: Spaces,
-    /// The frame loop of the live session, and the frames that are pending.
+    /// The frame loops of the sessions by their slots, and the frames that are pending.
     pub(crate) frames: Frames,
     /// How many frames were ended.
     pub(crate) ended: u64,
@@ -89,8 +91,9 @@ impl Model for Parts {
     ghost use Rattle.std.specs.Prelude.{◌≡◌, ◌≤◌, take, length};
     ghost use Rattle.xr_types.specs.declared.handles.TheConstants.{SWAPCHAINS};
     ghost use Rattle.xr_types.specs.declared.limits.TheConstants.{MOST_SCRIPTS};
-    ghost use Rattle.xr_model.specs.laws.SessionLaws.{AreListed};
+    ghost use Rattle.xr_frames.specs.Slots.{frames_of};
     ghost use Rattle.xr_core.specs.inside.Housed.{KeepsLive};
+    ghost use Rattle.xr_core.specs.inside.Seats.{seated, AreSeated};
     ghost use Rattle.xr_core.specs.inside.Users.{KnowsUsers};
     ghost use Rattle.xr_model.specs.machine.State.{CoreState};
 
@@ -100,13 +103,13 @@ impl Model for Parts {
       handles = c.handles;
       atoms = c.paths;
       events = c.events;
-      sessions = c.sessions.items;
+      sessions = seated c.frames.loops c.handles.sessions c.sessions.items;
       created = c.created;
       inputs = c.inputs;
       suggestions = c.bindings;
       columns = c.columns;
       room = c.room;
-      frames = c.frames;
+      frames = frames_of c.frames;
       ended = c.ended;
       chains = c.chains;
       shown_images = c.shown.items;
@@ -118,7 +121,7 @@ impl Model for Parts {
       published = 0;
     } };
 
-    ghost invariant = { λ c. AreListed c.handles c.sessions.items × (c.apps ≤ MOST_SCRIPTS) × KeepsLive c.room c.inputs c.handles × (length c.chains ≡ SWAPCHAINS) × KnowsUsers c.users c.paths };
+    ghost invariant = { λ c. AreSeated c.frames.loops c.handles c.sessions.items × (c.apps ≤ MOST_SCRIPTS) × KeepsLive c.room c.inputs c.handles × (length c.chains ≡ SWAPCHAINS) × KnowsUsers c.users c.paths };
 }
 
 /// Only the sessions whose handles are live are kept.
@@ -173,10 +176,22 @@ pub(crate) fn give(handles: &mut Handles, kind: Kind, parent: u64) -> u64
     handles.give(kind, parent).number
 }
 
+/// The slot of a live session, by which its frame loop is kept: the place of its handle.
+pub(crate) fn slot_of(handles: &Handles, session: u64) -> usize
+    requires live { is_live handles.now Kind.Session session ≡ true }
+    ensures slot { place_in handles.now.sessions session ≡ Some result }
+    ensures within { result < SESSIONS }
+{
+    let Some(slot) = handles.place_among(Kind::Session, session) else {
+        unreachable!()
+    };
+    slot
+}
+
 impl Parts {
     /// The parts of a core of 1 to 8 applications before any call, where they stay: they are some 7 KB, which nobody moves.
     /// Takes all memory but that of new path texts and of suggestions.
-    #[tactic(auto, using(crate::proofs::Start::none_left))]
+    #[tactic(auto, using(crate::proofs::Start::none_left, crate::proofs::KeptSeats::none_seated))]
     pub(crate) fn start(alloc: Global, apps: u8) -> Result<Box<Parts>, NoMemory>
         requires some { 1 ≤ apps }
         requires few { apps ≤ MOST_SCRIPTS }
@@ -263,6 +278,7 @@ impl Parts {
     }
 
     /// What a plain success on a session is answered as, where the session isn't lost. One that isn't listed isn't.
+    #[tactic(auto, using(crate::proofs::Seated::life_seated))]
     pub(crate) fn on_session(&self, session: u64) -> Result<Code, Code>
         ensures { result ≡ or_refused (first_of (is_lost (life_of self.now session) ∷ [])) (success_on self.now session) }
     {
@@ -366,12 +382,15 @@ impl Parts {
     }
 
     /// All live sessions settle under the device's wish: in the order of their creation those that aren't its target, and then the
-    /// target. OpenXR 1.0 chapter 9, "Session Lifecycle"; which session is the target is this project's own.
+    /// target. Where all have settled, as behind most frames, there is nothing to do. OpenXR 1.0 chapter 9, "Session Lifecycle"; which session is the target is this project's own.
     pub(crate) fn settle(&mut self)
         ensures { self.new ≡ settled self.old }
     {
         let wish = self.device.wish();
         let target = target_of(self.sessions.as_slice());
+        if have_settled(self.sessions.as_slice(), wish, target) {
+            return;
+        }
         self.change_all(Change::Others { wish, target });
         self.change_all(Change::Target { wish, target });
     }

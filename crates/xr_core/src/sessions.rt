@@ -1,9 +1,10 @@
 // The live sessions, what changes them, and what is told of that.
 ghost use Rattle.std.specs.Option.{option_copied};
 ghost use Rattle.std.specs.Prelude.{◌≡◌, ◌<◌, ◌||◌, [], ◌∷◌, length, map, not, is_some, Some, None};
-ghost use Rattle.std.specs.List.{filter};
+ghost use Rattle.std.specs.List.{filter, list_all};
 ghost use Rattle.xr_types.specs.declared.code.Code.TheVariants.{Success};
 ghost use Rattle.xr_types.specs.declared.device.Wish.TheVariants as wish;
+ghost use Rattle.xr_model.specs.machine.Frames.{new_loop};
 ghost use Rattle.xr_model.specs.machine.SessionLife.{started_session, synced_session, is_lost, is_state};
 ghost use Rattle.xr_model.specs.machine.Handles.{is_among};
 ghost use Rattle.xr_model.specs.machine.Publication.{is_attached};
@@ -11,7 +12,7 @@ ghost use Rattle.xr_model.specs.machine.Refusals.{first_of};
 ghost use Rattle.xr_model.specs.machine.LiveSessions.{session_at, life_in, with_life, with_life_at, with_session_at, with_attached, without_sets, each_changed, told_states, told_changes};
 ghost use Rattle.xr_model.specs.machine.SessionRule.{loss_of, code_on};
 ghost use Rattle.xr_model.specs.machine.Target.{is_candidate, target_of, without_focus, other_settled, target_settled};
-ghost use Rattle.xr_core.specs.inside.Changes.{change_by, place_at, ordinal_in, life_after, told_after, answer_to};
+ghost use Rattle.xr_core.specs.inside.Changes.{change_by, has_settled, place_at, ordinal_in, life_after, told_after, answer_to};
 ghost use Rattle.xr_model.specs.machine.PartAnswers.{or_refused};
 
 use arrayvec::ArrayVec;
@@ -21,7 +22,8 @@ use xr_states::{Changes, Life};
 use xr_types::{ACTION_SETS, Code, Event, SESSIONS, SessionState, ViewConfig, Wish};
 
 /// A live session: its handle; its ordinal, which is the count of sessions that were created in the run, itself included; its
-/// life; and the action sets that it has attached, each once, where it has attached any.
+/// life; and the action sets that it has attached, each once, where it has attached any. Its frame loop stands in its slot,
+/// beside the sessions: contracts see a new one here, and the core's see its own.
 #[derive(Default, Drop)]
 pub(crate) struct Session {
     handle: u64,
@@ -32,11 +34,12 @@ pub(crate) struct Session {
 
 impl Model for Session {
     ghost use Rattle.std.specs.Prelude.{option_map};
+    ghost use Rattle.xr_model.specs.machine.Frames.{new_loop};
     ghost use Rattle.xr_model.specs.machine.LiveSessions as sessions;
 
     ghost Value = { sessions.Session };
 
-    ghost view = { λ x. record { handle = x.handle; ordinal = x.ordinal; life = x.life; attached = option_map (λ sets. sets.items) x.attached } };
+    ghost view = { λ x. record { handle = x.handle; ordinal = x.ordinal; life = x.life; frame_loop = new_loop; attached = option_map (λ sets. sets.items) x.attached } };
 }
 
 /// A call that changes the life of one session.
@@ -137,7 +140,7 @@ fn live(life: &mut Life, call: LifeCall, wish: Wish, changes: &mut Changes) -> C
 impl Session {
     /// A new session, which tells its first states.
     pub(crate) fn create(handle: u64, ordinal: u64, wish: Wish, events: &mut Events) -> Session
-        ensures session { result ≡ record { handle = handle; ordinal = ordinal; life = (started_session wish).life; attached = None } }
+        ensures session { result ≡ record { handle = handle; ordinal = ordinal; life = (started_session wish).life; frame_loop = new_loop; attached = None } }
         ensures events { events.new ≡ told_states events.old ordinal handle (started_session wish).through }
     {
         let mut changes = Changes::new();
@@ -282,6 +285,18 @@ impl Session {
         tell(events, self.ordinal, self.handle, &changes);
     }
 
+    /// Whether it has settled by its own part of the device's wish: no row of the table of states fits.
+    fn has_settled(&self, wish: Wish, target: u64) -> bool
+        ensures { result ≡ has_settled wish target self.now }
+    {
+        let own = if self.ordinal == target {
+            wish
+        } else {
+            without_focus(wish)
+        };
+        self.life.has_settled(own)
+    }
+
     /// Settles without the focus, unless it is the target.
     fn settle_beside(&mut self, wish: Wish, target: u64, changes: &mut Changes)
         requires { changes.old ≡ [] }
@@ -328,6 +343,15 @@ pub(crate) fn change_each(sessions: &mut [Session], change: Change, events: &mut
     for session in sessions.iter_mut() {
         session.change(change, events);
     }
+}
+
+/// Whether all sessions have settled.
+pub(crate) fn have_settled(sessions: &[Session], wish: Wish, target: u64) -> bool
+    ensures { result ≡ list_all (has_settled wish target) sessions.now }
+{
+    sessions
+        .iter()
+        .all(|session| session.has_settled(wish, target))
 }
 
 /// The session that the device's wish is for, by its ordinal, 0 where there is none: of those that can be, the one that was created last.

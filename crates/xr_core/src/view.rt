@@ -80,6 +80,7 @@ fn bits(declared: &[bool; USERS]) -> u64
 
 impl Parts {
     /// Whether the live session has attached the action's set.
+    #[tactic(auto, using(crate::proofs::Seated::first_seated))]
     fn shows_set(&self, set: u64) -> bool
         ensures { result ≡ is_attached (option_and_then (λ it. it.attached) (first_seen self.now.sessions)) set }
     {
@@ -149,6 +150,7 @@ impl Parts {
     }
 
     /// The words of the live session, with the count of actions.
+    #[tactic(auto, using(crate::proofs::Seated::first_seated))]
     fn push_session(&self, out: &mut View)
         requires room { length out.old + 2 ≤ MOST_WORDS }
         ensures { out.new ≡ out.old ++ session_words (first_seen self.now.sessions) (length self.now.inputs.actions) }

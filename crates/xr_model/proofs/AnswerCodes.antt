@@ -22,7 +22,7 @@ use Rattle.xr_model.specs.machine.Refusals.{Refusal, when, first_of}
 use Rattle.xr_model.specs.machine.Rule.{Effect, Rule, ahead, refusals, or_short, told_on, unless_refused, carried_out}
 use Rattle.xr_model.specs.machine.SessionRule.{Loss, loss_of, code_on, losses}
 use Rattle.xr_model.specs.machine.Frames.{FrameLoop, begun_code}
-use Rattle.xr_model.specs.machine.Rules.Session.{life_of}
+use Rattle.xr_model.specs.machine.Rules.Session.{life_of, loop_of}
 use Rattle.xr_model.proofs.Rows.{both_of}
 use Rattle.xr_model.proofs.SessionAnswers.{first_stays, first_skips}
 use Rattle.xr_model.specs.machine.Sets.{no_users}
@@ -127,7 +127,7 @@ refusals_are_the_table s reads e = by e.call
       refusals = refl;
       order = λ none. cc;
       memory = λ none. refl;
-      success = begun_success (loss_of (life_of s session)) s.frames.frame_loop;
+      success = begun_success (loss_of (life_of s session)) (loop_of s session);
     }
     by (ask.EndFrame session time blend layers) = record {
       refusals = ap (λ (cs : List Code). HandleInvalid ∷ SessionLost ∷ SessionNotRunning ∷ CallOrderInvalid ∷ TimeInvalid ∷ EnvironmentBlendModeUnsupported ∷ LayerLimitExceeded ∷ cs) (layers_codes (look_of s) layers);

@@ -22,7 +22,8 @@ use Rattle.xr_model.proofs.OrderCodes.{coded}
 use Rattle.xr_model.proofs.SessionAnswers.{sessionless}
 use Rattle.xr_model.proofs.ChainOrder.{ChainsFit, chains_history, acquire_key, wait_key, paint_key}
 use Rattle.xr_model.proofs.HeldFits.{HeldFits, held_history, some_held, none_held}
-use Rattle.xr_model.proofs.FrameOrder.{FramesFit, fits_history, none_of, is_live_by}
+use Rattle.xr_model.proofs.FrameOrder.{FramesFit, fits_history, none_of, is_live_by, live_fits}
+use Rattle.xr_model.specs.machine.Rules.Session.{loop_of}
 
 -- ---- the counts
 
@@ -38,17 +39,17 @@ live_ahead : (s : CoreState) (kind : Kind) (handle : ℕ) (r : Rule) → r.handl
 live_ahead s kind handle r is none = is_live_by (is_live s.handles kind handle) (rw is at (none_of r.handles (losses r.on ++ r.before) none).0)
 
 -- where no earlier refusal holds, the rule's condition is that of the counts
-same_order : (s : CoreState) (past : List Decided) (reads : CellReads) (e : Entry) → FramesFit s.handles s.frames.frame_loop past → ChainsFit s.handles s.chains past → HeldFits reads.held past
+same_order : (s : CoreState) (past : List Decided) (reads : CellReads) (e : Entry) → FramesFit s.handles s.sessions past → ChainsFit s.handles s.chains past → HeldFits reads.held past
     → first_of (ahead (rule s reads e)) ≡ None → (rule s reads e).disorder ≡ is_disorder past e.call
 same_order s past reads e fits chains held none = by e.call none
   where
     by : (r : Call) → first_of (ahead (rule s reads (record e { call = r }))) ≡ None → (rule s reads (record e { call = r })).disorder ≡ is_disorder past r
     by (ask.BeginFrame session) none =
         let live = live_ahead s kind.Session session (rule s reads (record e { call = ask.BeginFrame session })) refl none in
-        bit_key (waits session past) (begins session past) s.frames.frame_loop.has_waited (fits.loops session live).frames
+        bit_key (waits session past) (begins session past) (loop_of s session).has_waited (live_fits s.handles s.sessions past fits session live).frames
     by (ask.EndFrame session time blend layers) none =
         let live = live_ahead s kind.Session session (rule s reads (record e { call = ask.EndFrame session time blend layers })) refl none in
-        ap not (sym (fits.loops session live).begun)
+        ap not (sym (live_fits s.handles s.sessions past fits session live).begun)
     by (ask.AcquireImage chain) none =
         let live = live_ahead s kind.Swapchain chain (rule s reads (record e { call = ask.AcquireImage chain })) refl none in
         acquire_key chain (chain_at s.chains chain) past (chains.fits chain live)

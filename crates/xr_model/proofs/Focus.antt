@@ -1,5 +1,5 @@
 -- After every history the focus is the last session's that takes part in it, where it is wished for.
-use Rattle.std.proofs.Common.{◌≡◌, ◌≤◌, ◌==◌, ◌&&◌, ◌||◌, ℕ, max, not, Bool, true, false, List, [], ◌∷◌, Option, Some, None, refl, sym, ap, subst, ◌∙◌, true≢false, arith}
+use Rattle.std.proofs.Common.{◌≡◌, ◌≤◌, ◌==◌, ◌&&◌, ◌||◌, ℕ, max, not, Bool, true, false, List, [], ◌∷◌, Some, None, refl, sym, ap, subst, ◌∙◌, true≢false, arith}
 use Rattle.std.proofs.lemmas.Bool.Decides.{nat_tests}
 use Rattle.std.specs.Prelude.{nat_lt, if◌then◌else◌}
 use Rattle.std.specs.List.{list_any}
@@ -10,7 +10,7 @@ use Rattle.xr_types.specs.declared.session.SessionState.TheVariants.{Idle, Ready
 use Rattle.xr_model.specs.machine.SessionLife.{Life, is_state, is_wish, next_state}
 use Rattle.xr_model.specs.machine.LiveSessions.{Session, session_at}
 use Rattle.xr_model.specs.machine.State.{opening}
-use Rattle.xr_model.specs.machine.Target.{is_candidate, target_of, is_target, without_focus, own_wish}
+use Rattle.xr_model.specs.machine.Target.{is_candidate, target_of, is_target, without_focus}
 use Rattle.xr_model.specs.machine.History.{after}
 use Rattle.xr_model.specs.laws.SessionLifeLaws.{is_focused, takes_part, is_later_one, TheLastIsFocused}
 use Rattle.xr_model.proofs.Rows.{itself, same_key, both_of}

@@ -25,7 +25,7 @@ use Rattle.xr_model.specs.machine.Rule.{Rule, Effect, refusal, refusals, told_on
 use Rattle.xr_model.specs.machine.Rules.Device.{behind_event}
 use Rattle.xr_model.specs.machine.Rules.Frames.{frame_state, told_frame}
 use Rattle.xr_model.specs.machine.Rules.Own.{left_with}
-use Rattle.xr_model.specs.machine.Rules.Session.{life_of}
+use Rattle.xr_model.specs.machine.Rules.Session.{life_of, loop_of}
 use Rattle.xr_model.specs.machine.SessionLife.{is_state}
 use Rattle.xr_model.specs.machine.SessionRule.{Loss, loss_of, code_on}
 use Rattle.xr_model.specs.machine.State.{CoreState, State, opening}
@@ -34,7 +34,7 @@ use Rattle.xr_model.specs.machine.History.{after}
 use Rattle.xr_model.specs.laws.DecidedEntries.{past_of, waits, begins, is_begun, period}
 use Rattle.xr_model.specs.laws.FrameCallLaws.{is_shown, IsUnrefused, RendersWhereShown, most_at_once, WaitsAreHeldBack, DiscardsAreTold, AllHaveLeft, EndsWhereAllLeft, EndsAreTold}
 use Rattle.xr_model.proofs.FittingColumns.{got}
-use Rattle.xr_model.proofs.FrameOrder.{LoopFits, all_fail, by_rule, clear, fits_history, is_live_by}
+use Rattle.xr_model.proofs.FrameOrder.{LoopFits, all_fail, by_rule, clear, fits_history, live_fits, is_live_by}
 
 -- ---- what succeeds
 
@@ -97,8 +97,8 @@ waits_are_held_back settings es e session legal is = subst Held (sym is) waits_f
     waits_for : Held (ask.WaitFrame session)
     waits_for none =
         let f = rule s.core (reads_of s (ask.WaitFrame session)) (record e { call = ask.WaitFrame session }) in
-        let fits = (fits_history settings es legal).loops session (is_live_by (is_live s.core.handles kind.Session session) (clear f false none).handles) in
-        rw (none, fits.begun) (held_by (waits session (past_of settings es)) (begins session (past_of settings es)) (length s.core.frames.pending + one_if s.core.frames.frame_loop.has_begun) s.core.frames.frame_loop.has_waited fits.frames)
+        let fits = live_fits s.core.handles s.core.sessions (past_of settings es) (fits_history settings es legal) session (is_live_by (is_live s.core.handles kind.Session session) (clear f false none).handles) in
+        rw (none, fits.begun) (held_by (waits session (past_of settings es)) (begins session (past_of settings es)) (length s.core.frames.pending + one_if (loop_of s.core session).has_begun) (loop_of s.core session).has_waited fits.frames)
 
 -- ---- discarded frames
 
@@ -131,14 +131,14 @@ discards_are_told settings es e session legal is = subst Tells (sym is) begins_f
     loss : Loss
     loss = loss_of (life_of s.core session)
 
-    fits : first_of (refusals f) ≡ None → LoopFits session s.core.frames.frame_loop (past_of settings es)
-    fits none = (fits_history settings es legal).loops session (is_live_by (is_live s.core.handles kind.Session session) (clear f false none).handles)
+    fits : first_of (refusals f) ≡ None → LoopFits session (loop_of s.core session) (past_of settings es)
+    fits none = live_fits s.core.handles s.core.sessions (past_of settings es) (fits_history settings es legal) session (is_live_by (is_live s.core.handles kind.Session session) (clear f false none).handles)
 
     told : (carried_out s.core e.short f).code ≡ FrameDiscarded → (first_of (refusals f) ≡ None) × (is_begun session (period session (past_of settings es)) ≡ true)
     told code =
         by_rule (λ x. x.code ≡ FrameDiscarded → (first_of (refusals f) ≡ None) × (is_begun session (period session (past_of settings es)) ≡ true)) s.core f e.short refl
         (λ r failed same. absurd (true≢false (sym (ap is_success same) ∙ failed)))
-        (λ none same. ((clear f e.short none).whole, (fits (clear f e.short none).whole).begun ∙ discarded loss s.core.frames.frame_loop same)) code
+        (λ none same. ((clear f e.short none).whole, (fits (clear f e.short none).whole).begun ∙ discarded loss (loop_of s.core session) same)) code
 
     begins_frame : Tells (ask.BeginFrame session)
     begins_frame = (told, (λ two. rw (two.0, sym (fits two.0).begun ∙ two.1) refl))

@@ -1,43 +1,42 @@
--- The frame loop fits what is counted over every legal history, so calls are out of order where the counts say so.
+-- The loop of each listed session fits what is counted over every legal history, so calls are out of order where the counts say so.
 use Rattle.std.proofs.Common.{◌≡◌, ◌≢◌, ◌==◌, ◌&&◌, ◌||◌, ◌+◌, ◌≤◌, ℕ, ℤ, suc, Bool, true, false, not, List, [], ◌∷◌, ◌++◌, length, Option, Some, None, refl, sym, ap, subst, ◌∙◌, arith, true≢false}
 use Rattle.std.specs.Prelude.{is_some, nat_lt, if◌then◌else◌}
 use Rattle.std.specs.List.{list_any, list_all}
 use Rattle.xr_types.specs.declared.handles.Kind.TheVariants as kind
 use Rattle.xr_types.specs.declared.handles.Slot.{Slot}
-use Rattle.xr_types.specs.declared.handles.TheConstants.{SESSIONS}
 use Rattle.xr_types.specs.declared.frames.Blend.{Blend}
 use Rattle.xr_types.specs.declared.frames.Layer.{Layer}
 use Rattle.xr_types.specs.declared.session.ViewConfig.{ViewConfig}
 use Rattle.xr_types.specs.Code.{is_success}
 use Rattle.xr_types.specs.declared.code.Code.{Code}
-use Rattle.xr_types.specs.declared.code.Code.TheVariants.{HandleInvalid, SystemInvalid, LimitReached, CallOrderInvalid, OutOfMemory}
-use Rattle.xr_types.specs.declared.device.DeviceEvent.{DeviceEvent}
-use Rattle.xr_types.specs.declared.device.DeviceEvent.TheVariants as event
-use Rattle.xr_model.specs.machine.Calls.{Entry}
+use Rattle.xr_types.specs.declared.code.Code.TheVariants.{HandleInvalid, CallOrderInvalid, OutOfMemory}
 use Rattle.xr_types.specs.declared.calls.Call.{Call}
 use Rattle.xr_types.specs.declared.calls.Call.TheVariants as ask
+use Rattle.xr_model.specs.machine.Calls.{Entry}
 use Rattle.xr_model.specs.machine.State.{CoreState, CellReads, Settings, State, opening}
-use Rattle.xr_model.specs.machine.Rule.{Rule, Effect, Did, nothing_done, refusals, refusal, or_short, told_on, unless_refused, carried_out}
-use Rattle.xr_model.specs.machine.Rules.Device.{behind_event}
-use Rattle.xr_model.proofs.LayerCodes.{layers_fail}
+use Rattle.xr_model.specs.machine.Rule.{Rule, Effect, Did, refusals, refusal, or_short, told_on, unless_refused, carried_out}
 use Rattle.xr_model.specs.machine.Rules.Frames.{look_of, next_time}
-use Rattle.xr_model.specs.machine.Machine.{core_step, rule, step, reads_of, ready, core_ready, IsAllowed}
+use Rattle.xr_model.specs.machine.Machine.{core_step, rule, step, reads_of, core_ready, IsAllowed, effect, IsGiven}
 use Rattle.xr_model.specs.machine.History.{after, opening_clocks, clocks_after, IsLegalFrom}
-use Rattle.xr_model.specs.laws.SessionLaws.{is_session_creation}
-use Rattle.xr_model.proofs.SessionSteps.{kept_by_step}
-use Rattle.xr_model.proofs.Listed.{live_before}
-use Rattle.xr_model.proofs.LostSessions.{new_session_given}
 use Rattle.xr_model.specs.machine.Frames.{Frames, FrameLoop, is_frame_held_back, new_loop, reset_loop, waited_loop, begun_loop, ended_loop, one_if}
-use Rattle.xr_model.specs.machine.Handles.{Handles, no_handle, has, is_live, was_given, has_room, with_handle, put_in, first_free, cleared, without, destroyed_instances}
+use Rattle.xr_model.specs.machine.Handles.{Handles, no_handle, has, is_live, was_given, put_in, first_free, cleared}
 use Rattle.xr_model.specs.machine.SessionRule.{Loss, losses}
 use Rattle.xr_model.specs.machine.Refusals.{Refusal, when, first_of}
-use Rattle.xr_model.specs.machine.Rules.Instance.{the_system}
+use Rattle.xr_model.specs.machine.LiveSessions.{Session, session_at, loop_in}
+use Rattle.xr_model.specs.machine.SessionLife.{started_session}
+use Rattle.xr_model.specs.machine.Rules.Session.{loop_of}
+use Rattle.xr_model.specs.laws.SessionLaws.{is_session_creation, AreListed, creates_session}
 use Rattle.xr_model.specs.laws.OrderLaws.{WaitsAndBegins}
-use Rattle.xr_model.proofs.Successes.{success_still, begun_succeeds}
 use Rattle.xr_model.specs.laws.DecidedEntries.{Decided, decided, past_from, past_of, is_begin_session, is_end_session, is_wait_frame, is_begin_frame, is_end_frame, period_session, period, waits, begins, is_begun}
-use Rattle.xr_model.proofs.Rows.{itself, same_key, neither_of, put_is_first, put_first}
-use Rattle.xr_model.proofs.Destroying.{known_step, known_opening, and_false}
 use Rattle.xr_model.specs.laws.Soundness.{AreKnown}
+use Rattle.xr_model.proofs.LayerCodes.{layers_fail}
+use Rattle.xr_model.proofs.SessionSteps.{kept_by_step}
+use Rattle.xr_model.proofs.Listed.{listed_none}
+use Rattle.xr_model.proofs.LostSessions.{new_session_given, listed_after}
+use Rattle.xr_model.proofs.Successes.{success_still, begun_succeeds}
+use Rattle.xr_model.proofs.Rows.{itself, same_key, neither_of, put_is_first, put_first, both_of, is_false}
+use Rattle.xr_model.proofs.Destroying.{known_step, known_opening, and_false}
+use Rattle.xr_model.proofs.SessionLives.{life_after, loop_after, time_of, Follows, lived}
 
 -- ---- counts
 
@@ -109,41 +108,9 @@ module _ (h : ℕ) (l : FrameLoop) (past : List Decided) (g : ℕ) (d : Did) whe
   ends_frame : (time : ℤ) (blend : Blend) (layers : List Layer) → LoopFits h l past → LoopFits h (ended_loop l) (record { call = ask.EndFrame h time blend layers; is_done = true; given = g; did = d } ∷ past)
   ends_frame time blend layers fits = record { frames = fits.frames; begun = rw (itself h) refl }
 
--- ---- the handles, the loop and the counts
+-- ---- handles
 
--- There is one place for a session; what isn't given stands nowhere and was never touched; and the loop is that of
--- any session that is live.
-pub record FramesFit (h : Handles) (l : FrameLoop) (past : List Decided) : Type 0 where
-  pub row : length h.sessions ≡ SESSIONS
-  pub known : AreKnown h
-  pub untouched : (q : ℕ) → (q == 0) ≡ false → was_given h q ≡ false → list_any (touches q) past ≡ false
-  pub loops : (q : ℕ) → is_live h kind.Session q ≡ true → LoopFits q l past
-
--- no handle is live that wasn't before, and none was taken back
-pub record Fewer (h h2 : Handles) : Type 0 where
-  pub row : length h2.sessions ≡ length h.sessions
-  pub live : (q : ℕ) → is_live h2 kind.Session q ≡ true → is_live h kind.Session q ≡ true
-  pub given : (q : ℕ) → was_given h2 q ≡ false → was_given h q ≡ false
-
--- a call that touches no session and leaves the loop
-fits_aside : (h h2 : Handles) (l : FrameLoop) (t : Decided) (past : List Decided) → ((q : ℕ) → touches q t ≡ false) → Fewer h h2 → AreKnown h2 → FramesFit h l past → FramesFit h2 l (t ∷ past)
-fits_aside h h2 l t past aside fewer known fits = record {
-  row = fewer.row ∙ fits.row;
-  known = known;
-  untouched = λ q nz new. rw (aside q) (fits.untouched q nz (fewer.given q new));
-  loops = λ q live. loop_aside q l t past (aside q) (fits.loops q (fewer.live q live));
-}
-
--- what isn't given isn't live
-pub live_given : (h : Handles) (q : ℕ) → AreKnown h → is_live h kind.Session q ≡ true → ((q == 0) ≡ false) × (was_given h q ≡ true)
-live_given h q known live = by (q == 0) refl (was_given h q) refl live
-  where
-    by : (z : Bool) → (q == 0) ≡ z → (w : Bool) → was_given h q ≡ w → not z && has h.sessions q ≡ true → (z ≡ false) × (w ≡ true)
-    by true ez w ew live = absurd (true≢false (sym live))
-    by false ez true ew live = (refl, refl)
-    by false ez false ew live = absurd (true≢false (sym live ∙ (known q ez ew).sessions))
-
--- two live sessions are one, since there is one place
+-- two live handles of one place are one
 pub only_row : (row : List Slot) (p q : ℕ) → length row ≡ 1 → has row p ≡ true → has row q ≡ true → p ≡ q
 only_row [] p q one a b = absurd (true≢false (sym a))
 only_row (s ∷ []) p q one a b = by (s.handle == p) refl (s.handle == q) refl a b
@@ -153,32 +120,6 @@ only_row (s ∷ []) p q one a b = by (s.handle == p) refl (s.handle == q) refl a
     by true ec false ed a b = absurd (true≢false (sym b))
     by false ec d ed a b = absurd (true≢false (sym a))
 only_row (s ∷ t ∷ row) p q one a b = absurd (omega (arith, one))
-
-pub live_has : (h : Handles) (q : ℕ) → is_live h kind.Session q ≡ true → has h.sessions q ≡ true
-live_has h q live = by (q == 0) live
-  where
-    by : (z : Bool) → not z && has h.sessions q ≡ true → has h.sessions q ≡ true
-    by true live = absurd (true≢false (sym live))
-    by false live = live
-
--- a call on a live session that changes the loop
-fits_call : (h : Handles) (l l2 : FrameLoop) (t : Decided) (past : List Decided) (session : ℕ) → t.is_done ≡ true → is_counted t.call ≡ true → period_session t.call ≡ session
-    → is_live h kind.Session session ≡ true → (LoopFits session l past → LoopFits session l2 (t ∷ past)) → FramesFit h l past → FramesFit h l2 (t ∷ past)
-fits_call h l l2 t past session done counts on live change fits = record {
-  row = fits.row;
-  known = fits.known;
-  untouched = λ q nz new. rw (other q new) (fits.untouched q nz new);
-  loops = λ q there. subst (λ (k : ℕ). LoopFits k l2 (t ∷ past)) (only_row h.sessions session q fits.row (live_has h session live) (live_has h q there)) (change (fits.loops session live));
-}
-  where
-    is_false : (b : Bool) → (b ≡ true → ⊥) → b ≡ false
-    is_false true never = absurd (never refl)
-    is_false false never = refl
-
-    other : (q : ℕ) → was_given h q ≡ false → touches q t ≡ false
-    other q new = rw (counts, done, on) (is_false (session == q) (λ same. true≢false (sym (live_given h session fits.known live).1 ∙ subst (λ (k : ℕ). was_given h k ≡ false) (sym (same_key session q same)) new)))
-
--- ---- what an entry does to the handles
 
 length_first : (new : Slot) (row : List Slot) → length (put_first new row) ≡ length row
 unfolding put_first
@@ -195,72 +136,6 @@ length_put new row = ap (λ (l : List Slot). length l) (put_is_first new row) �
 pub length_cleared : (handle : ℕ) (above : List ℕ) (row : List Slot) → length (cleared handle above row) ≡ length row
 length_cleared handle above [] = refl
 length_cleared handle above (s ∷ ss) = ap (λ n. suc n) (length_cleared handle above ss)
-
-fewer_same : (h : Handles) → Fewer h h
-fewer_same h = record { row = refl; live = λ q live. live; given = λ q new. new }
-
-fewer_without : (h : Handles) (handle : ℕ) → Fewer h (without h handle)
-fewer_without h handle = record {
-  row = length_cleared handle (destroyed_instances h handle) h.sessions;
-  live = λ q live. by q live (live_before h handle q);
-  given = λ q new. new;
-}
-  where
-    by : (q : ℕ) → is_live (without h handle) kind.Session q ≡ true → is_live (without h handle) kind.Session q && is_live h kind.Session q ≡ is_live (without h handle) kind.Session q → is_live h kind.Session q ≡ true
-    by q live both = rw live at both
-
-module _ (s : CoreState) (reads : CellReads) (e : Entry) (other : is_session_creation e.call ≡ false) where
-  given_before : (q : ℕ) → (e.given == q) || was_given s.handles q ≡ false → was_given s.handles q ≡ false
-  given_before q new = (neither_of (e.given == q) (was_given s.handles q) new).1
-
-  pub fewer_step : Fewer s.handles (core_step s reads e).0.handles
-  fewer_step = kept_by_step (λ h xs. Fewer s.handles h) s reads e (record {
-    same = λ d c. fewer_same s.handles;
-    instance = λ d c. record { row = refl; live = λ q live. live; given = given_before };
-    session = λ d c good room instance. absurd (true≢false (sym c ∙ other));
-    set = λ d c instance. record { row = refl; live = λ q live. live; given = given_before };
-    action = λ d c set. record { row = refl; live = λ q live. live; given = given_before };
-    space = λ d c session. record { row = refl; live = λ q live. live; given = given_before };
-    chain = λ d c session. record { row = refl; live = λ q live. live; given = given_before };
-    without = λ d c handle. fewer_without s.handles handle;
-    alone = λ d c space. record { row = refl; live = λ q live. live; given = λ q new. new };
-    chain_alone = λ d c chain. record { row = refl; live = λ q live. live; given = λ q new. new };
-    lives = λ d c session f named same has. fewer_same s.handles;
-    attach = λ d c session sets. fewer_same s.handles;
-    each = λ h xs f keeps there. there;
-    lost = λ d c. fewer_same s.handles;
-  })
-
--- ---- what an entry does to the loop
-
-abbrev LoopIs : FrameLoop → CoreState → Type 0
-LoopIs l s = s.frames.frame_loop ≡ l
-
-loop_kept : (l : FrameLoop) (s : CoreState) (o : Option Refusal) (x : Effect) → LoopIs l s → LoopIs l x.state → LoopIs l (unless_refused s o x).state
-loop_kept l s None x same done = done
-loop_kept l s (Some r) x same done = same
-
-events_keep_loop : (s : CoreState) (what : DeviceEvent) → LoopIs s.frames.frame_loop (behind_event s what)
-events_keep_loop s (event.Clock time) = refl
-events_keep_loop s _ = refl
-
--- the calls that are counted, and the creation of a session, change the loop; no other call does
-abbrev pub is_loop_call : Call → Bool
-is_loop_call (ask.CreateSession instance system) = true
-is_loop_call r = is_counted r
-
-pub loop_stays : (s : CoreState) (reads : CellReads) (e : Entry) → is_loop_call e.call ≡ false → LoopIs s.frames.frame_loop (core_step s reads e).0
-loop_stays s reads e aside = by e.call aside
-  where
-    by : (r : Call) → is_loop_call r ≡ false → LoopIs s.frames.frame_loop (core_step s reads (record e { call = r })).0
-    by (ask.CreateSession instance system) aside = absurd (true≢false aside)
-    by (ask.BeginSession session view) aside = absurd (true≢false aside)
-    by (ask.EndSession session) aside = absurd (true≢false aside)
-    by (ask.WaitFrame session) aside = absurd (true≢false aside)
-    by (ask.BeginFrame session) aside = absurd (true≢false aside)
-    by (ask.EndFrame session time blend layers) aside = absurd (true≢false aside)
-    by (ask.Device what) aside = events_keep_loop s what
-    by r aside = let f = rule s reads (record e { call = r }) in loop_kept s.frames.frame_loop s (refusal e.short f) (told_on f.on f.effect) refl refl
 
 -- ---- refusals
 
@@ -324,15 +199,6 @@ clear f short none =
     let four = none_first f.disorder CallOrderInvalid f.behind three.1 in
     record { whole = whole; handles = one.0; before = three.0; order = four.0; behind = four.1 }
 
--- ---- an entry keeps the fit
-
-abbrev Fits : List Decided → Call → ℕ → Effect → Type 0
-Fits past r g x = FramesFit x.state.handles x.state.frames.frame_loop (record { call = r; is_done = is_success x.code; given = g; did = x.did } ∷ past)
-
--- what didn't succeed changes nothing
-fits_quiet : (h : Handles) (l : FrameLoop) (r : Call) (g : ℕ) (d : Did) (past : List Decided) → FramesFit h l past → FramesFit h l (record { call = r; is_done = false; given = g; did = d } ∷ past)
-fits_quiet h l r g d past fits = fits_aside h h l _ past (λ q. and_false (is_counted r)) (fewer_same h) fits.known fits
-
 -- a handle that refuses nothing is live
 pub is_live_by : (live : Bool) → first_of (when (not live) HandleInvalid ∷ []) ≡ None → live ≡ true
 is_live_by live none = not_false live (none_first (not live) HandleInvalid [] none).0
@@ -353,65 +219,6 @@ by_rule P s f short fails refuse go = by (refusal short f) refl
     by None found = go found
     by (Some r) found = refuse r (short_fails (f.takes_memory && short) (first_of (refusals f)) r (λ x there. first_fails (refusals f) x fails there) found)
 
-module _ (s : CoreState) (past : List Decided) (fits : FramesFit s.handles s.frames.frame_loop past) (r : Call) (g : ℕ) where
-  refuse : (f : Effect) (x : Refusal) → is_success x.code ≡ false → Fits past r g (unless_refused s (Some x) f)
-  refuse f x failed = rw failed (fits_quiet s.handles s.frames.frame_loop r g nothing_done past fits)
-
-  -- a success on a live session
-  succeed : (x : Effect) (session : ℕ) (l2 : FrameLoop) → is_success x.code ≡ true → is_counted r ≡ true → period_session r ≡ session → is_live s.handles kind.Session session ≡ true
-      → x.state.handles ≡ s.handles → x.state.frames.frame_loop ≡ l2
-      → (LoopFits session s.frames.frame_loop past → LoopFits session l2 (record { call = r; is_done = true; given = g; did = x.did } ∷ past)) → Fits past r g x
-  succeed x session l2 good counts on live handles loop change =
-      rw (good, handles, loop) (fits_call s.handles s.frames.frame_loop l2 _ past session refl counts on live change fits)
-
-  -- a counted call: it is refused, or changes the loop of its session so
-  by_call : (f : Rule) (short : Bool) (session : ℕ) (l2 : FrameLoop) → all_fail (refusals f) ≡ true → is_success f.effect.code ≡ true → is_counted r ≡ true → period_session r ≡ session
-      → f.handles ≡ no_handle s.handles kind.Session session ∷ [] → f.effect.state.handles ≡ s.handles → f.effect.state.frames.frame_loop ≡ l2
-      → (IsClear f → LoopFits session s.frames.frame_loop past → LoopFits session l2 (record { call = r; is_done = true; given = g; did = f.effect.did } ∷ past)) → Fits past r g (carried_out s short f)
-  by_call f short session l2 fails good counts on named handles loop change = by_rule (Fits past r g) s f short fails (refuse (told_on f.on f.effect)) (λ none. done f.on (clear f short none))
-    where
-      live : IsClear f → is_live s.handles kind.Session session ≡ true
-      live free = is_live_by (is_live s.handles kind.Session session) (rw named at free.handles)
-
-      done : (l : Option Loss) → IsClear f → Fits past r g (told_on l f.effect)
-      done None free = succeed f.effect session l2 good counts on (live free) handles loop (change free)
-      done (Some life) free = succeed (told_on (Some life) f.effect) session l2 (success_still life f.effect.code good) counts on (live free) handles loop (change free)
-
--- ---- each call
-
--- a session is created: it is the only one, and was never touched
-fits_created : (h : Handles) (l : FrameLoop) (t : Decided) (past : List Decided) (instance g : ℕ) → ((q : ℕ) → touches q t ≡ false) → has_room h kind.Session ≡ true → (g == 0) ≡ false → was_given h g ≡ false
-    → AreKnown (with_handle h kind.Session instance g) → FramesFit h l past → FramesFit (with_handle h kind.Session instance g) new_loop (t ∷ past)
-fits_created h l t past instance g aside room nz fresh known fits = record {
-  row = length_put (record { handle = g; parent = instance }) h.sessions ∙ fits.row;
-  known = known;
-  untouched = λ q qz new. rw (aside q) (fits.untouched q qz (neither_of (g == q) (was_given h q) new).1);
-  loops = λ q live. subst (λ (k : ℕ). LoopFits k new_loop (t ∷ past)) (only h.sessions q fits.row room (live_has (with_handle h kind.Session instance g) q live) (live_nonzero q live)) (loop_aside g new_loop t past (aside g) (loop_fresh g past (fits.untouched g nz fresh)));
-}
-  where
-    live_nonzero : (q : ℕ) → is_live (with_handle h kind.Session instance g) kind.Session q ≡ true → (q == 0) ≡ false
-    live_nonzero q live = by (q == 0) live
-      where
-        by : (z : Bool) → not z && has (with_handle h kind.Session instance g).sessions q ≡ true → z ≡ false
-        by true live = absurd (true≢false (sym live))
-        by false live = refl
-
-    only : (row : List Slot) (q : ℕ) → length row ≡ SESSIONS → is_some (first_free row) ≡ true → has (put_in row (record { handle = g; parent = instance }) (first_free row)) q ≡ true → (q == 0) ≡ false → g ≡ q
-    only [] q one room there qz = absurd (true≢false (sym room))
-    only (s ∷ []) q one room there qz = by (s.handle == 0) room there
-      where
-        slot : Slot
-        slot = record { handle = g; parent = instance }
-
-        here : (b : Bool) → (g == q) ≡ b → b || false ≡ true → g ≡ q
-        here true eb there = same_key g q eb
-        here false eb there = absurd (true≢false (sym there))
-
-        by : (b : Bool) → is_some {T = ℕ} (if b then Some 0 else None) ≡ true → has (put_in (s ∷ []) slot (if b then Some 0 else None)) q ≡ true → g ≡ q
-        by true room there = here (g == q) refl there
-        by false room there = absurd (true≢false (sym room))
-    only (s ∷ t ∷ row) q one room there qz = absurd (omega (arith, one))
-
 pub is_ready_to : (s : CoreState) (reads : CellReads) (e : Entry) → core_ready s reads e ≡ true → first_of (refusals (rule s reads e)) ≡ None → not (rule s reads e).waits ≡ true
 is_ready_to s reads e is_ready none = by (not (rule s reads e).waits) (rw none at is_ready)
   where
@@ -420,24 +227,159 @@ is_ready_to s reads e is_ready none = by (not (rule s reads e).waits) (rw none a
     by false e = absurd (true≢false (sym e))
 
 -- a wait that isn't held back finds no frame waited for
-pub not_waited : (f : Frames) → not (is_frame_held_back f) ≡ true → f.frame_loop.has_waited ≡ false
-not_waited f free = by f.frame_loop.has_waited free
+pub not_waited : (f : Frames) (l : FrameLoop) → not (is_frame_held_back f l) ≡ true → l.has_waited ≡ false
+not_waited f l free = by l.has_waited free
   where
-    by : (b : Bool) → not (if b then true else nat_lt 2 (length f.pending + one_if f.frame_loop.has_begun)) ≡ true → b ≡ false
+    by : (b : Bool) → not (if b then true else nat_lt 2 (length f.pending + one_if l.has_begun)) ≡ true → b ≡ false
     by true free = absurd (true≢false (sym free))
     by false free = refl
-
-module _ (s : State) (e : Entry) (past : List Decided) (allowed : IsAllowed s e) (is_ready : ready s e ≡ true) (fits : FramesFit s.core.handles s.core.frames.frame_loop past) where
-  -- a call that is none of the counted ones
-  fits_other : is_loop_call e.call ≡ false → is_session_creation e.call ≡ false → is_counted e.call ≡ false → FramesFit (step s e).0.core.handles (step s e).0.core.frames.frame_loop (decided s e ∷ past)
-  fits_other aside none uncounted =
-      subst (λ (l : FrameLoop). FramesFit (step s e).0.core.handles l (decided s e ∷ past)) (sym (loop_stays s.core (reads_of s e.call) e aside))
-      (fits_aside s.core.handles (step s e).0.core.handles s.core.frames.frame_loop (decided s e) past (λ q. rw uncounted refl) (fewer_step s.core (reads_of s e.call) e none) (known_step s e fits.known) fits)
 
 -- the effect of what nothing refuses
 pub goes : (s : CoreState) (o : Option Refusal) (x : Effect) → o ≡ None → unless_refused s o x ≡ x
 goes s None x none = refl
 goes s (Some r) x none = cc
+
+-- ---- the loops of the listed sessions and the counts
+
+-- What isn't given stands nowhere and was never touched; and the loop of each listed session is that of its counts.
+pub record FramesFit (h : Handles) (xs : List Session) (past : List Decided) : Type 0 where
+  pub known : AreKnown h
+  pub listed : AreListed h xs
+  pub untouched : (q : ℕ) → (q == 0) ≡ false → was_given h q ≡ false → list_any (touches q) past ≡ false
+  pub loops : (q : ℕ) (x : Session) → session_at xs q ≡ Some x → LoopFits q x.frame_loop past
+
+-- the loop of a session that is live
+pub live_fits : (h : Handles) (xs : List Session) (past : List Decided) → FramesFit h xs past → (q : ℕ) → is_live h kind.Session q ≡ true → LoopFits q (loop_in (session_at xs q)) past
+live_fits h xs past fits q live = by (session_at xs q) refl (fits.listed q ∙ live)
+  where
+    by : (o : Option Session) → session_at xs q ≡ o → is_some o ≡ true → LoopFits q (loop_in o) past
+    by None eo there = absurd (true≢false (sym there))
+    by (Some x) eo there = fits.loops q x eo
+
+pub live_nonzero : (h : Handles) (q : ℕ) → is_live h kind.Session q ≡ true → (q == 0) ≡ false
+live_nonzero h q live = by (q == 0) live
+  where
+    by : (z : Bool) → not z && has h.sessions q ≡ true → z ≡ false
+    by true live = absurd (true≢false (sym live))
+    by false live = refl
+
+-- what is live was given
+pub live_given : (h : Handles) (q : ℕ) → AreKnown h → is_live h kind.Session q ≡ true → was_given h q ≡ true
+live_given h q known live = by (was_given h q) refl
+  where
+    by : (w : Bool) → was_given h q ≡ w → w ≡ true
+    by true ew = refl
+    by false ew = absurd (true≢false (sym live ∙ rw (live_nonzero h q live, (known q (live_nonzero h q live) ew).sessions) refl))
+
+-- what isn't given after an entry wasn't before
+given_before : (s : CoreState) (reads : CellReads) (e : Entry) (q : ℕ) → was_given (core_step s reads e).0.handles q ≡ false → was_given s.handles q ≡ false
+given_before s reads e q = kept_by_step (λ h xs. was_given h q ≡ false → was_given s.handles q ≡ false) s reads e (record {
+  same = λ d c new. new;
+  instance = λ d c new. one new;
+  session = λ d c good room instance new. one new;
+  set = λ d c above new. one new;
+  action = λ d c above new. one new;
+  space = λ d c above new. one new;
+  chain = λ d c above new. one new;
+  without = λ d c handle new. new;
+  alone = λ d c space new. new;
+  chain_alone = λ d c chain new. new;
+  lives = λ d c session f named same has new. new;
+  attach = λ d c session sets new. new;
+  each = λ h xs f keeps there. there;
+  lost = λ d c new. new;
+})
+  where
+    one : (e.given == q) || was_given s.handles q ≡ false → was_given s.handles q ≡ false
+    one new = (neither_of (e.given == q) (was_given s.handles q) new).1
+
+-- ---- a call that touches a session
+
+module _ (s : CoreState) (reads : CellReads) (e : Entry) (is_ready : core_ready s reads e ≡ true) (past : List Decided) (q : ℕ) where
+  -- what is known of an effect of a request: it touches a live session alone, and the loop that it leaves fits
+  pub record Fits (r : Call) (x : Effect) : Type 0 where
+    pub live : touches q (record { call = r; is_done = is_success x.code; given = e.given; did = x.did }) ≡ true → is_live s.handles kind.Session q ≡ true
+    pub loop : (l : FrameLoop) → loop_in (session_at s.sessions q) ≡ l → LoopFits q l past
+        → LoopFits q (loop_after (time_of s r) r q (is_success x.code) l) (record { call = r; is_done = is_success x.code; given = e.given; did = x.did } ∷ past)
+
+  -- a call that isn't counted
+  uncounted : (r : Call) (x : Effect) → is_counted r ≡ false → ((good : Bool) (l : FrameLoop) → loop_after (time_of s r) r q good l ≡ l) → Fits r x
+  uncounted r x none stays = record {
+    live = λ is. absurd (true≢false (sym is ∙ rw none refl));
+    loop = λ l here fits. rw (stays (is_success x.code) l) (loop_aside q l _ past (rw none refl) fits);
+  }
+
+  -- a counted call that is refused
+  refused : (r : Call) (x : Effect) → is_success x.code ≡ false → ((l : FrameLoop) → loop_after (time_of s r) r q false l ≡ l) → Fits r x
+  refused r x failed stays = record {
+    live = λ is. absurd (true≢false (sym is ∙ rw failed (and_false (is_counted r))));
+    loop = λ l here fits. rw failed (rw (stays l) (loop_aside q l _ past (and_false (is_counted r)) fits));
+  }
+
+  -- one that succeeds on this session, told what it does to the loop
+  succeeds : (r : Call) (x : Effect) (session : ℕ) (k : FrameLoop → FrameLoop) → is_success x.code ≡ true → is_counted r ≡ true → period_session r ≡ session
+      → ((good : Bool) (l : FrameLoop) → loop_after (time_of s r) r q good l ≡ (if good && (session == q) then k l else l))
+      → is_live s.handles kind.Session session ≡ true
+      → ((l : FrameLoop) → session ≡ q → loop_in (session_at s.sessions q) ≡ l → LoopFits q l past → LoopFits q (k l) (record { call = r; is_done = true; given = e.given; did = x.did } ∷ past))
+      → Fits r x
+  succeeds r x session k good counts on does live change = record {
+    live = λ is. subst (λ (n : ℕ). is_live s.handles kind.Session n ≡ true) (same_key session q (rw (counts, good, on) at is)) live;
+    loop = λ l here fits. rw (good, does true l) (by (session == q) refl l here fits);
+  }
+    where
+      by : (b : Bool) → (session == q) ≡ b → (l : FrameLoop) → loop_in (session_at s.sessions q) ≡ l → LoopFits q l past → LoopFits q (if b then k l else l) (record { call = r; is_done = true; given = e.given; did = x.did } ∷ past)
+      by true eb l here fits = change l (same_key session q eb) here fits
+      by false eb l here fits = loop_aside q l _ past (rw (counts, on, eb) refl) fits
+
+  -- a counted call by its rule
+  by_call : (r : Call) (f : Rule) (session : ℕ) (k : FrameLoop → FrameLoop) → all_fail (refusals f) ≡ true → is_success f.effect.code ≡ true → is_counted r ≡ true → period_session r ≡ session
+      → ((good : Bool) (l : FrameLoop) → loop_after (time_of s r) r q good l ≡ (if good && (session == q) then k l else l))
+      → f.handles ≡ no_handle s.handles kind.Session session ∷ []
+      → (IsClear f → (l : FrameLoop) → session ≡ q → loop_in (session_at s.sessions q) ≡ l → LoopFits q l past → LoopFits q (k l) (record { call = r; is_done = true; given = e.given; did = f.effect.did } ∷ past))
+      → Fits r (carried_out s e.short f)
+  by_call r f session k fails good counts on does named change =
+      by_rule (Fits r) s f e.short fails (λ y failed. refused r (unless_refused s (Some y) (told_on f.on f.effect)) failed (λ l. does false l)) (λ none. done f.on (clear f e.short none))
+    where
+      live : IsClear f → is_live s.handles kind.Session session ≡ true
+      live free = is_live_by (is_live s.handles kind.Session session) (rw named at free.handles)
+
+      done : (l : Option Loss) → IsClear f → Fits r (told_on l f.effect)
+      done None free = succeeds r f.effect session k good counts on does (live free) (change free)
+      done (Some loss) free = succeeds r (told_on (Some loss) f.effect) session k (success_still loss f.effect.code good) counts on does (live free) (change free)
+
+  -- the loop of the call's own session
+  own : (session : ℕ) (l : FrameLoop) → session ≡ q → loop_in (session_at s.sessions q) ≡ l → loop_of s session ≡ l
+  own session l same here = ap (λ (n : ℕ). loop_in (session_at s.sessions n)) same ∙ here
+
+  pub fits_call : Fits e.call (effect s reads e)
+  fits_call = by e.call is_ready
+    where
+      by : (r : Call) → core_ready s reads (record e { call = r }) ≡ true → Fits r (effect s reads (record e { call = r }))
+      by (ask.BeginSession session view) ready_is =
+          by_call (ask.BeginSession session view) (rule s reads (record e { call = ask.BeginSession session view })) session reset_loop refl refl refl refl (λ good l. refl) refl
+          (λ free l same here fits. subst (λ (n : ℕ). LoopFits n (reset_loop l) (record { call = ask.BeginSession session view; is_done = true; given = e.given; did = (rule s reads (record e { call = ask.BeginSession session view })).effect.did } ∷ past)) same (begins_period session l past e.given _ view))
+      by (ask.EndSession session) ready_is =
+          by_call (ask.EndSession session) (rule s reads (record e { call = ask.EndSession session })) session reset_loop refl refl refl refl (λ good l. refl) refl
+          (λ free l same here fits. subst (λ (n : ℕ). LoopFits n (reset_loop l) (record { call = ask.EndSession session; is_done = true; given = e.given; did = (rule s reads (record e { call = ask.EndSession session })).effect.did } ∷ past)) same (ends_period session l past e.given _))
+      by (ask.WaitFrame session) ready_is =
+          by_call (ask.WaitFrame session) (rule s reads (record e { call = ask.WaitFrame session })) session (λ l. waited_loop l (next_time s session)) refl refl refl refl (λ good l. refl) refl
+          (λ free l same here fits.
+          let none = ap (λ (m : FrameLoop). m.has_waited) (sym (own session l same here)) ∙ not_waited s.frames (loop_of s session) (is_ready_to s reads (record e { call = ask.WaitFrame session }) ready_is free.whole) in
+          subst (λ (n : ℕ). LoopFits n (waited_loop l (next_time s session)) (record { call = ask.WaitFrame session; is_done = true; given = e.given; did = (rule s reads (record e { call = ask.WaitFrame session })).effect.did } ∷ past)) same
+          (waits_frame session l past e.given _ (next_time s session) none (subst (λ (n : ℕ). LoopFits n l past) (sym same) fits)))
+      by (ask.BeginFrame session) ready_is =
+          by_call (ask.BeginFrame session) (rule s reads (record e { call = ask.BeginFrame session })) session begun_loop refl (begun_succeeds (loop_of s session)) refl refl (λ good l. refl) refl
+          (λ free l same here fits.
+          let some = ap (λ (m : FrameLoop). m.has_waited) (sym (own session l same here)) ∙ not_false (loop_of s session).has_waited free.order in
+          subst (λ (n : ℕ). LoopFits n (begun_loop l) (record { call = ask.BeginFrame session; is_done = true; given = e.given; did = (rule s reads (record e { call = ask.BeginFrame session })).effect.did } ∷ past)) same
+          (begins_frame session l past e.given _ some (subst (λ (n : ℕ). LoopFits n l past) (sym same) fits)))
+      by (ask.EndFrame session time blend layers) ready_is =
+          by_call (ask.EndFrame session time blend layers) (rule s reads (record e { call = ask.EndFrame session time blend layers })) session ended_loop (layers_fail (look_of s) layers) refl refl refl (λ good l. refl) refl
+          (λ free l same here fits. subst (λ (n : ℕ). LoopFits n (ended_loop l) (record { call = ask.EndFrame session time blend layers; is_done = true; given = e.given; did = (rule s reads (record e { call = ask.EndFrame session time blend layers })).effect.did } ∷ past)) same
+          (ends_frame session l past e.given _ time blend layers (subst (λ (n : ℕ). LoopFits n l past) (sym same) fits)))
+      by r ready_is = uncounted r (effect s reads (record e { call = r })) refl (λ good l. refl)
+
+-- ---- an entry keeps the fit
 
 pub nonzero : (n : ℕ) → n ≢ 0 → (n == 0) ≡ false
 nonzero n some = by (n == 0) refl
@@ -446,64 +388,95 @@ nonzero n some = by (n == 0) refl
     by true eb = absurd (some (same_key n 0 eb))
     by false eb = refl
 
-pub fits_step : (s : State) (e : Entry) (past : List Decided) → IsAllowed s e → ready s e ≡ true → FramesFit s.core.handles s.core.frames.frame_loop past
-    → FramesFit (step s e).0.core.handles (step s e).0.core.frames.frame_loop (decided s e ∷ past)
-fits_step s e past allowed is_ready fits = by e.call allowed is_ready
+-- a creation that fails gives no handle
+pub failed_gives_none : (s : State) (e : Entry) → IsAllowed s e → is_session_creation e.call ≡ true → is_success (step s e).1.reply.code ≡ false → e.given ≡ 0
+failed_gives_none s e allowed = by e.call allowed.handle
   where
-    by : (r : Call) → IsAllowed s (record e { call = r }) → ready s (record e { call = r }) ≡ true → FramesFit (step s (record e { call = r })).0.core.handles (step s (record e { call = r })).0.core.frames.frame_loop (decided s (record e { call = r }) ∷ past)
-    by (ask.CreateSession instance system) allowed ready_is =
-        by_rule (Fits past (ask.CreateSession instance system) e.given) s.core f e.short refl (refuse s.core past fits (ask.CreateSession instance system) e.given f.effect) made
-      where
-        x : Entry
-        x = record e { call = ask.CreateSession instance system }
+    by : (r : Call) → IsGiven (is_some (rule s.core (reads_of s r) (record e { call = r })).creates && is_success (step s (record e { call = r })).1.reply.code) s.core.handles e.given
+        → is_session_creation r ≡ true → is_success (step s (record e { call = r })).1.reply.code ≡ false → e.given ≡ 0
+    by (ask.CreateSession instance system) is creates failed = rw failed at is
+    by _ is creates failed = absurd (true≢false (sym creates))
 
-        f : Rule
-        f = rule s.core (reads_of s (ask.CreateSession instance system)) (record e { call = ask.CreateSession instance system })
+-- the creation of a session isn't counted
+creation_aside : (r : Call) → is_session_creation r ≡ true → is_counted r ≡ false
+creation_aside (ask.CreateSession instance system) creates = refl
+creation_aside _ creates = absurd (true≢false (sym creates))
 
-        made : refusal e.short f ≡ None → Fits past (ask.CreateSession instance system) e.given f.effect
-        made none =
-            let one = none_first (not (system == the_system)) SystemInvalid (when (not (has_room s.core.handles kind.Session)) LimitReached ∷ []) (clear f e.short none).behind in
-            let room = not_false (has_room s.core.handles kind.Session) (none_first (not (has_room s.core.handles kind.Session)) LimitReached [] one.1).0 in
-            let done_is = goes s.core (refusal e.short f) f.effect none in
-            let new = new_session_given s x allowed refl (ap (λ (y : Effect). is_success y.code) done_is) in
-            fits_created s.core.handles s.core.frames.frame_loop _ past instance e.given (λ q. refl) room (nonzero e.given new.0) new.1
-            (subst (λ (y : Effect). AreKnown y.state.handles) done_is (known_step s x fits.known)) fits
-    by (ask.BeginSession session view) allowed ready_is =
-        by_call s.core past fits (ask.BeginSession session view) e.given (rule s.core (reads_of s (ask.BeginSession session view)) (record e { call = ask.BeginSession session view })) e.short session (reset_loop s.core.frames.frame_loop) refl refl refl refl refl refl refl
-        (λ free fit. begins_period session s.core.frames.frame_loop past e.given _ view)
-    by (ask.EndSession session) allowed ready_is =
-        by_call s.core past fits (ask.EndSession session) e.given (rule s.core (reads_of s (ask.EndSession session)) (record e { call = ask.EndSession session })) e.short session (reset_loop s.core.frames.frame_loop) refl refl refl refl refl refl refl
-        (λ free fit. ends_period session s.core.frames.frame_loop past e.given _)
-    by (ask.WaitFrame session) allowed ready_is =
-        by_call s.core past fits (ask.WaitFrame session) e.given (rule s.core (reads_of s (ask.WaitFrame session)) (record e { call = ask.WaitFrame session })) e.short session (waited_loop s.core.frames.frame_loop (next_time s.core)) refl refl refl refl refl refl refl
-        (λ free. waits_frame session s.core.frames.frame_loop past e.given _ (next_time s.core) (not_waited s.core.frames (is_ready_to s.core (reads_of s (ask.WaitFrame session)) (record e { call = ask.WaitFrame session }) ready_is free.whole)))
-    by (ask.BeginFrame session) allowed ready_is =
-        by_call s.core past fits (ask.BeginFrame session) e.given (rule s.core (reads_of s (ask.BeginFrame session)) (record e { call = ask.BeginFrame session })) e.short session (begun_loop s.core.frames.frame_loop) refl (begun_succeeds s.core.frames.frame_loop) refl refl refl refl refl
-        (λ free. begins_frame session s.core.frames.frame_loop past e.given _ (not_false s.core.frames.frame_loop.has_waited free.order))
-    by (ask.EndFrame session time blend layers) allowed ready_is =
-        by_call s.core past fits (ask.EndFrame session time blend layers) e.given (rule s.core (reads_of s (ask.EndFrame session time blend layers)) (record e { call = ask.EndFrame session time blend layers })) e.short session (ended_loop s.core.frames.frame_loop) (layers_fail (look_of s.core) layers) refl refl refl refl refl refl
-        (λ free. ends_frame session s.core.frames.frame_loop past e.given _ time blend layers)
-    by r allowed ready_is = fits_other s (record e { call = r }) past allowed ready_is fits refl refl refl
-
-pub fits_after : (s : State) (clocks : List ℤ) (past : List Decided) (es : List Entry) → IsLegalFrom s clocks es → FramesFit s.core.handles s.core.frames.frame_loop past
-    → FramesFit (after s es).core.handles (after s es).core.frames.frame_loop (past_from s past es)
-fits_after s clocks past [] legal fits = fits
-fits_after s clocks past (e ∷ es) legal fits = fits_after (step s e).0 (clocks_after clocks e (step s e).0) (decided s e ∷ past) es legal.3 (fits_step s e past legal.0 legal.2 fits)
-
-pub fits_opening : (settings : Settings) → FramesFit (opening settings).core.handles (opening settings).core.frames.frame_loop []
-fits_opening settings = record {
-  row = refl;
-  known = known_opening settings;
-  untouched = λ q nz new. refl;
-  loops = λ q live. record { frames = refl; begun = refl };
+pub fits_step : (s : State) (e : Entry) (past : List Decided) → (clocks : List ℤ) → IsLegalFrom s clocks (e ∷ []) → FramesFit s.core.handles s.core.sessions past
+    → FramesFit (step s e).0.core.handles (step s e).0.core.sessions (decided s e ∷ past)
+fits_step s e past clocks legal fits = record {
+  known = known_step s e fits.known;
+  listed = still_listed;
+  untouched = λ q nz new.
+      let before = given_before s.core (reads_of s e.call) e q new in
+      let aside : touches q (decided s e) ≡ false = is_false (touches q (decided s e)) (λ is. true≢false (sym (live_given s.core.handles q fits.known ((fits_call s.core (reads_of s e.call) e legal.2 past q).live is)) ∙ before)) in
+      rw aside (fits.untouched q nz before);
+  loops = λ q y found. by q y (session_at s.core.sessions q) refl (session_at (step s e).0.core.sessions q) found (lived s.core (reads_of s e.call) e q) (fresh q y found);
 }
+  where
+    still_listed : AreListed (step s e).0.core.handles (step s e).0.core.sessions
+    still_listed = listed_after s clocks (e ∷ []) legal fits.listed
+
+    some_is : (a b : Session) → Some a ≡ Some b → a ≡ b
+    some_is a b same = cc
+
+    -- a session that comes is new
+    fresh : (q : ℕ) (y : Session) → session_at (step s e).0.core.sessions q ≡ Some y → creates_session e q ≡ true → list_any (touches q) past ≡ false
+    fresh q y found creates = at (is_success (step s e).1.reply.code) refl
+      where
+        two : (is_session_creation e.call ≡ true) × ((e.given == q) ≡ true)
+        two = both_of (is_session_creation e.call) (e.given == q) creates
+
+        there : is_live (step s e).0.core.handles kind.Session q ≡ true
+        there = sym (still_listed q) ∙ ap (λ (o : Option Session). is_some o) found
+
+        at : (b : Bool) → is_success (step s e).1.reply.code ≡ b → list_any (touches q) past ≡ false
+        at true eb =
+            let new = new_session_given s e legal.0 two.0 eb in
+            fits.untouched q (live_nonzero (step s e).0.core.handles q there) (subst (λ (n : ℕ). was_given s.core.handles n ≡ false) (same_key e.given q two.1) new.1)
+        at false eb = absurd (true≢false (sym (subst (λ (n : ℕ). (n == q) ≡ true) (failed_gives_none s e legal.0 two.0 eb) two.1) ∙ zero_apart))
+          where
+            zero_apart : (0 == q) ≡ false
+            zero_apart = is_false (0 == q) (λ is. true≢false (sym (subst (λ (n : ℕ). (n == 0) ≡ true) (same_key 0 q is) refl) ∙ live_nonzero (step s e).0.core.handles q there))
+
+    by : (q : ℕ) (y : Session) (o : Option Session) → session_at s.core.sessions q ≡ o → (n : Option Session) → n ≡ Some y
+        → Follows (life_after e.call q (is_success (step s e).1.reply.code)) (loop_after (time_of s.core e.call) e.call q (is_success (step s e).1.reply.code)) (creates_session e q) (started_session s.core.device.wish).life o n
+        → (creates_session e q ≡ true → list_any (touches q) past ≡ false) → LoopFits q y.frame_loop (decided s e ∷ past)
+    by q y o eo None found follows new = cc
+    by q y None eo (Some z) found follows new =
+        let creates = (both_of (is_session_creation e.call) (e.given == q) follows.0).0 in
+        let aside : touches q (decided s e) ≡ false = rw (creation_aside e.call creates) refl in
+        rw (sym (ap (λ (w : Session). w.frame_loop) (some_is z y found)), follows.2) (loop_aside q new_loop (decided s e) past aside (loop_fresh q past (new follows.0)))
+    by q y (Some x) eo (Some z) found follows new =
+        let here = fits.loops q x eo in
+        rw (sym (ap (λ (w : Session). w.frame_loop) (some_is z y found)), follows.1)
+        ((fits_call s.core (reads_of s e.call) e legal.2 past q).loop x.frame_loop (ap (λ (o : Option Session). loop_in o) eo) here)
+
+pub fits_after : (s : State) (clocks : List ℤ) (past : List Decided) (es : List Entry) → IsLegalFrom s clocks es → FramesFit s.core.handles s.core.sessions past
+    → FramesFit (after s es).core.handles (after s es).core.sessions (past_from s past es)
+fits_after s clocks past [] legal fits = fits
+fits_after s clocks past (e ∷ es) legal fits =
+    fits_after (step s e).0 (clocks_after clocks e (step s e).0) (decided s e ∷ past) es legal.3 (fits_step s e past clocks (legal.0, legal.1, legal.2, tt) fits)
+
+fits_opening : (settings : Settings) → FramesFit (opening settings).core.handles (opening settings).core.sessions []
+fits_opening settings = record {
+  known = known_opening settings;
+  listed = listed_none;
+  untouched = λ q nz new. refl;
+  loops = λ q x found. none x found;
+}
+  where
+    none : {q : ℕ} (x : Session) → None ≡ Some x → LoopFits q x.frame_loop []
+    none x found = cc
 
 pub fits_history : (settings : Settings) (es : List Entry) → IsLegalFrom (opening settings) (opening_clocks settings) es
-    → FramesFit (after (opening settings) es).core.handles (after (opening settings) es).core.frames.frame_loop (past_of settings es)
+    → FramesFit (after (opening settings) es).core.handles (after (opening settings) es).core.sessions (past_of settings es)
 fits_history settings es legal = fits_after (opening settings) (opening_clocks settings) [] es legal (fits_opening settings)
 
 pub waits_and_begins : WaitsAndBegins
-waits_and_begins settings es session legal live = by (after (opening settings) es).core.frames.frame_loop.has_waited ((fits_history settings es legal).loops session live).frames
+waits_and_begins settings es session legal live =
+    let fits = live_fits (after (opening settings) es).core.handles (after (opening settings) es).core.sessions (past_of settings es) (fits_history settings es legal) session live in
+    by (loop_of (after (opening settings) es).core session).has_waited fits.frames
   where
     by : (b : Bool) → waits session (past_of settings es) ≡ begins session (past_of settings es) + one_if b
         → (begins session (past_of settings es) ≤ waits session (past_of settings es)) × (waits session (past_of settings es) ≤ begins session (past_of settings es) + 1)

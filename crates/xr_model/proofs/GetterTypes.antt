@@ -1,6 +1,6 @@
 -- Which actions a getter takes by their type.
 use Rattle.std.proofs.Common.{◌≡◌, ◌==◌, not, ℕ, Bool, true, false, List, [], ◌∷◌, map, Option, Some, None, option_map, refl, sym, ap, ◌∙◌, true≢false, if◌then◌else◌}
-use Rattle.std.specs.Prelude.{◌↔◌, unwrap_or}
+use Rattle.std.specs.Prelude.{◌↔◌}
 use Rattle.std.specs.List.{find}
 use Rattle.xr_types.specs.declared.input.ActionType.{ActionType}
 use Rattle.xr_types.specs.declared.input.ActionType.TheVariants as type

@@ -1,148 +1,126 @@
 -- The time that a wait gives is the one that is predicted behind the last time that was given to its session.
 use Rattle.std.proofs.Common.{◌≡◌, ◌==◌, ◌&&◌, ◌||◌, ℕ, ℤ, Bool, true, false, List, [], ◌∷◌, Option, Some, None, pos, refl, sym, ap, subst, ◌∙◌, arith, true≢false}
-use Rattle.std.specs.Prelude.{int_le, int_lt, not, if◌then◌else◌}
+use Rattle.std.specs.Prelude.{int_le, int_lt, is_some, if◌then◌else◌}
 use Rattle.xr_types.specs.Code.{is_success}
-use Rattle.xr_types.specs.declared.code.Code.TheVariants.{Success, SystemInvalid, LimitReached}
 use Rattle.xr_types.specs.declared.calls.Call.{Call}
 use Rattle.xr_types.specs.declared.calls.Call.TheVariants as ask
 use Rattle.xr_types.specs.declared.calls.Gives.TheVariants as gives
 use Rattle.xr_types.specs.declared.handles.Kind.TheVariants as kind
 use Rattle.xr_types.specs.declared.session.FrameState.{FrameState}
 use Rattle.xr_model.specs.machine.Calls.{Entry}
-use Rattle.xr_model.specs.machine.Frames.{FrameLoop, most_time}
-use Rattle.xr_types.specs.declared.handles.Slot.{Slot}
-use Rattle.xr_model.specs.machine.Handles.{first_free, has_room, is_live, put_in, was_given, with_handle}
-use Rattle.xr_model.specs.machine.Refusals.{Refusal, when}
-use Rattle.xr_model.specs.machine.Rule.{Rule, Effect, refusal, told_on, unless_refused}
+use Rattle.xr_model.specs.machine.Frames.{FrameLoop, reset_loop, waited_loop, begun_loop, ended_loop, most_time}
+use Rattle.xr_model.specs.machine.LiveSessions.{Session, session_at, loop_in}
+use Rattle.xr_model.specs.machine.Handles.{is_live, was_given}
 use Rattle.xr_model.specs.machine.Rules.Frames.{frame_state, next_time}
-use Rattle.xr_model.specs.machine.Rules.Instance.{the_system}
-use Rattle.xr_model.specs.machine.Rules.Session.{life_of}
-use Rattle.xr_model.specs.machine.SessionRule.{Loss, code_on, loss_of}
+use Rattle.xr_model.specs.machine.Rules.Session.{loop_of}
+use Rattle.xr_model.specs.machine.SessionLife.{started_session}
 use Rattle.xr_model.specs.machine.State.{CoreState, State, opening}
 use Rattle.xr_model.specs.machine.Machine.{IsAllowed, reads_of, rule, step}
 use Rattle.xr_model.specs.machine.History.{after, opening_clocks, clocks_after, IsLegalFrom}
-use Rattle.xr_model.specs.laws.DecidedEntries.{Decided, decided}
 use Rattle.xr_model.specs.laws.FrameLaws.{IsPredicted, time_of_grid}
-use Rattle.xr_model.specs.laws.FrameCallLaws.{time_given, given_after, given_last, IsNextFrame, WaitsGiveTheNextTime}
-use Rattle.xr_model.specs.laws.SessionLaws.{is_session_creation}
+use Rattle.xr_model.specs.laws.FrameCallLaws.{waits_for_frame, time_given, given_after, given_last, IsNextFrame, WaitsGiveTheNextTime}
+use Rattle.xr_model.specs.laws.SessionLaws.{AreListed, is_session_creation, creates_session}
 use Rattle.xr_model.specs.laws.Soundness.{AreKnown}
 use Rattle.xr_model.proofs.FrameCalls.{where_done, same_frame}
-use Rattle.xr_model.proofs.FrameOrder.{FramesFit, by_rule, clear, fewer_step, fits_opening, fits_step, is_live_by, is_loop_call, length_put, live_given, live_has, loop_stays, none_first, not_false, only_row}
-use Rattle.xr_model.proofs.LostSessions.{new_session_given}
+use Rattle.xr_model.proofs.FrameOrder.{clear, failed_gives_none, is_live_by, live_given, live_nonzero}
+use Rattle.xr_model.proofs.LostSessions.{new_session_given, listed_after, sessions_are_listed}
+use Rattle.xr_model.proofs.Listed.{listed_none}
+use Rattle.xr_model.proofs.SessionLives.{life_after, loop_after, time_of, Follows, lived}
 use Rattle.xr_model.proofs.PredictedTimes.{times_are_predicted}
-use Rattle.xr_model.proofs.Rows.{both_of, has_new, itself, same_key}
-use Rattle.xr_model.proofs.Destroying.{and_false}
-use Rattle.xr_model.proofs.Successes.{success_succeeds}
+use Rattle.xr_model.proofs.Rows.{both_of, is_false, same_key}
+use Rattle.xr_model.proofs.Destroying.{known_step, known_opening}
 
--- the loop has the time that was given last, of each live session
+-- each listed session's loop has the time that was given to it last
 abbrev TimesFit : CoreState → (ℕ → ℤ) → Type 0
-TimesFit s known = (q : ℕ) → is_live s.handles kind.Session q ≡ true → s.frames.frame_loop.predicted ≡ known q
+TimesFit s known = (q : ℕ) (x : Session) → session_at s.sessions q ≡ Some x → x.frame_loop.predicted ≡ known q
+
+-- so has that of a session that is live
+live_time : (s : CoreState) (known : ℕ → ℤ) → TimesFit s known → AreListed s.handles s.sessions → (q : ℕ) → is_live s.handles kind.Session q ≡ true → (loop_of s q).predicted ≡ known q
+live_time s known times listed q live = by (session_at s.sessions q) refl (listed q ∙ live)
+  where
+    by : (o : Option Session) → session_at s.sessions q ≡ o → is_some o ≡ true → (loop_in o).predicted ≡ known q
+    by None eo there = absurd (true≢false (sym there))
+    by (Some x) eo there = times q x eo
 
 -- ---- a session is created
 
--- a creation doesn't give a handle that is live
-not_again : (s : State) (e : Entry) → IsAllowed s e → is_session_creation e.call ≡ true → AreKnown s.core.handles → (q : ℕ) → is_live s.core.handles kind.Session q ≡ true → (e.given == q) ≡ false
-not_again s e allowed creates known q live = by (e.given == q) refl (is_success (step s e).1.reply.code) refl
+-- no handle is given that is live
+not_again : (s : State) (e : Entry) → IsAllowed s e → AreKnown s.core.handles → (q : ℕ) → is_live s.core.handles kind.Session q ≡ true → creates_session e q ≡ false
+not_again s e allowed known q live = is_false (creates_session e q) (λ creates. by (both_of (is_session_creation e.call) (e.given == q) creates) (is_success (step s e).1.reply.code) refl)
   where
-    was : (q == 0 ≡ false) × (was_given s.core.handles q ≡ true)
-    was = live_given s.core.handles q known live
-
-    none_given : (r : Call) → is_session_creation r ≡ true → is_success (step s (record e { call = r })).1.reply.code ≡ false → IsAllowed s (record e { call = r }) → e.given ≡ 0
-    none_given (ask.CreateSession instance system) creates failed allowed = rw failed at allowed.handle
-    none_given _ creates failed allowed = absurd (true≢false (sym creates))
-
-    by : (b : Bool) → (e.given == q) ≡ b → (good : Bool) → is_success (step s e).1.reply.code ≡ good → b ≡ false
-    by false eb good eg = refl
-    by true eb true eg = absurd (true≢false (sym was.1 ∙ subst (λ (n : ℕ). was_given s.core.handles n ≡ false) (same_key e.given q eb) (new_session_given s e allowed creates eg).1))
-    by true eb false eg = absurd (true≢false (sym (subst (λ (n : ℕ). (n == 0) ≡ true) (same_key e.given q eb) (rw (none_given e.call creates eg allowed) refl)) ∙ was.0))
+    by : (is_session_creation e.call ≡ true) × ((e.given == q) ≡ true) → (good : Bool) → is_success (step s e).1.reply.code ≡ good → ⊥
+    by two true eg =
+        let new = new_session_given s e allowed two.0 eg in
+        true≢false (sym (live_given s.core.handles q known live) ∙ subst (λ (n : ℕ). was_given s.core.handles n ≡ false) (same_key e.given q two.1) new.1)
+    by two false eg =
+        let zero : (e.given == 0) ≡ true = rw (failed_gives_none s e allowed two.0 eg) refl in
+        true≢false (sym (subst (λ (n : ℕ). (n == 0) ≡ true) (same_key e.given q two.1) zero) ∙ live_nonzero s.core.handles q live)
 
 -- ---- an entry
 
-time_kept : (s : CoreState) (o : Option Refusal) (x : Effect) → x.state.frames.frame_loop.predicted ≡ s.frames.frame_loop.predicted
-    → (unless_refused s o x).state.frames.frame_loop.predicted ≡ s.frames.frame_loop.predicted
-time_kept s None x same = same
-time_kept s (Some r) x same = refl
+still_predicted : (b : Bool) (k l : FrameLoop) → k.predicted ≡ l.predicted → (if b then k else l).predicted ≡ l.predicted
+still_predicted true k l same = same
+still_predicted false k l same = refl
 
-module _ (s : State) (e : Entry) (past : List Decided) (allowed : IsAllowed s e) (fits : FramesFit s.core.handles s.core.frames.frame_loop past) (known : ℕ → ℤ) (times : TimesFit s.core known) where
-  -- a session is created: it is the only one
-  created : (instance system : ℕ) → e.call ≡ ask.CreateSession instance system
-      → TimesFit (step s (record e { call = ask.CreateSession instance system })).0.core (λ q. if e.given == q then pos 0 else known q)
-  created instance system is = by_rule (λ x. TimesFit x.state (λ q. if e.given == q then pos 0 else known q)) s.core f e.short refl
-      (λ r failed q live. rw (not_again s e allowed (rw is refl) fits.known q live) (times q live))
-      (λ none q live. new (has_room s.core.handles kind.Session) (room none) q live)
-    where
-      f : Rule
-      f = rule s.core (reads_of s (ask.CreateSession instance system)) (record e { call = ask.CreateSession instance system })
-
-      slot : Slot
-      slot = record { handle = e.given; parent = instance }
-
-      room : refusal e.short f ≡ None → has_room s.core.handles kind.Session ≡ true
-      room none =
-          let one = none_first (not (system == the_system)) SystemInvalid (when (not (has_room s.core.handles kind.Session)) LimitReached ∷ []) (clear f e.short none).behind in
-          not_false (has_room s.core.handles kind.Session) (none_first (not (has_room s.core.handles kind.Session)) LimitReached [] one.1).0
-
-      new : (b : Bool) → has_room s.core.handles kind.Session ≡ true → (q : ℕ) → is_live (with_handle s.core.handles kind.Session instance e.given) kind.Session q ≡ true → pos 0 ≡ (if e.given == q then pos 0 else known q)
-      new b some q live =
-          let long = length_put slot s.core.handles.sessions ∙ fits.row in
-          let same = only_row (put_in s.core.handles.sessions slot (first_free s.core.handles.sessions)) e.given q long (has_new slot s.core.handles.sessions some) (live_has (with_handle s.core.handles kind.Session instance e.given) q live) in
-          let it : (e.given == q) ≡ true = subst (λ (n : ℕ). (e.given == n) ≡ true) same (itself e.given) in
-          rw it refl
-
-  -- a frame is waited for, in the one session
-  waited : (session : ℕ)
-      → (q : ℕ) → is_live (step s (record e { call = ask.WaitFrame session })).0.core.handles kind.Session q ≡ true
-      → (step s (record e { call = ask.WaitFrame session })).0.core.frames.frame_loop.predicted ≡ given_after s (record e { call = ask.WaitFrame session }) q (known q)
-  waited session = by_rule (λ x. (q : ℕ) → is_live x.state.handles kind.Session q ≡ true → x.state.frames.frame_loop.predicted ≡ (if (session == q) && is_success x.code then time_given x.gives (known q) else known q)) s.core f e.short refl
-      (λ r failed q live. rw (failed, and_false (session == q)) (times q live))
-      (λ none q live. given q (is_live_by (is_live s.core.handles kind.Session session) (clear f e.short none).handles) live)
-    where
-      f : Rule
-      f = rule s.core (reads_of s (ask.WaitFrame session)) (record e { call = ask.WaitFrame session })
-
-      given : (q : ℕ) → is_live s.core.handles kind.Session session ≡ true → is_live s.core.handles kind.Session q ≡ true
-          → next_time s.core ≡ (if (session == q) && is_success (code_on (loss_of (life_of s.core session)) Success) then next_time s.core else known q)
-      given q on live =
-          let same = only_row s.core.handles.sessions session q fits.row (live_has s.core.handles session on) (live_has s.core.handles q live) in
-          let it : (session == q) ≡ true = subst (λ (n : ℕ). (session == n) ≡ true) same (itself session) in
-          rw (it, success_succeeds (loss_of (life_of s.core session))) refl
-
-times_step : (s : State) (e : Entry) (past : List Decided) → IsAllowed s e → FramesFit s.core.handles s.core.frames.frame_loop past → (known : ℕ → ℤ) → TimesFit s.core known
-    → TimesFit (step s e).0.core (λ q. given_after s e q (known q))
-times_step s e past allowed fits known times = by e.call refl
+-- the time of a loop is another where a frame was waited for
+time_after : (time : ℤ) (r : Call) (q : ℕ) (good : Bool) (l : FrameLoop) → (loop_after time r q good l).predicted ≡ (if waits_for_frame r q && good then time else l.predicted)
+time_after time (ask.BeginSession session view) q good l = still_predicted (good && (session == q)) (reset_loop l) l refl
+time_after time (ask.EndSession session) q good l = still_predicted (good && (session == q)) (reset_loop l) l refl
+time_after time (ask.WaitFrame session) q good l = by (session == q) good
   where
-    -- a call that leaves the time
-    stays : (r : Call) → is_session_creation r ≡ false → (step s (record e { call = r })).0.core.frames.frame_loop.predicted ≡ s.core.frames.frame_loop.predicted
-        → TimesFit (step s (record e { call = r })).0.core known
-    stays r other same q live = same ∙ times q ((fewer_step s.core (reads_of s r) (record e { call = r }) other).live q live)
+    by : (a b : Bool) → (if b && a then waited_loop l time else l).predicted ≡ (if a && b then time else l.predicted)
+    by true true = refl
+    by true false = refl
+    by false true = refl
+    by false false = refl
+time_after time (ask.BeginFrame session) q good l = still_predicted (good && (session == q)) (begun_loop l) l refl
+time_after time (ask.EndFrame session time_ blend layers) q good l = still_predicted (good && (session == q)) (ended_loop l) l refl
+time_after time _ q good l = refl
 
-    aside : (r : Call) → is_loop_call r ≡ false → (step s (record e { call = r })).0.core.frames.frame_loop.predicted ≡ s.core.frames.frame_loop.predicted
-    aside r none = ap (λ (l : FrameLoop). l.predicted) (loop_stays s.core (reads_of s r) (record e { call = r }) none)
+module _ (s : State) (e : Entry) (q : ℕ) (before : ℤ) where
+  -- a wait that succeeds gives that time
+  given : (r : Call) → waits_for_frame r q ≡ true → is_success (step s (record e { call = r })).1.reply.code ≡ true
+      → time_of s.core r ≡ time_given (step s (record e { call = r })).1.reply.gives before
+  given (ask.WaitFrame session) waits good =
+      where_done (λ x. next_time s.core session ≡ time_given x.gives before) s.core (rule s.core (reads_of s (ask.WaitFrame session)) (record e { call = ask.WaitFrame session })) e.short refl (λ none. refl) good
+  given _ waits good = absurd (true≢false (sym waits))
 
-    kept : (r : Call) → (rule s.core (reads_of s r) (record e { call = r })).effect.state.frames.frame_loop.predicted ≡ s.core.frames.frame_loop.predicted
-        → (step s (record e { call = r })).0.core.frames.frame_loop.predicted ≡ s.core.frames.frame_loop.predicted
-    kept r same = let f = rule s.core (reads_of s r) (record e { call = r }) in time_told f.on (refusal e.short f) f.effect same
-      where
-        time_told : (on : Option Loss) (o : Option Refusal) (x : Effect) → x.state.frames.frame_loop.predicted ≡ s.core.frames.frame_loop.predicted
-            → (unless_refused s.core o (told_on on x)).state.frames.frame_loop.predicted ≡ s.core.frames.frame_loop.predicted
-        time_told None o x same = time_kept s.core o x same
-        time_told (Some loss) o x same = time_kept s.core o (told_on (Some loss) x) same
+  told : (if waits_for_frame e.call q && is_success (step s e).1.reply.code then time_of s.core e.call else before)
+      ≡ (if waits_for_frame e.call q && is_success (step s e).1.reply.code then time_given (step s e).1.reply.gives before else before)
+  told = by (waits_for_frame e.call q) refl (is_success (step s e).1.reply.code) refl
+    where
+      by : (a : Bool) → waits_for_frame e.call q ≡ a → (b : Bool) → is_success (step s e).1.reply.code ≡ b
+          → (if a && b then time_of s.core e.call else before) ≡ (if a && b then time_given (step s e).1.reply.gives before else before)
+      by true ea true eb = given e.call ea eb
+      by true ea false eb = refl
+      by false ea b eb = refl
 
-    by : (r : Call) → e.call ≡ r → TimesFit (step s (record e { call = r })).0.core (λ q. given_after s (record e { call = r }) q (known q))
-    by (ask.CreateSession instance system) is = created s e past allowed fits known times instance system is
-    by (ask.BeginSession session view) is = stays (ask.BeginSession session view) refl (kept (ask.BeginSession session view) refl)
-    by (ask.EndSession session) is = stays (ask.EndSession session) refl (kept (ask.EndSession session) refl)
-    by (ask.WaitFrame session) is = waited s e past allowed fits known times session
-    by (ask.BeginFrame session) is = stays (ask.BeginFrame session) refl (kept (ask.BeginFrame session) refl)
-    by (ask.EndFrame session time blend layers) is = stays (ask.EndFrame session time blend layers) refl (kept (ask.EndFrame session time blend layers) refl)
-    by r is = stays r refl (aside r refl)
+times_step : (s : State) (e : Entry) → IsAllowed s e → AreKnown s.core.handles → AreListed s.core.handles s.core.sessions → (known : ℕ → ℤ) → TimesFit s.core known
+    → TimesFit (step s e).0.core (λ q. given_after s e q (known q))
+times_step s e allowed handles listed known times q y found = by (session_at s.core.sessions q) refl (session_at (step s e).0.core.sessions q) found (lived s.core (reads_of s e.call) e q)
+  where
+    time : (z : Session) → Some z ≡ Some y → y.frame_loop.predicted ≡ z.frame_loop.predicted
+    time z same = cc
 
-times_after : (s : State) (clocks : List ℤ) (past : List Decided) (es : List Entry) → IsLegalFrom s clocks es → FramesFit s.core.handles s.core.frames.frame_loop past
+    by : (o : Option Session) → session_at s.core.sessions q ≡ o → (n : Option Session) → n ≡ Some y
+        → Follows (life_after e.call q (is_success (step s e).1.reply.code)) (loop_after (time_of s.core e.call) e.call q (is_success (step s e).1.reply.code)) (creates_session e q) (started_session s.core.device.wish).life o n
+        → y.frame_loop.predicted ≡ given_after s e q (known q)
+    by o eo None found follows = cc
+    by None eo (Some z) found follows = rw follows.0 (time z found ∙ ap (λ (l : FrameLoop). l.predicted) follows.2)
+    by (Some x) eo (Some z) found follows =
+        let live : is_live s.core.handles kind.Session q ≡ true = sym (listed q) ∙ ap (λ (o : Option Session). is_some o) eo in
+        let good = is_success (step s e).1.reply.code in
+        let old = times q x eo in
+        rw (not_again s e allowed handles q live)
+        (time z found ∙ ap (λ (l : FrameLoop). l.predicted) follows.1 ∙ time_after (time_of s.core e.call) e.call q good x.frame_loop
+        ∙ ap (λ (n : ℤ). if waits_for_frame e.call q && good then time_of s.core e.call else n) old ∙ told s e q (known q))
+
+times_after : (s : State) (clocks : List ℤ) (es : List Entry) → IsLegalFrom s clocks es → AreKnown s.core.handles → AreListed s.core.handles s.core.sessions
     → (known : ℕ → ℤ) → TimesFit s.core known → TimesFit (after s es).core (λ q. given_last s q (known q) es)
-times_after s clocks past [] legal fits known times = times
-times_after s clocks past (e ∷ es) legal fits known times =
-    times_after (step s e).0 (clocks_after clocks e (step s e).0) (decided s e ∷ past) es legal.3 (fits_step s e past legal.0 legal.2 fits)
-    (λ q. given_after s e q (known q)) (times_step s e past legal.0 fits known times)
+times_after s clocks [] legal handles listed known times = times
+times_after s clocks (e ∷ es) legal handles listed known times =
+    times_after (step s e).0 (clocks_after clocks e (step s e).0) es legal.3 (known_step s e handles) (listed_after s clocks (e ∷ []) (legal.0, legal.1, legal.2, tt) listed)
+    (λ q. given_after s e q (known q)) (times_step s e legal.0 handles listed known times)
 
 -- ---- the frame that is given
 
@@ -171,11 +149,15 @@ waits_give_the_next_time settings es e session f legal is = subst Gives (sym is)
         → int_le (pos 1) s.core.device.period ≡ true → IsNextFrame s (given_last (opening settings) session (pos 0) es) f
 
     predicted : is_live s.core.handles kind.Session session ≡ true → int_le (pos 1) s.core.device.period ≡ true
-        → IsPredicted (given_last (opening settings) session (pos 0) es) s.core.device.clock s.core.device.base s.core.device.period (next_time s.core)
+        → IsPredicted (given_last (opening settings) session (pos 0) es) s.core.device.clock s.core.device.base s.core.device.period (next_time s.core session)
     predicted live positive =
-        let last = times_after (opening settings) (opening_clocks settings) [] es legal (fits_opening settings) (λ q. pos 0) (λ q none. refl) session live in
-        subst (λ (n : ℤ). IsPredicted n s.core.device.clock s.core.device.base s.core.device.period (next_time s.core)) last
-        (times_are_predicted s.core.frames.frame_loop.predicted s.core.device.clock s.core.device.base s.core.device.period positive)
+        let times = times_after (opening settings) (opening_clocks settings) es legal (known_opening settings) listed_none (λ q. pos 0) (λ q x found. none x found) in
+        let last = live_time s.core (λ q. given_last (opening settings) q (pos 0) es) times (sessions_are_listed settings es legal) session live in
+        subst (λ (n : ℤ). IsPredicted n s.core.device.clock s.core.device.base s.core.device.period (next_time s.core session)) last
+        (times_are_predicted (loop_of s.core session).predicted s.core.device.clock s.core.device.base s.core.device.period positive)
+      where
+        none : (x : Session) → None ≡ Some x → x.frame_loop.predicted ≡ pos 0
+        none x found = cc
 
     waits : Gives (ask.WaitFrame session)
     waits =

@@ -15,7 +15,7 @@ use Rattle.xr_model.specs.machine.Refusals.{Refusal}
 use Rattle.xr_model.specs.machine.State.{CoreState, CellReads, State}
 use Rattle.xr_model.specs.machine.Rule.{Effect, refusal, told_on, unless_refused, nothing_done, locked_after, published_after}
 use Rattle.xr_types.specs.declared.session.SessionState.TheVariants.{Focused}
-use Rattle.xr_model.specs.machine.Rules.Session.{life_of}
+use Rattle.xr_model.specs.machine.Rules.Session.{life_of, loop_of}
 use Rattle.xr_model.specs.machine.Rules.Sync.{synced_code}
 use Rattle.xr_model.specs.machine.SessionLife.{is_state}
 use Rattle.xr_model.specs.machine.Machine.{step, effect, rule, reads_of, cells_after}
@@ -45,7 +45,7 @@ effects_succeed : (s : CoreState) (reads : CellReads) (e : Entry) → is_success
 effects_succeed s reads e = by e.call
   where
     by : (r : Call) → is_success (rule s reads (record e { call = r })).effect.code ≡ true
-    by (ask.BeginFrame session) = begun_succeeds s.frames.frame_loop
+    by (ask.BeginFrame session) = begun_succeeds (loop_of s session)
     by (ask.SyncActions session active) = synced_succeeds (is_state (life_of s session).state Focused)
     by ask.Leave = refl
     by _ = refl

@@ -29,7 +29,7 @@ use Rattle.xr_model.proofs.DestroyedForGood.{legal_behind}
 use Rattle.xr_model.proofs.Orphans.{no_orphans, under_step}
 use Rattle.xr_model.proofs.StandOnce.{none_once, once_step, handles_stand_once}
 use Rattle.xr_model.proofs.FrameOrder.{clear, none_first, is_ready_to}
-use Rattle.xr_model.proofs.FrameLists.{at_most_three}
+use Rattle.xr_model.proofs.FrameLists.{pending_are_few}
 use Rattle.xr_model.proofs.ChainOrder.{OptFits, chains_history}
 use Rattle.xr_model.proofs.ChainPlaces.{same_some, found_good, found_at}
 use Rattle.xr_model.proofs.FrameImages.{is_named, times_left}
@@ -202,7 +202,7 @@ counts_are_few settings es i legal placed =
     let s = after (opening settings) es in
     let sound = sound_history settings es legal in
     let pending = uses_few s.core.frames.pending (slot_of i) sound.frames in
-    let three = at_most_three settings es legal in
+    let three = pending_are_few settings es legal in
     let once = sound.last.once (slot_of i) in
     let held = subst (λ (l : List Image). times_in l (slot_of i) ≤ times_in s.core.shown_images (slot_of i)) (sym sound.left.are) (times_left sound.left.gone s.core.shown_images (slot_of i)) in
     omega (arith, pending, three, once, held)

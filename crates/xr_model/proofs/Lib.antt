@@ -67,6 +67,7 @@ pub mod FrameOrder
 pub mod HeldFits
 pub mod ChainOrder
 pub mod CallOrders
+pub mod LoopSums
 pub mod FrameLists
 pub mod TakenFrames
 pub mod GivingBack

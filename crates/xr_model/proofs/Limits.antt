@@ -50,7 +50,7 @@ full_from (s ∷ ss) i = by (s.handle == 0) (full_from ss (i + 1)) (few_live ss)
 
 -- ---- rows keep their length
 
-abbrev LongAsMayBe : Handles → Type 0
+abbrev pub LongAsMayBe : Handles → Type 0
 LongAsMayBe h = (k : Kind) → length (row_of h k) ≡ most_of k
 
 long_put : (h : Handles) (which : Kind) (parent given : ℕ) → LongAsMayBe h → LongAsMayBe (with_handle h which parent given)
@@ -115,7 +115,7 @@ long_chain h chain long kind.ActionSet = long kind.ActionSet
 long_chain h chain long kind.Action = long kind.Action
 long_chain h chain long kind.Space = long kind.Space
 
-long_step : (s : CoreState) (reads : CellReads) (e : Entry) → LongAsMayBe s.handles → LongAsMayBe (core_step s reads e).0.handles
+pub long_step : (s : CoreState) (reads : CellReads) (e : Entry) → LongAsMayBe s.handles → LongAsMayBe (core_step s reads e).0.handles
 long_step s reads e long = kept_by_step LongAsMayBe s reads e (record {
   same = long;
   instance = λ d. long_put s.handles kind.Instance 0 e.given long;
@@ -129,11 +129,11 @@ long_step s reads e long = kept_by_step LongAsMayBe s reads e (record {
   chain_alone = λ chain. long_chain s.handles chain long;
 })
 
-long_after : (s : State) (es : List Entry) → LongAsMayBe s.core.handles → LongAsMayBe (after s es).core.handles
+pub long_after : (s : State) (es : List Entry) → LongAsMayBe s.core.handles → LongAsMayBe (after s es).core.handles
 long_after s [] long = long
 long_after s (e ∷ es) long = long_after (step s e).0 es (long_step s.core (reads_of s e.call) e long)
 
-long_opening : (settings : Settings) → LongAsMayBe (opening settings).core.handles
+pub long_opening : (settings : Settings) → LongAsMayBe (opening settings).core.handles
 long_opening settings kind.Instance = refl
 long_opening settings kind.Session = refl
 long_opening settings kind.ActionSet = refl

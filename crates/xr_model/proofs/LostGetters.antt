@@ -6,13 +6,13 @@ use Rattle.xr_types.specs.declared.code.Code.TheVariants.{HandleInvalid, Session
 use Rattle.xr_types.specs.declared.handles.Kind.TheVariants as kind
 use Rattle.xr_types.specs.declared.input.ActionType.{ActionType}
 use Rattle.xr_types.specs.declared.input.ActionType.TheVariants as type
+use Rattle.xr_types.specs.declared.calls.Call.{Call}
+use Rattle.xr_types.specs.declared.calls.Call.TheVariants as ask
 use Rattle.xr_model.specs.machine.Handles.{Handles, has, is_live}
 use Rattle.xr_model.specs.machine.LiveSessions.{Session, session_at, life_in}
 use Rattle.xr_model.specs.machine.Publication.{PublishedAction, publication_of, published_at, published_action, first_seen, is_session}
 use Rattle.xr_model.specs.machine.Refusals.{when, first_of}
 use Rattle.xr_model.specs.machine.Calls.{Entry}
-use Rattle.xr_types.specs.declared.calls.Call.{Call}
-use Rattle.xr_types.specs.declared.calls.Call.TheVariants as ask
 use Rattle.xr_model.specs.machine.Rule.{Rule, carried_out}
 use Rattle.xr_model.specs.machine.Rules.Sync.{getter_rule}
 use Rattle.xr_model.specs.machine.Sets as sets
@@ -20,7 +20,8 @@ use Rattle.xr_model.specs.machine.State.{CoreState, Settings, opening}
 use Rattle.xr_model.specs.machine.Machine.{step}
 use Rattle.xr_model.specs.machine.History.{after, IsLegal}
 use Rattle.xr_model.specs.laws.SessionLaws.{is_getter_of, was_lost, LostGetters}
-use Rattle.xr_model.proofs.FrameOrder.{only_row, fits_history}
+use Rattle.xr_model.proofs.FrameOrder.{only_row}
+use Rattle.xr_model.proofs.Limits.{long_after, long_opening}
 use Rattle.xr_model.proofs.Lists.{all_kept}
 use Rattle.xr_model.proofs.LostSessions.{known_loss, sessions_are_listed}
 use Rattle.xr_model.proofs.Rows.{both_of, same_key, itself}
@@ -107,7 +108,7 @@ module _ (settings : Settings) (es : List Entry) (e : Entry) (legal : IsLegal se
 
   one_only : is_live s.handles kind.Session session ≡ true → (p : ℕ) → is_some (session_at s.sessions p) ≡ true → p ≡ session
   one_only live p found =
-      only_row s.handles.sessions p session (fits_history settings es legal).row (live_has s.handles p (sym (listed p) ∙ found)) (live_has s.handles session live)
+      only_row s.handles.sessions p session (long_after (opening settings) es (long_opening settings) kind.Session) (live_has s.handles p (sym (listed p) ∙ found)) (live_has s.handles session live)
 
   published : is_live s.handles kind.Action action ≡ true → is_none (published_at (publication_of s) action) ≡ false
   published live =

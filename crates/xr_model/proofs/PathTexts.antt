@@ -1,12 +1,12 @@
 -- A text is a path exactly where it is made of names, each behind a slash.
-use Rattle.std.proofs.Common.{◌≡◌, ◌+◌, ◌≤◌, ◌<◌, ◌==◌, ◌&&◌, ◌||◌, ◌++◌, ℕ, zero, suc, Bool, true, false, not, List, [], ◌∷◌, length, refl, sym, ap, subst, ◌∙◌, append-nil, append_assoc, arith, true≢false}
-use Rattle.std.specs.Prelude.{◌↔◌, nat_le, nat_lt, if◌then◌else◌}
+use Rattle.std.proofs.Common.{◌≡◌, ◌≤◌, ◌==◌, ◌&&◌, ◌||◌, ◌++◌, ℕ, suc, Bool, true, false, not, List, [], ◌∷◌, length, refl, sym, ap, subst, ◌∙◌, append-nil, arith, true≢false}
+use Rattle.std.specs.Prelude.{nat_le, nat_lt, if◌then◌else◌}
 use Rattle.std.specs.List.{list_all, list_any}
 use Rattle.std.proofs.lemmas.Bool.Decides.{nat_tests}
 use Rattle.xr_types.specs.Name.{is_name_byte, is_periods}
-use Rattle.xr_model.specs.machine.Paths.{is_path_byte, begins_with_slash, ends_with_slash, periods_to_slash, has_empty_name, has_empty_end, is_path_text}
+use Rattle.xr_model.specs.machine.Paths.{is_path_byte, ends_with_slash, periods_to_slash, has_empty_name, has_empty_end, is_path_text}
 use Rattle.xr_model.specs.laws.PathLaws.{joined, is_path_name, IsPath, PathsAreNames}
-use Rattle.xr_model.proofs.Rows.{both_of, neither_of, same_key, itself, not_true}
+use Rattle.xr_model.proofs.Rows.{both_of, neither_of, same_key, not_true}
 
 -- ---- a text that is split at its slashes
 

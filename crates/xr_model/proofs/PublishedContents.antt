@@ -11,28 +11,31 @@ use Rattle.xr_types.specs.declared.handles.Kind.TheVariants as kind
 use Rattle.xr_types.specs.declared.input.User.{User}
 use Rattle.xr_types.specs.declared.input.User.TheVariants as user
 use Rattle.xr_types.specs.declared.session.SessionState.TheVariants.{Focused, Stopping}
+use Rattle.xr_types.specs.CallKinds.{publishes, is_published}
+use Rattle.xr_types.specs.declared.calls.Call.{Call}
+use Rattle.xr_types.specs.declared.calls.Call.TheVariants as ask
 use Rattle.xr_model.specs.machine.Handles.{no_handle}
 use Rattle.xr_model.specs.machine.LiveSessions.{Session, session_at, life_in}
 use Rattle.xr_model.specs.machine.Paths.{with_text}
 use Rattle.xr_model.specs.machine.Publication.{publication_of, first_seen, user_atom, atom_of_user}
-use Rattle.xr_types.specs.CallKinds.{publishes, is_published}
 use Rattle.xr_model.specs.machine.Refusals.{Refusal, when}
 use Rattle.xr_model.specs.machine.Calls.{Entry}
-use Rattle.xr_types.specs.declared.calls.Call.{Call}
-use Rattle.xr_types.specs.declared.calls.Call.TheVariants as ask
 use Rattle.xr_model.specs.machine.Rule.{Effect, refusal, unless_refused, told_on}
 use Rattle.xr_model.specs.machine.Rules.Device.{behind_event}
-use Rattle.xr_model.specs.machine.Rules.Session.{life_of, with_change}
+use Rattle.xr_model.specs.machine.Rules.Session.{life_of, with_change, loop_of, with_loop}
 use Rattle.xr_model.specs.machine.Rules.Sync.{synced_code}
 use Rattle.xr_model.specs.machine.SessionLife.{Life, Changed, begun_session, unchanged, ended_session, exiting_session, synced_session, is_state, is_lost}
 use Rattle.xr_model.specs.machine.SessionRule.{Loss, code_on, loss_of}
 use Rattle.xr_model.specs.machine.Sets.{is_declared}
 use Rattle.xr_model.specs.machine.State.{CoreState, CellReads}
 use Rattle.xr_model.specs.machine.Machine.{effect, rule}
+use Rattle.xr_model.specs.machine.Rules.Frames.{next_time}
+use Rattle.xr_model.specs.machine.Frames.{FrameLoop, reset_loop, waited_loop, begun_loop, ended_loop}
 use Rattle.xr_model.proofs.HandleSteps.{first_fails}
 use Rattle.xr_model.proofs.ListSteps.{none_behind}
-use Rattle.xr_model.proofs.SeenSessions.{exiting_loss, ended_loss, synced_loss, change_seen, rounds_seen}
+use Rattle.xr_model.proofs.SeenSessions.{exiting_loss, ended_loss, synced_loss, change_seen, rounds_seen, loop_seen}
 use Rattle.xr_model.proofs.UserAtoms.{known_user, KnowsDeclared}
+use Rattle.xr_model.proofs.SessionSteps.{loop_last}
 
 -- ---- codes
 
@@ -81,6 +84,13 @@ module _ (s : CoreState) where
   changed : (session : ℕ) (f : Life → Changed) → ((x : Session) → session_at s.sessions session ≡ Some x → loss_of (f x.life).life ≡ loss_of x.life)
       → publication_of (record s { sessions = (with_change s (session_at s.sessions session) f).sessions }) ≡ publication_of s
   changed session f same = sessions_alike (with_change s (session_at s.sessions session) f).sessions (rounds_seen s.device.wish _ ∙ change_seen s.sessions session f same)
+
+  -- and its loop of frames
+  with_period : (session : ℕ) (f : Life → Changed) (l : FrameLoop) → ((x : Session) → session_at s.sessions session ≡ Some x → loss_of (f x.life).life ≡ loss_of x.life)
+      → publication_of (record s { sessions = (with_change (with_loop s session l) (session_at s.sessions session) f).sessions }) ≡ publication_of s
+  with_period session f l same =
+      sessions_alike (with_change (with_loop s session l) (session_at s.sessions session) f).sessions
+      (rounds_seen s.device.wish _ ∙ ap (λ xs. first_seen xs) (loop_last session f l s.sessions) ∙ loop_seen _ session l ∙ change_seen s.sessions session f same)
 
   events : (what : DeviceEvent) → publishes (ask.Device what) Success ≡ false → Alike (behind_event s what)
   events (event.Wish wish) quiet = sessions_alike _ (rounds_seen wish (record { sessions = s.sessions; events = s.events }))
@@ -139,16 +149,22 @@ contents_stay s reads e known quiet = by e.call quiet
         kept s (refusal e.short f) (told_on f.on f.effect) (λ none. atoms_alike s text known)
     by (ask.BeginSession session view) quiet =
         let f = rule s reads (record e { call = ask.BeginSession session view }) in
-        kept s (refusal e.short f) (told_on f.on f.effect) (λ none. changed s session (λ life. unchanged (begun_session life)) (λ x there. refl))
+        kept s (refusal e.short f) (told_on f.on f.effect) (λ none. with_period s session (λ life. unchanged (begun_session life)) (reset_loop (loop_of s session)) (λ x there. refl))
     by (ask.EndSession session) quiet =
         let f = rule s reads (record e { call = ask.EndSession session }) in
-        kept s (refusal e.short f) (told_on f.on f.effect) (λ none. changed s session (ended_session s.device.wish) (λ x there. ended_loss s.device.wish x.life (stops s reads e session none x there)))
+        kept s (refusal e.short f) (told_on f.on f.effect) (λ none. with_period s session (ended_session s.device.wish) (reset_loop (loop_of s session)) (λ x there. ended_loss s.device.wish x.life (stops s reads e session none x there)))
     by (ask.RequestExitSession session) quiet =
         let f = rule s reads (record e { call = ask.RequestExitSession session }) in
         kept s (refusal e.short f) (told_on f.on f.effect) (λ none. changed s session (exiting_session s.device.wish) (λ x there. exiting_loss s.device.wish x.life))
     by (ask.EndFrame session time blend layers) quiet =
         let f = rule s reads (record e { call = ask.EndFrame session time blend layers }) in
-        kept s (refusal e.short f) (told_on f.on f.effect) (λ none. changed s session (synced_session wish.Ready) (λ x there. synced_loss wish.Ready x.life))
+        kept s (refusal e.short f) (told_on f.on f.effect) (λ none. with_period s session (synced_session wish.Ready) (ended_loop (loop_of s session)) (λ x there. synced_loss wish.Ready x.life))
+    by (ask.WaitFrame session) quiet =
+        let f = rule s reads (record e { call = ask.WaitFrame session }) in
+        kept s (refusal e.short f) (told_on f.on f.effect) (λ none. sessions_alike s _ (loop_seen s.sessions session (waited_loop (loop_of s session) (next_time s session))))
+    by (ask.BeginFrame session) quiet =
+        let f = rule s reads (record e { call = ask.BeginFrame session }) in
+        kept s (refusal e.short f) (told_on f.on f.effect) (λ none. sessions_alike s _ (loop_seen s.sessions session (begun_loop (loop_of s session))))
     by (ask.Device what) quiet = events s what (device_quiet what (effect s reads (record e { call = ask.Device what })).code quiet)
     by r quiet =
         let f = rule s reads (record e { call = r }) in

@@ -20,7 +20,7 @@ use Rattle.xr_model.proofs.Rows.{same_key, both_of}
 use Rattle.xr_model.proofs.Listed.{listed_none}
 use Rattle.xr_model.proofs.Destroying.{known_step, known_opening}
 use Rattle.xr_model.proofs.LostSessions.{new_session_given, listed_after}
-use Rattle.xr_model.proofs.SessionLives.{life_after, Follows, lived}
+use Rattle.xr_model.proofs.SessionLives.{life_after, Follows, lived, loop_after, time_of}
 use Rattle.xr_model.specs.laws.Soundness.{AreKnown}
 
 -- ---- what a request does to a life
@@ -116,14 +116,14 @@ running_step s e allowed known listed before running session y found =
     some_is a b same = cc
 
     by : (o : Option Session) → session_at s.core.sessions session ≡ o → (n : Option Session) → n ≡ Some y
-        → Follows (life_after e.call session (is_success (step s e).1.reply.code)) (creates_session e session)
+        → Follows (life_after e.call session (is_success (step s e).1.reply.code)) (loop_after (time_of s.core e.call) e.call session (is_success (step s e).1.reply.code)) (creates_session e session)
         (started_session s.core.device.wish).life o n
         → y.life.running ≡ begun_after s e session (before session)
     by o eo None found follows = cc
     by None eo (Some z) found follows = ap (λ (x : Session). x.life.running) (sym (some_is z y found)) ∙ ap (λ (life : Life). life.running) follows.1 ∙ rw follows.0 refl
     by (Some x) eo (Some z) found follows =
         let old = unlisted s e session allowed known listed x eo in
-        ap (λ (x : Session). x.life.running) (sym (some_is z y found)) ∙ ap (λ (life : Life). life.running) follows
+        ap (λ (x : Session). x.life.running) (sym (some_is z y found)) ∙ ap (λ (life : Life). life.running) follows.0
         ∙ rw (old, sym (running session x eo)) (runs_after e.call session (is_success (step s e).1.reply.code) x.life)
 
 running_after : (s : State) (clocks : List ℤ) (es : List Entry) → IsLegalFrom s clocks es

@@ -5,7 +5,7 @@ use Rattle.xr_types.specs.declared.device.Wish.{Wish}
 use Rattle.xr_types.specs.declared.device.Wish.TheVariants as wish
 use Rattle.xr_types.specs.declared.session.SessionState.{SessionState}
 use Rattle.xr_types.specs.declared.session.SessionState.TheVariants.{Idle, Ready, Synchronized, Stopping, LossPending}
-use Rattle.xr_model.specs.machine.LiveSessions.{Session, session_at, with_session_at, with_life, each_changed}
+use Rattle.xr_model.specs.machine.LiveSessions.{Session, session_at, with_session_at, with_life, each_changed, with_frame_loop}
 use Rattle.xr_model.specs.machine.Publication.{seen, first_seen}
 use Rattle.xr_model.specs.machine.Rules.Session.{changed_in}
 use Rattle.xr_model.specs.machine.SessionLife.{Life, Changed, unchanged, changes, most_changes, last_of, is_state, settled_session, ended_session, exiting_session, synced_session}
@@ -13,6 +13,7 @@ use Rattle.xr_model.specs.machine.SessionRule.{loss_of}
 use Rattle.xr_model.specs.machine.Target.{target_of, is_target, own_wish, Standing, other_settled, target_settled, rounds, most_rounds}
 use Rattle.xr_model.proofs.Listed.{found_once}
 use Rattle.xr_model.proofs.Targets.{once_is_enough}
+use Rattle.xr_model.specs.machine.Frames.{FrameLoop}
 
 -- ---- the table of states
 
@@ -104,3 +105,7 @@ rounds_seen w t =
     let target = target_of t.sessions in
     ap (λ (u : Standing). first_seen u.sessions) (once_is_enough w t)
     ∙ each_seen (target_settled w target) (each_changed (other_settled w target) t.sessions) (target_loss w target) ∙ each_seen (other_settled w target) t.sessions (other_loss w target)
+
+-- a loop of frames changes
+pub loop_seen : (xs : List Session) (session : ℕ) (l : FrameLoop) → first_seen (with_session_at session (with_frame_loop l) xs) ≡ first_seen xs
+loop_seen xs session l = seen_at xs session (with_frame_loop l) (λ x there. refl)

@@ -29,7 +29,7 @@ use Rattle.xr_model.specs.machine.Sets.{no_users}
 use Rattle.xr_model.specs.machine.Rules.Bindings.{profile_at, bindings_checks}
 use Rattle.xr_model.specs.machine.Rules.Sets.{sub_checks, with_user, user_at}
 use Rattle.xr_model.specs.machine.Frames.{FrameLoop, begun_code}
-use Rattle.xr_model.specs.machine.Rules.Session.{life_of}
+use Rattle.xr_model.specs.machine.Rules.Session.{life_of, loop_of}
 use Rattle.xr_model.specs.machine.Rules.Spaces.{session_above}
 use Rattle.xr_model.specs.machine.Machine.{rule, reads_of}
 use Rattle.xr_model.specs.machine.History.{after}
@@ -194,7 +194,7 @@ sessionless s reads e = by e.call
     by (ask.SuggestBindings instance profile list) = record { handles = refl; before = refl; behind = none_bindings s (profile_at s.atoms profile) list; code = refl }
     by (ask.AttachSets session handles) = record { handles = refl; before = refl; behind = none_handles s.handles kind.ActionSet handles; code = refl }
     by (ask.SyncActions session active) = record { handles = refl; before = refl; behind = none_items s session active; code = synced_sessionless (is_state (life_of s session).state Focused) }
-    by (ask.BeginFrame session) = record { handles = refl; before = refl; behind = refl; code = begun_sessionless s.frames.frame_loop }
+    by (ask.BeginFrame session) = record { handles = refl; before = refl; behind = refl; code = begun_sessionless (loop_of s session) }
     by (ask.EndFrame session time blend layers) = record { handles = refl; before = refl; behind = none_layers (look_of s) layers; code = refl }
     by _ = record { handles = refl; before = refl; behind = refl; code = refl }
 

@@ -1,13 +1,16 @@
 -- What an entry does to the handles and to the listed sessions: the one case split for laws on both.
-use Rattle.std.proofs.Common.{◌≡◌, ◌==◌, ◌&&◌, ◌||◌, ℕ, Bool, true, false, List, [], ◌∷◌, ◌++◌, Option, Some, None, ap, ◌∙◌, refl}
+use Rattle.std.proofs.Common.{◌≡◌, ◌==◌, ◌&&◌, ◌||◌, ℕ, Bool, true, false, List, [], ◌∷◌, ◌++◌, Option, Some, None, ap, ◌∙◌, refl, sym}
 use Rattle.std.specs.Prelude.{if◌then◌else◌}
 use Rattle.xr_types.specs.Code.{is_success}
 use Rattle.xr_types.specs.declared.device.DeviceEvent.{DeviceEvent}
 use Rattle.xr_types.specs.declared.device.DeviceEvent.TheVariants as event
 use Rattle.xr_types.specs.declared.handles.Kind.TheVariants as kind
-use Rattle.xr_model.specs.machine.Calls.{Entry}
 use Rattle.xr_types.specs.declared.calls.Call.{Call}
 use Rattle.xr_types.specs.declared.calls.Call.TheVariants as ask
+use Rattle.xr_types.specs.declared.device.Wish.{Wish}
+use Rattle.xr_types.specs.declared.device.Wish.TheVariants as wish
+use Rattle.xr_types.specs.declared.session.SessionState.TheVariants.{Ready, Synchronized, Exiting, LossPending}
+use Rattle.xr_model.specs.machine.Calls.{Entry}
 use Rattle.xr_model.specs.machine.Handles.{Handles, is_live, has_room, with_handle, without, without_alone, destroyed_by}
 use Rattle.xr_model.specs.machine.Sets.{sets_named}
 use Rattle.xr_model.specs.machine.Refusals.{Refusal}
@@ -15,17 +18,15 @@ use Rattle.xr_model.specs.machine.State.{CoreState, CellReads}
 use Rattle.xr_model.specs.machine.Rule.{Effect, refusal, told_on, unless_refused}
 use Rattle.xr_model.specs.machine.Rules.Instance.{the_system}
 use Rattle.xr_model.specs.machine.Rules.Device.{behind_event}
-use Rattle.xr_model.specs.machine.Rules.Session.{new_session, with_change}
+use Rattle.xr_model.specs.machine.Rules.Session.{new_session, with_change, changed_in, with_loop}
 use Rattle.xr_model.specs.machine.SessionLife.{Life, Changed, unchanged, started_session, begun_session, ended_session, exiting_session, losing_session, lost_session, synced_session, entered, is_state}
-use Rattle.xr_model.specs.machine.LiveSessions.{Session, session_at, with_session_at, with_life, with_attached, sessions_left, each_changed}
-use Rattle.xr_model.specs.laws.SessionLaws.{is_device_lost, is_session_creation}
+use Rattle.xr_model.specs.machine.LiveSessions.{Session, session_at, with_session_at, with_life, with_attached, sessions_left, each_changed, with_frame_loop}
 use Rattle.xr_model.specs.machine.Machine.{core_step, rule}
 use Rattle.xr_model.specs.machine.Target.{Standing, rounds, most_rounds}
-use Rattle.xr_model.proofs.Listed.{found_once}
+use Rattle.xr_model.specs.machine.Frames.{FrameLoop}
+use Rattle.xr_model.specs.laws.SessionLaws.{is_device_lost, is_session_creation}
+use Rattle.xr_model.proofs.Listed.{found_once, handle_of}
 use Rattle.xr_model.proofs.Targets.{rounds_keep}
-use Rattle.xr_types.specs.declared.device.Wish.{Wish}
-use Rattle.xr_types.specs.declared.device.Wish.TheVariants as wish
-use Rattle.xr_types.specs.declared.session.SessionState.TheVariants.{Ready, Synchronized, Exiting, LossPending}
 
 -- changes of all sessions that leave whether they are lost keep a property
 abbrev pub Closed : (Handles → List Session → Type 0) → Type 0
@@ -75,10 +76,46 @@ synced_keeps w life = by (is_state life.state Ready)
     by true = refl
     by false = refl
 
+-- a session changes twice
+pub twice : (handle : ℕ) (f g : Session → Session) → ((x : Session) → (g x).handle ≡ x.handle) → (xs : List Session)
+    → with_session_at handle f (with_session_at handle g xs) ≡ with_session_at handle (λ x. f (g x)) xs
+twice handle f g named [] = refl
+twice handle f g named (x ∷ xs) = by (x.handle == handle) refl (twice handle f g named xs)
+  where
+    by : (b : Bool) → (x.handle == handle) ≡ b → with_session_at handle f (with_session_at handle g xs) ≡ with_session_at handle (λ y. f (g y)) xs
+        → with_session_at handle f (if b then g x ∷ xs else x ∷ with_session_at handle g xs) ≡ (if b then f (g x) ∷ xs else x ∷ with_session_at handle (λ y. f (g y)) xs)
+    by true eb more = let here : ((g x).handle == handle) ≡ true = ap (λ (n : ℕ). n == handle) (named x) ∙ eb in rw here refl
+    by false eb more = rw (eb, more) refl
+
+-- a loop of frames may as well change behind the life
+pub loop_last : (session : ℕ) (f : Life → Changed) (l : FrameLoop) (xs : List Session)
+    → changed_in (session_at xs session) f (with_session_at session (with_frame_loop l) xs) ≡ with_session_at session (with_frame_loop l) (changed_in (session_at xs session) f xs)
+loop_last session f l xs = by (session_at xs session) refl
+  where
+    by : (o : Option Session) → session_at xs session ≡ o → changed_in o f (with_session_at session (with_frame_loop l) xs) ≡ with_session_at session (with_frame_loop l) (changed_in o f xs)
+    by None eo = refl
+    by (Some x) eo =
+        rw (handle_of xs session x eo)
+        (twice session (with_life (f x.life).life) (with_frame_loop l) (λ y. refl) xs ∙ sym (twice session (with_frame_loop l) (with_life (f x.life).life) (λ y. refl) xs))
+
 module _ (P : Handles → List Session → Type 0) (s : CoreState) (reads : CellReads) (e : Entry) where
   changed : Closed P → (session : ℕ) (f : Life → Changed) (o : Option Session) → session_at s.sessions session ≡ o → Has P s → ((x : Session) → session_at s.sessions session ≡ Some x → P s.handles (with_session_at x.handle (with_life (f x.life).life) s.sessions)) → Has P (with_change s o f)
   changed closed session f None found same lives = settles P closed s.handles s.device.wish _ same
   changed closed session f (Some x) found same lives = settles P closed s.handles s.device.wish _ (lives x found)
+
+  -- its loop of frames changes, and then its life
+  with_period : Closed P → (session : ℕ) (f : Life → Changed) (l : FrameLoop) (o : Option Session) → session_at s.sessions session ≡ o
+      → ((g : Session → Session) → ((x : Session) → (g x).handle ≡ x.handle) → ((x : Session) → session_at s.sessions session ≡ Some x → (g x).life.lost ≡ x.life.lost) → ((x : Session) → (g x).attached ≡ x.attached) → P s.handles (with_session_at session g s.sessions))
+      → ((life : Life) → (f life).life.lost ≡ life.lost) → Has P (with_change (with_loop s session l) o f)
+  with_period closed session f l None found lives keeps = settles P closed s.handles s.device.wish _ (lives (with_frame_loop l) (λ y. refl) (λ y there. refl) (λ y. refl))
+  with_period closed session f l (Some x) found lives keeps =
+      let there : P s.handles (with_session_at x.handle (with_life (f x.life).life) (with_session_at session (with_frame_loop l) s.sessions)) =
+      rw (handle_of s.sessions session x found, twice session (with_life (f x.life).life) (with_frame_loop l) (λ y. refl) s.sessions)
+      (lives (λ y. with_life (f x.life).life (with_frame_loop l y)) (λ y. refl) (λ y there. keeps x.life ∙ ap (λ (z : Session). z.life.lost) (one x y (sym found ∙ there))) (λ y. refl)) in
+      settles P closed s.handles s.device.wish _ there
+    where
+      one : (a b : Session) → Some a ≡ Some b → a ≡ b
+      one a b same = cc
 
   events : (what : DeviceEvent) → Keeps P s reads (record e { call = ask.Device what }) → Has P (behind_event s what)
   events (event.Clock time) k = k.same refl refl
@@ -149,10 +186,16 @@ kept_by_step P s reads e = by e.call
         kept P s (refusal e.short f) (told_on f.on f.effect) (k.same refl refl) (λ none. settles P k.each _ s.device.wish _ (k.without refl refl session))
     by (ask.BeginSession session view) k =
         let f = rule s reads (record e { call = ask.BeginSession session view }) in
-        kept P s (refusal e.short f) (told_on f.on f.effect) (k.same refl refl) (λ none. changed P s reads e k.each session (λ life. unchanged (begun_session life)) (session_at s.sessions session) refl (k.same refl refl) (λ x found. k.lives refl refl x.handle (with_life _) (λ y. refl) (λ y there. ap (λ (z : Session). z.life.lost) (found_once s.sessions session x y found there)) (λ y. refl)))
+        kept P s (refusal e.short f) (told_on f.on f.effect) (k.same refl refl) (λ none. with_period P s reads e k.each session (λ life. unchanged (begun_session life)) _ (session_at s.sessions session) refl (k.lives refl refl session) (λ life. refl))
     by (ask.EndSession session) k =
         let f = rule s reads (record e { call = ask.EndSession session }) in
-        kept P s (refusal e.short f) (told_on f.on f.effect) (k.same refl refl) (λ none. changed P s reads e k.each session (ended_session s.device.wish) (session_at s.sessions session) refl (k.same refl refl) (λ x found. k.lives refl refl x.handle (with_life _) (λ y. refl) (λ y there. ap (λ (z : Session). z.life.lost) (found_once s.sessions session x y found there)) (λ y. refl)))
+        kept P s (refusal e.short f) (told_on f.on f.effect) (k.same refl refl) (λ none. with_period P s reads e k.each session (ended_session s.device.wish) _ (session_at s.sessions session) refl (k.lives refl refl session) (λ life. refl))
+    by (ask.WaitFrame session) k =
+        let f = rule s reads (record e { call = ask.WaitFrame session }) in
+        kept P s (refusal e.short f) (told_on f.on f.effect) (k.same refl refl) (λ none. k.lives refl refl session (with_frame_loop _) (λ y. refl) (λ y there. refl) (λ y. refl))
+    by (ask.BeginFrame session) k =
+        let f = rule s reads (record e { call = ask.BeginFrame session }) in
+        kept P s (refusal e.short f) (told_on f.on f.effect) (k.same refl refl) (λ none. k.lives refl refl session (with_frame_loop _) (λ y. refl) (λ y there. refl) (λ y. refl))
     by (ask.RequestExitSession session) k =
         let f = rule s reads (record e { call = ask.RequestExitSession session }) in
         kept P s (refusal e.short f) (told_on f.on f.effect) (k.same refl refl) (λ none. changed P s reads e k.each session (exiting_session s.device.wish) (session_at s.sessions session) refl (k.same refl refl) (λ x found. k.lives refl refl x.handle (with_life _) (λ y. refl) (λ y there. ap (λ (z : Session). z.life.lost) (found_once s.sessions session x y found there)) (λ y. refl)))
@@ -161,6 +204,6 @@ kept_by_step P s reads e = by e.call
         kept P s (refusal e.short f) (told_on f.on f.effect) (k.same refl refl) (λ none. k.attach refl refl session handles)
     by (ask.EndFrame session time blend layers) k =
         let f = rule s reads (record e { call = ask.EndFrame session time blend layers }) in
-        kept P s (refusal e.short f) (told_on f.on f.effect) (k.same refl refl) (λ none. changed P s reads e k.each session (synced_session wish.Ready) (session_at s.sessions session) refl (k.same refl refl) (λ x found. k.lives refl refl x.handle (with_life _) (λ y. refl) (λ y there. synced_keeps wish.Ready x.life ∙ ap (λ (z : Session). z.life.lost) (found_once s.sessions session x y found there)) (λ y. refl)))
+        kept P s (refusal e.short f) (told_on f.on f.effect) (k.same refl refl) (λ none. with_period P s reads e k.each session (synced_session wish.Ready) _ (session_at s.sessions session) refl (k.lives refl refl session) (synced_keeps wish.Ready))
     by (ask.Device what) k = events P s reads e what k
     by r k = let f = rule s reads (record e { call = r }) in kept P s (refusal e.short f) (told_on f.on f.effect) (k.same refl refl) (λ none. k.same refl refl)

@@ -9,21 +9,23 @@ use Rattle.xr_types.specs.declared.device.Wish.TheVariants as wish
 use Rattle.xr_types.specs.declared.handles.Kind.TheVariants as kind
 use Rattle.xr_types.specs.declared.session.SessionState.{SessionState}
 use Rattle.xr_types.specs.declared.session.SessionState.TheVariants.{Idle, Ready, Synchronized, Visible, Focused, Stopping, LossPending, Exiting}
-use Rattle.xr_model.specs.machine.Handles.{without, is_live, destroyed_by}
-use Rattle.xr_model.specs.machine.Calls.{Entry}
 use Rattle.xr_types.specs.declared.calls.Call.{Call}
 use Rattle.xr_types.specs.declared.calls.Call.TheVariants as ask
+use Rattle.xr_model.specs.machine.Handles.{without, is_live, destroyed_by}
+use Rattle.xr_model.specs.machine.Calls.{Entry}
 use Rattle.xr_model.specs.machine.Refusals.{Refusal}
 use Rattle.xr_model.specs.machine.SessionLife.{Life, Changed, unchanged, is_state, next_state, started_session, lost_session, losing_session, begun_session, ended_session, exiting_session, synced_session}
-use Rattle.xr_model.specs.machine.LiveSessions.{Session, session_at, with_session_at, with_life, with_attached, without_sets, still_live, sessions_left, each_changed}
+use Rattle.xr_model.specs.machine.LiveSessions.{Session, session_at, with_session_at, with_life, with_attached, without_sets, still_live, sessions_left, each_changed, with_frame_loop}
 use Rattle.xr_model.specs.machine.Sets.{sets_named}
 use Rattle.xr_model.specs.machine.State.{CoreState, State, opening}
 use Rattle.xr_model.specs.machine.Target.{is_candidate, target_of, is_target, without_focus, Standing, rounds, most_rounds}
 use Rattle.xr_model.specs.machine.Rule.{Effect, refusal, told_on, unless_refused}
 use Rattle.xr_model.specs.machine.Rules.Device.{behind_event}
-use Rattle.xr_model.specs.machine.Rules.Session.{new_session, changed_in}
+use Rattle.xr_model.specs.machine.Rules.Session.{new_session, changed_in, loop_of}
 use Rattle.xr_model.specs.machine.Machine.{rule, step, reads_of}
 use Rattle.xr_model.specs.machine.History.{after}
+use Rattle.xr_model.specs.machine.Rules.Frames.{next_time}
+use Rattle.xr_model.specs.machine.Frames.{FrameLoop, reset_loop, waited_loop, begun_loop, ended_loop}
 use Rattle.xr_model.specs.laws.SessionLifeLaws.{SessionsHaveSettled, AreRising, SessionsAreInOrder, is_focused, AtMostOneIsFocused, FocusedIsTheTarget}
 use Rattle.xr_model.proofs.Rows.{same_key}
 use Rattle.xr_model.proofs.Targets.{Each, Settles, AreSettled, are_settled, rounds_keep}
@@ -164,12 +166,22 @@ module _ (s : CoreState) (sound : AreSound s.created s.device.wish s.sessions) w
       let there = at_stays s.device.wish g (λ x. (refl, refl, refl)) (target_of s.sessions) session s.sessions sound.1 in
       (order_at g (λ x. refl) session s.created s.sessions sound.0, rw (target_at s.device.wish g (λ x. (refl, refl, refl)) session s.sessions) there)
 
-  changed_sound : (session : ℕ) (f : Life → Changed) (t : Standing) → t.sessions ≡ changed_in (session_at s.sessions session) f s.sessions → AreSound s.created s.device.wish (rounds most_rounds s.device.wish t).sessions
-  changed_sound session f t is = sound_rounds s.created s.device.wish t (subst (λ xs. InOrder s.created xs) (sym is) (by (session_at s.sessions session)))
+  changed_sound : (session : ℕ) (f : Life → Changed) (xs : List Session) → InOrder s.created xs → (t : Standing) → t.sessions ≡ changed_in (session_at s.sessions session) f xs → AreSound s.created s.device.wish (rounds most_rounds s.device.wish t).sessions
+  changed_sound session f xs order t is = sound_rounds s.created s.device.wish t (subst (λ ys. InOrder s.created ys) (sym is) (by (session_at s.sessions session)))
     where
-      by : (o : Option Session) → InOrder s.created (changed_in o f s.sessions)
-      by None = sound.0
-      by (Some x) = order_at (with_life (f x.life).life) (λ y. refl) x.handle s.created s.sessions sound.0
+      by : (o : Option Session) → InOrder s.created (changed_in o f xs)
+      by None = order
+      by (Some x) = order_at (with_life (f x.life).life) (λ y. refl) x.handle s.created xs order
+
+  -- its loop of frames changes
+  loop_order : (session : ℕ) (l : FrameLoop) → InOrder s.created (with_session_at session (with_frame_loop l) s.sessions)
+  loop_order session l = order_at (with_frame_loop l) (λ y. refl) session s.created s.sessions sound.0
+
+  pub loop_sound : (session : ℕ) (l : FrameLoop) → AreSound s.created s.device.wish (with_session_at session (with_frame_loop l) s.sessions)
+  loop_sound session l =
+      let g = with_frame_loop l in
+      let there = at_stays s.device.wish g (λ x. (refl, refl, refl)) (target_of s.sessions) session s.sessions sound.1 in
+      (loop_order session l, rw (target_at s.device.wish g (λ x. (refl, refl, refl)) session s.sessions) there)
 
   gone_sound : (handle : ℕ) (t : Standing) → t.sessions ≡ sessions_left (without s.handles handle) (destroyed_by s.handles handle) s.sessions → AreSound s.created s.device.wish (rounds most_rounds s.device.wish t).sessions
   gone_sound handle t is =
@@ -198,16 +210,22 @@ sound_step s e sound = by e.call
         (sound_rounds (s.core.created + 1) s.core.device.wish _ (order_more s.core.created (new_session s.core e.given (started_session s.core.device.wish).life) refl s.core.sessions sound.0))
     by (ask.BeginSession session view) =
         let f = rule s.core (reads_of s (ask.BeginSession session view)) (record e { call = ask.BeginSession session view }) in
-        kept s.core (refusal e.short f) (told_on f.on f.effect) sound (changed_sound s.core sound session (λ life. unchanged (begun_session life)) _ refl)
+        kept s.core (refusal e.short f) (told_on f.on f.effect) sound (changed_sound s.core sound session (λ life. unchanged (begun_session life)) _ (loop_order s.core sound session (reset_loop (loop_of s.core session))) _ refl)
     by (ask.EndSession session) =
         let f = rule s.core (reads_of s (ask.EndSession session)) (record e { call = ask.EndSession session }) in
-        kept s.core (refusal e.short f) (told_on f.on f.effect) sound (changed_sound s.core sound session (ended_session s.core.device.wish) _ refl)
+        kept s.core (refusal e.short f) (told_on f.on f.effect) sound (changed_sound s.core sound session (ended_session s.core.device.wish) _ (loop_order s.core sound session (reset_loop (loop_of s.core session))) _ refl)
     by (ask.RequestExitSession session) =
         let f = rule s.core (reads_of s (ask.RequestExitSession session)) (record e { call = ask.RequestExitSession session }) in
-        kept s.core (refusal e.short f) (told_on f.on f.effect) sound (changed_sound s.core sound session (exiting_session s.core.device.wish) _ refl)
+        kept s.core (refusal e.short f) (told_on f.on f.effect) sound (changed_sound s.core sound session (exiting_session s.core.device.wish) s.core.sessions sound.0 _ refl)
     by (ask.EndFrame session time blend layers) =
         let f = rule s.core (reads_of s (ask.EndFrame session time blend layers)) (record e { call = ask.EndFrame session time blend layers }) in
-        kept s.core (refusal e.short f) (told_on f.on f.effect) sound (changed_sound s.core sound session (synced_session wish.Ready) _ refl)
+        kept s.core (refusal e.short f) (told_on f.on f.effect) sound (changed_sound s.core sound session (synced_session wish.Ready) _ (loop_order s.core sound session (ended_loop (loop_of s.core session))) _ refl)
+    by (ask.WaitFrame session) =
+        let f = rule s.core (reads_of s (ask.WaitFrame session)) (record e { call = ask.WaitFrame session }) in
+        kept s.core (refusal e.short f) (told_on f.on f.effect) sound (loop_sound s.core sound session (waited_loop (loop_of s.core session) (next_time s.core session)))
+    by (ask.BeginFrame session) =
+        let f = rule s.core (reads_of s (ask.BeginFrame session)) (record e { call = ask.BeginFrame session }) in
+        kept s.core (refusal e.short f) (told_on f.on f.effect) sound (loop_sound s.core sound session (begun_loop (loop_of s.core session)))
     by (ask.AttachSets session handles) =
         let f = rule s.core (reads_of s (ask.AttachSets session handles)) (record e { call = ask.AttachSets session handles }) in
         kept s.core (refusal e.short f) (told_on f.on f.effect) sound (attached_sound s.core sound session (sets_named s.core.inputs handles))

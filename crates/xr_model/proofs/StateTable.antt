@@ -13,13 +13,14 @@ use Rattle.xr_types.specs.declared.session.SessionState.TheVariants.{Idle, Ready
 use Rattle.xr_types.specs.declared.handles.Kind.TheVariants as kind
 use Rattle.xr_model.specs.machine.Calls.{Entry}
 use Rattle.xr_model.specs.machine.Destroyed.{without_handle}
+use Rattle.xr_model.specs.machine.Frames.{FrameLoop, reset_loop, waited_loop, begun_loop, ended_loop}
 use Rattle.xr_model.specs.machine.Handles.{is_live, without, destroyed_by}
-use Rattle.xr_model.specs.machine.LiveSessions.{Session, session_at, with_session_at, with_life, with_attached, without_sets, still_live, sessions_left, each_changed}
+use Rattle.xr_model.specs.machine.LiveSessions.{Session, session_at, with_session_at, with_frame_loop, with_life, with_attached, without_sets, still_live, sessions_left, each_changed}
 use Rattle.xr_model.specs.machine.Refusals.{Refusal}
 use Rattle.xr_model.specs.machine.Rule.{Effect, refusal, refusals, told_on, unless_refused}
 use Rattle.xr_model.specs.machine.Rules.Device.{behind_event}
-use Rattle.xr_model.specs.machine.Rules.Frames.{look_of}
-use Rattle.xr_model.specs.machine.Rules.Session.{new_session, changed_in, life_of}
+use Rattle.xr_model.specs.machine.Rules.Frames.{look_of, next_time}
+use Rattle.xr_model.specs.machine.Rules.Session.{new_session, changed_in, life_of, loop_of}
 use Rattle.xr_model.specs.machine.SessionLife.{Life, Changed, unchanged, next_state, changes, most_changes, last_of, begun_session, ended_session, exiting_session, losing_session, lost_session, started_session, synced_session}
 use Rattle.xr_model.specs.machine.SessionRule.{loss_of}
 use Rattle.xr_model.specs.machine.Sets.{sets_named}
@@ -33,7 +34,8 @@ use Rattle.xr_model.proofs.LayerCodes.{layers_fail}
 use Rattle.xr_model.proofs.Listed.{handle_of}
 use Rattle.xr_model.proofs.SessionAnswers.{none_in, first_none}
 use Rattle.xr_model.proofs.SessionLives.{found_at, found_each, found_without, where_left, found_left, found_more}
-use Rattle.xr_model.proofs.Settled.{IsSound, lost_sound, attached_sound, sound_after, each_found}
+use Rattle.xr_model.proofs.SessionSteps.{loop_last}
+use Rattle.xr_model.proofs.Settled.{IsSound, lost_sound, attached_sound, loop_sound, sound_after, each_found}
 use Rattle.xr_model.proofs.Successes.{success_succeeds}
 use Rattle.xr_model.proofs.Targets.{Settles, AreSettled, in_round, one_in_round, own_stays, once_is_enough}
 
@@ -403,19 +405,28 @@ module _ (s : State) (e : Entry) (handle : ℕ) (sound : IsSound s) where
   gone : (top : ℕ) → RestsIn before (without_handle s.core top)
   gone top = rounds_rest s.core.device.wish _ before handle (left top)
 
+  -- one changes but for its life
+  beside : (session : ℕ) (g : Session → Session) → ((x : Session) → (g x).handle ≡ x.handle) → ((x : Session) → (g x).life ≡ x.life)
+      → AreSettled s.core.device.wish (target_of (with_session_at session g s.core.sessions)) (with_session_at session g s.core.sessions)
+      → RestsAmong s.core.device.wish before (with_session_at session g s.core.sessions)
+  beside session g named lives there =
+      let new = with_session_at session g s.core.sessions in
+      subst (λ (to : SessionState). RestsAmong s.core.device.wish to new)
+      (ap state_before (found_at session handle g named s.core.sessions) ∙ same (session == handle) (session_at s.core.sessions handle))
+      (settled_rest s.core.device.wish new there handle)
+    where
+      same : (b : Bool) (o : Option Session) → state_before (option_map (λ x. if b then g x else x) o) ≡ state_before o
+      same b None = refl
+      same true (Some x) = ap (λ (life : Life). life.state) (lives x)
+      same false (Some x) = refl
+
   -- one attaches its sets
   attached : (session : ℕ) (sets : List ℕ) → RestsAmong s.core.device.wish before (with_session_at session (with_attached sets) s.core.sessions)
-  attached session sets =
-      let new = with_session_at session (with_attached sets) s.core.sessions in
-      let there = attached_sound s.core sound session sets in
-      subst (λ (to : SessionState). RestsAmong s.core.device.wish to new)
-      (ap state_before (found_at session handle (with_attached sets) (λ x. refl) s.core.sessions) ∙ same (session == handle) (session_at s.core.sessions handle))
-      (settled_rest s.core.device.wish new there.1 handle)
-    where
-      same : (b : Bool) (o : Option Session) → state_before (option_map (λ x. if b then with_attached sets x else x) o) ≡ state_before o
-      same b None = refl
-      same true (Some x) = refl
-      same false (Some x) = refl
+  attached session sets = beside session (with_attached sets) (λ x. refl) (λ x. refl) (attached_sound s.core sound session sets).1
+
+  -- its loop of frames changes
+  looped : (session : ℕ) (l : FrameLoop) → RestsAmong s.core.device.wish before (with_session_at session (with_frame_loop l) s.core.sessions)
+  looped session l = beside session (with_frame_loop l) (λ x. refl) (λ x. refl) (loop_sound s.core sound session l).1
 
   -- the device is lost
   lost : RestsAmong s.core.device.wish before (each_changed (λ x. unchanged (lost_session x.life)) s.core.sessions)
@@ -430,21 +441,24 @@ module _ (s : State) (e : Entry) (handle : ℕ) (sound : IsSound s) where
       same None = refl
       same (Some x) = refl
 
-  -- one changes, and all settle
-  changed : (f : Life → Changed) (to : SessionState → SessionState) → ((life : Life) (it : Bool) → LeadsTo (part s.core.device.wish it) (f life).life (to life.state))
-      → (session : ℕ) (t : Standing) → t.sessions ≡ changed_in (session_at s.core.sessions session) f s.core.sessions
-      → RestsAmong s.core.device.wish (if session == handle then to before else before) (rounds most_rounds s.core.device.wish t).sessions
-  changed f to leads session t is =
-      rounds_rest s.core.device.wish t (if session == handle then to before else before) handle
-      (rw is (changed_comes s.core.device.wish f to leads s.core.sessions session handle))
+  -- one changes, and its loop of frames
+  period : (f : Life → Changed) (to : SessionState → SessionState) → ((life : Life) (it : Bool) → LeadsTo (part s.core.device.wish it) (f life).life (to life.state))
+      → (session : ℕ) (l : FrameLoop)
+      → Comes s.core.device.wish (if session == handle then to before else before) (session_at (changed_in (session_at s.core.sessions session) f (with_session_at session (with_frame_loop l) s.core.sessions)) handle)
+  period f to leads session l =
+      let xs = changed_in (session_at s.core.sessions session) f s.core.sessions in
+      rw (loop_last session f l s.core.sessions, found_at session handle (with_frame_loop l) (λ x. refl) xs)
+      (still_comes (if session == handle then to before else before) (session == handle) (session_at xs handle) (changed_comes s.core.device.wish f to leads s.core.sessions session handle))
+    where
+      still_comes : (state : SessionState) (b : Bool) (o : Option Session) → Comes s.core.device.wish state o → Comes s.core.device.wish state (option_map (λ x. if b then with_frame_loop l x else x) o)
+      still_comes state b None comes = tt
+      still_comes state true (Some x) comes = comes
+      still_comes state false (Some x) comes = comes
 
-  -- one changes, and still comes where its state leads
-  kept_on : (f : Life → Changed) → ((life : Life) (it : Bool) → LeadsTo (part s.core.device.wish it) (f life).life life.state)
-      → (session : ℕ) (t : Standing) → t.sessions ≡ changed_in (session_at s.core.sessions session) f s.core.sessions
+  -- all settle, and what changed still comes where its state leads
+  kept_on : (session : ℕ) (t : Standing) → Comes s.core.device.wish (if session == handle then before else before) (session_at t.sessions handle)
       → RestsAmong s.core.device.wish before (rounds most_rounds s.core.device.wish t).sessions
-  kept_on f leads session t is =
-      subst (λ (to : SessionState). RestsAmong s.core.device.wish to (rounds most_rounds s.core.device.wish t).sessions)
-      (same (session == handle)) (changed f (λ state. state) leads session t is)
+  kept_on session t comes = rounds_rest s.core.device.wish t before handle (subst (λ (to : SessionState). Comes s.core.device.wish to (session_at t.sessions handle)) (same (session == handle)) comes)
     where
       same : (b : Bool) → (if b then before else before) ≡ before
       same true = refl
@@ -476,23 +490,32 @@ module _ (s : State) (e : Entry) (handle : ℕ) (sound : IsSound s) where
       by (ask.BeginSession session view) =
           let f = rule s.core (reads_of s (ask.BeginSession session view)) (record e { call = ask.BeginSession session view }) in
           kept (RestsIn before) s.core (refusal e.short f) (told_on f.on f.effect) still
-          (kept_on (λ life. unchanged (begun_session life)) (λ life it. refl) session _ refl)
+          (kept_on session _ (period (λ life. unchanged (begun_session life)) (λ state. state) (λ life it. refl) session (reset_loop (loop_of s.core session))))
       by (ask.EndSession session) =
           let f = rule s.core (reads_of s (ask.EndSession session)) (record e { call = ask.EndSession session }) in
           carried (λ t good. RestsIn (brought_to (ask.EndSession session) handle good before) t) s.core (refusal e.short f) (told_on f.on f.effect)
           (first_none is_success (refusals f) refl)
           (success_succeeds (loss_of (life_of s.core session))) still
-          (changed (ended_session s.core.device.wish) (λ state. Idle) (λ life it. idle_again s.core.device.wish life.exit it) session _ refl)
+          (rounds_rest s.core.device.wish _ (if session == handle then Idle else before) handle
+          (period (ended_session s.core.device.wish) (λ state. Idle) (λ life it. idle_again s.core.device.wish life.exit it) session (reset_loop (loop_of s.core session))))
       by (ask.RequestExitSession session) =
           let f = rule s.core (reads_of s (ask.RequestExitSession session)) (record e { call = ask.RequestExitSession session }) in
           kept (RestsIn before) s.core (refusal e.short f) (told_on f.on f.effect) still
-          (kept_on (exiting_session s.core.device.wish) (λ life it. asked_again s.core.device.wish (part s.core.device.wish it) life.state) session _ refl)
+          (kept_on session _
+          (changed_comes s.core.device.wish (exiting_session s.core.device.wish) (λ state. state) (λ life it. asked_again s.core.device.wish (part s.core.device.wish it) life.state) s.core.sessions session handle))
       by (ask.EndFrame session time blend layers) =
           let f = rule s.core (reads_of s (ask.EndFrame session time blend layers)) (record e { call = ask.EndFrame session time blend layers }) in
           carried (λ t good. RestsIn (brought_to (ask.EndFrame session time blend layers) handle good before) t) s.core (refusal e.short f) (told_on f.on f.effect)
           (first_none is_success (refusals f) (layers_fail (look_of s.core) layers))
           (success_succeeds (loss_of (life_of s.core session))) still
-          (changed (synced_session wish.Ready) first_frame (λ life it. synced_again (part s.core.device.wish it) life) session _ refl)
+          (rounds_rest s.core.device.wish _ (if session == handle then first_frame before else before) handle
+          (period (synced_session wish.Ready) first_frame (λ life it. synced_again (part s.core.device.wish it) life) session (ended_loop (loop_of s.core session))))
+      by (ask.WaitFrame session) =
+          let f = rule s.core (reads_of s (ask.WaitFrame session)) (record e { call = ask.WaitFrame session }) in
+          kept (RestsIn before) s.core (refusal e.short f) (told_on f.on f.effect) still (looped session (waited_loop (loop_of s.core session) (next_time s.core session)))
+      by (ask.BeginFrame session) =
+          let f = rule s.core (reads_of s (ask.BeginFrame session)) (record e { call = ask.BeginFrame session }) in
+          kept (RestsIn before) s.core (refusal e.short f) (told_on f.on f.effect) still (looped session (begun_loop (loop_of s.core session)))
       by (ask.AttachSets session sets) =
           let f = rule s.core (reads_of s (ask.AttachSets session sets)) (record e { call = ask.AttachSets session sets }) in
           kept (RestsIn before) s.core (refusal e.short f) (told_on f.on f.effect) still (attached session (sets_named s.core.inputs sets))

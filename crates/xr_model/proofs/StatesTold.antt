@@ -5,13 +5,13 @@ use Rattle.xr_types.specs.declared.device.DeviceEvent.{DeviceEvent}
 use Rattle.xr_types.specs.declared.device.DeviceEvent.TheVariants as event
 use Rattle.xr_types.specs.declared.handles.Kind.TheVariants as kind
 use Rattle.xr_types.specs.declared.session.SessionState.TheVariants.{Ready, Synchronized, Exiting, LossPending, Idle}
-use Rattle.xr_model.specs.machine.Calls.{Entry}
 use Rattle.xr_types.specs.declared.calls.Call.{Call}
 use Rattle.xr_types.specs.declared.calls.Call.TheVariants as ask
 use Rattle.xr_types.specs.declared.session.Event.{Event}
 use Rattle.xr_types.specs.declared.device.Wish.{Wish}
 use Rattle.xr_types.specs.declared.device.Wish.TheVariants as wish
 use Rattle.xr_types.specs.declared.session.SessionState.{SessionState}
+use Rattle.xr_model.specs.machine.Calls.{Entry}
 use Rattle.xr_model.specs.machine.Events.{Queue}
 use Rattle.xr_model.specs.machine.Handles.{is_live, without, destroyed_by, was_given}
 use Rattle.xr_model.specs.machine.Sets.{sets_named}
@@ -19,15 +19,18 @@ use Rattle.xr_model.specs.machine.Refusals.{Refusal}
 use Rattle.xr_model.specs.machine.SessionLife.{Life, Changed, unchanged, started_session, begun_session, settled_session, ended_session, exiting_session, losing_session, lost_session, synced_session, entered, last_of, is_state}
 use Rattle.xr_model.specs.machine.Target.{target_of, is_target, own_wish, Standing, other_settled, target_settled, rounds, most_rounds}
 use Rattle.xr_model.specs.machine.Destroyed.{without_handle}
-use Rattle.xr_model.specs.machine.LiveSessions.{Session, session_at, with_life, with_session_at, with_attached, without_sets, still_live, sessions_left, told_states, each_changed, told_changes}
+use Rattle.xr_model.specs.machine.LiveSessions.{Session, session_at, with_life, with_session_at, with_attached, without_sets, still_live, sessions_left, told_states, each_changed, told_changes, with_frame_loop}
 use Rattle.xr_model.specs.machine.State.{CoreState, Settings, State, opening}
 use Rattle.xr_model.specs.machine.Rule.{Effect, refusal, told_on, unless_refused}
 use Rattle.xr_model.specs.machine.Rules.Device.{behind_event}
-use Rattle.xr_model.specs.machine.Rules.Session.{new_session, changed_in, told_of}
+use Rattle.xr_model.specs.machine.Rules.Session.{new_session, changed_in, told_of, loop_of}
 use Rattle.xr_model.specs.machine.Machine.{rule, reads_of, step, IsAllowed}
 use Rattle.xr_model.specs.machine.History.{after, opening_clocks, clocks_after, IsLegalFrom, IsLegal}
+use Rattle.xr_model.specs.machine.Rules.Frames.{next_time}
+use Rattle.xr_model.specs.machine.Frames.{FrameLoop, reset_loop, waited_loop, begun_loop, ended_loop}
 use Rattle.xr_model.specs.laws.SessionLaws.{AreListed}
 use Rattle.xr_model.specs.laws.EventLaws.{pushed_all, is_of_session, state_at, last_told, AreTold, polls, ends, StatesAreTold}
+use Rattle.xr_model.specs.laws.Soundness.{AreKnown}
 use Rattle.xr_model.proofs.Rows.{itself, same_key, is_false}
 use Rattle.xr_model.proofs.Destroying.{known_step, known_after, known_opening}
 use Rattle.xr_model.proofs.DestroyedForGood.{legal_behind}
@@ -35,10 +38,9 @@ use Rattle.xr_model.proofs.HandleSteps.{succeeds}
 use Rattle.xr_model.proofs.Histories.{fronts_are_legal}
 use Rattle.xr_model.proofs.Listed.{handle_of, listed_none}
 use Rattle.xr_model.proofs.LostSessions.{new_session_given, listed_after, sessions_are_listed}
-use Rattle.xr_model.proofs.SessionSteps.{kept_by_step}
-use Rattle.xr_model.specs.laws.Soundness.{AreKnown}
+use Rattle.xr_model.proofs.SessionSteps.{kept_by_step, loop_last}
 use Rattle.xr_model.proofs.Targets.{once_is_enough}
-use Rattle.xr_model.proofs.ToldStates.{pushed_more, all_more, last_more, all_still_own, states_of, one_told, last_here, last_else, last_new, own_states, AreApart, listed_state, state_before, state_new, ordinal_new, apart_more, apart_lives, state_else, state_here, ordinal_here, state_found, state_attached, left_state, apart_left, state_map, apart_map, changes_of, each_told, listed_each, apart_each, own_each, last_each}
+use Rattle.xr_model.proofs.ToldStates.{pushed_more, all_more, last_more, all_still_own, states_of, one_told, last_here, last_else, last_new, own_states, AreApart, listed_state, state_before, state_new, ordinal_new, apart_more, apart_lives, state_else, state_here, ordinal_here, state_found, state_attached, left_state, apart_left, state_map, apart_map, changes_of, each_told, listed_each, apart_each, own_each, last_each, state_loop, all_own_loop}
 
 -- ---- listed sessions have handles of their own
 
@@ -182,6 +184,33 @@ then_changed w q xs apart f truly session =
     still_apart None = apart
     still_apart (Some x) = apart_lives x.handle (with_life (f x.life).life) (λ y. refl) xs apart
 
+-- a loop of frames changes
+then_loop : (q mid : Queue) (xs ys : List Session) (session : ℕ) (l : FrameLoop) → Tells q mid xs ys → Tells q mid xs (with_session_at session (with_frame_loop l) ys)
+then_loop q mid xs ys session l (first, one) = (
+  first,
+  record {
+    queue = one.queue;
+    own = all_own_loop session l ys first one.own;
+    last = λ k there. one.last k (ap (λ (o : Option SessionState). is_some o) (sym (state_loop session l ys k)) ∙ there) ∙ sym (state_loop session l ys k);
+  },
+)
+
+-- a session's loop of frames and its life change, and all settle
+then_period : (w : Wish) (q : Queue) (xs : List Session) → AreApart xs → (f : Life → Changed) → ((life : Life) → (f life).life.state ≡ last_of life.state (f life).through) → (session : ℕ) (l : FrameLoop)
+    → Tells q (rounds most_rounds w (record { sessions = changed_in (session_at xs session) f (with_session_at session (with_frame_loop l) xs); events = told_of (session_at xs session) f q })).events xs
+    (rounds most_rounds w (record { sessions = changed_in (session_at xs session) f (with_session_at session (with_frame_loop l) xs); events = told_of (session_at xs session) f q })).sessions
+then_period w q xs apart f truly session l =
+    then_all w q (told_of (session_at xs session) f q) xs (changed_in (session_at xs session) f (with_session_at session (with_frame_loop l) xs)) (still_apart (session_at xs session))
+    (subst (λ ys. Tells q (told_of (session_at xs session) f q) xs ys) (sym (loop_last session f l xs))
+    (then_loop q (told_of (session_at xs session) f q) xs (changed_in (session_at xs session) f xs) session l (changed q xs f truly session (session_at xs session) refl)))
+  where
+    looped : AreApart (with_session_at session (with_frame_loop l) xs)
+    looped = apart_lives session (with_frame_loop l) (λ y. refl) xs apart
+
+    still_apart : (o : Option Session) → AreApart (changed_in o f (with_session_at session (with_frame_loop l) xs))
+    still_apart None = looped
+    still_apart (Some x) = apart_lives x.handle (with_life (f x.life).life) (λ y. refl) (with_session_at session (with_frame_loop l) xs) looped
+
 -- a session comes
 created : (s : CoreState) (given : ℕ) → is_some (state_at s.sessions given) ≡ false
     → Tells s.events (told_states s.events (s.created + 1) given (started_session s.device.wish).through) s.sessions (s.sessions ++ new_session s given (started_session s.device.wish).life ∷ [])
@@ -258,11 +287,11 @@ told_step s e allowed known listed apart = by e.call allowed
     by (ask.BeginSession session view) allowed no_poll no_end =
         let f = rule s.core (reads_of s (ask.BeginSession session view)) (record e { call = ask.BeginSession session view }) in
         unless (λ q ys. Tells s.core.events q s.core.sessions ys) s.core (refusal e.short f) (told_on f.on f.effect) (as_before s apart)
-        (λ none. then_changed s.core.device.wish s.core.events s.core.sessions apart (λ life. unchanged (begun_session life)) (λ life. refl) session)
+        (λ none. then_period s.core.device.wish s.core.events s.core.sessions apart (λ life. unchanged (begun_session life)) (λ life. refl) session (reset_loop (loop_of s.core session)))
     by (ask.EndSession session) allowed no_poll no_end =
         let f = rule s.core (reads_of s (ask.EndSession session)) (record e { call = ask.EndSession session }) in
         unless (λ q ys. Tells s.core.events q s.core.sessions ys) s.core (refusal e.short f) (told_on f.on f.effect) (as_before s apart)
-        (λ none. then_changed s.core.device.wish s.core.events s.core.sessions apart (ended_session s.core.device.wish) (λ life. refl) session)
+        (λ none. then_period s.core.device.wish s.core.events s.core.sessions apart (ended_session s.core.device.wish) (λ life. refl) session (reset_loop (loop_of s.core session)))
     by (ask.RequestExitSession session) allowed no_poll no_end =
         let f = rule s.core (reads_of s (ask.RequestExitSession session)) (record e { call = ask.RequestExitSession session }) in
         unless (λ q ys. Tells s.core.events q s.core.sessions ys) s.core (refusal e.short f) (told_on f.on f.effect) (as_before s apart)
@@ -270,7 +299,15 @@ told_step s e allowed known listed apart = by e.call allowed
     by (ask.EndFrame session time blend layers) allowed no_poll no_end =
         let f = rule s.core (reads_of s (ask.EndFrame session time blend layers)) (record e { call = ask.EndFrame session time blend layers }) in
         unless (λ q ys. Tells s.core.events q s.core.sessions ys) s.core (refusal e.short f) (told_on f.on f.effect) (as_before s apart)
-        (λ none. then_changed s.core.device.wish s.core.events s.core.sessions apart (synced_session wish.Ready) (synced_truly wish.Ready) session)
+        (λ none. then_period s.core.device.wish s.core.events s.core.sessions apart (synced_session wish.Ready) (synced_truly wish.Ready) session (ended_loop (loop_of s.core session)))
+    by (ask.WaitFrame session) allowed no_poll no_end =
+        let f = rule s.core (reads_of s (ask.WaitFrame session)) (record e { call = ask.WaitFrame session }) in
+        unless (λ q ys. Tells s.core.events q s.core.sessions ys) s.core (refusal e.short f) (told_on f.on f.effect) (as_before s apart)
+        (λ none. then_loop s.core.events s.core.events s.core.sessions s.core.sessions session (waited_loop (loop_of s.core session) (next_time s.core session)) (as_before s apart))
+    by (ask.BeginFrame session) allowed no_poll no_end =
+        let f = rule s.core (reads_of s (ask.BeginFrame session)) (record e { call = ask.BeginFrame session }) in
+        unless (λ q ys. Tells s.core.events q s.core.sessions ys) s.core (refusal e.short f) (told_on f.on f.effect) (as_before s apart)
+        (λ none. then_loop s.core.events s.core.events s.core.sessions s.core.sessions session (begun_loop (loop_of s.core session)) (as_before s apart))
     by (ask.AttachSets session handles) allowed no_poll no_end =
         let f = rule s.core (reads_of s (ask.AttachSets session handles)) (record e { call = ask.AttachSets session handles }) in
         unless (λ q ys. Tells s.core.events q s.core.sessions ys) s.core (refusal e.short f) (told_on f.on f.effect) (as_before s apart)

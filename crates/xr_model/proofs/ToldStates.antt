@@ -7,9 +7,10 @@ use Rattle.xr_types.specs.declared.session.Event.TheVariants.{Lost, State}
 use Rattle.xr_types.specs.declared.session.SessionState.{SessionState}
 use Rattle.xr_model.specs.machine.Events.{Queue, pushed}
 use Rattle.xr_model.specs.machine.SessionLife.{Life, Changed, last_of}
-use Rattle.xr_model.specs.machine.LiveSessions.{Session, session_at, with_life, with_attached, with_session_at, with_life_at, told_states, each_changed, told_changes}
+use Rattle.xr_model.specs.machine.LiveSessions.{Session, session_at, with_life, with_attached, with_session_at, with_life_at, told_states, each_changed, told_changes, with_frame_loop}
 use Rattle.xr_model.specs.laws.EventLaws.{pushed_all, state_at, has_ordinal, is_of_session, last_told}
 use Rattle.xr_model.proofs.Rows.{itself, same_key, both_of}
+use Rattle.xr_model.specs.machine.Frames.{FrameLoop}
 
 -- ---- events
 
@@ -194,6 +195,40 @@ state_attached handle sets (x ∷ xs) k = by (x.handle == handle) (state_attache
     by : (b : Bool) → state_at (with_session_at handle (with_attached sets) xs) k ≡ state_at xs k → state_at (if b then with_attached sets x ∷ xs else x ∷ with_session_at handle (with_attached sets) xs) k ≡ (if x.handle == k then Some x.life.state else state_at xs k)
     by true more = refl
     by false more = later (x.handle == k) more
+
+-- a loop of frames changes no state and no ordinal
+pub state_loop : (handle : ℕ) (l : FrameLoop) (xs : List Session) (k : ℕ) → state_at (with_session_at handle (with_frame_loop l) xs) k ≡ state_at xs k
+state_loop handle l [] k = refl
+state_loop handle l (x ∷ xs) k = by (x.handle == handle) (state_loop handle l xs k)
+  where
+    later : (c : Bool) → state_at (with_session_at handle (with_frame_loop l) xs) k ≡ state_at xs k → (if c then Some x.life.state else state_at (with_session_at handle (with_frame_loop l) xs) k) ≡ (if c then Some x.life.state else state_at xs k)
+    later true more = refl
+    later false more = more
+
+    by : (b : Bool) → state_at (with_session_at handle (with_frame_loop l) xs) k ≡ state_at xs k → state_at (if b then with_frame_loop l x ∷ xs else x ∷ with_session_at handle (with_frame_loop l) xs) k ≡ (if x.handle == k then Some x.life.state else state_at xs k)
+    by true more = refl
+    by false more = later (x.handle == k) more
+
+ordinal_loop : (handle : ℕ) (l : FrameLoop) (xs : List Session) (k ordinal : ℕ) → has_ordinal (with_session_at handle (with_frame_loop l) xs) k ordinal ≡ has_ordinal xs k ordinal
+ordinal_loop handle l [] k ordinal = refl
+ordinal_loop handle l (x ∷ xs) k ordinal = by (x.handle == handle) (ordinal_loop handle l xs k ordinal)
+  where
+    later : (c : Bool) → has_ordinal (with_session_at handle (with_frame_loop l) xs) k ordinal ≡ has_ordinal xs k ordinal → (if c then x.ordinal == ordinal else has_ordinal (with_session_at handle (with_frame_loop l) xs) k ordinal) ≡ (if c then x.ordinal == ordinal else has_ordinal xs k ordinal)
+    later true more = refl
+    later false more = more
+
+    by : (b : Bool) → has_ordinal (with_session_at handle (with_frame_loop l) xs) k ordinal ≡ has_ordinal xs k ordinal → has_ordinal (if b then with_frame_loop l x ∷ xs else x ∷ with_session_at handle (with_frame_loop l) xs) k ordinal ≡ (if x.handle == k then x.ordinal == ordinal else has_ordinal xs k ordinal)
+    by true more = refl
+    by false more = later (x.handle == k) more
+
+own_loop : (handle : ℕ) (l : FrameLoop) (xs : List Session) (event : Event) → is_of_session (with_session_at handle (with_frame_loop l) xs) event ≡ is_of_session xs event
+own_loop handle l xs (State ordinal session state) = ordinal_loop handle l xs session ordinal
+own_loop handle l xs (Lost n) = refl
+
+pub all_own_loop : (handle : ℕ) (l : FrameLoop) (xs : List Session) (events : List Event) → list_all (is_of_session xs) events ≡ true → list_all (is_of_session (with_session_at handle (with_frame_loop l) xs)) events ≡ true
+all_own_loop handle l xs [] own = refl
+all_own_loop handle l xs (event ∷ events) own =
+    let two = both_of (is_of_session xs event) (list_all (is_of_session xs) events) own in rw (own_loop handle l xs event, two.0) (all_own_loop handle l xs events two.1)
 
 -- some sessions go
 module _ (p : ℕ → Bool) where

@@ -1,8 +1,8 @@
 -- What each entry makes of words and stamps.
-use Rattle.std.proofs.Common.{◌≡◌, ◌+◌, ◌^◌, ◌≤◌, ◌==◌, ◌&&◌, ◌||◌, ◌⊎◌, inl, inr, ⊎_elim, ℕ, zero, suc, Bool, true, false, List, [], ◌∷◌, ◌++◌, length, refl, sym, ap, subst, ◌∙◌, arith, true≢false}
+use Rattle.std.proofs.Common.{◌≡◌, ◌+◌, ◌*◌, ◌^◌, ◌≤◌, ◌==◌, ◌&&◌, ◌||◌, ◌⊎◌, inl, inr, ⊎_elim, ℕ, zero, suc, Bool, true, false, List, [], ◌∷◌, ◌++◌, length, refl, sym, ap, subst, ◌∙◌, arith, true≢false}
 use Rattle.std.specs.Prelude.{nat_le, nat_lt, if◌then◌else◌, replicate, slice_get, unwrap_or}
 use Rattle.std.proofs.lemmas.Bool.Decides.{nat_tests}
-use Rattle.xr_types.specs.declared.handles.TheConstants.{SWAPCHAINS}
+use Rattle.xr_types.specs.declared.handles.TheConstants.{SESSIONS, SWAPCHAINS}
 use Rattle.xr_types.specs.declared.frames.Image.{Image}
 use Rattle.xr_model.specs.machine.Images.{Stamped, slot_of, image_count, times_in, is_image, with_stamps}
 use Rattle.xr_model.specs.machine.Calls.{Entry}
@@ -210,10 +210,10 @@ claims_are_words settings es e i j legal placed claimed =
     let fits = claimed_fits s got.0.chain (sound_history settings es (fronts_are_legal (opening settings) (opening_clocks settings) es (e ∷ []) legal)) got.0.may in
     word_claims settings es e i legal placed j (subst IsPlaced (sym got.0.image) fits.0) claimed only.used only.freed only.returned
 
-no_count : (n : ℕ) → n ≤ 4 → (n == 2 ^ 32) ≡ false
+no_count : (n : ℕ) → n ≤ 2 * SESSIONS + 2 → (n == 2 ^ 32) ≡ false
 no_count n few = grind (arith, nat_tests, few)
 
-used_more : (u r n : ℕ) → u ≡ r + n → n ≤ 4 → nat_lt r u ≡ (nat_le 1 n && nat_le n 4)
+used_more : (u r n : ℕ) → u ≡ r + n → n ≤ 2 * SESSIONS + 2 → nat_lt r u ≡ (nat_le 1 n && nat_le n (2 * SESSIONS + 2))
 used_more u r zero is few = none_more u r zero is refl
 used_more u r (suc n) is few = more ∙ rw (some, below) refl
   where
@@ -223,7 +223,7 @@ used_more u r (suc n) is few = more ∙ rw (some, below) refl
     some : nat_le 1 (suc n) ≡ true
     some = grind (arith, nat_tests)
 
-    below : nat_le (suc n) 4 ≡ true
+    below : nat_le (suc n) (2 * SESSIONS + 2) ≡ true
     below = grind (arith, nat_tests, few)
 
 pub words_tell_owners : WordsTellOwners

@@ -6,6 +6,7 @@ pub mod Handles
 pub mod HandlePlaces
 pub mod Events
 pub mod SessionLife
+pub mod Frames
 pub mod LiveSessions
 pub mod Marks
 pub mod Inputs
@@ -16,7 +17,6 @@ pub mod Profiles
 pub mod Bindings
 pub mod Sync
 pub mod Spaces
-pub mod Frames
 pub mod Chains
 pub mod Images
 pub mod Layers

@@ -22,7 +22,7 @@ pub fn waits_give_the_next_time()
 {}
 
 /// After a legal history a wait for a frame that nothing refuses is held back exactly where more frames were waited for than begun in
-/// the running period, or three are pending or begun.
+/// the running period, or three are pending, of all sessions, or begun, of its own.
 #[tactic(auto, using(crate::proofs::FrameCalls::waits_are_held_back))]
 pub fn waits_are_held_back()
     ensures { WaitsAreHeldBack }

@@ -2,7 +2,7 @@
 //! what may come between a look and an entry.
 ghost use Rattle.xr_model.specs.laws.ImageWordLaws.{WordsTellOwners, WordsFollowCalls, StampsFollowCalls, WordsFallByReturns, ClaimsAreWords, CallsFit, ClaimsStandAlone, WaitsComeToOneOfThree, FreeEntriesLeave, EntriesAreCarried};
 
-/// After every legal history an image is an application's where its word is 2^32, and the compositor's where its word is 1 to 4.
+/// After every legal history an image is an application's where its word is 2^32, and the compositor's where its word is 1 to 2 * SESSIONS + 2.
 pub fn words_tell_owners()
     ensures { WordsTellOwners }
 {}

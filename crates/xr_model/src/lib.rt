@@ -11,7 +11,7 @@ ghost use Rattle.xr_model.specs.laws.SessionLaws.{SessionsAreListed, LostSession
 ghost use Rattle.xr_model.specs.laws.ListLaws.{ListedWhereLive, DestroyingFilters, AtomsStay, AtomsGo, SealedStays, AttachingSeals, NewSessionsAreBare, AttachesOnce, CreatingLeavesPlaces, DestroyingLeavesPlaces, SamplesAreFew};
 ghost use Rattle.xr_model.specs.laws.OrderLaws.{CallOrder, WaitsAndBegins};
 ghost use Rattle.xr_model.specs.laws.ImageLaws.{NoTwoOwners, WaitedImageIsNobodys, OwnersAreInTheState, ImagesStep, CountsAreFew, StampsStay, ChainsArePlaced, PlacesAreOwn, FreePlacesAreUnused, GivingBackLeavesTheCore, HeldImagesAreAside, GivingBackKeepsReady};
-ghost use Rattle.xr_model.specs.laws.FrameLaws.{AtMostThree, FramesAsSubmitted, FramesAreNumbered, TakenAreHalf, TimesArePredicted};
+ghost use Rattle.xr_model.specs.laws.FrameLaws.{PendingAreFew, FramesAsSubmitted, FramesAreNumbered, TakenAreHalf, TimesArePredicted};
 ghost use Rattle.xr_model.specs.laws.RunLaws.{UnfinishedHaveTurns, EachHasItsTurn, OneTurnBetween, TurnsMakeReadyCalls, StuckWhereNobodyIsReady, CallsFollowScripts, CallsAreReady, NamesStandForValues, StuckNamesTheUnfinished, DoneExactlyWhereAllIsDone};
 ghost use Rattle.xr_model.specs.laws.MarkLaws.{AwaitGivesTheLastValue, DeviceAwaitsMarks};
 ghost use Rattle.xr_model.specs.laws.AnswerTableLaws.{RefusalsAreTheTable, AnswersAreTheTable};
@@ -438,10 +438,10 @@ pub fn frames_are_numbered()
     ensures { FramesAreNumbered }
 {}
 
-/// After every legal history, at most three frames are pending.
-#[tactic(auto, using(crate::proofs::FrameLists::at_most_three))]
-pub fn at_most_three()
-    ensures { AtMostThree }
+/// After every legal history, at most two frames for each session that may be live, and one more, are pending.
+#[tactic(auto, using(crate::proofs::FrameLists::pending_are_few))]
+pub fn pending_are_few()
+    ensures { PendingAreFew }
 {}
 
 /// After every history, the frames that were taken are at most half of the calls to begin or to end a frame, whoever made them and
@@ -499,7 +499,7 @@ pub fn images_step()
     ensures { ImagesStep }
 {}
 
-/// After every legal history, an image is used at most four times at once.
+/// After every legal history, an image is used at most by each frame that may be pending, and by the one that the compositor took.
 #[tactic(auto, using(crate::proofs::ImageOwners::counts_are_few))]
 pub fn counts_are_few()
     ensures { CountsAreFew }

@@ -1,4 +1,5 @@
 pub mod Size
 pub mod Few
 pub mod LoadLaws
+pub mod Pushed
 pub mod inside

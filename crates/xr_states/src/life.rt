@@ -1,12 +1,12 @@
 // A session's life, and what changes it.
-ghost use Rattle.std.specs.Prelude.{◌≡◌, []};
+ghost use Rattle.std.specs.Prelude.{◌≡◌, [], is_none};
 ghost use Rattle.xr_model.specs.machine.PartAnswers.{code_by};
 ghost use Rattle.xr_model.specs.machine.SessionLife as model;
-ghost use Rattle.xr_model.specs.machine.SessionLife.{started_session, begin_refusals, begun_session, end_refusals, ended_session, exit_refusals, exiting_session, settled_session, losing_session};
+ghost use Rattle.xr_model.specs.machine.SessionLife.{started_session, begin_refusals, begun_session, end_refusals, ended_session, exit_refusals, exiting_session, settled_session, losing_session, next_state};
 ghost use Rattle.xr_model.specs.machine.Refusals.{first_of, unless};
 
 use crate::Changes;
-use crate::table::{enter, settle};
+use crate::table::{enter, next_state, settle};
 use std::marker::Model;
 use xr_types::{Code, SessionState, ViewConfig, Wish};
 
@@ -124,6 +124,13 @@ impl Life {
         ensures through { out.new ≡ (settled_session wish self.old).through }
     {
         settle(&mut self.state, wish, self.exit, out);
+    }
+
+    /// Whether it has settled by this wish of the device: no row of the table of states fits.
+    pub fn has_settled(&self, wish: Wish) -> bool
+        ensures { result ≡ is_none (next_state wish self.now.exit self.now.state) }
+    {
+        next_state(self.state, wish, self.exit).is_none()
     }
 
     /// A frame of the session was ended. A ready session enters `Synchronized` by its first, and settles; any

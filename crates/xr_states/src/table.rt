@@ -22,7 +22,7 @@ const MOST_CHANGES: u8 = 4;
 
 /// The state to which the first row that fits leads, by the device's wish and whether the application has
 /// asked for the session's end; none where no row fits.
-fn next_state(state: SessionState, wish: Wish, exit: bool) -> Option<SessionState>
+pub(crate) fn next_state(state: SessionState, wish: Wish, exit: bool) -> Option<SessionState>
     ensures { result ≡ next_state wish exit state }
 {
     match state {

@@ -1,5 +1,5 @@
 -- What changes sessions before they settle, and what is left of inputs and spaces where actions are gone.
-use Rattle.std.specs.Prelude.{◌==◌, ◌+◌, ◌++◌, ◌||◌, ℕ, Bool, ◌∷◌, List, [], Option, Some, None, if◌then◌else◌}
+use Rattle.std.specs.Prelude.{is_none, ◌==◌, ◌+◌, ◌++◌, ℕ, Bool, ◌∷◌, List, [], Option, Some, None, if◌then◌else◌}
 use Rattle.std.specs.List.{position_from}
 use Rattle.xr_types.specs.declared.code.Code.{Code}
 use Rattle.xr_types.specs.declared.device.Wish.{Wish}
@@ -7,20 +7,20 @@ use Rattle.xr_types.specs.declared.session.SessionState.{SessionState}
 use Rattle.xr_types.specs.declared.handles.Kind.TheVariants as kind
 use Rattle.xr_model.specs.machine.Bindings.{without_suggestions}
 use Rattle.xr_model.specs.machine.Destroyed.{has_action, columns_left, spaces_left}
-use Rattle.xr_model.specs.machine.Frames.{new_loop, reset_loop}
+use Rattle.xr_model.specs.machine.Frames.{reset_loop}
 use Rattle.xr_model.specs.machine.Handles.{with_handle, without, destroyed_by}
 use Rattle.xr_model.specs.machine.Refusals.{Refusal, first_of, unless}
 use Rattle.xr_types.specs.declared.calls.Call.{Call}
 use Rattle.xr_types.specs.declared.calls.Call.TheVariants as ask
-use Rattle.xr_model.specs.machine.SessionLife.{Life, Changed, unchanged, losing_session, lost_session, is_lost, begin_checks, begun_session, end_checks, ended_session, exit_checks, exiting_session}
+use Rattle.xr_model.specs.machine.SessionLife.{Life, Changed, unchanged, next_state, losing_session, lost_session, is_lost, begin_checks, begun_session, end_checks, ended_session, exit_checks, exiting_session}
 use Rattle.xr_model.specs.machine.PartAnswers.{code_by}
 use Rattle.xr_model.specs.machine.LiveSessions.{Session, session_at, sessions_left, told_states}
 use Rattle.xr_model.specs.machine.Sets.{without_inputs}
 use Rattle.xr_model.specs.machine.Spaces.{left_spaces}
 use Rattle.xr_model.specs.machine.State.{CoreState}
 use Rattle.xr_model.specs.machine.Sync.{no_columns, left_columns}
-use Rattle.xr_model.specs.machine.Target.{other_settled, target_settled}
-use Rattle.xr_model.specs.machine.Rules.Session.{life_of, new_session, changed_in, told_of, with_loop}
+use Rattle.xr_model.specs.machine.Target.{own_wish, other_settled, target_settled}
+use Rattle.xr_model.specs.machine.Rules.Session.{life_of, loop_of, new_session, changed_in, told_of, with_loop}
 use Rattle.xr_core.specs.declared.sessions.Change.{Change}
 use Rattle.xr_core.specs.declared.sessions.Change.TheVariants.{Others, Target, Loss, Lost}
 use Rattle.xr_core.specs.declared.sessions.LifeCall.{LifeCall}
@@ -33,6 +33,10 @@ change_by (Target wish target) = target_settled wish target
 change_by Loss = λ x. losing_session x.life
 change_by Lost = λ x. unchanged (lost_session x.life)
 
+-- a session has settled where no row of the table of states fits it, by its own part of the device's wish
+abbrev pub has_settled : Wish → ℕ → Session → Bool
+has_settled w target x = is_none (next_state (own_wish w target x) x.life.exit x.life.state)
+
 -- ---- one session before all settle
 
 -- a new session stands behind the others, and its first states are told
@@ -40,7 +44,6 @@ abbrev pub session_added : CoreState → ℕ → ℕ → Changed → CoreState
 session_added s instance given c = record s {
   handles = with_handle s.handles kind.Session instance given;
   sessions = s.sessions ++ new_session s given c.life ∷ [];
-  frames = record s.frames { frame_loop = new_loop };
   events = told_states s.events (s.created + 1) given c.through;
   created = s.created + 1;
 }
@@ -85,11 +88,11 @@ unfoldable pub changed_life : CoreState → ℕ → LifeCall → CoreState
 changed_life s session call =
     unless (first_of (refusals_of call (life_of s session))) s (changed_alone s (session_at s.sessions session) (change_of s.device.wish call))
 
--- where the call begins or ends a running period, no frame is waited for or begun
-abbrev pub with_period : CoreState → LifeCall → CoreState
-with_period s (Begin view) = with_loop s (reset_loop s.frames.frame_loop)
-with_period s End = with_loop s (reset_loop s.frames.frame_loop)
-with_period s RequestExit = s
+-- where the call begins or ends a running period, no frame of the session is waited for or begun
+abbrev pub with_period : CoreState → ℕ → LifeCall → CoreState
+with_period s session (Begin view) = with_loop s session (reset_loop (loop_of s session))
+with_period s session End = with_loop s session (reset_loop (loop_of s session))
+with_period s session RequestExit = s
 
 abbrev pub ordinal_in : Option Session → ℕ
 ordinal_in None = 0

@@ -1,5 +1,5 @@
 -- What the method of a getter says.
-use Rattle.std.specs.Prelude.{◌≡◌, ℕ, ◌==◌, ◌&&◌, not, List, [], ◌∷◌, Option, Some, None, Result, option_map, option_and_then, unwrap_or, slice_get, if◌then◌else◌}
+use Rattle.std.specs.Prelude.{◌≡◌, ℕ, ◌==◌, ◌&&◌, not, Option, Some, None, Result, option_map, option_and_then, unwrap_or, slice_get, if◌then◌else◌}
 use Rattle.xr_types.specs.declared.calls.Actor.{Actor}
 use Rattle.xr_types.specs.declared.calls.Gives.{Gives}
 use Rattle.xr_types.specs.declared.calls.Gives.TheVariants.{Nothing}
@@ -9,9 +9,8 @@ use Rattle.xr_types.specs.declared.code.Code.TheVariants.{Success}
 use Rattle.xr_types.specs.declared.handles.Kind.TheVariants as kind
 use Rattle.xr_types.specs.declared.input.ActionType.{ActionType}
 use Rattle.xr_model.specs.machine.HandlePlaces.{place_among}
-use Rattle.xr_model.specs.machine.LiveSessions.{Session}
 use Rattle.xr_model.specs.machine.PartAnswers.{or_refused}
-use Rattle.xr_model.specs.machine.Publication.{publication_of, published_at, getter_gives, shown_by, shown_of}
+use Rattle.xr_model.specs.machine.Publication.{SeenSession, publication_of, published_at, getter_gives, shown_by, shown_of}
 use Rattle.xr_model.specs.machine.Refusals.{first_of}
 use Rattle.xr_model.specs.machine.Rule.{refusals}
 use Rattle.xr_model.specs.machine.SessionRule.{code_on}
@@ -22,10 +21,9 @@ use Rattle.xr_model.specs.machine.State.{CoreState, CellReads}
 use Rattle.xr_core.specs.declared.halt.Halt.{Halt}
 use Rattle.xr_core.specs.inside.Deciding.{Decides}
 
--- the first session, where this is its handle
-abbrev pub named_first : List Session → ℕ → Option Session
-named_first [] session = None
-named_first (x ∷ xs) session = if not (session == 0) && (session == x.handle) then Some x else None
+-- what is seen of the first session, where this is its handle
+abbrev pub named_first : Option SeenSession → ℕ → Option SeenSession
+named_first first session = option_and_then (λ x. if not (session == 0) && (session == x.handle) then Some x else None) first
 
 -- what a column of an action shows to a getter of this type, and nothing where there is none
 abbrev pub shown_at : CoreState → ActionType → ℕ → ℕ → Gives

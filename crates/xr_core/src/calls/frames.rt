@@ -4,6 +4,7 @@ ghost use Rattle.xr_types.specs.declared.device.Wish.TheVariants as wish;
 ghost use Rattle.xr_types.specs.declared.session.SessionState.TheVariants.{Visible, Focused};
 ghost use Rattle.xr_model.specs.machine.CellCalls.{MayCall, Leads, pin_calls};
 ghost use Rattle.xr_model.specs.machine.Frames.{waited_loop, begun_loop, ended_loop, is_frame_held_back};
+ghost use Rattle.xr_model.specs.machine.Handles.{is_live};
 ghost use Rattle.xr_model.specs.machine.Layers.{frame_checks};
 ghost use Rattle.xr_model.specs.machine.LiveSessions.{session_at};
 ghost use Rattle.xr_model.specs.machine.Refusals.{first_of, when};
@@ -11,7 +12,7 @@ ghost use Rattle.xr_types.specs.declared.calls.Call.TheVariants as ask;
 ghost use Rattle.xr_model.specs.machine.Rule.{ahead, refusals};
 ghost use Rattle.xr_model.specs.machine.SessionLife.{is_state, synced_session};
 ghost use Rattle.xr_model.specs.machine.Rules.Frames.{not_running, next_time, wait_frame_rule, look_of, new_frame, end_frame_rule, is_frame_awaited, with_frame_taken};
-ghost use Rattle.xr_model.specs.machine.Rules.Session.{life_of, with_change, with_loop};
+ghost use Rattle.xr_model.specs.machine.Rules.Session.{life_of, loop_of, with_change, with_loop};
 ghost use Rattle.xr_core.specs.inside.Changes.{changed_alone};
 ghost use Rattle.xr_core.specs.inside.Deciding.{Decides, DecidesCells, MayTouch};
 ghost use Rattle.xr_core.specs.inside.Groups.{IsFrameCall};
@@ -19,7 +20,7 @@ ghost use Rattle.xr_model.specs.machine.PartAnswers.{or_refused};
 ghost use Rattle.xr_core.specs.inside.Refusing.{success_on, unless_refused};
 
 use crate::halt::{Halt, done, giving};
-use crate::parts::Parts;
+use crate::parts::{Parts, slot_of};
 use crate::sessions::{place_of, session_at, sync_at};
 use crate::sight::Sight;
 use arrayvec::ArrayVec;
@@ -64,6 +65,7 @@ impl Parts {
     }
 
     /// A frame belongs to a running period.
+    #[tactic(auto, using(crate::proofs::Seated::life_seated))]
     fn running(&self, session: u64) -> Result<(), Code>
         ensures { result ≡ or_refused (first_of (not_running (life_of self.now session) ∷ [])) tt }
     {
@@ -76,6 +78,7 @@ impl Parts {
     }
 
     /// Whether it is worth while to render a frame of a session.
+    #[tactic(auto, using(crate::proofs::Seated::life_seated))]
     fn is_seen(&self, session: u64) -> bool
         ensures { result ≡ is_state (life_of self.now session).state Visible || is_state (life_of self.now session).state Focused }
     {
@@ -93,16 +96,26 @@ impl Parts {
         Ok(success)
     }
 
-    /// Waits for a frame with this advice on rendering, or says by nothing that the call has to wait.
-    fn wait(&mut self, render: bool) -> Option<FrameState>
-        ensures waits { result ≡ None → (is_frame_held_back self.old.frames ≡ true) × (self.new ≡ self.old) }
-        ensures free { IfSome result (λ state. is_frame_held_back self.old.frames ≡ false) }
-        ensures predicts { IfSome result (λ state. state ≡ record { time = next_time self.old; period = self.old.device.period; render = render }) }
-        ensures waited { IfSome result (λ state. self.new ≡ with_loop self.old (waited_loop self.old.frames.frame_loop (next_time self.old))) }
+    /// Waits for a frame of a live session with this advice on rendering, or says by nothing that the call has to wait.
+    fn wait(&mut self, session: u64, render: bool) -> Option<FrameState>
+        requires live { is_live self.old.handles Kind.Session session ≡ true }
+        ensures waits { result ≡ None → (is_frame_held_back self.old.frames (loop_of self.old session) ≡ true) × (self.new ≡ self.old) }
+        ensures free { IfSome result (λ state. is_frame_held_back self.old.frames (loop_of self.old session) ≡ false) }
+        ensures predicts { IfSome result (λ state. state ≡ record { time = next_time self.old session; period = self.old.device.period; render = render }) }
+        ensures waited { IfSome result (λ state. self.new ≡ with_loop self.old session (waited_loop (loop_of self.old session) (next_time self.old session))) }
     {
+        let slot = slot_of(&self.handles, session);
         let device = &self.device;
-        self.frames
-            .wait(device.clock(), device.base(), device.period(), render)
+        self.frames.wait(slot, device.clock(), device.base(), device.period(), render)
+    }
+
+    /// Whether a wait for a frame of a live session is held back.
+    fn is_held_back(&self, session: u64) -> bool
+        requires live { is_live self.now.handles Kind.Session session ≡ true }
+        ensures { result ≡ is_frame_held_back self.now.frames (loop_of self.now session) }
+    {
+        let slot = slot_of(&self.handles, session);
+        self.frames.is_held_back(slot)
     }
 
     /// Whether a wait for a frame has to wait: it is held back, and nothing refuses it.
@@ -110,7 +123,7 @@ impl Parts {
     pub(crate) fn wait_frame_waits(&self, session: u64) -> bool
         ensures { result ≡ ((wait_frame_rule self.now session).waits && is_none (first_of (refusals (wait_frame_rule self.now session)))) }
     {
-        self.frames.is_held_back() && self.may_frame(session).is_ok()
+        self.may_frame(session).is_ok() && self.is_held_back(session)
     }
 
     /// Waits for a frame, or says that the call has to wait.
@@ -119,18 +132,20 @@ impl Parts {
     {
         let success = self.may_frame(session)?;
         let render = self.is_seen(session);
-        match self.wait(render) {
+        match self.wait(session, render) {
             Some(state) => giving(success, Gives::Frame(state)),
             None => Err(Halt::NotReady),
         }
     }
 
-    /// Begins the frame that is waited for. A discarded frame is told as that, and a plain success is answered so.
-    fn begin(&mut self, success: Code) -> Result<Code, Code>
-        ensures code { result ≡ (if self.old.frames.frame_loop.has_waited then Ok (if self.old.frames.frame_loop.has_begun then Code.FrameDiscarded else success) else Err Code.CallOrderInvalid) }
-        ensures state { self.new ≡ (if self.old.frames.frame_loop.has_waited then with_loop self.old (begun_loop self.old.frames.frame_loop) else self.old) }
+    /// Begins the frame that a live session waits for. A discarded frame is told as that, and a plain success is answered so.
+    fn begin(&mut self, session: u64, success: Code) -> Result<Code, Code>
+        requires live { is_live self.old.handles Kind.Session session ≡ true }
+        ensures code { result ≡ (if (loop_of self.old session).has_waited then Ok (if (loop_of self.old session).has_begun then Code.FrameDiscarded else success) else Err Code.CallOrderInvalid) }
+        ensures state { self.new ≡ (if (loop_of self.old session).has_waited then with_loop self.old session (begun_loop (loop_of self.old session)) else self.old) }
     {
-        match self.frames.begin() {
+        let slot = slot_of(&self.handles, session);
+        match self.frames.begin(slot) {
             Code::Success => Ok(success),
             Code::FrameDiscarded => Ok(Code::FrameDiscarded),
             code => Err(code),
@@ -142,15 +157,17 @@ impl Parts {
         ensures { Decides self.old (ask.BeginFrame session) self.new result }
     {
         let success = self.may_frame(session)?;
-        let code = self.begin(success)?;
+        let code = self.begin(session, success)?;
         done(code)
     }
 
-    /// The frame that is ended has to be begun.
-    fn has_begun(&self) -> Result<(), Code>
-        ensures { result ≡ or_refused (first_of (when (not self.now.frames.frame_loop.has_begun) Code.CallOrderInvalid ∷ [])) tt }
+    /// The frame of a live session that is ended has to be begun.
+    fn has_begun(&self, session: u64) -> Result<(), Code>
+        requires live { is_live self.now.handles Kind.Session session ≡ true }
+        ensures { result ≡ or_refused (first_of (when (not (loop_of self.now session).has_begun) Code.CallOrderInvalid ∷ [])) tt }
     {
-        match self.frames.may_end() {
+        let slot = slot_of(&self.handles, session);
+        match self.frames.may_end(slot) {
             Code::Success => Ok(()),
             code => Err(code),
         }
@@ -193,7 +210,7 @@ impl Parts {
         ensures frame { first_of (refusals (end_frame_rule self.now session time.now blend layers.now)) ≡ None → frame.new ≡ new_frame self.now time.now layers.now }
     {
         let success = self.may_frame(session)?;
-        self.has_begun()?;
+        self.has_begun(session)?;
         self.check_frame(time, blend, layers, frame)?;
         Ok(success)
     }
@@ -217,17 +234,19 @@ impl Parts {
         self.settle();
     }
 
-    /// The frame that is begun is pending from now on.
-    fn submit(&mut self, frame: Frame)
+    /// The frame that a live session has begun is pending from now on.
+    fn submit(&mut self, session: u64, frame: Frame)
         requires ended { self.old.ended < 2 ^ 44 }
-        requires begun { self.old.frames.frame_loop.has_begun ≡ true }
-        ensures { self.new ≡ record self.old {
-          frames = record { frame_loop = ended_loop self.old.frames.frame_loop; pending = self.old.frames.pending ++ frame ∷ [] };
+        requires live { is_live self.old.handles Kind.Session session ≡ true }
+        requires begun { (loop_of self.old session).has_begun ≡ true }
+        ensures { self.new ≡ record (with_loop self.old session (ended_loop (loop_of self.old session))) {
+          frames = record { pending = self.old.frames.pending ++ frame ∷ [] };
           ended = self.old.ended + 1;
         } }
     {
+        let slot = slot_of(&self.handles, session);
         self.ended += 1;
-        self.frames.end(frame);
+        self.frames.end(slot, frame);
     }
 
     /// Ends a frame, which uses the images of its layers from now on.
@@ -252,8 +271,8 @@ impl Parts {
         };
         let success = self.may_end_frame(session, time, blend, layers, &mut frame)?;
         pin_all(cells, frame.images.as_slice());
+        self.submit(session, frame);
         self.sync(session);
-        self.submit(frame);
         done(success)
     }
 

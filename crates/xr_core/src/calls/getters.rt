@@ -1,8 +1,8 @@
 // The getters of input (OpenXR 1.0 chapter 11, xrGetActionStateBoolean, xrGetActionStateFloat, xrGetActionStateVector2f and
 // xrGetActionStatePose). They change nothing.
-ghost use Rattle.std.specs.Prelude.{◌≡◌};
+ghost use Rattle.std.specs.Prelude.{◌≡◌, option_map};
 ghost use Rattle.std.specs.Option.{option_copied};
-ghost use Rattle.xr_model.specs.machine.Publication.{is_same_type, shown_by, shown_of};
+ghost use Rattle.xr_model.specs.machine.Publication.{first_seen, is_same_type, seen, shown_by, shown_of};
 ghost use Rattle.xr_core.specs.inside.Deciding.{Decides};
 ghost use Rattle.xr_core.specs.inside.Getters.{named_first, shown_at, getter_reads, DecidesGetter};
 ghost use Rattle.xr_core.specs.inside.Groups.{IsGetter};
@@ -107,7 +107,7 @@ impl Parts {
 
     /// The live session, where this is its handle. No other is published.
     fn published_session(&self, session: u64) -> Option<&Session>
-        ensures { option_copied result ≡ named_first self.now.sessions session }
+        ensures { option_map seen (option_copied result) ≡ named_first (first_seen self.now.sessions) session }
     {
         match self.sessions.as_slice().first() {
             Some(first) if session != 0 && session == first.handle() => Some(first),

@@ -1,21 +1,34 @@
 // The calls on sessions (OpenXR 1.0 chapter 9).
 ghost use Rattle.std.specs.Prelude.{◌≡◌, ◌≢◌, ◌<◌, ◌^◌, length, true, false, Some};
 ghost use Rattle.xr_types.specs.declared.handles.Kind.TheVariants as kind;
-ghost use Rattle.xr_model.specs.machine.Handles.{has_room, was_given};
+ghost use Rattle.xr_model.specs.machine.Frames.{new_loop, reset_loop};
+ghost use Rattle.xr_model.specs.machine.Handles.{is_live, has_room, was_given};
 ghost use Rattle.xr_types.specs.declared.calls.Call.TheVariants as ask;
 ghost use Rattle.xr_model.specs.machine.SessionLife.{started_session};
-ghost use Rattle.xr_model.specs.machine.Rules.Session.{life_of, with_session, create_session_rule};
+ghost use Rattle.xr_model.specs.machine.Rules.Session.{life_of, loop_of, with_loop, with_session, create_session_rule};
 ghost use Rattle.xr_core.specs.inside.Changes.{place_at, life_request, session_added, changed_life, with_period, answer_to};
 ghost use Rattle.xr_core.specs.inside.Deciding.{Decides, DecidesCells, MayTouch};
 ghost use Rattle.xr_core.specs.inside.Groups.{IsSessionCall};
 ghost use Rattle.xr_core.specs.inside.Refusing.{unless_refused};
+ghost use Rattle.xr_core.specs.inside.Seats.{with_own_loop};
 
 use crate::calls::instance::SYSTEM;
 use crate::halt::{Halt, done, giving, refused};
-use crate::parts::{Parts, give};
+use crate::parts::{Parts, give, slot_of};
 use crate::sessions::{LifeCall, Session, change_life, place_of, success_of};
+use xr_frames::Frames;
+use xr_handles::Handles;
 use xr_model::Cells;
 use xr_types::{Call, Code, Gives, Kind, Reply};
+
+/// The frame loop of a live session is a new one from now on.
+fn renew_loop(handles: &Handles, frames: &mut Frames, session: u64)
+    requires live { is_live handles.now kind.Session session ≡ true }
+    ensures { frames.new ≡ with_own_loop frames.old handles.now.sessions session new_loop }
+{
+    let slot = slot_of(handles, session);
+    frames.renew(slot);
+}
 
 impl Parts {
     #[inline(never)]
@@ -73,7 +86,7 @@ impl Parts {
         self.created += 1;
         let session = Session::create(handle, self.created, self.device.wish(), &mut self.events);
         self.sessions.push(session);
-        self.frames.renew();
+        renew_loop(&self.handles, &mut self.frames, handle);
         handle
     }
 
@@ -121,12 +134,22 @@ impl Parts {
         )
     }
 
+    /// No frame of a live session is waited for or begun.
+    fn reset_loop(&mut self, session: u64)
+        requires live { is_live self.old.handles kind.Session session ≡ true }
+        ensures { self.new ≡ with_loop self.old session (reset_loop (loop_of self.old session)) }
+    {
+        let slot = slot_of(&self.handles, session);
+        self.frames.reset(slot);
+    }
+
     /// A running period that begins or ends has no frame waited for or begun.
-    fn end_frames(&mut self, call: LifeCall)
-        ensures { self.new ≡ with_period self.old call }
+    fn end_frames(&mut self, session: u64, call: LifeCall)
+        requires live { is_live self.old.handles kind.Session session ≡ true }
+        ensures { self.new ≡ with_period self.old session call }
     {
         match call {
-            LifeCall::Begin(_) | LifeCall::End => self.frames.reset(),
+            LifeCall::Begin(_) | LifeCall::End => self.reset_loop(session),
             LifeCall::RequestExit => {}
         }
     }
@@ -143,8 +166,8 @@ impl Parts {
         if code != Code::Success {
             return refused(code);
         }
+        self.end_frames(session, call);
         self.settle();
-        self.end_frames(call);
         done(success)
     }
 }

@@ -215,6 +215,7 @@ impl Parts {
     }
 
     /// What refuses attaching sets by what the session has attached, and by their number.
+    #[tactic(auto, using(crate::proofs::Seated::attached_seated))]
     fn check_attached(&self, session: u64, sets: &[u64]) -> Result<(), Code>
         ensures { result ≡ or_refused (first_of (attach_checks (attached_in (session_at self.now.sessions session)) sets.now)) tt }
     {

@@ -24,6 +24,7 @@ use xr_types::{ActiveSet, Code, Heard, Kind, MOST_SYNCED, Reply, SessionState};
 
 impl Parts {
     /// Whether the session has attached this action set.
+    #[tactic(auto, using(crate::proofs::Seated::attached_seated))]
     fn has_attached(&self, session: u64, set: u64) -> bool
         ensures { result ≡ is_attached (attached_in (session_at self.now.sessions session)) set }
     {
@@ -31,6 +32,7 @@ impl Parts {
     }
 
     /// Whether the session is focused.
+    #[tactic(auto, using(crate::proofs::Seated::life_seated))]
     fn is_focused(&self, session: u64) -> bool
         ensures { result ≡ is_state (life_of self.now session).state SessionState.Focused }
     {

@@ -81,12 +81,12 @@ WaitsGiveTheNextTime =
 
 -- ---- when a wait is held back
 
--- so many frames of a session may be begun or pending at once
+-- so many frames may be pending, of all sessions, or begun, of one, at once
 abbrev pub most_at_once : ℕ
 most_at_once = 3
 
 -- After a legal history a wait that nothing refuses is ready but where more frames were waited for than begun in the running period,
--- and where as many are pending or begun as may be.
+-- and where as many are pending, of all sessions, or begun, of its own, as may be.
 abbrev pub WaitsAreHeldBack : Type 0
 WaitsAreHeldBack =
     (settings : Settings) (es : List Entry) (e : Entry) (session : ℕ) → IsLegal settings es → e.call ≡ ask.WaitFrame session → IsUnrefused (after (opening settings) es) e

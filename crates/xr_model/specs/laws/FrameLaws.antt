@@ -2,6 +2,7 @@
 -- times that are predicted.
 use Rattle.std.specs.Prelude.{◌≡◌, ◌≤◌, ◌<◌, ◌+◌, ◌*◌, ◌+ℤ◌, ◌&&◌, ◌||◌, int_le, int_lt, nat_abs, pos, ℕ, ℤ, Bool, true, false, List, [], ◌∷◌, ◌++◌, map, length, if◌then◌else◌}
 use Rattle.xr_types.specs.Code.{is_success}
+use Rattle.xr_types.specs.declared.handles.TheConstants.{SESSIONS}
 use Rattle.xr_types.specs.declared.frames.Layer.{Layer}
 use Rattle.xr_types.specs.declared.frames.ShownLayer.{ShownLayer}
 use Rattle.xr_types.specs.Frames.{PendingFrame}
@@ -20,9 +21,9 @@ use Rattle.xr_model.specs.laws.FewCalls.{is_end}
 use Rattle.xr_model.specs.laws.ImageLaws.{is_next_frame}
 use Rattle.xr_model.specs.laws.MomentLaws.{are_by_callers}
 
--- at most three frames are pending
-abbrev pub AtMostThree : Type 0
-AtMostThree = (settings : Settings) (es : List Entry) → IsLegal settings es → length (after (opening settings) es).core.frames.pending ≤ 3
+-- at most two for each session that may be live and one more are pending
+abbrev pub PendingAreFew : Type 0
+PendingAreFew = (settings : Settings) (es : List Entry) → IsLegal settings es → length (after (opening settings) es).core.frames.pending ≤ 2 * SESSIONS + 1
 
 -- ---- frames are shown as they were submitted
 

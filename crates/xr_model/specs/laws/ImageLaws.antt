@@ -1,8 +1,9 @@
 -- Images in every history: who owns them, how they are counted, that what is shown doesn't change, and which swapchain has which
 -- place.
-use Rattle.std.specs.Prelude.{◌≡◌, ◌≤◌, ◌<◌, ◌+◌, ◌==◌, ◌&&◌, ℕ, Bool, true, false, List, [], ◌∷◌, ◌++◌, slice_get, Option, Some, None, is_some}
+use Rattle.std.specs.Prelude.{◌*◌, ◌≡◌, ◌≤◌, ◌<◌, ◌+◌, ◌==◌, ◌&&◌, ℕ, Bool, true, false, List, [], ◌∷◌, ◌++◌, slice_get, Option, Some, None, is_some}
 use Rattle.xr_types.specs.declared.frames.Image.{Image}
 use Rattle.xr_types.specs.declared.handles.Kind.TheVariants.{Swapchain}
+use Rattle.xr_types.specs.declared.handles.TheConstants.{SESSIONS}
 use Rattle.xr_model.specs.machine.Chains.{Chain, chain_at, place_of_chain, oldest_of, is_place_used}
 use Rattle.xr_model.specs.machine.Handles.{is_live}
 use Rattle.xr_model.specs.machine.Images.{slot_of, times_in, count_of, stamp_in}
@@ -71,9 +72,9 @@ pub record ImageSteps (s : State) (e : Entry) (i : Image) : Type 0 where
 abbrev pub ImagesStep : Type 0
 ImagesStep = (settings : Settings) (es : List Entry) (e : Entry) (i : Image) → IsLegal settings (es ++ e ∷ []) → IsPlaced i → ImageSteps (after (opening settings) es) e i
 
--- an image is used at most four times at once: by three pending frames, and by the one that the compositor took
+-- an image is used at most once by each frame that is pending, and by the one that the compositor took
 abbrev pub CountsAreFew : Type 0
-CountsAreFew = (settings : Settings) (es : List Entry) (i : Image) → IsLegal settings es → IsPlaced i → count_now (after (opening settings) es) i ≤ 4
+CountsAreFew = (settings : Settings) (es : List Entry) (i : Image) → IsLegal settings es → IsPlaced i → count_now (after (opening settings) es) i ≤ 2 * SESSIONS + 2
 
 -- ---- stamps
 

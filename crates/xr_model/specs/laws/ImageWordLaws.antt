@@ -1,8 +1,9 @@
 -- Words of images in every history: whose image a word says it is, what an entry makes of words, what its calls on cells ask for,
 -- what a wait comes to, and what may come between a look and an entry.
-use Rattle.std.specs.Prelude.{◌≡◌, ◌+◌, ◌^◌, ◌==◌, ◌&&◌, nat_le, true, false, List, [], ◌∷◌, ◌++◌, if◌then◌else◌}
+use Rattle.std.specs.Prelude.{◌≡◌, ◌+◌, ◌*◌, ◌^◌, ◌==◌, ◌&&◌, nat_le, true, false, List, [], ◌∷◌, ◌++◌, if◌then◌else◌}
 use Rattle.xr_types.specs.declared.calls.Call.TheVariants as ask
 use Rattle.xr_types.specs.declared.frames.Image.{Image}
+use Rattle.xr_types.specs.declared.handles.TheConstants.{SESSIONS}
 use Rattle.xr_model.specs.scenario.InRange.{Each}
 use Rattle.xr_model.specs.machine.Calls.{Entry}
 use Rattle.xr_model.specs.machine.CellCalls.{claim}
@@ -19,10 +20,10 @@ use Rattle.xr_model.specs.laws.Owners.{is_applications, is_compositors}
 
 -- ---- owners
 
--- The image is an application's where its word is 2^32, and the compositor's where its word is 1 to 4.
+-- The image is an application's where its word is 2^32, and the compositor's where its word is 1 to 2 * SESSIONS + 2.
 pub record WordTells (settings : Settings) (es : List Entry) (i : Image) : Type 0 where
   pub application : is_applications i (past_of settings es) ≡ (word_of (after (opening settings) es) i == 2 ^ 32)
-  pub compositor : is_compositors i (past_of settings es) ≡ (nat_le 1 (word_of (after (opening settings) es) i) && nat_le (word_of (after (opening settings) es) i) 4)
+  pub compositor : is_compositors i (past_of settings es) ≡ (nat_le 1 (word_of (after (opening settings) es) i) && nat_le (word_of (after (opening settings) es) i) (2 * SESSIONS + 2))
 
 abbrev pub WordsTellOwners : Type 0
 WordsTellOwners = (settings : Settings) (es : List Entry) (i : Image) → IsLegal settings es → IsPlaced i → WordTells settings es i

@@ -12,16 +12,15 @@ pub record FrameLoop : Type 0 where
   pub has_waited : Bool
   pub has_begun : Bool
 
--- the loop of the live session, and the frames that were ended and not taken, the oldest first
+-- the frames of all sessions that were ended and not taken, the oldest first
 pub record Frames : Type 0 where
-  pub frame_loop : FrameLoop
   pub pending : List PendingFrame
 
 abbrev pub new_loop : FrameLoop
 new_loop = record { predicted = pos 0; has_waited = false; has_begun = false }
 
 abbrev pub no_frames : Frames
-no_frames = record { frame_loop = new_loop; pending = [] }
+no_frames = record { pending = [] }
 
 -- ---- predicted times
 
@@ -73,9 +72,9 @@ begun_code l = if l.has_begun then FrameDiscarded else Success
 abbrev pub ended_loop : FrameLoop → FrameLoop
 ended_loop l = record l { has_begun = false }
 
--- a wait has to wait while a frame is waited for, and while more than two frames are pending or begun
-abbrev pub is_frame_held_back : Frames → Bool
-is_frame_held_back f = if f.frame_loop.has_waited then true else nat_lt 2 (length f.pending + one_if f.frame_loop.has_begun)
+-- a wait has to wait while a frame of the session is waited for, and while more than two are pending, of all sessions, or begun, of its own
+abbrev pub is_frame_held_back : Frames → FrameLoop → Bool
+is_frame_held_back f l = if l.has_waited then true else nat_lt 2 (length f.pending + one_if l.has_begun)
 
 abbrev pub is_empty : {T : Type 0} → List T → Bool
 is_empty [] = true

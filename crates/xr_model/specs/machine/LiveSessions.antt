@@ -7,14 +7,16 @@ use Rattle.xr_types.specs.declared.session.SessionState.{SessionState}
 use Rattle.xr_types.specs.declared.session.SessionState.TheVariants.{Idle}
 use Rattle.xr_model.specs.machine.Handles.{Handles, is_live, is_among}
 use Rattle.xr_model.specs.machine.Events.{Queue, pushed}
+use Rattle.xr_model.specs.machine.Frames.{FrameLoop, new_loop}
 use Rattle.xr_model.specs.machine.SessionLife.{Life, Changed}
 
--- Its handle; its ordinal, which is the count of sessions that were created in the run, itself included; its life; and the
--- action sets that it has attached, each once, where it has attached any.
+-- Its handle; its ordinal, which is the count of sessions that were created in the run, itself included; its life; its loop of
+-- frames; and the action sets that it has attached, each once, where it has attached any.
 pub record Session : Type 0 where
   pub handle : ℕ
   pub ordinal : ℕ
   pub life : Life
+  pub frame_loop : FrameLoop
   pub attached : Option (List ℕ)
 
 -- the session with this handle
@@ -28,6 +30,14 @@ no_life = record { state = Idle; running = false; exit = false; lost = false }
 abbrev pub life_in : Option Session → Life
 life_in None = no_life
 life_in (Some x) = x.life
+
+-- its loop of frames; where there is none, a new one, which no call gets to see
+abbrev pub loop_in : Option Session → FrameLoop
+loop_in None = new_loop
+loop_in (Some x) = x.frame_loop
+
+abbrev pub with_frame_loop : FrameLoop → Session → Session
+with_frame_loop l x = record x { frame_loop = l }
 
 abbrev pub with_life : Life → Session → Session
 with_life life x = record x { life = life }

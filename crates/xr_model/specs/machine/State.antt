@@ -16,12 +16,12 @@ use Rattle.xr_model.specs.machine.Spaces.{Spaces, no_spaces}
 use Rattle.xr_model.specs.machine.Device.{Device, first_device}
 use Rattle.xr_model.specs.machine.Sync.{no_columns}
 
--- What a core keeps: the handles, the atoms' texts, the events that wait, the live sessions in the order of their
--- creation, how many were created in the run, the action sets with their actions, what is suggested for each profile, what each
--- action shows since the last sync, by its place, the spaces with the samples of their origins, the loop of frames and those that are pending, how many frames were ended in
--- the run, the swapchains in their places, the images of the frame taken last, what the device has told of itself, the marks,
--- how many applications there are, which of them have left, how many locked calls were decided, and the place of the call that
--- published last.
+-- What a core keeps: the handles, the atoms' texts, the events that wait, the live sessions in the order of their creation,
+-- each with its loop of frames, how many were created in the run, the action sets with their actions, what is suggested for
+-- each profile, what each action shows since the last sync, by its place, the spaces with the samples of their origins, the
+-- frames that are pending, how many were ended in the run, the swapchains in their places, the images of the frame taken last,
+-- what the device has told of itself, the marks, how many applications there are, which of them have left, how many locked
+-- calls were decided, and the place of the call that published last.
 pub record CoreState : Type 0 where
   pub handles : Handles
   pub atoms : List (List ℕ)

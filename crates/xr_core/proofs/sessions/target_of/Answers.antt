@@ -1,4 +1,4 @@
-use Rattle.std.proofs.Common.{◌≡◌, max, length, ◌<◌, sym, ap, ◌∙◌}
+use Rattle.std.proofs.Common.{max, length, ◌<◌, sym, ap, ◌∙◌}
 use Rattle.xr_model.specs.machine.LiveSessions.{Session}
 use Rattle.xr_model.specs.machine.Target.{target_of}
 use Rattle.xr_core.proofs.SessionEvents.{target_taken, target_passed}

@@ -24,7 +24,7 @@ use Rattle.xr_model.specs.machine.SessionLife.{Life, is_state, synced_session}
 use Rattle.xr_model.specs.machine.SessionRule.{loss_of}
 use Rattle.xr_model.specs.machine.State.{CoreState, CellReads}
 use Rattle.xr_model.specs.machine.Rule.{Rule, compositor, ordinary, done, done_doing, nothing_done}
-use Rattle.xr_model.specs.machine.Rules.Session.{life_of, with_change, with_loop}
+use Rattle.xr_model.specs.machine.Rules.Session.{life_of, loop_of, with_change, with_loop}
 
 -- ---- the loop of a session
 
@@ -32,13 +32,13 @@ use Rattle.xr_model.specs.machine.Rules.Session.{life_of, with_change, with_loop
 abbrev pub not_running : Life → Refusal
 not_running life = when (not life.running) SessionNotRunning
 
-abbrev pub next_time : CoreState → ℤ
-next_time s = predicted_time s.frames.frame_loop.predicted s.device.clock s.device.base s.device.period
+abbrev pub next_time : CoreState → ℕ → ℤ
+next_time s session = predicted_time (loop_of s session).predicted s.device.clock s.device.base s.device.period
 
 -- what a wait gives: the time of the frame, the period, and whether it is worth while to render
 abbrev pub frame_state : CoreState → ℕ → FrameState
 frame_state s session = record {
-  time = next_time s;
+  time = next_time s session;
   period = s.device.period;
   render = is_state (life_of s session).state Visible || is_state (life_of s session).state Focused;
 }
@@ -46,11 +46,11 @@ frame_state s session = record {
 -- xrWaitFrame: it waits while a frame is waited for, and while as many are pending or begun as may be
 abbrev pub wait_frame_rule : CoreState → ℕ → Rule
 wait_frame_rule s session = record (ordinary s) {
-  waits = is_frame_held_back s.frames;
+  waits = is_frame_held_back s.frames (loop_of s session);
   on = Some (loss_of (life_of s session));
   handles = no_handle s.handles Session session ∷ [];
   before = not_running (life_of s session) ∷ [];
-  effect = done (with_loop s (waited_loop s.frames.frame_loop (next_time s))) (gives.Frame (frame_state s session));
+  effect = done (with_loop s session (waited_loop (loop_of s session) (next_time s session))) (gives.Frame (frame_state s session));
 }
 
 -- xrBeginFrame: of the frame that was waited for
@@ -59,8 +59,8 @@ begin_frame_rule s session = record (ordinary s) {
   on = Some (loss_of (life_of s session));
   handles = no_handle s.handles Session session ∷ [];
   before = not_running (life_of s session) ∷ [];
-  disorder = not s.frames.frame_loop.has_waited;
-  effect = record (done (with_loop s (begun_loop s.frames.frame_loop)) gives.Nothing) { code = begun_code s.frames.frame_loop };
+  disorder = not (loop_of s session).has_waited;
+  effect = record (done (with_loop s session (begun_loop (loop_of s session))) gives.Nothing) { code = begun_code (loop_of s session) };
 }
 
 -- ---- frames that are submitted
@@ -79,8 +79,8 @@ new_frame s time layers =
 
 -- a frame is pending from now on; the first one of a period synchronizes its session
 abbrev pub with_frame : CoreState → ℕ → PendingFrame → CoreState
-with_frame s session frame = record (with_change s (session_at s.sessions session) (synced_session wish.Ready)) {
-  frames = record { frame_loop = ended_loop s.frames.frame_loop; pending = s.frames.pending ++ frame ∷ [] };
+with_frame s session frame = record (with_change (with_loop s session (ended_loop (loop_of s session))) (session_at s.sessions session) (synced_session wish.Ready)) {
+  frames = record { pending = s.frames.pending ++ frame ∷ [] };
   ended = s.ended + 1;
 }
 
@@ -90,7 +90,7 @@ end_frame_rule s session time mode layers = record (ordinary s) {
   on = Some (loss_of (life_of s session));
   handles = no_handle s.handles Session session ∷ [];
   before = not_running (life_of s session) ∷ [];
-  disorder = not s.frames.frame_loop.has_begun;
+  disorder = not (loop_of s session).has_begun;
   behind = frame_checks (look_of s) time mode layers;
   effect = done_doing (with_frame s session (new_frame s time layers)) gives.Nothing (record nothing_done { used = (new_frame s time layers).images });
 }

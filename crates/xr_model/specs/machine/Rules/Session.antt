@@ -10,7 +10,7 @@ use Rattle.xr_model.specs.machine.Handles.{no_handle, no_room, with_handle, dest
 use Rattle.xr_model.specs.machine.Refusals.{Refusal, when}
 use Rattle.xr_model.specs.machine.SessionLife.{Life, Changed, unchanged, started_session, begin_checks, begun_session, end_checks, ended_session, exit_checks, exiting_session}
 use Rattle.xr_model.specs.machine.LiveSessions as sessions
-use Rattle.xr_model.specs.machine.LiveSessions.{session_at, life_in, with_life_at, told_states}
+use Rattle.xr_model.specs.machine.LiveSessions.{session_at, life_in, loop_in, with_session_at, with_frame_loop, with_life_at, told_states}
 use Rattle.xr_model.specs.machine.State.{CoreState}
 use Rattle.xr_model.specs.machine.Target.{settled}
 use Rattle.xr_model.specs.machine.Destroyed.{without_handle, freed_by}
@@ -21,14 +21,13 @@ use Rattle.xr_model.specs.machine.Rules.Instance.{the_system}
 -- ---- coming and going
 
 abbrev pub new_session : CoreState → ℕ → Life → sessions.Session
-new_session s given life = record { handle = given; ordinal = s.created + 1; life = life; attached = None }
+new_session s given life = record { handle = given; ordinal = s.created + 1; life = life; frame_loop = new_loop; attached = None }
 
 -- a new session stands behind the others with no sets attached and a new loop of frames, and its first states are told
 abbrev pub with_session : CoreState → ℕ → ℕ → Changed → CoreState
 with_session s instance given c = settled (record s {
   handles = with_handle s.handles Session instance given;
   sessions = s.sessions ++ new_session s given c.life ∷ [];
-  frames = record s.frames { frame_loop = new_loop };
   events = told_states s.events (s.created + 1) given c.through;
   created = s.created + 1;
 })
@@ -65,9 +64,12 @@ told_of (Some x) f q = told_states q x.ordinal x.handle (f x.life).through
 abbrev pub with_change : CoreState → Option sessions.Session → (Life → Changed) → CoreState
 with_change s o f = settled (record s { sessions = changed_in o f s.sessions; events = told_of o f s.events })
 
--- the loop of frames stands so
-abbrev pub with_loop : CoreState → FrameLoop → CoreState
-with_loop s l = record s { frames = record s.frames { frame_loop = l } }
+-- the loop of frames of a session stands so
+abbrev pub with_loop : CoreState → ℕ → FrameLoop → CoreState
+with_loop s session l = record s { sessions = with_session_at session (with_frame_loop l) s.sessions }
+
+abbrev pub loop_of : CoreState → ℕ → FrameLoop
+loop_of s session = loop_in (session_at s.sessions session)
 
 abbrev pub life_of : CoreState → ℕ → Life
 life_of s session = life_in (session_at s.sessions session)
@@ -84,7 +86,7 @@ changing_rule s session checks f = record (ordinary s) {
 -- the same of a call by which a running period begins or ends: no frame is waited for or begun then
 abbrev pub period_rule : CoreState → ℕ → List Refusal → (Life → Changed) → Rule
 period_rule s session checks f = record (changing_rule s session checks f) {
-  effect = done (with_change (with_loop s (reset_loop s.frames.frame_loop)) (session_at s.sessions session) f) Nothing;
+  effect = done (with_change (with_loop s session (reset_loop (loop_of s session))) (session_at s.sessions session) f) Nothing;
 }
 
 -- xrBeginSession

@@ -19,6 +19,7 @@ use Rattle.xr_core.specs.inside.Changes.{place_at}
 use Rattle.xr_core.specs.declared.halt.Halt.TheVariants.{Refused}
 use Rattle.xr_core.proofs.Deciding.{err_decides, effect_decides, ok_none, success_found}
 use Rattle.xr_core.proofs.Listed.{stands_within, stands_nowhere}
+use Rattle.xr_core.proofs.SlotCalls.{found_outside}
 use Rattle.xr_core.proofs.parts.Parts.attach_sets.Goals as goal
 
 pub returns-in_err-success : goal.returns-in_err-success
@@ -32,12 +33,13 @@ unreachable-requires c =
     let live = first_fails (is_live c.args.self.now.handles kind.Session c.args.session) HandleInvalid (is_lost (life_of c.args.self.now c.args.session) ∷ when false CallOrderInvalid ∷ (attach_checks (attached_in (session_at c.args.self.now.sessions c.args.session)) c.args.sets.now ++ map (no_handle c.args.self.now.handles kind.ActionSet) c.args.sets.now)) none in
     let here = ap (λ (s : CoreState). is_live s.handles kind.Session c.args.session) c.self.view_is ∙ live in
     let nowhere : place_at c.self.inside.sessions.items c.args.session ≡ None = search rules in
-    true≢false (sym here ∙ sym (c.self.invariant.0 c.args.session) ∙ stands_nowhere c.self.inside.sessions.items c.args.session nowhere)
+    true≢false (sym here ∙ sym (c.self.invariant.0.listed c.args.session) ∙ stands_nowhere c.self.inside.sessions.items c.args.session nowhere)
 
-pub attach-requires-clause-within : goal.attach-requires-clause-within
-attach-requires-clause-within c =
-    let found : place_at c.args.self.now.sessions c.args.session ≡ Some c.in-Some.place = search rules in
-    stands_within c.args.self.now.sessions c.args.session c.in-Some.place found
+pub attach-requires : goal.attach-requires
+attach-requires c =
+    let found : place_at c.self.inside.sessions.items c.args.session ≡ Some c.in-Some.place = search rules in
+    let there = found_outside c.args.self.now _ c.self.inside.frames.loops c.self.inside.sessions.items c.self.view_is refl c.args.session c.in-Some.place found in
+    record { found = there; within = stands_within c.args.self.now.sessions c.args.session c.in-Some.place there }
 
 pub returns : goal.returns
 returns c =
