@@ -33,7 +33,8 @@ BOUND = 119
 STUCK = 7
 SHUT, OPEN, TOLD, FILLED, READY, BEGUN = 64, 63, 62, 61, 60, 59
 SERIAL, THREADS = "serial", "threads"
-# On threads a stack that another thread had is used again with what was taken for it, or is not; so one of ten threads may leave more.
+# On threads a stack that another thread had is used again with what was taken for it, or is not; so one of ten threads may leave more,
+# and two runs may differ by so much.
 MOST_LEFT = 40
 CHAINS = [f"c{number:x}" for number in range(16)]
 
@@ -162,10 +163,11 @@ def unlike(row, report):
     return "" if f"\n{last} " in device else f"line {last} of the device isn't told"
 
 
-def amount(row, more, least=0):
-    """What is wrong where so much more was taken by the repeated calls, which take at least so much."""
-    is_fit = more <= least + BOUND and (more >= least or not row.takes)
-    return "" if is_fit else f"memory was taken {more} times in {row.repeats} repetitions, and not {least} to {least + BOUND} times"
+def amount(row, more, due=0, apart=0):
+    """What is wrong where so much more was taken by the repeated calls, which take as much as is due, and two runs may differ by so much."""
+    least, most = due - apart, due + BOUND
+    is_fit = more <= most and (more >= least or not row.takes)
+    return "" if is_fit else f"memory was taken {more} times in {row.repeats} repetitions, and not {least} to {most} times"
 
 
 def wrong_on_one(program, room, row, left):
@@ -186,7 +188,7 @@ def wrong_on_threads(program, room, row, left):
 
     whole = made(row.repeats, row.repeats, True)
     yield "" if row.races else unlike(row, whole.report)
-    yield amount(row, whole.taken - made(0, row.repeats, True).taken, row.takes * row.repeats)
+    yield amount(row, whole.taken - made(0, row.repeats, True).taken, row.takes * row.repeats, MOST_LEFT)
     if row.lines:
         yield amount(row, made(row.repeats, row.repeats, False).taken - made(row.repeats, 0, False).taken)
     yield "" if abs(whole.left - left) <= MOST_LEFT else f"memory is left {whole.left} times, and {left} is due"
