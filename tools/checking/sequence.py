@@ -4,7 +4,6 @@ from __future__ import annotations
 from collections.abc import Callable, Iterator
 
 from checking.things import Path, Thing, uses_of
-from machine import sessions
 from scenarios.reading import Op
 from shown import quoted, with_article
 
@@ -40,10 +39,10 @@ def out_of_order(op: Op, place: int, named: Named, attaches: bool) -> Found:
 
 
 def of_another(op: Op, named: Named) -> Found:
-    """Spaces and swapchains that stand below another session than the call's, where several may be live."""
+    """Spaces and swapchains that stand below another session than the call's."""
     one = named(op.fields.get("space"))
     own = {"locate_space": one.parent if one else None, "end_frame": named(op.fields.get("session"))}.get(op.name)
-    for path, name, _ in uses_of(op) if own and sessions.MOST_SESSIONS > 1 else ():
+    for path, name, _ in uses_of(op) if own else ():
         thing = named(name)
         other = thing.parent if thing and thing.kind in ("space", "swapchain") else None
         are_new = own and other and all(it.made and it.made.name == "create_session" and not it.gone() for it in (own, other))

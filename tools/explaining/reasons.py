@@ -92,17 +92,16 @@ class Reasons(Kept):
 
     def limit_reached(self, entry: Entry, its: Fields) -> str:
         known = self.machine
-        ones = {"create_instance": [known.instance], "create_session": [it.handle for it in known.sessions]}.get(entry.name, [])
-        if len(ones) == 1:
-            return self.by(f"{with_article(entry.name[7:])} is live, made", self.made.get(ones[0]))
+        if entry.name == "create_instance":
+            return self.by("an instance is live, made", self.made.get(known.instance))
         if entry.name == "create_swapchain":
             others = ", the others by frames that are pending or were taken last" * (len(known.chains) < MOST_CHAINS)
             return f"all {MOST_CHAINS} places are taken, {len(known.chains)} by live swapchains{others}"
         most = {"suggest_bindings": ("bindings", inputs.MOST_SUGGESTED), "sync_actions": ("active", inputs.MOST_SYNCED)}.get(entry.name)
         if most:
             return f"{len(its[most[0]])} are listed, and {most[1]} are the most"
-        found = {"create_session": ones, "create_action_set": known.sets, "create_action": known.actions}.get(entry.name, known.spaces)
-        return f"{count(len(found), 'such handle')} are live, which are the most"
+        of_kinds = {"create_session": known.sessions, "create_action_set": known.sets, "create_action": known.actions}
+        return f"{count(len(of_kinds.get(entry.name, known.spaces)), 'such handle')} are live, which are the most"
 
     # ---- the call order, frames and images
 

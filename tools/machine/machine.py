@@ -5,7 +5,6 @@ from collections import deque
 from collections.abc import Callable, Iterable
 from typing import TypeVar
 
-from machine import sessions
 from machine.answers import (
     LOSS_PENDING, NO_HANDLE, NOT_FOCUSED, OUT_OF_MEMORY, SUCCESS, Answer, Fields, HeldBack, Refused, due, each, live, refuse
 )
@@ -14,7 +13,7 @@ from machine.inputs import (
     INACTIVE, MOST_ACTIONS, MOST_SETS, MOST_SUGGESTED, MOST_SYNCED, Action, ActionSet, Atoms, Column, Device, Suggestion,
     check_localized, check_name, column_of, pick_of, users_of
 )
-from machine.sessions import Session, Space, settled
+from machine.sessions import MOST_SESSIONS, Session, Space, settled
 from reports.values import GETTERS
 from scenarios.devices import PROFILES
 from scenarios.reading import MOST_HANDLE_MARK
@@ -191,7 +190,7 @@ class ApplicationCalls(State):
     def create_session(self, instance: int, system: int) -> Answer:
         self.check_instance(instance)
         refuse(system != THE_SYSTEM, "XR_ERROR_SYSTEM_INVALID")
-        refuse(len(self.sessions) == sessions.MOST_SESSIONS, "XR_ERROR_LIMIT_REACHED")
+        refuse(len(self.sessions) == MOST_SESSIONS, "XR_ERROR_LIMIT_REACHED")
         self.sessions_created += 1
         new = Session(self.give(), self.sessions_created)
         self.sessions.append(new)

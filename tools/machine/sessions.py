@@ -9,7 +9,7 @@ from machine.answers import LOSS_PENDING, SUCCESS, Answer, refuse
 from machine.inputs import Columns
 
 # so many sessions are live at most
-MOST_SESSIONS = 1
+MOST_SESSIONS = 4
 
 # the states that a loss doesn't change, and those of a session that the wish may be for
 LAST = "EXITING", "LOSS_PENDING"

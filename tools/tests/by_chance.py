@@ -18,6 +18,8 @@ from helpers import Ops, rows_of, value_of
 WEIGHTS, CALLS = zip(*(row.split(" ", 1) for (row,) in rows_of("ops")))
 FOUNDED = [row for (row,) in rows_of("founds")]
 OF_SHORT = 10
+# so many sessions a founder may create beside its first one
+FURTHER = 0, 0, 0, 1, 1, 2, 3
 WITH_FRAME = ("poll_event instance", "locate_space space base:space time", "get_float session action:float sub", "get_system instance form as:system")
 EXITS = ("request_exit_session session", "end_session session", "poll_event instance", "destroy_session session", "destroy_instance instance")
 ACTIONS = ("boolean", "float", "vector", "pose")
@@ -115,9 +117,9 @@ class Writer:
         if self.known("session") and self.chance.random() < 0.5:
             self.frame()
 
-    def frame(self) -> None:
-        """A frame in one piece, so that nothing but an image holds it up before its begin."""
-        session = f"session={self.chance.choice(self.known('session'))}"
+    def frame(self, of: str = "") -> None:
+        """A frame of a session in one piece, so that nothing but an image holds it up before its begin."""
+        session = f"session={of or self.chance.choice(self.known('session'))}"
         self.call(f"wait_frame {session} as:time")
         for row in self.chance.choices(WITH_FRAME, k=self.chance.randint(0, 2)):
             self.call(row)
@@ -137,7 +139,7 @@ class Writer:
 
 
 def marks_by_chance(chance: random.Random, scripts: int, founder: int, has_device: bool) -> list[Mark]:
-    """Marks of ranks 0 to 5: all scripts begin together; the device is ready; what the founder hands over; that its session is
+    """Marks of ranks 0 to 5: all scripts begin together; the device is ready; what the founder hands over; that its sessions are
     begun; some others; and that a script is through."""
     everyone = range(1, scripts + 1)
     numbers, others = chance.sample(range(1, 33), 32), chance.sample(range(33, 65), 32)
@@ -159,12 +161,16 @@ def script_by_chance(chance: random.Random, number: int, founder: int, marks: li
         if is_founder and rank == 2:
             writer.founds()
         if is_founder and rank == 3:
-            writer.call(f"begin_session session={writer.known('session')[0]} view=stereo")
-            writer.frame()
+            for _ in range(chance.choice(FURTHER)):
+                writer.call("create_session instance system as:session")
+            for it in writer.known("session"):
+                writer.call(f"begin_session session={it} view=stereo")
+                writer.frame(it)
         writer.calls(4 if rank > 2 else 1)
         for mark in sorted((it for it in marks if it.rank == rank), key=lambda it: it.owner != number):
             if mark.owner == number:
-                writer.call(" ".join([f"mark mark={mark.number}", *(f"value={it}" for it in writer.known(mark.sort)[:1])]))
+                known = writer.known(mark.sort)
+                writer.call(" ".join([f"mark mark={mark.number}", *(f"value={it}" for it in (known[:1] if rank < 4 else known[-1:]))]))
             elif chance.random() < (0.9 if rank in (0, 2, 3) else is_founder if rank in (1, 5) else 0.4):
                 writer.call(f"await mark={mark.number}" + (f" as:{mark.sort}" if mark.sort else ""))
         writer.calls(4 if rank > 1 else 1)

@@ -267,7 +267,6 @@ def chance(tally: Tally, room: Path) -> None:
 
 
 if __name__ == "__main__":
-    sessions.MOST_SESSIONS = FOUR
     tally = Tally()
     with tempfile.TemporaryDirectory() as folder:
         for trial in (table, frames, said, chance):

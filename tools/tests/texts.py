@@ -33,8 +33,14 @@ SCHEMA = Schema.of_file()
 NAME = re.compile(r"[a-z0-9_]{1,32}")
 REFUSED = re.compile(r"xrsim: scenario refused: script ([0-9]+) op ([0-9]+) (.*)")
 LONG = 120
-# a session that is begun once the device says so, and is stuck at its second frame where that succeeded
-WAITING = "{INSTANCE}; await mark=1; {SESSION}; await mark=2; {RUN}; 2 wait_frame session=s"
+# a session that is begun once the device says so, and is stuck at its second frame where that succeeded; and one beside another that had
+# a frame before, and is stuck at two more where it couldn't be ended
+WAITING = (
+    "{INSTANCE}; await mark=1; {SESSION}; await mark=2; {RUN}; 2 wait_frame session=s",
+    "{INSTANCE}; create_session instance=i system=1 as=u; await mark=1; begin_session session=u view=stereo; wait_frame session=u as=t; "
+    "begin_frame session=u; end_frame session=u time=t blend=opaque layers=[]; {SESSION}; await mark=2; {RUN}; end_session session=u; "
+    "2 wait_frame session=u; 2 wait_frame session=s",
+)
 Texts = tuple[bytes, bytes]
 
 
@@ -140,7 +146,7 @@ def long_devices(tally: Tally, program: str, room: Path) -> None:
     chance = random.Random(6)
     more = ("wish ready", "wish rest", "wish focused", "wish visible", "clock 1", "loss", "stage on", "mark 40", "grid 3 5")
     for number in range(LONG):
-        scripts, lines = spoilt_by_chance(number) if number % 2 else (WAITING, waiting_device(chance))
+        scripts, lines = spoilt_by_chance(number) if number % 2 else (WAITING[number // 2 % 2], waiting_device(chance))
         most = 12 if number % 2 else 0
         told = [it for line in lines or [] for it in (*chance.choices(more, k=chance.randint(0, most)), line)]
         text = made_text(room, "long", scripts, told)

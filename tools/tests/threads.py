@@ -1,4 +1,4 @@
-"""threads PROGRAM [RUNS]: tries the form `threads` of PROGRAM: so many runs (300, if not said), each of which has to end and to
+"""threads PROGRAM [RUNS]: tries the form `threads` of PROGRAM: so many runs (360, if not said), each of which has to end and to
 print a report that is legal.
 
 1. Each case of cases and each example that can't hang is run, and then scenarios by chance, some times each. A
@@ -40,7 +40,7 @@ from reports.reading import read_lines
 from reports.values import OPS
 from scenarios.devices import FAILED_DEVICE, NO_DEVICE
 
-RUNS, MOST_RUNS = 300, 1_000_000
+RUNS, MOST_RUNS = 360, 1_000_000
 LONGEST = 20
 SIDE_BY_SIDE = 2
 MOST_HANGING, MOST_KEPT = 3, 12

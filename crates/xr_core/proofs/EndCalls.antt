@@ -34,7 +34,7 @@ use Rattle.xr_core.proofs.LoopChanges.{changes_looped}
 -- where nothing refuses the end of a frame, its session is live
 pub live_at_end : (s : CoreState) (session : ℕ) (time : ℤ) (blend : Blend) (layers : List Layer) → first_of (refusals (end_frame_rule s session time blend layers)) ≡ None → is_live s.handles kind.Session session ≡ true
 live_at_end s session time blend layers none =
-    live_where s session (none_first (ahead (wait_frame_rule s session)) (when (not (loop_of s session).has_begun) CallOrderInvalid ∷ frame_checks (look_of s) time blend layers) none)
+    live_where s session (none_first (ahead (wait_frame_rule s session)) (when (not (loop_of s session).has_begun) CallOrderInvalid ∷ frame_checks (look_of s session) time blend layers) none)
 
 -- a frame is pending before its session is synchronized by it
 pub frame_ended : (s : CoreState) (session : ℕ) (frame : PendingFrame)
@@ -50,18 +50,18 @@ module _ {C : Type 0} (does : C → CellCall → C → Type 0) (s : CoreState) (
   what = ask.EndFrame session time blend layers
 
   abbrev used : Did
-  used = record nothing_done { used = (new_frame s time layers).images }
+  used = record nothing_done { used = (new_frame s session time layers).images }
 
   pub end_refused : (code : Code) (c : C) → or_refused (first_of (refusals (end_frame_rule s session time blend layers))) (code_on loss Success) ≡ Err code → DecidesCells does s what s (Err (Refused code)) c c
   end_refused code c told = refused_cells s what (λ given. end_frame_rule s session time blend layers) (λ who reads given. refl) does (code_on loss Success) code c refl told
 
-  pub end_done : (c d : C) → first_of (refusals (end_frame_rule s session time blend layers)) ≡ None → Leads does c (pin_calls (new_frame s time layers).images) d
-      → DecidesCells does s what (with_frame s session (new_frame s time layers)) (Ok (record { code = code_on loss Success; gives = Nothing; place = 0 })) c d
+  pub end_done : (c d : C) → first_of (refusals (end_frame_rule s session time blend layers)) ≡ None → Leads does c (pin_calls (new_frame s session time layers).images) d
+      → DecidesCells does s what (with_frame s session (new_frame s session time layers)) (Ok (record { code = code_on loss Success; gives = Nothing; place = 0 })) c d
   end_done c d none pinned =
-      done_cells s what (λ given. end_frame_rule s session time blend layers) (λ who reads given. refl) does (with_frame s session (new_frame s time layers)) (code_on loss Success) Nothing used c d
-      none refl refl refl (success_found loss) (record { claimed = refl; taken = refl; returned = refl }) (rw (append-nil (pin_calls (new_frame s time layers).images)) pinned)
+      done_cells s what (λ given. end_frame_rule s session time blend layers) (λ who reads given. refl) does (with_frame s session (new_frame s session time layers)) (code_on loss Success) Nothing used c d
+      none refl refl refl (success_found loss) (record { claimed = refl; taken = refl; returned = refl }) (rw (append-nil (pin_calls (new_frame s session time layers).images)) pinned)
 
-  pub may_end : (may : C → CellCall → Type 0) (c : C) → MayTouch may does s c what → first_of (refusals (end_frame_rule s session time blend layers)) ≡ None → MayCall may does c (pin_calls (new_frame s time layers).images)
+  pub may_end : (may : C → CellCall → Type 0) (c : C) → MayTouch may does s c what → first_of (refusals (end_frame_rule s session time blend layers)) ≡ None → MayCall may does c (pin_calls (new_frame s session time layers).images)
   may_end may c touch none =
       let calls = may_do s what (λ given. end_frame_rule s session time blend layers) (λ who reads given. refl) does may c 0 used touch none refl refl (record { claimed = refl; taken = refl; returned = refl }) in
-      rw (append-nil (pin_calls (new_frame s time layers).images)) at calls
+      rw (append-nil (pin_calls (new_frame s session time layers).images)) at calls

@@ -95,8 +95,8 @@ module _ (s : CoreState) (session : ℕ) where
 
   -- where nothing refuses the end of a frame, one is begun
   pub begun_where : (time : ℤ) (blend : Blend) (layers : List Layer) → first_of (refusals (end_frame_rule s session time blend layers)) ≡ None → (loop_of s session).has_begun ≡ true
-  begun_where time blend layers none = by (loop_of s session).has_begun refl (none_second front (when (not (loop_of s session).has_begun) CallOrderInvalid ∷ frame_checks (look_of s) time blend layers) none)
+  begun_where time blend layers none = by (loop_of s session).has_begun refl (none_second front (when (not (loop_of s session).has_begun) CallOrderInvalid ∷ frame_checks (look_of s session) time blend layers) none)
     where
-      by : (b : Bool) → (loop_of s session).has_begun ≡ b → first_of (when (not (loop_of s session).has_begun) CallOrderInvalid ∷ frame_checks (look_of s) time blend layers) ≡ None → (loop_of s session).has_begun ≡ true
+      by : (b : Bool) → (loop_of s session).has_begun ≡ b → first_of (when (not (loop_of s session).has_begun) CallOrderInvalid ∷ frame_checks (look_of s session) time blend layers) ≡ None → (loop_of s session).has_begun ≡ true
       by true e none = e
       by false e none = cc

@@ -1,6 +1,6 @@
 -- What a getter answers by its rule, told what the core finds: the session, the action, and the column.
-use Rattle.std.proofs.Common.{◌≡◌, ◌==◌, ◌&&◌, ◌||◌, ℕ, Bool, true, false, not, List, [], ◌∷◌, map, Option, Some, None, option_map, option_and_then, Ok, Err, refl, ap, subst, ◌∙◌}
-use Rattle.std.specs.Prelude.{zero, suc, Result, is_none, slice_get, unwrap_or, if◌then◌else◌}
+use Rattle.std.proofs.Common.{◌≡◌, ◌==◌, ◌&&◌, ◌||◌, ℕ, Bool, true, false, not, List, [], ◌∷◌, map, Option, Some, None, option_map, option_and_then, Ok, Err, refl, sym, ap, ◌∙◌}
+use Rattle.std.specs.Prelude.{zero, suc, Result, is_none, is_some, slice_get, unwrap_or, if◌then◌else◌}
 use Rattle.std.specs.List.{find, list_any}
 use Rattle.xr_types.specs.declared.calls.Actor.{Actor}
 use Rattle.xr_types.specs.declared.calls.Gives.{Gives}
@@ -15,24 +15,26 @@ use Rattle.xr_types.specs.declared.input.User.{User}
 use Rattle.xr_types.specs.declared.input.User.TheVariants as user
 use Rattle.xr_types.specs.Printed.{all_users}
 use Rattle.xr_model.specs.machine.HandlePlaces.{place_among}
-use Rattle.xr_model.specs.machine.LiveSessions.{Session}
+use Rattle.xr_model.specs.machine.LiveSessions.{Session, session_at, shown_in}
 use Rattle.xr_model.specs.machine.PartAnswers.{or_refused}
-use Rattle.xr_model.specs.machine.Publication.{Publication, PublishedAction, ShownColumn, SeenSession, first_seen, seen, publication_of, published_at, published_action, is_session, is_attached, is_attached_action, is_action_of, is_same_type, column_by, column_read, column_from, atom_of_user, user_atom, getter_gives, shown_by, shown_of}
+use Rattle.xr_model.specs.machine.Publication.{Publication, PublishedAction, ShownColumn, publication_of, published_at, published_action, published_session, session_read, loss_read, row_read, shown_row, columns_in, has_attached, has_set_of, is_attached, is_action_of, is_same_type, column_read, column_from, atom_of_user, user_atom, getter_gives, shown_by, shown_of}
 use Rattle.xr_model.specs.machine.Refusals.{Refusal, when, first_of}
 use Rattle.xr_model.specs.machine.CoreCalls.{given_by}
 use Rattle.xr_model.specs.machine.Machine.{rule_of}
 use Rattle.xr_types.specs.declared.calls.Call.{Call}
 use Rattle.xr_model.specs.machine.Rule.{refusals, nothing_done}
+use Rattle.xr_model.specs.machine.Rules.Session.{columns_of}
 use Rattle.xr_model.specs.machine.Rules.Sync.{getter_rule}
-use Rattle.xr_model.specs.machine.SessionLife.{is_lost}
-use Rattle.xr_model.specs.machine.SessionRule.{loss_of, code_on}
+use Rattle.xr_model.specs.machine.SessionLife.{Life, is_lost}
+use Rattle.xr_model.specs.machine.SessionRule.{Loss, loss_of, code_on}
 use Rattle.xr_model.specs.machine.Sets as sets
 use Rattle.xr_model.specs.machine.Sets.{action_at, is_declared}
 use Rattle.xr_model.specs.machine.State.{CoreState, CellReads}
 use Rattle.xr_model.proofs.Keyed.{key_of}
+use Rattle.xr_model.proofs.PublishedPlaces.{Read, session_is_read, action_read, loss_is_read, attached_is_read, row_is_read}
 use Rattle.xr_core.specs.declared.halt.Halt.TheVariants.{Refused}
 use Rattle.xr_core.specs.inside.Deciding.{Decides}
-use Rattle.xr_core.specs.inside.Getters.{named_first}
+use Rattle.xr_core.specs.inside.Getters.{look, named_look}
 use Rattle.xr_core.proofs.Deciding.{refused_decides, effect_decides, ok_none, success_found}
 use Rattle.xr_core.proofs.Plain.{are_plain, first_plain}
 
@@ -43,6 +45,9 @@ refusals_by a b lost d t u =
     when a HandleInvalid ∷ when b HandleInvalid ∷ when lost SessionLost ∷ when false CallOrderInvalid ∷ when d ActionsetNotAttached ∷ when t ActionTypeMismatch ∷ when u PathUnsupported ∷ []
 
 module _ {T : Type 0} (a b lost d t u : Bool) (v : T) where
+  by_session : a ≡ true → or_refused (first_of (refusals_by a b lost d t u)) v ≡ Err HandleInvalid
+  by_session ea = rw ea refl
+
   by_action : a ≡ false → b ≡ true → or_refused (first_of (refusals_by a b lost d t u)) v ≡ Err HandleInvalid
   by_action ea eb = rw (ea, eb) refl
 
@@ -63,28 +68,37 @@ module _ {T : Type 0} (a b lost d t u : Bool) (v : T) where
 
 -- ---- the session
 
-named_is_first : (first : Option SeenSession) (session : ℕ) (x : SeenSession) → named_first first session ≡ Some x → (first ≡ Some x) × (not (session == 0) && (session == x.handle) ≡ true)
-named_is_first None session x named = cc
-named_is_first (Some y) session x named = by (not (session == 0) && (session == y.handle)) refl named
-  where
-    by : (b : Bool) → not (session == 0) && (session == y.handle) ≡ b → (if b then Some y else None) ≡ Some x → (Some y ≡ Some x) × (not (session == 0) && (session == x.handle) ≡ true)
-    by true eb named = let is : y ≡ x = cc in (ap Some is, subst (λ (z : SeenSession). not (session == 0) && (session == z.handle) ≡ true) is eb)
-    by false eb named = cc
+-- the session that is named is the one that is read
+pub record Named (s : CoreState) (session : ℕ) (x : Session) : Type 0 where
+  pub read : Read s session
+  pub same : look read.its ≡ look x
 
--- the first session is named by its handle
-pub first_named : (xs : List Session) (session : ℕ) (x : Session) → slice_get xs 0 ≡ Some x → (session == 0) ≡ false → (session == x.handle) ≡ true → Some (seen x) ≡ named_first (first_seen xs) session
-first_named [] session x is nz named = cc
-first_named (y ∷ ys) session x is nz named = let same : y ≡ x = cc in rw (same, nz, named) refl
+pub named_read : (s : CoreState) (session : ℕ) (x : Session) → named_look s.sessions session ≡ Some (look x) → Named s session x
+named_read s session x named = by (session == 0) (session_at s.sessions session) refl (session_is_read s session) named
+  where
+    same_pair : (a b : Life × Option (List ℕ)) → Some a ≡ Some b → a ≡ b
+    same_pair a b e = cc
+
+    by : (b : Bool) (o : Option Session) → session_at s.sessions session ≡ o → session_read (publication_of s) session ≡ (if b then None else option_map (published_session s.handles s.inputs.actions) o)
+        → (if b then None else option_map look o) ≡ Some (look x) → Named s session x
+    by true o eo is named = cc
+    by false None eo is named = cc
+    by false (Some y) eo is named = record { read = record { its = y; listed = eo; is = is }; same = same_pair (look y) (look x) named }
+
+-- where none is named, none is read
+nobody_read : (s : CoreState) (session : ℕ) → named_look s.sessions session ≡ None → is_none (session_read (publication_of s) session) ≡ true
+nobody_read s session none = ap is_none (session_is_read s session) ∙ by (session == 0) (session_at s.sessions session) none
+  where
+    by : (b : Bool) (o : Option Session) → (if b then None else option_map look o) ≡ None → is_none (if b then None else option_map (published_session s.handles s.inputs.actions) o) ≡ true
+    by true o none = refl
+    by false None none = refl
+    by false (Some y) none = cc
+
+-- a session that is named is listed
+pub named_listed : (s : CoreState) (session : ℕ) (x : Session) → named_look s.sessions session ≡ Some (look x) → is_some (session_at s.sessions session) ≡ true
+named_listed s session x named = ap is_some (named_read s session x named).read.listed
 
 -- ---- the action
-
-find_map : {T U : Type 0} (f : T → U) (p : U → Bool) (q : T → Bool) → ((x : T) → p (f x) ≡ q x) → (xs : List T) → find p (map f xs) ≡ option_map f (find q xs)
-find_map f p q same [] = refl
-find_map f p q same (x ∷ xs) = rw (same x) (by (q x) (find_map f p q same xs))
-  where
-    by : (b : Bool) → find p (map f xs) ≡ option_map f (find q xs) → (if b then Some (f x) else find p (map f xs)) ≡ option_map f (if b then Some x else find q xs)
-    by true more = refl
-    by false more = more
 
 found_passes : {T : Type 0} (p q : T → Bool) (xs : List T) (x : T) → find p xs ≡ Some x → q x ≡ true → list_any q xs ≡ true
 found_passes p q [] x found passes = cc
@@ -153,21 +167,24 @@ module _ (s : CoreState) (wanted : ActionType) (session action sub : ℕ) where
   abbrev found : Option PublishedAction
   found = published_at p action
 
+  abbrev loss : Loss
+  loss = loss_read p session
+
   -- what it is answered as and gives, where nothing refuses it
   abbrev pub told : Code × Gives
-  told = (code_on p.loss Success, getter_gives p wanted found sub)
+  told = (code_on loss Success, getter_gives p wanted session action sub)
 
   abbrev pub answer : Result (Code × Gives) Code
   answer = or_refused (first_of (refusals (getter_rule s wanted session action sub))) told
 
   abbrev a : Bool
-  a = not (is_session p session)
+  a = is_none (session_read p session)
 
   abbrev b : Bool
   b = is_none found
 
   abbrev d : Bool
-  d = not (is_attached_action found)
+  d = not (has_attached p session action)
 
   abbrev t : Bool
   t = not (is_action_of wanted found)
@@ -175,25 +192,25 @@ module _ (s : CoreState) (wanted : ActionType) (session action sub : ℕ) where
   abbrev u : Bool
   u = is_none (column_read p found sub)
 
-  published : found ≡ option_map (published_action (first_seen s.sessions) s.handles s.columns) (action_at s.inputs action)
-  published = find_map (published_action (first_seen s.sessions) s.handles s.columns) (λ (x : PublishedAction). x.handle == action) (λ (x : sets.Action). x.handle == action) (λ x. refl) s.inputs.actions
+  pub no_session : named_look s.sessions session ≡ None → answer ≡ Err HandleInvalid
+  no_session none = by_session a b loss.lost d t u told (nobody_read s session none)
 
-  module _ (x : Session) (named : named_first (first_seen s.sessions) session ≡ Some (seen x)) where
-    first : first_seen s.sessions ≡ Some (seen x)
-    first = (named_is_first (first_seen s.sessions) session (seen x) named).0
+  module _ (x : Session) (named : named_look s.sessions session ≡ Some (look x)) where
+    it : Named s session x
+    it = named_read s session x named
 
     is_it : a ≡ false
-    is_it = rw (first, (named_is_first (first_seen s.sessions) session (seen x) named).1) refl
+    is_it = ap is_none it.read.is
 
-    loss : p.loss ≡ loss_of x.life
-    loss = rw first refl
+    loss_so : loss ≡ loss_of x.life
+    loss_so = loss_is_read s session it.read ∙ ap (λ (l : Life × Option (List ℕ)). loss_of l.0) it.same
 
     pub no_action : action_at s.inputs action ≡ None → answer ≡ Err HandleInvalid
-    no_action none = by_action a b p.loss.lost d t u told is_it (rw (published, none) refl)
+    no_action none = by_action a b loss.lost d t u told is_it (rw (action_read s action, none) refl)
 
     module _ (y : sets.Action) (there : action_at s.inputs action ≡ Some y) where
-      one_published : found ≡ Some (published_action (first_seen s.sessions) s.handles s.columns y)
-      one_published = published ∙ rw there refl
+      one_published : found ≡ Some (published_action y)
+      one_published = action_read s action ∙ rw there refl
 
       has_action : b ≡ false
       has_action = rw one_published refl
@@ -202,29 +219,31 @@ module _ (s : CoreState) (wanted : ActionType) (session action sub : ℕ) where
       refused_by_loss code told_so = by x.life.lost refl told_so
         where
           by : (l : Bool) → x.life.lost ≡ l → or_refused (if l then Some (when l SessionLost) else None) (code_on (loss_of x.life) Success) ≡ Err code → answer ≡ Err code
-          by true el told_so = let is : SessionLost ≡ code = cc in by_loss a b p.loss.lost d t u told is_it has_action (rw loss el) ∙ ap Err is
+          by true el told_so = let is : SessionLost ≡ code = cc in by_loss a b loss.lost d t u told is_it has_action (rw loss_so el) ∙ ap Err is
           by false el told_so = cc
 
       module _ (success : Code) (lives : or_refused (first_of (is_lost x.life ∷ [])) (code_on (loss_of x.life) Success) ≡ Ok success) where
-        isnt_lost : p.loss.lost ≡ false
-        isnt_lost = rw loss (by x.life.lost refl lives)
+        isnt_lost : loss.lost ≡ false
+        isnt_lost = rw loss_so (by x.life.lost refl lives)
           where
             by : (l : Bool) → x.life.lost ≡ l → or_refused (if l then Some (when l SessionLost) else None) (code_on (loss_of x.life) Success) ≡ Ok success → x.life.lost ≡ false
             by true el lives = cc
             by false el lives = el
 
-        is_success : code_on p.loss Success ≡ success
-        is_success = rw loss (by x.life.lost lives)
+        is_success : code_on loss Success ≡ success
+        is_success = rw loss_so (by x.life.lost lives)
           where
             by : (l : Bool) → or_refused (if l then Some (when l SessionLost) else None) (code_on (loss_of x.life) Success) ≡ Ok success → code_on (loss_of x.life) Success ≡ success
             by true lives = cc
             by false lives = cc
 
-        attached_so : is_attached_action found ≡ is_attached x.attached y.set
-        attached_so = rw (one_published, first) refl
+        attached_so : has_attached p session action ≡ is_attached x.attached y.set
+        attached_so =
+            attached_is_read s session it.read action ∙ ap (λ (o : Option sets.Action). unwrap_or (option_map (has_set_of it.read.its.attached) o) false) there
+            ∙ ap (λ (l : Life × Option (List ℕ)). is_attached l.1 y.set) it.same
 
         pub refused_by_set : is_attached x.attached y.set ≡ false → answer ≡ Err ActionsetNotAttached
-        refused_by_set other = by_set a b p.loss.lost d t u told is_it has_action isnt_lost (rw (attached_so, other) refl)
+        refused_by_set other = by_set a b loss.lost d t u told is_it has_action isnt_lost (rw (attached_so, other) refl)
 
         module _ (attached : is_attached x.attached y.set ≡ true) where
           has_set : d ≡ false
@@ -234,7 +253,7 @@ module _ (s : CoreState) (wanted : ActionType) (session action sub : ℕ) where
           of_type = rw one_published refl
 
           pub refused_by_type : is_same_type y.type wanted ≡ false → answer ≡ Err ActionTypeMismatch
-          refused_by_type other = by_type a b p.loss.lost d t u told is_it has_action isnt_lost has_set (rw (of_type, other) refl)
+          refused_by_type other = by_type a b loss.lost d t u told is_it has_action isnt_lost has_set (rw (of_type, other) refl)
 
           module _ (typed : is_same_type y.type wanted ≡ true) (users : List ℕ) (known : users ≡ map (user_atom s.atoms) all_users) where
             has_type : t ≡ false
@@ -244,23 +263,26 @@ module _ (s : CoreState) (wanted : ActionType) (session action sub : ℕ) where
             column_so = rw (one_published, known) (ap (λ (o : Option ℕ). if sub == 0 then Some 0 else o) (column_same s.atoms s.inputs.actions action sub y there))
 
             pub refused_by_path : (if sub == 0 then Some 0 else column_from 1 users y.declared sub) ≡ None → answer ≡ Err PathUnsupported
-            refused_by_path none = by_path a b p.loss.lost d t u told is_it has_action isnt_lost has_set has_type (rw (column_so, none) refl)
+            refused_by_path none = by_path a b loss.lost d t u told is_it has_action isnt_lost has_set has_type (rw (column_so, none) refl)
 
             module _ (column : ℕ) (has : (if sub == 0 then Some 0 else column_from 1 users y.declared sub) ≡ Some column) where
               -- what the column of the action's place shows
               abbrev shown : Gives
-              shown = unwrap_or (option_map (λ c. shown_by wanted (shown_of c)) (option_and_then (λ place. option_and_then (λ row. slice_get row column) (slice_get s.columns place)) (place_among s.handles kind.Action action))) Nothing
+              shown = unwrap_or (option_map (λ c. shown_by wanted (shown_of c)) (option_and_then (λ place. option_and_then (λ row. slice_get row column) (slice_get (columns_of s session) place)) (place_among s.handles kind.Action action))) Nothing
 
-              gives_so : getter_gives p wanted found sub ≡ shown
+              gives_so : getter_gives p wanted session action sub ≡ shown
               gives_so =
-                  let it : PublishedAction = published_action (first_seen s.sessions) s.handles s.columns y in
-                  let read : column_by p it sub ≡ Some column = rw one_published at (column_so ∙ has) in
                   let own : y.handle ≡ action = key_of (λ (x : sets.Action). x.handle) s.inputs.actions action y there in
-                  let shows : unwrap_or (option_map (shown_by wanted) (option_and_then (λ k. slice_get it.columns k) (column_by p it sub))) Nothing ≡ shown = rw (read, own) (shown_same wanted s.columns column (place_among s.handles kind.Action action)) in
-                  rw one_published shows
+                  let columns : it.read.its.columns ≡ columns_of s session = ap shown_in (sym it.read.listed) in
+                  let row : row_read p session action ≡ Some (map shown_of (columns_in s.handles (columns_of s session) action)) =
+                  row_is_read s session it.read action ∙ ap (option_map (shown_row s.handles it.read.its.columns)) there
+                  ∙ ap (λ (k : ℕ). Some (map shown_of (columns_in s.handles it.read.its.columns k))) own ∙ ap (λ (cs : List (List Column)). Some (map shown_of (columns_in s.handles cs action))) columns in
+                  ap (λ (o : Option ℕ). unwrap_or (option_map (shown_by wanted) (option_and_then (λ k. option_and_then (λ r. slice_get r k) (row_read p session action)) o)) Nothing) (column_so ∙ has)
+                  ∙ ap (λ (o : Option (List ShownColumn)). unwrap_or (option_map (shown_by wanted) (option_and_then (λ r. slice_get r column) o)) Nothing) row
+                  ∙ shown_same wanted (columns_of s session) column (place_among s.handles kind.Action action)
 
               pub gives : answer ≡ Ok (success, shown)
-              gives = by_none a b p.loss.lost d t u told is_it has_action isnt_lost has_set has_type (rw (column_so, has) refl) ∙ ap Ok (rw (is_success, gives_so) refl)
+              gives = by_none a b loss.lost d t u told is_it has_action isnt_lost has_set has_type (rw (column_so, has) refl) ∙ ap Ok (rw (is_success, gives_so) refl)
 
 -- ---- each call whose rule is that of a getter
 
@@ -289,10 +311,10 @@ module _ (s : CoreState) (wanted : ActionType) (session action sub : ℕ) (what 
   pub getter_answered : (success : Code) (value : Gives) → answer s wanted session action sub ≡ Ok (success, value) → Decides s what s (Ok (record { code = success; gives = value; place = 0 }))
   getter_answered success value told_so =
       let both = ok_none (first_of (refusals (getter_rule s wanted session action sub))) (told s wanted session action sub) (success, value) told_so in
-      let loss = (publication_of s).loss in
+      let loss = loss_read (publication_of s) session in
       let code : success ≡ code_on loss Success = ap (λ (x : Code × Gives). x.0) both.1 in
-      let gives : value ≡ getter_gives (publication_of s) wanted (published_at (publication_of s) action) sub = ap (λ (x : Code × Gives). x.1) both.1 in
+      let gives : value ≡ getter_gives (publication_of s) wanted session action sub = ap (λ (x : Code × Gives). x.1) both.1 in
       rw (code, gives)
-      (effect_decides s what (λ given. getter_rule s wanted session action sub) s (code_on loss Success) (getter_gives (publication_of s) wanted (published_at (publication_of s) action) sub) nothing_done
-      (λ who reads. same who reads (given_by (getter_gives (publication_of s) wanted (published_at (publication_of s) action) sub))) both.0 refl refl
-      (gives_no_handle wanted (option_and_then (λ a. option_and_then (λ k. slice_get a.columns k) (column_by (publication_of s) a sub)) (published_at (publication_of s) action))) (success_found loss))
+      (effect_decides s what (λ given. getter_rule s wanted session action sub) s (code_on loss Success) (getter_gives (publication_of s) wanted session action sub) nothing_done
+      (λ who reads. same who reads (given_by (getter_gives (publication_of s) wanted session action sub))) both.0 refl refl
+      (gives_no_handle wanted (option_and_then (λ k. option_and_then (λ row. slice_get row k) (row_read (publication_of s) session action)) (column_read (publication_of s) (published_at (publication_of s) action) sub))) (success_found loss))

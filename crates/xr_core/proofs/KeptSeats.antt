@@ -1,18 +1,21 @@
--- That the listed sessions are live ones with a slot each, and each slot has a loop, call by call.
+-- That the listed sessions are live ones with a slot each, and each slot has a loop and columns, call by call.
 use Rattle.std.proofs.Common.{◌≡◌, ◌≢◌, ◌≤◌, ◌+◌, ◌==◌, ◌&&◌, ℕ, Bool, true, false, not, List, [], ◌∷◌, ◌++◌, map, replicate, Option, Some, None, refl, sym, ap, subst, ◌∙◌, arith, true≢false}
-use Rattle.std.specs.Prelude.{slice_set, is_some, if◌then◌else◌}
+use Rattle.std.specs.Prelude.{length, slice_set, is_some, if◌then◌else◌}
 use Rattle.std.specs.List.{filter, list_all}
 use Rattle.xr_types.specs.declared.handles.Kind.{Kind}
 use Rattle.xr_types.specs.declared.handles.Kind.TheVariants as kind
 use Rattle.xr_types.specs.declared.handles.Slot.{Slot}
+use Rattle.xr_types.specs.declared.input.Column.{Column}
 use Rattle.xr_types.specs.declared.handles.TheConstants.{INSTANCES, SESSIONS, ACTION_SETS, ACTIONS, SPACES, SWAPCHAINS}
 use Rattle.xr_model.specs.laws.HandleLaws.{count_in, StandOnce}
 use Rattle.xr_model.specs.laws.Soundness.{AreKnown}
+use Rattle.xr_model.specs.machine.Destroyed.{has_action, left_session, sessions_left}
 use Rattle.xr_model.specs.machine.Frames.{FrameLoop, new_loop, begun_loop}
 use Rattle.xr_model.specs.machine.HandlePlaces.{place_in}
 use Rattle.xr_model.specs.machine.Handles.{Handles, no_handles, has, is_live, has_room, was_given, with_handle, without, without_alone, destroyed_by, destroyed_instances}
-use Rattle.xr_model.specs.machine.LiveSessions.{Session, session_at, with_frame_loop, with_session_at, without_sets, still_live, sessions_left, each_changed}
+use Rattle.xr_model.specs.machine.LiveSessions.{Session, session_at, with_frame_loop, with_columns, with_session_at, without_sets, still_live, each_changed}
 use Rattle.xr_model.specs.machine.SessionLife.{Changed}
+use Rattle.xr_model.specs.machine.Sync.{left_columns, no_columns}
 use Rattle.xr_model.proofs.Destroying.{known_put, known_without, known_alone}
 use Rattle.xr_model.proofs.Keyed.{found_map, found_left}
 use Rattle.xr_model.proofs.Listed.{listed_none, listed_lives, listed_each, listed_left}
@@ -20,11 +23,11 @@ use Rattle.xr_model.proofs.Rows.{same_key, is_false, both_of, not_true, hasnt_fr
 use Rattle.xr_model.proofs.StandOnce.{once_put, once_without, once_alone, none_once}
 use Rattle.xr_frames.specs.Slots.{SlotFrames, loop_at, with_loop_at}
 use Rattle.xr_core.specs.inside.Housed.{count_listed, AreHoused}
-use Rattle.xr_core.specs.inside.Seats.{loop_on, seat, seated, with_loop_on, with_own_loop, AreSeated}
+use Rattle.xr_core.specs.inside.Seats.{in_slot, with_in_slot, seat, seated, with_loop_on, with_own_loop, with_own_columns, AreSeated}
 use Rattle.xr_core.proofs.Housed.{housed_more}
 use Rattle.xr_core.proofs.KeptLive.{names_more}
 use Rattle.xr_core.proofs.Listed.{listed_give}
-use Rattle.xr_core.proofs.Seats.{same_place, stays_given, stays_left, loop_else, loop_new, as_many_loops}
+use Rattle.xr_core.proofs.Seats.{stays_given, stays_left, in_new, others_keep, as_many}
 use Rattle.xr_core.proofs.Seated.{filtered_seated, forgotten_seated, same_seats, seated_more}
 
 -- ---- what is known of a listed session
@@ -41,8 +44,8 @@ pub stands_once : (h : Handles) (k : ℕ) → StandOnce h → (k == 0) ≡ false
 stands_once h k once nz = let all = once k nz in omega (arith, all)
 
 -- and it is listed once
-pub listed_once : (loops : List FrameLoop) (h : Handles) (xs : List Session) (k : ℕ) → AreSeated loops h xs → is_live h kind.Session k ≡ true → count_listed (map (λ x. x.handle) xs) k ≤ 1
-listed_once loops h xs k kept live =
+pub listed_once : (loops : List FrameLoop) (columns : List (List (List Column))) (h : Handles) (xs : List Session) (k : ℕ) → AreSeated loops columns h xs → is_live h kind.Session k ≡ true → count_listed (map (λ x. x.handle) xs) k ≤ 1
+listed_once loops columns h xs k kept live =
     let nz = live_named h k live in
     let most = kept.housed.housed k nz in
     let one = stands_once h k kept.once nz in
@@ -60,13 +63,14 @@ none_known k nz new = record {
   chains = hasnt_free SWAPCHAINS k nz;
 }
 
-pub none_seated : AreSeated (replicate SESSIONS new_loop) no_handles []
+pub none_seated : AreSeated (replicate SESSIONS new_loop) (replicate SESSIONS no_columns) no_handles []
 none_seated = record {
   listed = listed_none;
   housed = record { named = refl; housed = λ k nz. omega arith };
   known = none_known;
   once = none_once;
   loops_stand = refl;
+  columns_stand = refl;
 }
 
 -- ---- sessions and loops change
@@ -79,71 +83,84 @@ names_changed handle f same (x ∷ xs) = by (x.handle == handle) (names_changed 
     by true more = ap (λ (n : ℕ). n ∷ map (λ y. y.handle) xs) (same x)
     by false more = ap (λ (ns : List ℕ). x.handle ∷ ns) more
 
-pub kept_changed : (loops : List FrameLoop) (h : Handles) (xs : List Session) (handle : ℕ) (f : Session → Session) → ((x : Session) → (f x).handle ≡ x.handle) → AreSeated loops h xs → AreSeated loops h (with_session_at handle f xs)
-kept_changed loops h xs handle f same kept = record {
+pub kept_changed : (loops : List FrameLoop) (columns : List (List (List Column))) (h : Handles) (xs : List Session) (handle : ℕ) (f : Session → Session) → ((x : Session) → (f x).handle ≡ x.handle) → AreSeated loops columns h xs → AreSeated loops columns h (with_session_at handle f xs)
+kept_changed loops columns h xs handle f same kept = record {
   listed = listed_lives h xs handle f same kept.listed;
   housed = subst (λ (ns : List ℕ). AreHoused ns h.sessions) (sym (names_changed handle f same xs)) kept.housed;
   known = kept.known;
   once = kept.once;
   loops_stand = kept.loops_stand;
+  columns_stand = kept.columns_stand;
 }
 
 names_each : (f : Session → Changed) (xs : List Session) → map (λ x. x.handle) (each_changed f xs) ≡ map (λ x. x.handle) xs
 names_each f [] = refl
 names_each f (x ∷ xs) = ap (λ (ns : List ℕ). x.handle ∷ ns) (names_each f xs)
 
-pub kept_each : (loops : List FrameLoop) (h : Handles) (xs : List Session) (f : Session → Changed) → AreSeated loops h xs → AreSeated loops h (each_changed f xs)
-kept_each loops h xs f kept = record {
+pub kept_each : (loops : List FrameLoop) (columns : List (List (List Column))) (h : Handles) (xs : List Session) (f : Session → Changed) → AreSeated loops columns h xs → AreSeated loops columns h (each_changed f xs)
+kept_each loops columns h xs f kept = record {
   listed = listed_each h f xs kept.listed;
   housed = subst (λ (ns : List ℕ). AreHoused ns h.sessions) (sym (names_each f xs)) kept.housed;
   known = kept.known;
   once = kept.once;
   loops_stand = kept.loops_stand;
+  columns_stand = kept.columns_stand;
 }
 
-pub kept_loop : (loops : List FrameLoop) (h : Handles) (xs : List Session) (slot : ℕ) (l : FrameLoop) → AreSeated loops h xs → AreSeated (slice_set loops slot l) h xs
-kept_loop loops h xs slot l kept = record { listed = kept.listed; housed = kept.housed; known = kept.known; once = kept.once; loops_stand = as_many_loops loops slot l ∙ kept.loops_stand }
+module _ (loops : List FrameLoop) (columns : List (List (List Column))) (h : Handles) (xs : List Session) where
+  pub kept_loop : (slot : ℕ) (l : FrameLoop) → AreSeated loops columns h xs → AreSeated (slice_set loops slot l) columns h xs
+  kept_loop slot l kept = record { listed = kept.listed; housed = kept.housed; known = kept.known; once = kept.once; loops_stand = as_many loops slot l ∙ kept.loops_stand; columns_stand = kept.columns_stand }
 
-pub kept_own : (f : SlotFrames) (h : Handles) (xs : List Session) (row : List Slot) (session : ℕ) (l : FrameLoop) → AreSeated f.loops h xs → AreSeated (with_own_loop f row session l).loops h xs
-kept_own f h xs row session l kept = by (place_in row session)
+  pub kept_columns : (new : List (List (List Column))) → length new ≡ length columns → AreSeated loops columns h xs → AreSeated loops new h xs
+  kept_columns new same kept = record { listed = kept.listed; housed = kept.housed; known = kept.known; once = kept.once; loops_stand = kept.loops_stand; columns_stand = same ∙ kept.columns_stand }
+
+  pub kept_shown : (slot : ℕ) (shown : List (List Column)) → AreSeated loops columns h xs → AreSeated loops (slice_set columns slot shown) h xs
+  kept_shown slot shown kept = kept_columns (slice_set columns slot shown) (as_many columns slot shown) kept
+
+pub kept_own : (f : SlotFrames) (columns : List (List (List Column))) (h : Handles) (xs : List Session) (row : List Slot) (session : ℕ) (l : FrameLoop) (shown : List (List Column)) → AreSeated f.loops columns h xs
+    → AreSeated (with_own_loop f row session l).loops (with_own_columns columns row session shown) h xs
+kept_own f columns h xs row session l shown kept = by (place_in row session)
   where
-    by : (o : Option ℕ) → AreSeated (with_loop_on f o l).loops h xs
+    by : (o : Option ℕ) → AreSeated (with_loop_on f o l).loops (with_in_slot columns o shown) h xs
     by None = kept
-    by (Some slot) = kept_loop f.loops h xs slot l kept
+    by (Some slot) = kept_shown (slice_set f.loops slot l) columns h xs slot shown (kept_loop f.loops columns h xs slot l kept)
 
-pub kept_begun : (f new : SlotFrames) (h : Handles) (xs : List Session) (slot : ℕ) → new ≡ (if (loop_at f slot).has_waited then with_loop_at f slot (begun_loop (loop_at f slot)) else f) → AreSeated f.loops h xs → AreSeated new.loops h xs
-kept_begun f new h xs slot told kept = rw told (by (loop_at f slot).has_waited)
+pub kept_begun : (f : SlotFrames) (columns : List (List (List Column))) (new : SlotFrames) (h : Handles) (xs : List Session) (slot : ℕ) → new ≡ (if (loop_at f slot).has_waited then with_loop_at f slot (begun_loop (loop_at f slot)) else f) → AreSeated f.loops columns h xs
+    → AreSeated new.loops columns h xs
+kept_begun f columns new h xs slot told kept = rw told (by (loop_at f slot).has_waited)
   where
-    by : (b : Bool) → AreSeated (if b then with_loop_at f slot (begun_loop (loop_at f slot)) else f).loops h xs
-    by true = kept_loop f.loops h xs slot (begun_loop (loop_at f slot)) kept
+    by : (b : Bool) → AreSeated (if b then with_loop_at f slot (begun_loop (loop_at f slot)) else f).loops columns h xs
+    by true = kept_loop f.loops columns h xs slot (begun_loop (loop_at f slot)) kept
     by false = kept
 
 -- ---- a handle of another kind comes or goes
 
-pub kept_given : (loops : List FrameLoop) (h new : Handles) (xs : List Session) (kind : Kind) (parent given : ℕ) → new ≡ with_handle h kind parent given → (with_handle h kind parent given).sessions ≡ h.sessions
-    → (given ≢ 0) × (was_given h given ≡ false) → AreSeated loops h xs → AreSeated loops new xs
-kept_given loops h new xs kind parent given is same fresh kept = rw is (record {
+pub kept_given : (loops : List FrameLoop) (columns : List (List (List Column))) (h new : Handles) (xs : List Session) (kind : Kind) (parent given : ℕ) → new ≡ with_handle h kind parent given → (with_handle h kind parent given).sessions ≡ h.sessions
+    → (given ≢ 0) × (was_given h given ≡ false) → AreSeated loops columns h xs → AreSeated loops columns new xs
+kept_given loops columns h new xs kind parent given is same fresh kept = rw is (record {
   listed = λ k. kept.listed k ∙ ap (λ (row : List Slot). not (k == 0) && has row k) (sym same);
   housed = subst (λ (row : List Slot). AreHoused (map (λ x. x.handle) xs) row) (sym same) kept.housed;
   known = known_put h kind parent given kept.known;
   once = once_put h kind parent given fresh kept.known kept.once;
   loops_stand = kept.loops_stand;
+  columns_stand = kept.columns_stand;
 })
 
-pub kept_alone : (loops : List FrameLoop) (h new : Handles) (xs : List Session) (kind : Kind) (gone : ℕ) → new ≡ without_alone h kind gone → (without_alone h kind gone).sessions ≡ h.sessions → AreSeated loops h xs → AreSeated loops new xs
-kept_alone loops h new xs kind gone is same kept = rw is (record {
+pub kept_alone : (loops : List FrameLoop) (columns : List (List (List Column))) (h new : Handles) (xs : List Session) (kind : Kind) (gone : ℕ) → new ≡ without_alone h kind gone → (without_alone h kind gone).sessions ≡ h.sessions → AreSeated loops columns h xs → AreSeated loops columns new xs
+kept_alone loops columns h new xs kind gone is same kept = rw is (record {
   listed = λ k. kept.listed k ∙ ap (λ (row : List Slot). not (k == 0) && has row k) (sym same);
   housed = subst (λ (row : List Slot). AreHoused (map (λ x. x.handle) xs) row) (sym same) kept.housed;
   known = known_alone h kind gone kept.known;
   once = once_alone h kind gone kept.once;
   loops_stand = kept.loops_stand;
+  columns_stand = kept.columns_stand;
 })
 
 -- ---- a session more
 
-pub kept_session : (loops : List FrameLoop) (h new : Handles) (xs ys : List Session) (x : Session) (instance given : ℕ) → has_room h kind.Session ≡ true → new ≡ with_handle h kind.Session instance given → x.handle ≡ given → (given == 0) ≡ false
-    → (given ≢ 0) × (was_given h given ≡ false) → ys ≡ xs ++ x ∷ [] → AreSeated loops h xs → AreSeated loops new ys
-kept_session loops h new xs ys x instance given room is named nz fresh more kept =
+pub kept_session : (loops : List FrameLoop) (columns : List (List (List Column))) (h new : Handles) (xs ys : List Session) (x : Session) (instance given : ℕ) → has_room h kind.Session ≡ true → new ≡ with_handle h kind.Session instance given → x.handle ≡ given → (given == 0) ≡ false
+    → (given ≢ 0) × (was_given h given ≡ false) → ys ≡ xs ++ x ∷ [] → AreSeated loops columns h xs → AreSeated loops columns new ys
+kept_session loops columns h new xs ys x instance given room is named nz fresh more kept =
     let listed = listed_give h new xs ys x instance given room is named nz more kept.listed in
     record {
       listed = listed;
@@ -151,69 +168,84 @@ kept_session loops h new xs ys x instance given room is named nz fresh more kept
       known = rw is (known_put h kind.Session instance given kept.known);
       once = rw is (once_put h kind.Session instance given fresh kept.known kept.once);
       loops_stand = kept.loops_stand;
+      columns_stand = kept.columns_stand;
     }
 
 -- its handle is live
 pub live_given : (h new : Handles) (instance given : ℕ) → has_room h kind.Session ≡ true → new ≡ with_handle h kind.Session instance given → (given == 0) ≡ false → is_live new kind.Session given ≡ true
 live_given h new instance given room is nz = rw (is, nz) (has_new (record { handle = given; parent = instance }) h.sessions room)
 
-module _ (f : SlotFrames) (h : Handles) (xs : List Session) (instance given : ℕ) (nz : (given == 0) ≡ false) (fresh : was_given h given ≡ false) (kept : AreSeated f.loops h xs) where
+module _ (f : SlotFrames) (columns : List (List (List Column))) (h : Handles) (xs : List Session) (instance given : ℕ) (nz : (given == 0) ≡ false) (fresh : was_given h given ≡ false) (kept : AreSeated f.loops columns h xs) where
   abbrev row : List Slot
   row = (with_handle h kind.Session instance given).sessions
 
   abbrev loops : List FrameLoop
   loops = (with_own_loop f row given new_loop).loops
 
+  abbrev shown : List (List (List Column))
+  shown = with_own_columns columns row given no_columns
+
+  loops_are : (o : Option ℕ) → (with_loop_on f o new_loop).loops ≡ with_in_slot f.loops o new_loop
+  loops_are None = refl
+  loops_are (Some slot) = refl
+
   absent : has h.sessions given ≡ false
   absent = (kept.known given nz fresh).sessions
 
-  new_on : (o : Option ℕ) → loop_on (with_loop_on f o new_loop).loops o ≡ new_loop
-  new_on None = refl
-  new_on (Some slot) = loop_new f.loops slot
-
-  new_seat : (x : Session) → x.handle ≡ given → x.frame_loop ≡ new_loop → seat loops row x ≡ x
-  new_seat x named new =
-      let here : loop_on loops (place_in row x.handle) ≡ x.frame_loop = ap (λ (k : ℕ). loop_on loops (place_in row k)) named ∙ new_on (place_in row given) ∙ sym new in
-      ap (λ (l : FrameLoop). with_frame_loop l x) here
+  new_seat : (x : Session) → x.handle ≡ given → x.frame_loop ≡ new_loop → x.columns ≡ no_columns → seat loops shown row x ≡ x
+  new_seat x named new bare =
+      let here : in_slot new_loop loops (place_in row x.handle) ≡ x.frame_loop =
+      ap (λ (k : ℕ). in_slot new_loop loops (place_in row k)) named ∙ ap (λ (ls : List FrameLoop). in_slot new_loop ls (place_in row given)) (loops_are (place_in row given)) ∙ in_new new_loop f.loops (place_in row given) ∙ sym new in
+      let nothing : in_slot no_columns shown (place_in row x.handle) ≡ x.columns = ap (λ (k : ℕ). in_slot no_columns shown (place_in row k)) named ∙ in_new no_columns columns (place_in row given) ∙ sym bare in
+      ap (λ (l : FrameLoop). with_frame_loop l (seat loops shown row x)) here ∙ ap (λ (c : List (List Column)). with_columns c x) nothing
 
   is_another : (k : ℕ) → is_some (session_at xs k) ≡ true → k ≡ given → ⊥
   is_another k there same = true≢false (sym (live_there h given (subst (λ (n : ℕ). is_live h kind.Session n ≡ true) same (sym (kept.listed k) ∙ there))) ∙ absent)
 
-  keeps : (k : ℕ) → (k ≡ given → ⊥) → (o p : Option ℕ) → place_in row given ≡ o → place_in row k ≡ p → loop_on (with_loop_on f o new_loop).loops p ≡ loop_on f.loops p
-  keeps k apart None p eo ep = refl
-  keeps k apart (Some slot) None eo ep = refl
-  keeps k apart (Some slot) (Some q) eo ep = loop_else f.loops slot q new_loop (λ same. apart (same_place row k given slot (subst (λ (n : ℕ). place_in row k ≡ Some n) (sym same) ep) eo))
-
-  others : seated loops row xs ≡ seated f.loops h.sessions xs
-  others = same_seats f.loops loops h.sessions row xs (λ k there.
+  others : seated loops shown row xs ≡ seated f.loops columns h.sessions xs
+  others = same_seats f.loops loops columns shown h.sessions row xs (λ k there.
       let apart = is_another k there in
       let live = sym (kept.listed k) ∙ there in
       let differ : (given == k) ≡ false = is_false (given == k) (λ e. apart (sym (same_key given k e))) in
-      keeps k apart (place_in row given) (place_in row k) refl refl ∙ ap (λ (o : Option ℕ). loop_on f.loops o) (stays_given (record { handle = given; parent = instance }) h.sessions k (live_named h k live) differ))
+      let stays = stays_given (record { handle = given; parent = instance }) h.sessions k (live_named h k live) differ in (
+        ap (λ (ls : List FrameLoop). in_slot new_loop ls (place_in row k)) (loops_are (place_in row given)) ∙ others_keep new_loop row given f.loops new_loop k apart ∙ ap (λ (o : Option ℕ). in_slot new_loop f.loops o) stays,
+        others_keep no_columns row given columns no_columns k apart ∙ ap (λ (o : Option ℕ). in_slot no_columns columns o) stays,
+      ))
 
-  -- it has a new loop, and the others keep theirs
-  pub given_seated : (new : Handles) (ys : List Session) (x : Session) → new ≡ with_handle h kind.Session instance given → x.handle ≡ given → x.frame_loop ≡ new_loop → ys ≡ xs ++ x ∷ []
-      → seated (with_own_loop f new.sessions given new_loop).loops new.sessions ys ≡ seated f.loops h.sessions xs ++ x ∷ []
-  given_seated new ys x is named loop more =
-      rw (is, more) (seated_more loops row xs x ∙ ap (λ (zs : List Session). zs ++ seat loops row x ∷ []) others ∙ ap (λ (y : Session). seated f.loops h.sessions xs ++ y ∷ []) (new_seat x named loop))
+  -- it has a new loop and shows nothing, and the others keep what they have
+  pub given_seated : (new : Handles) (ys : List Session) (x : Session) → new ≡ with_handle h kind.Session instance given → x.handle ≡ given → x.frame_loop ≡ new_loop → x.columns ≡ no_columns → ys ≡ xs ++ x ∷ []
+      → seated (with_own_loop f new.sessions given new_loop).loops (with_own_columns columns new.sessions given no_columns) new.sessions ys ≡ seated f.loops columns h.sessions xs ++ x ∷ []
+  given_seated new ys x is named loop bare more =
+      rw (is, more)
+      (seated_more loops shown row xs x ∙ ap (λ (zs : List Session). zs ++ seat loops shown row x ∷ []) others ∙ ap (λ (y : Session). seated f.loops columns h.sessions xs ++ y ∷ []) (new_seat x named loop bare))
 
 -- ---- handles are destroyed
 
 -- a session that is left was listed, and is live
-left_live : (h : Handles) (gone : List ℕ) (xs : List Session) (k : ℕ) → is_some (session_at (sessions_left h gone xs) k) ≡ true → is_live h kind.Session k ≡ true
+left_live : (h : Handles) (gone : List ℕ) (xs : List Session) (k : ℕ) → is_some (session_at (map (without_sets gone) (still_live h xs)) k) ≡ true → is_live h kind.Session k ≡ true
 left_live h gone xs k there =
     (both_of (is_live h kind.Session k) (is_some (session_at xs k))
     (sym (found_left (λ (x : Session). x.handle) (λ n. is_live h kind.Session n) xs k) ∙ sym (found_map (λ (x : Session). x.handle) (without_sets gone) (λ x. refl) (still_live h xs) k) ∙ there)).0
 
-pub left_seated : (loops : List FrameLoop) (h : Handles) (handle : ℕ) (xs : List Session) → StandOnce h
-    → seated loops (without h handle).sessions (sessions_left (without h handle) (destroyed_by h handle) xs) ≡ sessions_left (without h handle) (destroyed_by h handle) (seated loops h.sessions xs)
-left_seated loops h handle xs once =
-    same_seats loops loops h.sessions (without h handle).sessions (sessions_left (without h handle) (destroyed_by h handle) xs) (λ k there.
-    let live = left_live (without h handle) (destroyed_by h handle) xs k there in
+left_then : (h : Handles) (gone : List ℕ) (xs : List Session) → map (λ x. with_columns (left_columns (has_action h.actions) x.columns) x) (map (without_sets gone) xs) ≡ map (left_session h gone) xs
+left_then h gone [] = refl
+left_then h gone (x ∷ xs) = ap (λ (ys : List Session). left_session h gone x ∷ ys) (left_then h gone xs)
+
+-- those that are left keep what their slots keep, but for what actions that went showed in them
+pub left_seated : (loops : List FrameLoop) (columns : List (List (List Column))) (h : Handles) (handle : ℕ) (xs : List Session) → StandOnce h
+    → map (λ x. with_columns (left_columns (has_action (without h handle).actions) x.columns) x) (seated loops columns (without h handle).sessions (map (without_sets (destroyed_by h handle)) (still_live (without h handle) xs)))
+    ≡ sessions_left (without h handle) (destroyed_by h handle) (seated loops columns h.sessions xs)
+left_seated loops columns h handle xs once =
+    let gone = destroyed_by h handle in
+    ap (λ (ys : List Session). map (λ x. with_columns (left_columns (has_action (without h handle).actions) x.columns) x) ys)
+    (same_seats loops loops columns columns h.sessions (without h handle).sessions (map (without_sets gone) (still_live (without h handle) xs)) (λ k there.
+    let live = left_live (without h handle) gone xs k there in
     let nz = live_named (without h handle) k live in
-    ap (λ (o : Option ℕ). loop_on loops o) (stays_left handle (destroyed_instances h handle) h.sessions k nz (stands_once h k once nz) (live_there (without h handle) k live)))
-    ∙ sym (forgotten_seated loops h.sessions (destroyed_by h handle) (still_live (without h handle) xs))
-    ∙ ap (λ (ys : List Session). map (without_sets (destroyed_by h handle)) ys) (sym (filtered_seated loops h.sessions (λ n. is_live (without h handle) kind.Session n) xs))
+    let stays = stays_left handle (destroyed_instances h handle) h.sessions k nz (stands_once h k once nz) (live_there (without h handle) k live) in
+    (ap (λ (o : Option ℕ). in_slot new_loop loops o) stays, ap (λ (o : Option ℕ). in_slot no_columns columns o) stays))
+    ∙ sym (forgotten_seated loops columns h.sessions gone (still_live (without h handle) xs))
+    ∙ ap (λ (ys : List Session). map (without_sets gone) ys) (sym (filtered_seated loops columns h.sessions (λ n. is_live (without h handle) kind.Session n) xs)))
+    ∙ left_then (without h handle) gone (still_live (without h handle) (seated loops columns h.sessions xs))
 
 counted_none : (p : ℕ → Bool) (xs : List Session) (k : ℕ) → p k ≡ false → count_listed (map (λ x. x.handle) (filter (λ x. p x.handle) xs)) k ≡ 0
 counted_none p [] k away = refl
@@ -249,9 +281,11 @@ forgotten_names : (gone : List ℕ) (xs : List Session) → map (λ x. x.handle)
 forgotten_names gone [] = refl
 forgotten_names gone (x ∷ xs) = ap (λ (ns : List ℕ). x.handle ∷ ns) (forgotten_names gone xs)
 
-pub kept_left : (loops : List FrameLoop) (h : Handles) (handle : ℕ) (xs : List Session) → AreSeated loops h xs → AreSeated loops (without h handle) (sessions_left (without h handle) (destroyed_by h handle) xs)
-kept_left loops h handle xs kept = record {
-  listed = listed_left h handle xs kept.listed;
+pub kept_left : (loops : List FrameLoop) (columns : List (List (List Column))) (h : Handles) (handle : ℕ) (xs : List Session) → AreSeated loops columns h xs → AreSeated loops columns (without h handle) (map (without_sets (destroyed_by h handle)) (still_live (without h handle) xs))
+kept_left loops columns h handle xs kept = record {
+  listed = λ k.
+      found_map (λ (x : Session). x.handle) (without_sets (destroyed_by h handle)) (λ x. refl) (still_live (without h handle) xs) k
+      ∙ sym (found_map (λ (x : Session). x.handle) (left_session (without h handle) (destroyed_by h handle)) (λ x. refl) (still_live (without h handle) xs) k) ∙ listed_left h handle xs kept.listed k;
   housed = subst (λ (ns : List ℕ). AreHoused ns (without h handle).sessions) (sym (forgotten_names (destroyed_by h handle) (still_live (without h handle) xs))) (record {
     named = all_named (λ n. is_live (without h handle) kind.Session n) xs kept.housed.named;
     housed = λ k nz. by k nz (is_live (without h handle) kind.Session k) refl;
@@ -259,6 +293,7 @@ kept_left loops h handle xs kept = record {
   known = known_without h handle kept.known;
   once = once_without h handle kept.once;
   loops_stand = kept.loops_stand;
+  columns_stand = kept.columns_stand;
 }
   where
     by : (k : ℕ) → (k == 0) ≡ false → (b : Bool) → is_live (without h handle) kind.Session k ≡ b → count_listed (map (λ x. x.handle) (still_live (without h handle) xs)) k ≤ count_in (without h handle).sessions k

@@ -14,6 +14,11 @@ module _ (f g : ℕ → Bool) (same : (place : ℕ) → f place ≡ g place) whe
   pub columns_same : (rows : List (List Column)) → left_columns f rows ≡ left_columns g rows
   columns_same rows = columns_from 0 rows
 
+  -- in each slot
+  pub slots_same : (columns : List (List (List Column))) → map (left_columns f) columns ≡ map (left_columns g) columns
+  slots_same [] = refl
+  slots_same (c ∷ columns) = rw (columns_same c, slots_same columns) refl
+
   root_same : (r : Root) → is_left f r ≡ is_left g r
   root_same (Fixed what) = refl
   root_same (Action place column) = same place

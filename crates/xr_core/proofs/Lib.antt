@@ -26,6 +26,7 @@ pub mod Seats
 pub mod Seated
 pub mod KeptSeats
 pub mod SlotCalls
+pub mod SyncCalls
 pub mod LeftPlaces
 pub mod KeptLive
 pub mod DestroyedAtOnce

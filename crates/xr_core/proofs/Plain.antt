@@ -117,6 +117,6 @@ plain_rule s reads who given = by
     by (ask.SuggestBindings instance profile list) sized = plain_bindings s (profile_at s.atoms profile) list
     by (ask.AttachSets session handles) sized = plain_handles s.handles ActionSet handles
     by (ask.SyncActions session active) sized = plain_items s session active
-    by (ask.EndFrame session time blend layers) sized = plain_layers (look_of s) layers
+    by (ask.EndFrame session time blend layers) sized = plain_layers (look_of s session) layers
     by (ask.CreateInstance major minor) sized = refl
     by _ sized = refl

@@ -1,13 +1,13 @@
--- Slots: no two handles stand in one, a handle keeps its own when others are given or destroyed, and what a slot's loop is once one has changed.
-use Rattle.std.proofs.Common.{◌≡◌, ◌≤◌, ◌<◌, ◌+◌, ◌==◌, ℕ, zero, suc, Bool, true, false, List, [], ◌∷◌, length, Option, Some, option_map, refl, sym, ap, subst, ◌∙◌, arith, true≢false}
+-- Slots: no two handles stand in one, a handle keeps its own when others are given or destroyed, and what a slot keeps once one has changed.
+use Rattle.std.proofs.Common.{◌≡◌, ◌≤◌, ◌<◌, ◌+◌, ◌==◌, ℕ, zero, suc, Bool, true, false, List, [], ◌∷◌, length, Option, Some, None, option_map, refl, sym, ap, subst, ◌∙◌, arith, true≢false}
 use Rattle.std.specs.Prelude.{slice_index_or, slice_set, if◌then◌else◌}
 use Rattle.std.specs.List.{position_from}
 use Rattle.xr_types.specs.declared.handles.Slot.{Slot}
 use Rattle.xr_model.specs.laws.HandleLaws.{count_in}
-use Rattle.xr_model.specs.machine.Frames.{FrameLoop, new_loop}
 use Rattle.xr_model.specs.machine.HandlePlaces.{place_in, handle_at}
 use Rattle.xr_model.specs.machine.Handles.{has, free, first_free, put_in, goes, cleared}
 use Rattle.xr_model.proofs.Rows.{one_later, put_first, put_is_first, same_key, not_zero, hasnt_cleared, uncounted}
+use Rattle.xr_core.specs.inside.Seats.{in_slot, with_in_slot}
 use Rattle.xr_core.proofs.Listed.{zero_is, next_is}
 
 -- ---- whose place it is
@@ -69,27 +69,54 @@ stays_left handle above (s ∷ ss) k nz few there = by (goes handle above s) (s.
         let here : has (cleared handle above ss) k ≡ true = rw eb at there in
         rw eb (later (cleared handle above ss) ss k (more few here))
 
--- ---- a loop has changed
+-- ---- what a slot keeps has changed
 
-pub loop_here : (loops : List FrameLoop) (slot : ℕ) (l : FrameLoop) → slot < length loops → slice_index_or (slice_set loops slot l) slot new_loop ≡ l
-loop_here [] slot l within = absurd (omega (arith, within))
-loop_here (x ∷ xs) zero l within = refl
-loop_here (x ∷ xs) (suc slot) l within = loop_here xs slot l (omega (arith, within))
+module _ {T : Type 0} (new : T) where
+  slot_here : (kept : List T) (slot : ℕ) (x : T) → slot < length kept → slice_index_or (slice_set kept slot x) slot new ≡ x
+  slot_here [] slot x within = absurd (omega (arith, within))
+  slot_here (k ∷ ks) zero x within = refl
+  slot_here (k ∷ ks) (suc slot) x within = slot_here ks slot x (omega (arith, within))
 
-pub loop_else : (loops : List FrameLoop) (slot other : ℕ) (l : FrameLoop) → (slot ≡ other → ⊥) → slice_index_or (slice_set loops slot l) other new_loop ≡ slice_index_or loops other new_loop
-loop_else [] slot other l apart = refl
-loop_else (x ∷ xs) zero zero l apart = absurd (apart refl)
-loop_else (x ∷ xs) zero (suc other) l apart = refl
-loop_else (x ∷ xs) (suc slot) zero l apart = refl
-loop_else (x ∷ xs) (suc slot) (suc other) l apart = loop_else xs slot other l (λ e. apart (ap (λ n. suc n) e))
+  slot_else : (kept : List T) (slot other : ℕ) (x : T) → (slot ≡ other → ⊥) → slice_index_or (slice_set kept slot x) other new ≡ slice_index_or kept other new
+  slot_else [] slot other x apart = refl
+  slot_else (k ∷ ks) zero zero x apart = absurd (apart refl)
+  slot_else (k ∷ ks) zero (suc other) x apart = refl
+  slot_else (k ∷ ks) (suc slot) zero x apart = refl
+  slot_else (k ∷ ks) (suc slot) (suc other) x apart = slot_else ks slot other x (λ e. apart (ap (λ n. suc n) e))
 
--- a new loop is what a slot has, also where there is none
-pub loop_new : (loops : List FrameLoop) (slot : ℕ) → slice_index_or (slice_set loops slot new_loop) slot new_loop ≡ new_loop
-loop_new [] slot = refl
-loop_new (x ∷ xs) zero = refl
-loop_new (x ∷ xs) (suc slot) = loop_new xs slot
+  slot_new : (kept : List T) (slot : ℕ) → slice_index_or (slice_set kept slot new) slot new ≡ new
+  slot_new [] slot = refl
+  slot_new (k ∷ ks) zero = refl
+  slot_new (k ∷ ks) (suc slot) = slot_new ks slot
 
-pub as_many_loops : (loops : List FrameLoop) (slot : ℕ) (l : FrameLoop) → length (slice_set loops slot l) ≡ length loops
-as_many_loops [] slot l = refl
-as_many_loops (x ∷ xs) zero l = refl
-as_many_loops (x ∷ xs) (suc slot) l = ap (λ n. suc n) (as_many_loops xs slot l)
+  -- what a new session has is what a slot has, also where there is none
+  pub in_new : (kept : List T) (o : Option ℕ) → in_slot new (with_in_slot kept o new) o ≡ new
+  in_new kept None = refl
+  in_new kept (Some slot) = slot_new kept slot
+
+  module _ (row : List Slot) (session : ℕ) where
+    -- the slots of the others keep what they keep
+    pub others_keep : (kept : List T) (x : T) (k : ℕ) → (k ≡ session → ⊥) → in_slot new (with_in_slot kept (place_in row session) x) (place_in row k) ≡ in_slot new kept (place_in row k)
+    others_keep kept x k apart = by (place_in row session) (place_in row k) refl refl
+      where
+        by : (o p : Option ℕ) → place_in row session ≡ o → place_in row k ≡ p → in_slot new (with_in_slot kept o x) p ≡ in_slot new kept p
+        by None p eo ep = refl
+        by (Some slot) None eo ep = refl
+        by (Some slot) (Some q) eo ep = slot_else kept slot q x (λ same. apart (same_place row k session slot (subst (λ (n : ℕ). place_in row k ≡ Some n) (sym same) ep) eo))
+
+    pub own_changes : (kept : List T) (slot : ℕ) (x : T) → place_in row session ≡ Some slot → slot < length kept → in_slot new (slice_set kept slot x) (place_in row session) ≡ x
+    own_changes kept slot x placed within = ap (λ (o : Option ℕ). in_slot new (slice_set kept slot x) o) placed ∙ slot_here kept slot x within
+
+    pub others_stay : (kept : List T) (slot : ℕ) (x : T) (k : ℕ) → place_in row session ≡ Some slot → (k ≡ session → ⊥) → in_slot new (slice_set kept slot x) (place_in row k) ≡ in_slot new kept (place_in row k)
+    others_stay kept slot x k placed apart = ap (λ (o : Option ℕ). in_slot new (with_in_slot kept o x) (place_in row k)) (sym placed) ∙ others_keep kept x k apart
+
+-- in a slot stands the same, whatever would stand where there is none
+pub any_default : {T : Type 0} (kept : List T) (slot : ℕ) (d e : T) → slot < length kept → slice_index_or kept slot d ≡ slice_index_or kept slot e
+any_default [] slot d e within = absurd (omega (arith, within))
+any_default (k ∷ ks) zero d e within = refl
+any_default (k ∷ ks) (suc slot) d e within = any_default ks slot d e (omega (arith, within))
+
+pub as_many : {T : Type 0} (kept : List T) (slot : ℕ) (x : T) → length (slice_set kept slot x) ≡ length kept
+as_many [] slot x = refl
+as_many (k ∷ ks) zero x = refl
+as_many (k ∷ ks) (suc slot) x = ap (λ n. suc n) (as_many ks slot x)

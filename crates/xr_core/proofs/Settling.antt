@@ -5,6 +5,7 @@ use Rattle.std.specs.List.{list_all}
 use Rattle.xr_types.specs.declared.device.Wish.{Wish}
 use Rattle.xr_types.specs.declared.session.SessionState.{SessionState}
 use Rattle.xr_types.specs.declared.handles.Slot.{Slot}
+use Rattle.xr_types.specs.declared.input.Column.{Column}
 use Rattle.xr_model.specs.machine.Events.{Queue}
 use Rattle.xr_model.specs.machine.Frames.{FrameLoop}
 use Rattle.xr_model.specs.machine.SessionLife.{Life, Changed, unchanged, next_state, changes, last_of, settled_session}
@@ -66,19 +67,19 @@ settled_stays s all =
     let round : round_for w target t ≡ t = ap (λ (u : Standing). all_changed (target_settled w target) u) others ∙ own in
     ap (λ (u : Standing). let c : CoreState = record s { sessions = u.sessions; events = u.events } in c) (sym (once_is_enough w t ∙ round))
 
--- whether sessions have settled says nothing of their loops
-pub settled_seated : (loops : List FrameLoop) (row : List Slot) (w : Wish) (target : ℕ) (xs : List Session) → list_all (has_settled w target) (seated loops row xs) ≡ list_all (has_settled w target) xs
-settled_seated loops row w target [] = refl
-settled_seated loops row w target (x ∷ xs) = ap (λ (b : Bool). has_settled w target x && b) (settled_seated loops row w target xs)
+-- whether sessions have settled says nothing of what their slots keep
+pub settled_seated : (loops : List FrameLoop) (columns : List (List (List Column))) (row : List Slot) (w : Wish) (target : ℕ) (xs : List Session) → list_all (has_settled w target) (seated loops columns row xs) ≡ list_all (has_settled w target) xs
+settled_seated loops columns row w target [] = refl
+settled_seated loops columns row w target (x ∷ xs) = ap (λ (b : Bool). has_settled w target x && b) (settled_seated loops columns row w target xs)
 
 -- so where all have settled, the core stays
-pub nothing_settles : (s : CoreState) (loops : List FrameLoop) (row : List Slot) (xs ys : List Session) (w : Wish) (target : ℕ) → s.sessions ≡ seated loops row xs → w ≡ s.device.wish → target ≡ target_of s.sessions → ys ≡ xs
+pub nothing_settles : (s : CoreState) (loops : List FrameLoop) (columns : List (List (List Column))) (row : List Slot) (xs ys : List Session) (w : Wish) (target : ℕ) → s.sessions ≡ seated loops columns row xs → w ≡ s.device.wish → target ≡ target_of s.sessions → ys ≡ xs
     → list_all (has_settled w target) ys ≡ true → s ≡ settled s
-nothing_settles s loops row xs ys w target stand wished aimed same all =
+nothing_settles s loops columns row xs ys w target stand wished aimed same all =
     settled_stays s (
     ap (λ (u : Wish). list_all (has_settled u (target_of s.sessions)) s.sessions) (sym wished)
     ∙ ap (λ (n : ℕ). list_all (has_settled w n) s.sessions) (sym aimed)
     ∙ ap (λ (zs : List Session). list_all (has_settled w target) zs) stand
-    ∙ settled_seated loops row w target xs
+    ∙ settled_seated loops columns row w target xs
     ∙ ap (λ (zs : List Session). list_all (has_settled w target) zs) (sym same)
     ∙ all)

@@ -14,6 +14,7 @@ mod ranking;
 mod sessions;
 mod showing;
 mod sight;
+mod slots;
 mod standing;
 mod subactions;
 mod uncounted;

@@ -1,18 +1,19 @@
 // What a core keeps, and what all calls do to it. It counts no call, and touches no part's inside.
-ghost use Rattle.std.specs.Prelude.{◌≡◌, ◌≤ℤ◌, pos, ◌≢◌, ◌≤◌, ◌<◌, ◌^◌, ◌↔◌, ◌||◌, [], ◌∷◌, IfOk, IsTrue, Some, true, false, length, map};
+ghost use Rattle.std.specs.Prelude.{◌≡◌, ◌≤ℤ◌, pos, ◌≢◌, ◌≤◌, ◌<◌, ◌^◌, ◌↔◌, [], ◌∷◌, IfOk, IsTrue, Some, true, false, length, map, not};
+ghost use Rattle.xr_types.specs.declared.code.Code.TheVariants.{HandleInvalid};
 ghost use Rattle.xr_model.specs.machine.Bindings.{without_suggestions};
 ghost use Rattle.xr_model.specs.machine.CellCalls.{MayCall, Leads, free_calls};
 ghost use Rattle.xr_model.specs.machine.Chains.{is_place_used, left_in_places, freed_in_places};
 ghost use Rattle.xr_model.specs.machine.Destroyed.{without_handle, freed_by};
 ghost use Rattle.xr_model.specs.machine.Handles.{is_live, row_of, has_room, no_handle, no_room, was_given, with_handle};
-ghost use Rattle.xr_model.specs.machine.HandlePlaces.{limit_of, place_in};
+ghost use Rattle.xr_model.specs.machine.HandlePlaces.{limit_of, place_in, is_below};
 ghost use Rattle.xr_model.specs.machine.LiveSessions.{still_live};
-ghost use Rattle.xr_model.specs.machine.Refusals.{first_of};
+ghost use Rattle.xr_model.specs.machine.Refusals.{first_of, when};
 ghost use Rattle.xr_model.specs.machine.Sets.{without_inputs};
 ghost use Rattle.xr_model.specs.machine.SessionLife.{is_lost};
 ghost use Rattle.xr_model.specs.machine.Spaces.{without_spaces};
 ghost use Rattle.xr_model.specs.machine.Rules.Device.{with_changes};
-ghost use Rattle.xr_model.specs.machine.Rules.Session.{life_of};
+ghost use Rattle.xr_model.specs.machine.Rules.Session.{life_of, columns_of};
 ghost use Rattle.xr_model.specs.machine.Rules.Spaces.{session_above};
 ghost use Rattle.xr_model.specs.machine.State.{with_apps, opening_core};
 ghost use Rattle.xr_model.specs.machine.Machine.{IsPresent};
@@ -26,6 +27,7 @@ use crate::ranking::Ranking;
 use crate::sessions::{
     Change, Session, change_each, forget_attached, have_settled, session_at, target_of,
 };
+use crate::slots::{leave_all, start_columns};
 use crate::standing::Kept;
 use arrayvec::ArrayVec;
 use std::alloc::Global;
@@ -75,8 +77,9 @@ pub(crate) struct Parts {
     pub(crate) chains: Chains,
     /// The images of the frame that was taken last.
     pub(crate) shown: ArrayVec<Image, MOST_LAYERS>,
-    /// What each action shows since the last sync.
-    pub(crate) columns: Columns,
+    /// What each action shows in each session since its last sync, by the session's slot. What it showed in one that went stays
+    /// until another takes the slot.
+    pub(crate) columns: Vec<Columns>,
     /// The bindings of a sync, which are ranked anew for each. Contracts see nothing of it.
     pub(crate) ranking: Ranking,
     /// What the device has told of itself.
@@ -103,11 +106,10 @@ impl Model for Parts {
       handles = c.handles;
       atoms = c.paths;
       events = c.events;
-      sessions = seated c.frames.loops c.handles.sessions c.sessions.items;
+      sessions = seated c.frames.loops c.columns.items c.handles.sessions c.sessions.items;
       created = c.created;
       inputs = c.inputs;
       suggestions = c.bindings;
-      columns = c.columns;
       room = c.room;
       frames = frames_of c.frames;
       ended = c.ended;
@@ -121,7 +123,7 @@ impl Model for Parts {
       published = 0;
     } };
 
-    ghost invariant = { λ c. AreSeated c.frames.loops c.handles c.sessions.items × (c.apps ≤ MOST_SCRIPTS) × KeepsLive c.room c.inputs c.handles × (length c.chains ≡ SWAPCHAINS) × KnowsUsers c.users c.paths };
+    ghost invariant = { λ c. AreSeated c.frames.loops c.columns.items c.handles c.sessions.items × (c.apps ≤ MOST_SCRIPTS) × KeepsLive c.room c.inputs c.handles × (length c.chains ≡ SWAPCHAINS) × KnowsUsers c.users c.paths };
 }
 
 /// Only the sessions whose handles are live are kept.
@@ -158,13 +160,6 @@ fn forget_suggestions(bindings: &mut Bindings, handles: &[u64])
     }
 }
 
-/// Whether what all actions show goes with a handle: it is a session's or the instance's.
-fn shows_all(handles: &Handles, handle: u64) -> bool
-    ensures { result ≡ (is_live handles.now Kind.Session handle || is_live handles.now Kind.Instance handle) }
-{
-    handles.is_live(Kind::Session, handle) || handles.is_live(Kind::Instance, handle)
-}
-
 /// Gives a new handle under a parent, 0 for an instance, where a place is free.
 pub(crate) fn give(handles: &mut Handles, kind: Kind, parent: u64) -> u64
     requires few { length handles.old.given < 2 ^ 44 }
@@ -176,7 +171,7 @@ pub(crate) fn give(handles: &mut Handles, kind: Kind, parent: u64) -> u64
     handles.give(kind, parent).number
 }
 
-/// The slot of a live session, by which its frame loop is kept: the place of its handle.
+/// The slot of a live session, by which its frame loop and what actions show in it are kept: the place of its handle.
 pub(crate) fn slot_of(handles: &Handles, session: u64) -> usize
     requires live { is_live handles.now Kind.Session session ≡ true }
     ensures slot { place_in handles.now.sessions session ≡ Some result }
@@ -201,7 +196,7 @@ impl Parts {
         let events = Events::start(alloc)?;
         let sets = Sets::start(alloc)?;
         let spaces = Spaces::start(alloc)?;
-        let columns = Columns::start(alloc)?;
+        let columns = start_columns(alloc)?;
         let ranking = Ranking::start(alloc)?;
         let parts = Parts {
             handles: Handles::start(),
@@ -257,6 +252,17 @@ impl Parts {
         }
     }
 
+    /// A handle that a call on a session names beside it has to be live, of its kind, and below that session.
+    pub(crate) fn below(&self, kind: Kind, session: u64, handle: u64) -> Result<(), Code>
+        ensures { result ≡ or_refused (first_of (when (not (is_below self.now.handles kind session handle)) HandleInvalid ∷ [])) tt }
+    {
+        if self.handles.is_below(kind, session, handle) {
+            Ok(())
+        } else {
+            Err(Code::HandleInvalid)
+        }
+    }
+
     /// The session of a space or a swapchain, which has to be live and of its kind.
     pub(crate) fn session_of(&self, kind: Kind, handle: u64) -> Result<u64, Code>
         ensures { result ≡ or_refused (first_of (no_handle self.now.handles kind handle ∷ [])) (session_above self.now.handles handle) }
@@ -288,11 +294,19 @@ impl Parts {
         }
     }
 
+    /// What actions show in a live session.
+    pub(crate) fn own_columns(&self, session: u64) -> &Columns
+        requires live { is_live self.now.handles Kind.Session session ≡ true }
+        ensures { result.now ≡ columns_of self.now session }
+    {
+        let slot = slot_of(&self.handles, session);
+        &self.columns[slot]
+    }
+
     /// Takes a handle and all below it out of all parts but the swapchains. The sessions that are left haven't settled.
     fn take_out(&mut self, handle: u64)
         ensures { self.new ≡ taken_out self.old handle }
     {
-        let shows = shows_all(&self.handles, handle);
         let mut destroyed: ArrayVec<u64, MOST_HANDLES> = ArrayVec::new();
         self.handles.destroy(handle, &mut destroyed);
         keep_live(&self.handles, &mut self.sessions);
@@ -300,7 +314,7 @@ impl Parts {
         forget_spaces(&mut self.room, destroyed.as_slice());
         forget_sets(&mut self.inputs, destroyed.as_slice());
         forget_suggestions(&mut self.bindings, destroyed.as_slice());
-        self.leave_places(shows);
+        self.leave_places();
     }
 
     /// Takes a handle and all below it out of all parts but the swapchains. All sessions settle.
@@ -311,19 +325,13 @@ impl Parts {
         self.settle();
     }
 
-    /// What actions show, and what spaces move with, is gone where no action stands. What they show is gone altogether where
-    /// that is so.
-    #[tactic(auto, using(crate::proofs::LeftPlaces::columns_same, crate::proofs::LeftPlaces::spaces_same))]
-    fn leave_places(&mut self, all: bool)
-        ensures { self.new ≡ with_places_left all self.old }
+    /// What actions show in any session, and what spaces move with, is gone where no action stands.
+    fn leave_places(&mut self)
+        ensures { self.new ≡ with_places_left self.old }
     {
         let there = self.handles.actions();
         self.room.leave(&there);
-        if all {
-            self.columns.clear();
-        } else {
-            self.columns.leave(&there);
-        }
+        leave_all(&mut self.columns, &there);
     }
 
     /// Frees the places of swapchains that aren't live and that no frame uses.
@@ -382,7 +390,8 @@ impl Parts {
     }
 
     /// All live sessions settle under the device's wish: in the order of their creation those that aren't its target, and then the
-    /// target. Where all have settled, as behind most frames, there is nothing to do. OpenXR 1.0 chapter 9, "Session Lifecycle"; which session is the target is this project's own.
+    /// target. Where all have settled, as behind most frames, there is nothing to do. OpenXR 1.0 chapter 9, "Session Lifecycle"; which
+    /// session is the target is this project's own.
     pub(crate) fn settle(&mut self)
         ensures { self.new ≡ settled self.old }
     {

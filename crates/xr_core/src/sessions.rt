@@ -11,6 +11,7 @@ ghost use Rattle.xr_model.specs.machine.Publication.{is_attached};
 ghost use Rattle.xr_model.specs.machine.Refusals.{first_of};
 ghost use Rattle.xr_model.specs.machine.LiveSessions.{session_at, life_in, with_life, with_life_at, with_session_at, with_attached, without_sets, each_changed, told_states, told_changes};
 ghost use Rattle.xr_model.specs.machine.SessionRule.{loss_of, code_on};
+ghost use Rattle.xr_model.specs.machine.Sync.{no_columns};
 ghost use Rattle.xr_model.specs.machine.Target.{is_candidate, target_of, without_focus, other_settled, target_settled};
 ghost use Rattle.xr_core.specs.inside.Changes.{change_by, has_settled, place_at, ordinal_in, life_after, told_after, answer_to};
 ghost use Rattle.xr_model.specs.machine.PartAnswers.{or_refused};
@@ -22,8 +23,8 @@ use xr_states::{Changes, Life};
 use xr_types::{ACTION_SETS, Code, Event, SESSIONS, SessionState, ViewConfig, Wish};
 
 /// A live session: its handle; its ordinal, which is the count of sessions that were created in the run, itself included; its
-/// life; and the action sets that it has attached, each once, where it has attached any. Its frame loop stands in its slot,
-/// beside the sessions: contracts see a new one here, and the core's see its own.
+/// life; and the action sets that it has attached, each once, where it has attached any. Its frame loop and what actions show in
+/// it stand in its slot, beside the sessions: contracts see those of a new session here, and the core's see its own.
 #[derive(Default, Drop)]
 pub(crate) struct Session {
     handle: u64,
@@ -36,10 +37,11 @@ impl Model for Session {
     ghost use Rattle.std.specs.Prelude.{option_map};
     ghost use Rattle.xr_model.specs.machine.Frames.{new_loop};
     ghost use Rattle.xr_model.specs.machine.LiveSessions as sessions;
+    ghost use Rattle.xr_model.specs.machine.Sync.{no_columns};
 
     ghost Value = { sessions.Session };
 
-    ghost view = { λ x. record { handle = x.handle; ordinal = x.ordinal; life = x.life; frame_loop = new_loop; attached = option_map (λ sets. sets.items) x.attached } };
+    ghost view = { λ x. record { handle = x.handle; ordinal = x.ordinal; life = x.life; frame_loop = new_loop; attached = option_map (λ sets. sets.items) x.attached; columns = no_columns } };
 }
 
 /// A call that changes the life of one session.
@@ -140,7 +142,7 @@ fn live(life: &mut Life, call: LifeCall, wish: Wish, changes: &mut Changes) -> C
 impl Session {
     /// A new session, which tells its first states.
     pub(crate) fn create(handle: u64, ordinal: u64, wish: Wish, events: &mut Events) -> Session
-        ensures session { result ≡ record { handle = handle; ordinal = ordinal; life = (started_session wish).life; frame_loop = new_loop; attached = None } }
+        ensures session { result ≡ record { handle = handle; ordinal = ordinal; life = (started_session wish).life; frame_loop = new_loop; attached = None; columns = no_columns } }
         ensures events { events.new ≡ told_states events.old ordinal handle (started_session wish).through }
     {
         let mut changes = Changes::new();

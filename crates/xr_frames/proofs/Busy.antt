@@ -1,5 +1,5 @@
 -- How many frames the loops have waited for and begun, once one of them has changed.
-use Rattle.std.proofs.Common.{◌≡◌, ◌+◌, ◌*◌, ◌<◌, ◌≤◌, ℕ, zero, suc, Bool, true, false, List, [], ◌∷◌, length, arith}
+use Rattle.std.proofs.Common.{◌≡◌, ◌+◌, ◌*◌, ◌<◌, ◌≤◌, ℕ, zero, suc, Bool, true, false, true≢false, List, [], ◌∷◌, length, sym, arith}
 use Rattle.std.specs.Prelude.{slice_index_or, slice_set}
 use Rattle.xr_model.specs.machine.Frames.{FrameLoop, new_loop, one_if}
 use Rattle.xr_frames.specs.Slots.{busy, all_busy}
@@ -31,3 +31,24 @@ pub one_changes : (ls : List FrameLoop) (slot : ℕ) (l : FrameLoop) → slot < 
 one_changes [] slot l within = absurd (omega (arith, within))
 one_changes (x ∷ ls) zero l within = omega arith
 one_changes (x ∷ ls) (suc slot) l within = let more = one_changes ls slot l (omega (arith, within)) in omega (arith, more)
+
+begun_counts : (l : FrameLoop) → l.has_begun ≡ true → 1 ≤ busy l
+begun_counts l begun = by l.has_waited l.has_begun begun
+  where
+    by : (a b : Bool) → b ≡ true → 1 ≤ one_if a + one_if b
+    by true true begun = omega arith
+    by false true begun = omega arith
+    by a false begun = absurd (true≢false (sym begun))
+
+-- one of them has no more than all
+one_of_all : (ls : List FrameLoop) (slot : ℕ) → slot < length ls → busy (slice_index_or ls slot new_loop) ≤ all_busy ls
+one_of_all [] slot within = absurd (omega (arith, within))
+one_of_all (l ∷ ls) zero within = omega arith
+one_of_all (l ∷ ls) (suc slot) within = let more = one_of_all ls slot (omega (arith, within)) in omega (arith, more)
+
+-- so where one has begun a frame there is room for it among the pending ones
+pub room_for_it : (ls : List FrameLoop) (slot pending most : ℕ) → slot < length ls → (slice_index_or ls slot new_loop).has_begun ≡ true → pending + all_busy ls ≤ most → pending < most
+room_for_it ls slot pending most within begun few =
+    let one = begun_counts (slice_index_or ls slot new_loop) begun in
+    let all = one_of_all ls slot within in
+    omega (arith, one, all, few)

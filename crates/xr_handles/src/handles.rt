@@ -4,7 +4,7 @@ ghost use Rattle.xr_model.specs.machine.Destroyed.{has_action};
 ghost use Rattle.xr_model.specs.machine.Handles as model;
 ghost use Rattle.xr_model.specs.machine.Handles.{no_handles, row_of, is_live, first_free, no_room, was_given, with_handle, without, without_alone};
 ghost use Rattle.xr_model.specs.machine.HandlePlaces.{limit_of};
-ghost use Rattle.xr_model.specs.machine.HandlePlaces.{kind_of, parent_of, place_of, place_among, handle_at};
+ghost use Rattle.xr_model.specs.machine.HandlePlaces.{kind_of, parent_of, is_below, place_of, place_among, handle_at};
 ghost use Rattle.xr_model.specs.machine.Refusals.{first_of, unless};
 ghost use Rattle.xr_model.specs.machine.PartAnswers.{answer_by};
 ghost use Rattle.xr_model.specs.laws.HandleLaws.{StandOnce};
@@ -135,6 +135,16 @@ impl Handles {
             return None;
         }
         row::parent_in(row, handle)
+    }
+
+    /// Whether a handle is live, of this kind, and below this parent.
+    pub fn is_below(&self, kind: Kind, parent: u64, handle: u64) -> bool
+        ensures { result ≡ is_below self.now kind parent handle }
+    {
+        match self.parent_among(kind, handle) {
+            Some(above) => above == parent,
+            None => false,
+        }
     }
 
     /// The place of a live handle in the row of its kind, from 0.

@@ -130,7 +130,7 @@ refusals_are_the_table s reads e = by e.call
       success = begun_success (loss_of (life_of s session)) (loop_of s session);
     }
     by (ask.EndFrame session time blend layers) = record {
-      refusals = ap (λ (cs : List Code). HandleInvalid ∷ SessionLost ∷ SessionNotRunning ∷ CallOrderInvalid ∷ TimeInvalid ∷ EnvironmentBlendModeUnsupported ∷ LayerLimitExceeded ∷ cs) (layers_codes (look_of s) layers);
+      refusals = ap (λ (cs : List Code). HandleInvalid ∷ SessionLost ∷ SessionNotRunning ∷ CallOrderInvalid ∷ TimeInvalid ∷ EnvironmentBlendModeUnsupported ∷ LayerLimitExceeded ∷ cs) (layers_codes (look_of s session) layers);
       order = λ none. cc;
       memory = λ none. refl;
       success = on_success (Some (loss_of (life_of s session))) (rule s reads (record e { call = ask.EndFrame session time blend layers })).effect refl;

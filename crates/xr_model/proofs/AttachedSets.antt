@@ -5,7 +5,7 @@ use Rattle.std.specs.List.{filter, list_all}
 use Rattle.xr_types.specs.declared.handles.Kind.TheVariants as kind
 use Rattle.xr_model.specs.machine.Calls.{Entry}
 use Rattle.xr_model.specs.machine.Handles.{Handles, has, is_live, is_among, destroyed_by, with_handle, without}
-use Rattle.xr_model.specs.machine.LiveSessions.{Session, with_life, with_attached, with_session_at, without_sets, still_live}
+use Rattle.xr_model.specs.machine.LiveSessions.{Session, with_life, with_attached, with_session_at, still_live}
 use Rattle.xr_model.specs.machine.SessionLife.{Changed, unchanged, lost_session}
 use Rattle.xr_model.specs.machine.Sets.{Set, Sets, sets_named}
 use Rattle.xr_model.specs.machine.State.{Settings, State, opening}
@@ -23,6 +23,7 @@ use Rattle.xr_model.proofs.ListSteps.{Has}
 use Rattle.xr_model.proofs.Lists.{Kept, all_weaker, all_left, all_map, set_gone, kept_step, none_kept, all_kept, listed_live}
 use Rattle.xr_model.proofs.SessionSteps.{kept_by_step}
 use Rattle.xr_model.specs.laws.Soundness.{AreKnown}
+use Rattle.xr_model.specs.machine.Destroyed.{left_session}
 
 abbrev pub AttachLive : Handles → List Session → Type 0
 AttachLive h xs = list_all (attaches_live h) xs ≡ true
@@ -53,7 +54,7 @@ named_live h s handles listed = by s.sets (all_weaker _ (λ (x : Set). is_live h
         one false here rest = rest
 
 -- what stays live without a handle
-left_live : (h : Handles) (top : ℕ) → StandOnce h → (x : Session) → attaches_live h x ≡ true → attaches_live (without h top) (without_sets (destroyed_by h top) x) ≡ true
+left_live : (h : Handles) (top : ℕ) → StandOnce h → (x : Session) → attaches_live h x ≡ true → attaches_live (without h top) (left_session (without h top) (destroyed_by h top) x) ≡ true
 left_live h top once x live = by x.attached live
   where
     still : (k : ℕ) → is_live h kind.ActionSet k ≡ true → not (is_among (destroyed_by h top) k) ≡ true → is_live (without h top) kind.ActionSet k ≡ true
@@ -76,7 +77,7 @@ attached_step s e once kept each = kept_by_step AttachLive s.core (reads_of s e.
   space = λ d c session. each;
   chain = λ d c session. each;
   without = λ d c handle.
-      all_map (attaches_live s.core.handles) (attaches_live (without s.core.handles handle)) (without_sets (destroyed_by s.core.handles handle)) (left_live s.core.handles handle once) (still_live (without s.core.handles handle) s.core.sessions)
+      all_map (attaches_live s.core.handles) (attaches_live (without s.core.handles handle)) (left_session (without s.core.handles handle) (destroyed_by s.core.handles handle)) (left_live s.core.handles handle once) (still_live (without s.core.handles handle) s.core.sessions)
       (all_left (attaches_live s.core.handles) (attaches_live s.core.handles) (λ x. is_live (without s.core.handles handle) kind.Session x.handle) (λ x live stays. live) s.core.sessions each);
   alone = λ d c space. each;
   chain_alone = λ d c chain. each;

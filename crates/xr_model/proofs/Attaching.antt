@@ -10,7 +10,7 @@ use Rattle.xr_types.specs.declared.calls.Call.TheVariants as ask
 use Rattle.xr_model.specs.machine.Handles.{Handles, has, is_live, no_handle, was_given, without, destroyed_by, is_among}
 use Rattle.xr_model.specs.machine.Refusals.{Refusal, when, first_of}
 use Rattle.xr_model.specs.machine.SessionLife.{is_lost, Changed, unchanged, lost_session, started_session}
-use Rattle.xr_model.specs.machine.LiveSessions.{Session, session_at, attached_in, with_life, with_attached, with_session_at, without_sets, still_live, each_changed}
+use Rattle.xr_model.specs.machine.LiveSessions.{Session, session_at, attached_in, with_life, with_attached, with_session_at, still_live, each_changed}
 use Rattle.xr_model.specs.machine.Rule.{Rule, Effect, refusals, unless_refused, told_on}
 use Rattle.xr_model.specs.machine.Rules.Session.{life_of, new_session}
 use Rattle.xr_model.specs.machine.State.{CoreState, State, opening}
@@ -32,6 +32,7 @@ use Rattle.xr_model.proofs.SessionAnswers.{none_with, none_in, first_none}
 use Rattle.xr_model.proofs.SessionSteps.{kept_by_step}
 use Rattle.xr_model.proofs.LostSessions.{new_session_given, sessions_are_listed}
 use Rattle.xr_model.specs.laws.Soundness.{AreKnown}
+use Rattle.xr_model.specs.machine.Destroyed.{left_session}
 
 -- a handle that was given, and whose session has attached sets if it is listed
 record Has (session : ℕ) (h : Handles) (xs : List Session) : Type 0 where
@@ -88,7 +89,7 @@ module _ (s : State) (e : Entry) (allowed : IsAllowed s e) (session : ℕ) (has_
     without = λ d c handle. record {
       given = has_some.given;
       attached = λ x found.
-          let one = which_map (λ (y : Session). y.handle) (without_sets (destroyed_by s.core.handles handle)) (λ y. refl) (still_live (without s.core.handles handle) s.core.sessions) session x found in
+          let one = which_map (λ (y : Session). y.handle) (left_session (without s.core.handles handle) (destroyed_by s.core.handles handle)) (λ y. refl) (still_live (without s.core.handles handle) s.core.sessions) session x found in
           let there = which_left (λ (y : Session). y.handle) (λ n. is_live (without s.core.handles handle) kind.Session n) s.core.sessions session one.0 one.1 in
           ap (λ (y : Session). is_some y.attached) one.2 ∙ still_some (destroyed_by s.core.handles handle) one.0.attached ∙ has_some.attached one.0 there.0;
     };

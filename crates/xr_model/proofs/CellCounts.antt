@@ -217,17 +217,17 @@ module _ (s : CoreState) (r : CellReads) (held : List Image) (e : Entry) (c d : 
       f = rule s r x
 
       images : List Image
-      images = (new_frame s time layers).images
+      images = (new_frame s session time layers).images
 
       ends : (o : Option Refusal) → refusal e.short f ≡ o
           → Leads PlainDoes c (claim_calls r.unused (unless_refused s o (told_on f.on f.effect)).did.claimed ++ (pin_calls (unless_refused s o (told_on f.on f.effect)).did.used ++ (free_calls (unless_refused s o (told_on f.on f.effect)).did.freed ++ (stamp_calls (unless_refused s o (told_on f.on f.effect)).did.stamped ++ (peek_calls (unless_refused s o (told_on f.on f.effect)).did.taken r.stamps ++ return_calls (unless_refused s o (told_on f.on f.effect)).did.returned))))) d
           → (k : ℕ) → count_at d k ≡ count_of (unless_refused s o (told_on f.on f.effect)).state.frames.pending (held_after held (unless_refused s o (told_on f.on f.effect)).did) k
       ends (Some refused) found leads k = rw leads (counted.counts k)
       ends None found leads k =
-          let once = submitted_images s held sound time blend layers (clear f e.short found).behind in
+          let once = submitted_images s held sound session time blend layers (clear f e.short found).behind in
           let each : Each (HasCount (length c.counts)) images = each_so (IsLast s.chains) (HasCount (length c.counts)) have images once.each in
           let here = counted.counts k in
-          let more = uses_more s.frames.pending (new_frame s time layers) k in
+          let more = uses_more s.frames.pending (new_frame s session time layers) k in
           let pinned = pins_count images c d each bound leads k in
           omega (arith, here, more, pinned)
         where
@@ -236,7 +236,7 @@ module _ (s : CoreState) (r : CellReads) (held : List Image) (e : Entry) (c d : 
 
           bound : (q : ℕ) → count_at c q + times_in images q < 2 ^ 64
           bound q =
-              let once = submitted_images s held sound time blend layers (clear f e.short found).behind in
+              let once = submitted_images s held sound session time blend layers (clear f e.short found).behind in
               let one = once.once q in
               let here = counted.counts q in
               let pending = uses_few s.frames.pending q sound.frames in
@@ -289,7 +289,7 @@ pending_few s r e = by e.call
     by : (what : Call) → length (effect s r (record e { call = what })).state.frames.pending ≤ length s.frames.pending + one_if (is_locked what)
     by (ask.EndFrame session time blend layers) =
         let f = rule s r (record e { call = ask.EndFrame session time blend layers }) in
-        ends (refusal e.short f) (told_on f.on f.effect) (more s.frames.pending (new_frame s time layers))
+        ends (refusal e.short f) (told_on f.on f.effect) (more s.frames.pending (new_frame s session time layers))
     by ask.NextFrame =
         let f = rule s r (record e { call = ask.NextFrame }) in
         ends (refusal e.short f) f.effect (fewer s.frames.pending)

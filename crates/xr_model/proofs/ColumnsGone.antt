@@ -1,7 +1,6 @@
 -- Which column a getter reads, and what goes with a session and with actions.
-use Rattle.std.proofs.Common.{◌≡◌, ◌+◌, ◌==◌, ◌&&◌, ◌||◌, inl, inr, ℕ, zero, suc, Bool, true, false, List, [], ◌∷◌, map, Option, Some, None, option_map, slice_get, refl, sym, ap, subst, ◌∙◌, arith, true≢false}
-use Rattle.std.specs.Prelude.{option_and_then, replicate, if◌then◌else◌}
-use Rattle.std.specs.List.{list_all}
+use Rattle.std.proofs.Common.{◌≡◌, not, ◌+◌, ◌==◌, ◌&&◌, inl, inr, ℕ, zero, suc, Bool, true, false, List, [], ◌∷◌, map, Option, Some, None, option_map, slice_get, refl, sym, ap, subst, ◌∙◌, arith, true≢false}
+use Rattle.std.specs.Prelude.{option_and_then, replicate, if◌then◌else◌, unwrap_or}
 use Rattle.xr_types.specs.Code.{is_success}
 use Rattle.xr_types.specs.declared.calls.Call.{Call}
 use Rattle.xr_types.specs.declared.calls.Call.TheVariants as ask
@@ -10,18 +9,21 @@ use Rattle.xr_types.specs.declared.handles.TheConstants.{ACTIONS}
 use Rattle.xr_types.specs.declared.input.Column.{Column}
 use Rattle.xr_types.specs.declared.spaces.Root.{Root}
 use Rattle.xr_types.specs.declared.spaces.Root.TheVariants.{Action}
-use Rattle.xr_model.specs.machine.Destroyed.{has_action, columns_left, without_handle}
-use Rattle.xr_model.specs.machine.Handles.{destroyed_by, is_live, without}
+use Rattle.xr_model.specs.machine.Destroyed.{has_action, without_handle, left_session}
+use Rattle.xr_model.specs.machine.Handles.{destroyed_by, is_live, without, destroyed_instances, Handles, has}
 use Rattle.xr_model.specs.machine.Publication.{column_from}
 use Rattle.xr_model.specs.machine.Spaces.{Space, is_left, with_left, without_spaces}
 use Rattle.xr_model.specs.machine.State.{CoreState}
 use Rattle.xr_model.specs.machine.Sync.{each_from, inactive_row, left_columns, no_columns}
 use Rattle.xr_model.specs.machine.Machine.{reads_of, rule, step}
-use Rattle.xr_model.specs.laws.ColumnLaws.{IsNamedBy, GettersReadTheNamedColumn, are_inactive, is_session_end, ColumnsGoWithTheSession, is_action_end, LeavesNoColumn, ColumnsGoWithTheAction}
+use Rattle.xr_model.specs.laws.ColumnLaws.{IsNamedBy, GettersReadTheNamedColumn, are_inactive, ColumnsGoWithTheSession, is_action_end, LeavesNoColumn, ColumnsGoWithTheAction}
 use Rattle.xr_model.proofs.ChainPlaces.{same_some}
 use Rattle.xr_model.proofs.FrameCalls.{where_done}
-use Rattle.xr_model.proofs.FrameOrder.{clear, is_live_by}
-use Rattle.xr_model.proofs.Rows.{same_key}
+use Rattle.xr_model.proofs.Rows.{cleared_away, same_key}
+use Rattle.xr_model.specs.machine.LiveSessions.{session_at, Session}
+use Rattle.xr_model.specs.machine.Rules.Session.{columns_of}
+use Rattle.xr_model.proofs.SessionColumns.{columns_left}
+use Rattle.xr_model.proofs.SessionLives.{where_left}
 
 -- ---- the column that a getter reads
 
@@ -52,19 +54,33 @@ getters_read_the_named_column p a sub k found = by (sub == 0) refl found
 
 -- ---- a session
 
--- the session is live, so all columns go
-session_goes : (s : CoreState) (session : ℕ) → is_live s.handles kind.Session session ≡ true → list_all are_inactive (columns_left s.handles session s.columns) ≡ true
-session_goes s session live = rw live refl
+-- a session that is destroyed is live no more, so it isn't among those that are left
+dead_without : (h : Handles) (session : ℕ) → is_live (without h session) kind.Session session ≡ false
+dead_without h session = by (session == 0) refl
+  where
+    by : (z : Bool) → (session == 0) ≡ z → not z && has (without h session).sessions session ≡ false
+    by true ez = refl
+    by false ez = cleared_away session (destroyed_instances h session) h.sessions ez
+
+no_columns_no_session : (o : Option Session) → option_map (λ (x : Session). x.columns) o ≡ None → o ≡ None
+no_columns_no_session None none = refl
+no_columns_no_session (Some x) none = cc
+
+session_goes : (s : CoreState) (session : ℕ) → session_at (without_handle s session).sessions session ≡ None
+session_goes s session =
+    no_columns_no_session (session_at (without_handle s session).sessions session)
+    (columns_left s session session ∙ ap (λ (b : Bool). option_map (λ (x : Session). x.columns) (option_map (left_session (without s.handles session) (destroyed_by s.handles session)) (where_left b (session_at s.sessions session)))) (dead_without s.handles session))
 
 pub columns_go_with_the_session : ColumnsGoWithTheSession
-columns_go_with_the_session s e ends = by e.call ends
+columns_go_with_the_session s e session is = subst Goes (sym is) goes
   where
-    by : (r : Call) → is_session_end r ≡ true → is_success (step s (record e { call = r })).1.reply.code ≡ true → list_all are_inactive (step s (record e { call = r })).0.core.columns ≡ true
-    by (ask.DestroySession session) ends =
+    Goes : Call → Type 0
+    Goes r = is_success (step s (record e { call = r })).1.reply.code ≡ true → session_at (step s (record e { call = r })).0.core.sessions session ≡ None
+
+    goes : Goes (ask.DestroySession session)
+    goes =
         let f = rule s.core (reads_of s (ask.DestroySession session)) (record e { call = ask.DestroySession session }) in
-        where_done (λ x. list_all are_inactive x.state.columns ≡ true) s.core f e.short refl
-        (λ none. session_goes s.core session (is_live_by (is_live s.core.handles kind.Session session) (clear f e.short none).handles))
-    by _ ends = absurd (true≢false (sym ends))
+        where_done (λ x. session_at x.state.sessions session ≡ None) s.core f e.short refl (λ none. session_goes s.core session)
 
 -- ---- actions
 
@@ -87,12 +103,16 @@ none_shown zero place row found = cc
 none_shown (suc n) zero row found = subst (λ (r : List Column). are_inactive r ≡ true) (same_some inactive_row row found) refl
 none_shown (suc n) (suc place) row found = none_shown n place row found
 
-columns_go : (s : CoreState) (handle place : ℕ) (row : List Column) → slice_get (columns_left s.handles handle s.columns) place ≡ Some row → has_action (without s.handles handle).actions place ≡ false → are_inactive row ≡ true
-columns_go s handle place row found none = by (is_live s.handles kind.Session handle || is_live s.handles kind.Instance handle) found
+columns_go : (s : CoreState) (handle session place : ℕ) (row : List Column) → slice_get (columns_of (without_handle s handle) session) place ≡ Some row → has_action (without s.handles handle).actions place ≡ false → are_inactive row ≡ true
+columns_go s handle session place row found none =
+    by (is_live (without s.handles handle) kind.Session session) (session_at s.sessions session)
+    (ap (λ (o : Option (List (List Column))). slice_get (unwrap_or o no_columns) place) (sym (columns_left s handle session)) ∙ found)
   where
-    by : (b : Bool) → slice_get (if b then no_columns else left_columns (has_action (without s.handles handle).actions) s.columns) place ≡ Some row → are_inactive row ≡ true
-    by true found = none_shown ACTIONS place row found
-    by false found = place_goes (has_action (without s.handles handle).actions) s.columns place row found none
+    by : (b : Bool) (o : Option Session)
+        → slice_get (unwrap_or (option_map (λ (x : Session). x.columns) (option_map (left_session (without s.handles handle) (destroyed_by s.handles handle)) (where_left b o))) no_columns) place ≡ Some row → are_inactive row ≡ true
+    by true None found = none_shown ACTIONS place row found
+    by true (Some x) found = place_goes (has_action (without s.handles handle).actions) x.columns place row found none
+    by false o found = none_shown ACTIONS place row found
 
 -- a space that moves with an action has it in that place
 moves_with : (there : ℕ → Bool) (spaces : List Space) (k : ℕ) (x : Space) (place column : ℕ) → slice_get (map (with_left there) spaces) k ≡ Some x → x.root ≡ Some (Action place column) → there place ≡ true
@@ -113,12 +133,12 @@ moves_with there (y ∷ spaces) zero x place column found root =
     by (Some r) is = kept r (is_left there r) refl is
 
 abbrev Leaves : CoreState → Type 0
-Leaves t = ((place : ℕ) (row : List Column) → slice_get t.columns place ≡ Some row → has_action t.handles.actions place ≡ false → are_inactive row ≡ true)
+Leaves t = ((session place : ℕ) (row : List Column) → slice_get (columns_of t session) place ≡ Some row → has_action t.handles.actions place ≡ false → are_inactive row ≡ true)
     × ((k : ℕ) (x : Space) (place column : ℕ) → slice_get t.room.spaces k ≡ Some x → x.root ≡ Some (Action place column) → has_action t.handles.actions place ≡ true)
 
 gone_with : (s : CoreState) (handle : ℕ) → Leaves (without_handle s handle)
 gone_with s handle = (
-  (λ place row found none. columns_go s handle place row found none),
+  (λ session place row found none. columns_go s handle session place row found none),
   (λ k x place column found root.
       moves_with (has_action (without s.handles handle).actions) (without_spaces s.room (destroyed_by s.handles handle)).spaces k x place column found root),
 )

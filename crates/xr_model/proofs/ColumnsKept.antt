@@ -1,6 +1,8 @@
--- What stays: the columns over most calls, and where an action goes those of the others, and the spaces that don't move with it.
-use Rattle.std.proofs.Common.{◌≡◌, ◌==◌, ℕ, not, Bool, true, false, List, Option, Some, None, option_map, slice_get, refl, sym, ap, ◌∙◌, arith, true≢false}
-use Rattle.std.specs.Prelude.{option_and_then, if◌then◌else◌}
+-- What stays: the columns over most calls, and where an action or a session goes those of the others, and the spaces that don't move
+-- with an action that went.
+use Rattle.std.proofs.Common.{◌≡◌, ◌==◌, ◌+◌, ◌++◌, ℕ, not, Bool, true, false, List, Option, Some, None, option_map, slice_get, refl, sym, ap, ◌∙◌, arith, true≢false, subst, [], ◌∷◌}
+use Rattle.std.specs.Prelude.{option_and_then, if◌then◌else◌, is_some}
+use Rattle.std.specs.List.{list_all}
 use Rattle.xr_types.specs.Code.{is_success}
 use Rattle.xr_types.specs.declared.calls.Call.{Call}
 use Rattle.xr_types.specs.declared.calls.Call.TheVariants as ask
@@ -10,8 +12,8 @@ use Rattle.xr_types.specs.declared.handles.Kind.TheVariants as kind
 use Rattle.xr_types.specs.declared.input.Column.{Column}
 use Rattle.xr_types.specs.declared.spaces.Root.{Root}
 use Rattle.xr_types.specs.declared.spaces.Root.TheVariants.{Fixed, Action}
-use Rattle.xr_model.specs.machine.Destroyed.{has_action, without_handle}
-use Rattle.xr_model.specs.machine.Handles.{Handles, destroyed_by, has, is_among, is_live, without}
+use Rattle.xr_model.specs.machine.Destroyed.{has_action, without_handle, left_session}
+use Rattle.xr_model.specs.machine.Handles.{destroyed_by, is_among, is_live, without}
 use Rattle.xr_model.specs.machine.Refusals.{Refusal}
 use Rattle.xr_model.specs.machine.Rule.{Effect, refusal, told_on, unless_refused}
 use Rattle.xr_model.specs.machine.Rules.Device.{behind_event}
@@ -20,37 +22,124 @@ use Rattle.xr_model.specs.machine.State.{CoreState, opening}
 use Rattle.xr_model.specs.machine.Sync.{inactive_row, left_columns}
 use Rattle.xr_model.specs.machine.Machine.{reads_of, rule, step}
 use Rattle.xr_model.specs.machine.History.{after}
-use Rattle.xr_model.specs.laws.HandleLaws.{StandOnce}
-use Rattle.xr_model.specs.laws.ColumnLaws.{may_change_columns, ColumnsStay, is_action_end, moves_on, KeepsOthers, OthersKeepWhatTheyShow}
+use Rattle.xr_model.specs.laws.ColumnLaws.{may_change_columns, ColumnsStay, moves_on, KeepsOthers, OthersKeepWhatTheyShow, ends_some, NewSessionsShowNothing, are_inactive}
 use Rattle.xr_model.proofs.ChainPlaces.{same_some}
 use Rattle.xr_model.proofs.ColumnsGone.{got_from}
 use Rattle.xr_model.proofs.FrameCalls.{where_done}
-use Rattle.xr_model.proofs.FrameOrder.{clear, is_live_by}
 use Rattle.xr_model.proofs.Keyed.{which_left, which_map}
-use Rattle.xr_model.proofs.Rows.{both_of, counted, not_true, uncounted}
-use Rattle.xr_model.proofs.StandOnce.{handles_stand_once}
+use Rattle.xr_model.proofs.Rows.{same_key, is_false}
+use Rattle.xr_model.specs.machine.LiveSessions.{with_columns, shown_in, session_at, with_session_at, with_frame_loop, each_changed, with_attached, told_states, Session}
+use Rattle.xr_model.specs.machine.Rules.Session.{columns_of, loop_of, changed_in, told_of, with_change, with_loop, new_session}
+use Rattle.xr_model.specs.machine.Rules.Frames.{next_time}
+use Rattle.xr_model.proofs.SessionColumns.{columns_at, shown_by_columns, columns_beside, others_stay, columns_changed, columns_each, columns_settled, shown_more, columns_left}
+use Rattle.xr_model.specs.machine.SessionLife.{unchanged, lost_session, losing_session, started_session, begun_session, ended_session, exiting_session, synced_session, Life, Changed}
+use Rattle.xr_model.specs.machine.Frames.{FrameLoop, reset_loop, ended_loop, waited_loop, begun_loop}
+use Rattle.xr_types.specs.declared.device.Wish.{Wish}
+use Rattle.xr_types.specs.declared.device.Wish.TheVariants as wish
+use Rattle.xr_model.specs.machine.Target.{Standing, rounds, most_rounds, all_changed}
+use Rattle.xr_model.specs.machine.Sets.{sets_named}
+use Rattle.xr_model.proofs.SessionLives.{where_left}
+use Rattle.xr_model.specs.laws.SessionLaws.{is_session_creation}
+use Rattle.xr_model.proofs.LostSessions.{new_session_given, sessions_are_listed}
+use Rattle.xr_model.proofs.Destroying.{known_after, known_opening}
 
 -- ---- over most calls
 
-columns_so : (s : CoreState) (o : Option Refusal) (x : Effect) → x.state.columns ≡ s.columns → (unless_refused s o x).state.columns ≡ s.columns
-columns_so s None x same = same
-columns_so s (Some r) x same = refl
+module _ (s : CoreState) (k : ℕ) where
+  columns_so : (o : Option Refusal) (x : Effect) → columns_of x.state k ≡ columns_of s k → columns_of (unless_refused s o x).state k ≡ columns_of s k
+  columns_so None x same = same
+  columns_so (Some r) x same = refl
 
-told_so : (s : CoreState) (what : DeviceEvent) → (behind_event s what).columns ≡ s.columns
-told_so s (event.Clock time) = refl
-told_so s _ = refl
+  settled_so : (w : Wish) (t : Standing) → columns_at t.sessions k ≡ columns_at s.sessions k → shown_in (session_at (rounds most_rounds w t).sessions k) ≡ columns_of s k
+  settled_so w t same = shown_by_columns (rounds most_rounds w t).sessions s.sessions k (columns_settled w t k ∙ same)
+
+  -- its loop of frames changes
+  looped_so : (session : ℕ) (l : FrameLoop) → columns_at (with_session_at session (with_frame_loop l) s.sessions) k ≡ columns_at s.sessions k
+  looped_so session l = columns_beside session k (with_frame_loop l) (λ y. refl) (λ y. refl) s.sessions
+
+  -- and its life
+  period_so : (session : ℕ) (f : Life → Changed) (l : FrameLoop) → columns_of (with_change (with_loop s session l) (session_at s.sessions session) f) k ≡ columns_of s k
+  period_so session f l =
+      settled_so s.device.wish (record { sessions = changed_in (session_at s.sessions session) f (with_session_at session (with_frame_loop l) s.sessions); events = told_of (session_at s.sessions session) f s.events })
+      (columns_changed (session_at s.sessions session) f (with_session_at session (with_frame_loop l) s.sessions) k ∙ looped_so session l)
+
+  lost_so : shown_in (session_at (each_changed (λ x. unchanged (lost_session x.life)) s.sessions) k) ≡ columns_of s k
+  lost_so = shown_by_columns (each_changed (λ x. unchanged (lost_session x.life)) s.sessions) s.sessions k (columns_each (λ x. unchanged (lost_session x.life)) s.sessions k)
+
+  told_so : (what : DeviceEvent) → columns_of (behind_event s what) k ≡ columns_of s k
+  told_so (event.Wish wish) = settled_so wish (record { sessions = s.sessions; events = s.events }) refl
+  told_so event.Loss = settled_so s.device.wish (all_changed (λ x. losing_session x.life) (record { sessions = s.sessions; events = s.events })) (columns_each (λ x. losing_session x.life) s.sessions k)
+  told_so event.Lost = lost_so
+  told_so event.Fault = lost_so
+  told_so (event.Garbled line) = lost_so
+  told_so _ = refl
 
 pub columns_stay : ColumnsStay
-columns_stay s e aside = by e.call aside
+columns_stay s e k aside = by e.call aside
   where
-    by : (r : Call) → may_change_columns r ≡ false → (step s (record e { call = r })).0.core.columns ≡ s.core.columns
-    by (ask.SyncActions session active) aside = absurd (true≢false aside)
+    by : (r : Call) → may_change_columns r k ≡ false → columns_of (step s (record e { call = r })).0.core k ≡ columns_of s.core k
+    by (ask.SyncActions session active) aside =
+        let f = rule s.core (reads_of s (ask.SyncActions session active)) (record e { call = ask.SyncActions session active }) in
+        columns_so s.core k (refusal e.short f) (told_on f.on f.effect) (ap shown_in (others_stay session k (with_columns _) (λ x. refl) aside s.core.sessions))
     by (ask.DestroyInstance instance) aside = absurd (true≢false aside)
     by (ask.DestroySession session) aside = absurd (true≢false aside)
     by (ask.DestroyActionSet set) aside = absurd (true≢false aside)
     by (ask.DestroyAction action) aside = absurd (true≢false aside)
-    by (ask.Device what) aside = told_so s.core what
-    by r aside = let f = rule s.core (reads_of s r) (record e { call = r }) in columns_so s.core (refusal e.short f) (told_on f.on f.effect) refl
+    by (ask.CreateSession instance system) aside =
+        let f = rule s.core (reads_of s (ask.CreateSession instance system)) (record e { call = ask.CreateSession instance system }) in
+        let new = new_session s.core e.given (started_session s.core.device.wish).life in
+        let all : List Session = s.core.sessions ++ new ∷ [] in
+        columns_so s.core k (refusal e.short f) (told_on f.on f.effect)
+        (shown_by_columns _ all k (columns_settled s.core.device.wish (record { sessions = all; events = told_states s.core.events (s.core.created + 1) e.given (started_session s.core.device.wish).through }) k)
+        ∙ shown_more new refl s.core.sessions k)
+    by (ask.BeginSession session view) aside =
+        let f = rule s.core (reads_of s (ask.BeginSession session view)) (record e { call = ask.BeginSession session view }) in
+        columns_so s.core k (refusal e.short f) (told_on f.on f.effect) (period_so s.core k session (λ life. unchanged (begun_session life)) (reset_loop (loop_of s.core session)))
+    by (ask.EndSession session) aside =
+        let f = rule s.core (reads_of s (ask.EndSession session)) (record e { call = ask.EndSession session }) in
+        columns_so s.core k (refusal e.short f) (told_on f.on f.effect) (period_so s.core k session (ended_session s.core.device.wish) (reset_loop (loop_of s.core session)))
+    by (ask.EndFrame session time blend layers) aside =
+        let f = rule s.core (reads_of s (ask.EndFrame session time blend layers)) (record e { call = ask.EndFrame session time blend layers }) in
+        columns_so s.core k (refusal e.short f) (told_on f.on f.effect) (period_so s.core k session (synced_session wish.Ready) (ended_loop (loop_of s.core session)))
+    by (ask.RequestExitSession session) aside =
+        let f = rule s.core (reads_of s (ask.RequestExitSession session)) (record e { call = ask.RequestExitSession session }) in
+        columns_so s.core k (refusal e.short f) (told_on f.on f.effect)
+        (settled_so s.core k s.core.device.wish
+        (record { sessions = changed_in (session_at s.core.sessions session) (exiting_session s.core.device.wish) s.core.sessions; events = told_of (session_at s.core.sessions session) (exiting_session s.core.device.wish) s.core.events })
+        (columns_changed (session_at s.core.sessions session) (exiting_session s.core.device.wish) s.core.sessions k))
+    by (ask.WaitFrame session) aside =
+        let f = rule s.core (reads_of s (ask.WaitFrame session)) (record e { call = ask.WaitFrame session }) in
+        columns_so s.core k (refusal e.short f) (told_on f.on f.effect) (shown_by_columns _ s.core.sessions k (looped_so s.core k session (waited_loop (loop_of s.core session) (next_time s.core session))))
+    by (ask.BeginFrame session) aside =
+        let f = rule s.core (reads_of s (ask.BeginFrame session)) (record e { call = ask.BeginFrame session }) in
+        columns_so s.core k (refusal e.short f) (told_on f.on f.effect) (shown_by_columns _ s.core.sessions k (looped_so s.core k session (begun_loop (loop_of s.core session))))
+    by (ask.AttachSets session sets) aside =
+        let f = rule s.core (reads_of s (ask.AttachSets session sets)) (record e { call = ask.AttachSets session sets }) in
+        columns_so s.core k (refusal e.short f) (told_on f.on f.effect) (shown_by_columns _ s.core.sessions k (columns_beside session k (with_attached (sets_named s.core.inputs sets)) (λ y. refl) (λ y. refl) s.core.sessions))
+    by (ask.Device what) aside = told_so s.core k what
+    by r aside = let f = rule s.core (reads_of s r) (record e { call = r }) in columns_so s.core k (refusal e.short f) (told_on f.on f.effect) refl
+
+-- ---- a new session
+
+creation_aside : (r : Call) (k : ℕ) → is_session_creation r ≡ true → may_change_columns r k ≡ false
+creation_aside (ask.CreateSession instance system) k creates = refl
+creation_aside _ k creates = absurd (true≢false (sym creates))
+
+pub new_sessions_show_nothing : NewSessionsShowNothing
+new_sessions_show_nothing settings es e x legal allowed creates good found =
+    subst (λ (c : List (List Column)). list_all are_inactive c ≡ true) (sym (ap shown_in (sym found) ∙ columns_stay (after (opening settings) es) e e.given (creation_aside e.call e.given creates) ∙ ap shown_in unlisted)) refl
+  where
+    none : (o : Option Session) → is_some o ≡ false → o ≡ None
+    none None is = refl
+    none (Some y) is = absurd (true≢false is)
+
+    -- before, nothing was found by its handle
+    unlisted : session_at (after (opening settings) es).core.sessions e.given ≡ None
+    unlisted =
+        let fresh = new_session_given (after (opening settings) es) e allowed creates good in
+        let nz : (e.given == 0) ≡ false = is_false (e.given == 0) (λ is. fresh.0 (same_key e.given 0 is)) in
+        none (session_at (after (opening settings) es).core.sessions e.given)
+        (sessions_are_listed settings es legal e.given ∙ rw (nz, (known_after (opening settings) es (known_opening settings) e.given nz fresh.1).sessions) refl)
 
 -- ---- columns of others
 
@@ -68,27 +157,12 @@ root_stays s None on = refl
 root_stays s (Some (Fixed what)) on = refl
 root_stays s (Some (Action place column)) on = rw on refl
 
--- ---- the handle
+-- ---- one handle is destroyed
 
-module _ (h : Handles) (once : StandOnce h) (k : ℕ) where
-  -- what is an action or a set is no session and no instance
-  no_action : is_live h kind.Action k ≡ true → (is_live h kind.Session k ≡ false) × (is_live h kind.Instance k ≡ false)
-  no_action live =
-      let two = both_of (not (k == 0)) (has h.actions k) live in
-      let all = once k (not_true (k == 0) two.0) in
-      let here = counted h.actions k two.1 in
-      (rw (two.0, uncounted h.sessions k (omega (arith, all, here))) refl, rw (two.0, uncounted h.instances k (omega (arith, all, here))) refl)
-
-  no_set : is_live h kind.ActionSet k ≡ true → (is_live h kind.Session k ≡ false) × (is_live h kind.Instance k ≡ false)
-  no_set live =
-      let two = both_of (not (k == 0)) (has h.sets k) live in
-      let all = once k (not_true (k == 0) two.0) in
-      let here = counted h.sets k two.1 in
-      (rw (two.0, uncounted h.sessions k (omega (arith, all, here))) refl, rw (two.0, uncounted h.instances k (omega (arith, all, here))) refl)
-
-kept_with : (s : CoreState) (handle : ℕ) → (is_live s.handles kind.Session handle ≡ false) × (is_live s.handles kind.Instance handle ≡ false) → KeepsOthers s (without_handle s handle)
-kept_with s handle none = record {
-  columns = λ place there. rw (none.0, none.1) (left_there (has_action (without s.handles handle).actions) s.columns place there);
+kept_with : (s : CoreState) (handle : ℕ) → KeepsOthers s (without_handle s handle)
+kept_with s handle = record {
+  columns = λ session old x place was found there.
+      columns session old x place there (ap (option_map (λ (y : Session). y.columns)) (sym found) ∙ columns_left s handle session ∙ ap (λ (o : Option Session). option_map (λ (y : Session). y.columns) (option_map (left_session (without s.handles handle) (destroyed_by s.handles handle)) (where_left (is_live (without s.handles handle) kind.Session session) o))) was);
   spaces = λ k old x at found on.
       let new = without_handle s handle in
       let made = which_map (λ (y : Space). y.handle) (with_left (has_action (without s.handles handle).actions)) (λ y. refl) (without_spaces s.room (destroyed_by s.handles handle)).spaces k x found in
@@ -96,19 +170,32 @@ kept_with s handle none = record {
       let same : made.0 ≡ old = same_some made.0 old (sym left.0 ∙ at) in
       made.2 ∙ ap (with_left (has_action (without s.handles handle).actions)) same ∙ ap (λ (o : Option Root). record old { root = o }) (root_stays new old.root on);
 }
+  where
+    columns : (session : ℕ) (old x : Session) (place : ℕ) → has_action (without s.handles handle).actions place ≡ true
+        → Some x.columns ≡ option_map (λ (y : Session). y.columns) (option_map (left_session (without s.handles handle) (destroyed_by s.handles handle)) (where_left (is_live (without s.handles handle) kind.Session session) (Some old)))
+        → slice_get x.columns place ≡ slice_get old.columns place
+    columns session old x place there same = by (is_live (without s.handles handle) kind.Session session) same
+      where
+        by : (b : Bool) → Some x.columns ≡ option_map (λ (y : Session). y.columns) (option_map (left_session (without s.handles handle) (destroyed_by s.handles handle)) (where_left b (Some old))) → slice_get x.columns place ≡ slice_get old.columns place
+        by true same =
+            let rows = same_some x.columns (left_columns (has_action (without s.handles handle).actions) old.columns) same in
+            ap (λ (c : List (List Column)). slice_get c place) rows ∙ left_there (has_action (without s.handles handle).actions) old.columns place there
+        by false same = cc
 
 pub others_keep_what_they_show : OthersKeepWhatTheyShow
-others_keep_what_they_show settings es e legal ends good = by e.call ends good
+others_keep_what_they_show s e ends good = by e.call ends good
   where
-    by : (r : Call) → is_action_end r ≡ true → is_success (step (after (opening settings) es) (record e { call = r })).1.reply.code ≡ true → KeepsOthers (after (opening settings) es).core (step (after (opening settings) es) (record e { call = r })).0.core
+    by : (r : Call) → ends_some r ≡ true → is_success (step s (record e { call = r })).1.reply.code ≡ true → KeepsOthers s.core (step s (record e { call = r })).0.core
     by (ask.DestroyAction action) ends good =
-        let f = rule (after (opening settings) es).core (reads_of (after (opening settings) es) (ask.DestroyAction action)) (record e { call = ask.DestroyAction action }) in
-        let kept = where_done (λ x. KeepsOthers (after (opening settings) es).core x.state) (after (opening settings) es).core f e.short refl
-        (λ none. kept_with (after (opening settings) es).core action (no_action (after (opening settings) es).core.handles (handles_stand_once settings es legal) action (is_live_by (is_live (after (opening settings) es).core.handles kind.Action action) (clear f e.short none).handles))) good in
+        let f = rule s.core (reads_of s (ask.DestroyAction action)) (record e { call = ask.DestroyAction action }) in
+        let kept = where_done (λ x. KeepsOthers s.core x.state) s.core f e.short refl (λ none. kept_with s.core action) good in
         record { columns = kept.columns; spaces = kept.spaces }
     by (ask.DestroyActionSet set) ends good =
-        let f = rule (after (opening settings) es).core (reads_of (after (opening settings) es) (ask.DestroyActionSet set)) (record e { call = ask.DestroyActionSet set }) in
-        let kept = where_done (λ x. KeepsOthers (after (opening settings) es).core x.state) (after (opening settings) es).core f e.short refl
-        (λ none. kept_with (after (opening settings) es).core set (no_set (after (opening settings) es).core.handles (handles_stand_once settings es legal) set (is_live_by (is_live (after (opening settings) es).core.handles kind.ActionSet set) (clear f e.short none).handles))) good in
+        let f = rule s.core (reads_of s (ask.DestroyActionSet set)) (record e { call = ask.DestroyActionSet set }) in
+        let kept = where_done (λ x. KeepsOthers s.core x.state) s.core f e.short refl (λ none. kept_with s.core set) good in
+        record { columns = kept.columns; spaces = kept.spaces }
+    by (ask.DestroySession session) ends good =
+        let f = rule s.core (reads_of s (ask.DestroySession session)) (record e { call = ask.DestroySession session }) in
+        let kept = where_done (λ x. KeepsOthers s.core x.state) s.core f e.short refl (λ none. kept_with s.core session) good in
         record { columns = kept.columns; spaces = kept.spaces }
     by _ ends good = absurd (true≢false (sym ends))

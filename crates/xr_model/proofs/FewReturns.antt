@@ -139,8 +139,8 @@ few_step s e sound few = by e.call
     by (ask.EndFrame session time blend layers) =
         let f = rule s.core (reads_of s (ask.EndFrame session time blend layers)) (record e { call = ask.EndFrame session time blend layers }) in
         effect_kept (λ t did. AreFew t.frames.pending) s.core e.short f few (λ none.
-        few_more s.core.frames.pending (new_frame s.core time layers) few
-        (few_images s.core.chains SWAPCHAINS sound.all (new_frame s.core time layers).images (submitted_images s.core s.cells.held sound time blend layers (clear f e.short none).behind)))
+        few_more s.core.frames.pending (new_frame s.core session time layers) few
+        (few_images s.core.chains SWAPCHAINS sound.all (new_frame s.core session time layers).images (submitted_images s.core s.cells.held sound session time blend layers (clear f e.short none).behind)))
     by ask.NextFrame = effect_kept (λ t did. AreFew t.frames.pending) s.core e.short (rule s.core (reads_of s ask.NextFrame) (record e { call = ask.NextFrame })) few (λ none. few_left s.core.frames.pending few)
     by (ask.Device what) = effect_kept (λ t did. AreFew t.frames.pending) s.core e.short (rule s.core (reads_of s (ask.Device what)) (record e { call = ask.Device what })) few (λ none. events_few s.core what few)
     by r = effect_kept (λ t did. AreFew t.frames.pending) s.core e.short (rule s.core (reads_of s r) (record e { call = r })) few (λ none. few)

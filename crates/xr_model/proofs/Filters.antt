@@ -16,13 +16,13 @@ use Rattle.xr_types.specs.declared.device.Wish.{Wish}
 use Rattle.xr_model.specs.machine.SessionLife.{Changed}
 use Rattle.xr_model.specs.machine.Target.{Standing, rounds, most_rounds}
 use Rattle.xr_model.proofs.Targets.{Steady, rounds_keep}
-use Rattle.xr_model.specs.machine.LiveSessions.{each_changed, sessions_left, without_sets, still_live}
+use Rattle.xr_model.specs.machine.LiveSessions.{each_changed, without_sets, still_live}
 use Rattle.xr_model.specs.machine.Sets as inputs
 use Rattle.xr_model.specs.machine.Sets.{Set}
 use Rattle.xr_model.specs.machine.Spaces as spaces
 use Rattle.xr_model.specs.machine.Spaces.{Spaces, with_left, without_space, without_spaces}
 use Rattle.xr_model.specs.machine.State.{CoreState, State, opening}
-use Rattle.xr_model.specs.machine.Destroyed.{without_handle, has_action}
+use Rattle.xr_model.specs.machine.Destroyed.{without_handle, has_action, left_session, sessions_left}
 use Rattle.xr_model.specs.machine.Rule.{Effect, unless_refused, locked_after, published_after}
 use Rattle.xr_model.specs.machine.Refusals.{when, first_of}
 use Rattle.xr_types.specs.declared.code.Code.TheVariants.{HandleInvalid}
@@ -32,7 +32,7 @@ use Rattle.xr_model.specs.machine.Machine.{step, effect, rule, reads_of}
 use Rattle.xr_model.specs.machine.History.{after}
 use Rattle.xr_model.specs.laws.HandleLaws.{count_in, StandOnce, AreUnder, is_within, destroys}
 use Rattle.xr_model.specs.laws.SessionLaws.{AreListed}
-use Rattle.xr_model.specs.laws.ListLaws.{but_state, standing, AreFiltered, DestroyingFilters, without_attached, attaches_live}
+use Rattle.xr_model.specs.laws.ListLaws.{staying, standing, AreFiltered, DestroyingFilters, without_attached, attaches_live}
 use Rattle.xr_model.proofs.Rows.{same_key, both_of, not_true}
 use Rattle.xr_model.proofs.Keyed.{all_found, filters_agree}
 use Rattle.xr_model.proofs.Orphans.{no_orphans}
@@ -93,12 +93,17 @@ option_itself live q (Some sets) each same = ap Some (sym (filters_agree (λ k. 
 
 -- ---- settling changes states alone
 
-same_but_state : (w : Wish) (t : Standing) → map but_state (rounds most_rounds w t).sessions ≡ map but_state t.sessions
-same_but_state w t = rounds_keep (λ xs. map but_state xs ≡ map but_state t.sessions) (λ f steady xs there. each_same f steady xs ∙ there) w t refl
+same_but_state : (w : Wish) (t : Standing) → map staying (rounds most_rounds w t).sessions ≡ map staying t.sessions
+same_but_state w t = rounds_keep (λ xs. map staying xs ≡ map staying t.sessions) (λ f steady xs there. each_same f steady xs ∙ there) w t refl
   where
-    each_same : (f : sessions.Session → Changed) → ((x : sessions.Session) → Steady x.life (f x).life) → (xs : List sessions.Session) → map but_state (each_changed f xs) ≡ map but_state xs
+    each_same : (f : sessions.Session → Changed) → ((x : sessions.Session) → Steady x.life (f x).life) → (xs : List sessions.Session) → map staying (each_changed f xs) ≡ map staying xs
     each_same f steady [] = refl
     each_same f steady (x ∷ xs) = rw (steady x, each_same f steady xs) refl
+
+-- what actions show aside, the attached sets that are gone are all that goes from a session that is left
+columns_aside : (h : Handles) (gone : List ℕ) (xs : List sessions.Session) → map staying (map (left_session h gone) xs) ≡ map staying (map (without_sets gone) xs)
+columns_aside h gone [] = refl
+columns_aside h gone (x ∷ xs) = ap (λ (l : List sessions.Session). staying (without_sets gone x) ∷ l) (columns_aside h gone xs)
 
 -- ---- one handle is destroyed
 
@@ -118,7 +123,8 @@ module _ (s : CoreState) (listed : AreListed s.handles s.sessions) (kept : Has K
   with_all_below = record {
     sessions =
         same_but_state s.device.wish (record { sessions = sessions_left (without s.handles top) (destroyed_by s.handles top) s.sessions; events = s.events })
-        ∙ ap (map but_state)
+        ∙ columns_aside (without s.handles top) (destroyed_by s.handles top) (still_live (without s.handles top) s.sessions)
+        ∙ ap (map staying)
         (maps_same (without_sets (destroyed_by s.handles top)) (without_attached (λ k. is_within 2 s.handles k top)) (attaches_live s.handles) (still_live (without s.handles top) s.sessions)
         (all_left (attaches_live s.handles) (attaches_live s.handles) (λ x. is_live (without s.handles top) Session x.handle) (λ x live stays. live) s.sessions attached)
         (λ x live. ap (λ (o : Option (List ℕ)). record x { attached = o }) (options_agree (is_live s.handles ActionSet) (λ k. not (is_among (destroyed_by s.handles top) k)) (λ k. not (is_within 2 s.handles k top)) x.attached live set_agrees))
@@ -155,7 +161,7 @@ module _ (s : CoreState) (listed : AreListed s.handles s.sessions) (kept : Has K
     alone of_sessions of_sets of_actions sp chains of_spaces = record {
       sessions =
           let same = filter_all s.sessions ∙ agree (λ (x : sessions.Session). x.handle) (λ k. is_live s.handles Session k) (λ k. true) (λ k. not (is_within 2 s.handles k top)) s.sessions listed (others Session of_sessions) in
-          ap (map but_state)
+          ap (map staying)
           (map_itself (without_attached (λ k. is_within 2 s.handles k top)) (attaches_live s.handles) s.sessions attached
           (λ x live. ap (λ (o : Option (List ℕ)). record x { attached = o }) (option_itself (is_live s.handles ActionSet) (λ k. not (is_within 2 s.handles k top)) x.attached live (others ActionSet of_sets)))
           ∙ ap (map (without_attached (λ k. is_within 2 s.handles k top))) same);

@@ -189,8 +189,8 @@ fitting s r e sound = by e.call
   where
     by : (what : Call) → AreFitting s (effect s.core r (record e { call = what })).did
     by (ask.EndFrame session time blend layers) = effect_kept (λ t did. AreFitting s did) s.core e.short f (none_done s) (λ none.
-        let once = submitted_images s.core s.cells.held sound time blend layers (clear f e.short none).behind in
-        record { used = each_so (IsLast s.core.chains) IsPlaced (λ i last. let size = sound.all in let place = within s.core.chains i.place last.chain last.at in (omega (arith, place, size), last.below)) (new_frame s.core time layers).images once.each; stamped = tt; taken = tt })
+        let once = submitted_images s.core s.cells.held sound session time blend layers (clear f e.short none).behind in
+        record { used = each_so (IsLast s.core.chains) IsPlaced (λ i last. let size = sound.all in let place = within s.core.chains i.place last.chain last.at in (omega (arith, place, size), last.below)) (new_frame s.core session time layers).images once.each; stamped = tt; taken = tt })
       where
         f : Rule
         f = rule s.core r (record e { call = ask.EndFrame session time blend layers })

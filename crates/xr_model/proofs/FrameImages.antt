@@ -13,6 +13,7 @@ use Rattle.xr_model.specs.scenario.InRange.{Each}
 use Rattle.xr_model.specs.machine.Chains.{has_no_chain, Chain, is_chain, chain_at, place_of_chain, info_of, info_at, has_place}
 use Rattle.xr_model.specs.machine.Frames.{one_if}
 use Rattle.xr_model.specs.machine.Handles.{is_live}
+use Rattle.xr_model.specs.machine.HandlePlaces.{is_below}
 use Rattle.xr_model.specs.machine.Images.{is_image, slot_of, times_in, with_image, with_images, images_of_layer, with_images_of}
 use Rattle.xr_model.specs.machine.Layers.{last_image, is_part_of, part_checks, part_image, view_at, layer_checks, layers_of}
 use Rattle.xr_model.specs.machine.Refusals.{Refusal, when, first_of}
@@ -172,15 +173,15 @@ last_below : (o : Option ℕ) (ks : List ℕ) (n : ℕ) → LastFits o ks → o 
 last_below None ks n fits e = absurd (none_is_not n e)
 last_below (Some k) ks n fits e = subst (λ (m : ℕ). m < 3) (same_some k n e) fits.0
 
-module _ (s : CoreState) (P : Chain → Type 0) (fits : (c : Chain) → P c → LastFits c.last c.acquired) (sound : (p : ℕ) → OptIsSound P (slice_get s.chains p)) where
+module _ (s : CoreState) (session : ℕ) (P : Chain → Type 0) (fits : (c : Chain) → P c → LastFits c.last c.acquired) (sound : (p : ℕ) → OptIsSound P (slice_get s.chains p)) where
   -- an image of a part that isn't refused
-  part_is_last : (part : SubImage) (rest : List Refusal) → first_of (part_checks (look_of s) part ++ rest) ≡ None → IsLast s.chains (part_image (look_of s) part)
+  part_is_last : (part : SubImage) (rest : List Refusal) → first_of (part_checks (look_of s session) part ++ rest) ≡ None → IsLast s.chains (part_image (look_of s session) part)
   part_is_last part rest none =
-      let checks = (none_of (part_checks (look_of s) part) rest none).0 in
-      let one = none_first (is_none ((look_of s).chain part.chain)) HandleInvalid (when (not (is_part_of ((look_of s).chain part.chain) part)) SwapchainRectInvalid ∷ when (is_none (last_image ((look_of s).chain part.chain))) LayerInvalid ∷ []) checks in
-      let two = none_first (not (is_part_of ((look_of s).chain part.chain) part)) SwapchainRectInvalid (when (is_none (last_image ((look_of s).chain part.chain))) LayerInvalid ∷ []) one.1 in
-      let three = none_first (is_none (last_image ((look_of s).chain part.chain))) LayerInvalid [] two.1 in
-      live (is_live s.handles Swapchain part.chain) refl three.0
+      let checks = (none_of (part_checks (look_of s session) part) rest none).0 in
+      let one = none_first (is_none ((look_of s session).chain part.chain)) HandleInvalid (when (not (is_part_of ((look_of s session).chain part.chain) part)) SwapchainRectInvalid ∷ when (is_none (last_image ((look_of s session).chain part.chain))) LayerInvalid ∷ []) checks in
+      let two = none_first (not (is_part_of ((look_of s session).chain part.chain) part)) SwapchainRectInvalid (when (is_none (last_image ((look_of s session).chain part.chain))) LayerInvalid ∷ []) one.1 in
+      let three = none_first (is_none (last_image ((look_of s session).chain part.chain))) LayerInvalid [] two.1 in
+      live (is_below s.handles Swapchain session part.chain) refl three.0
     where
       released : (c : Chain) → chain_at s.chains part.chain ≡ Some c → (part.chain == 0) ≡ false → (o : Option ℕ) → c.last ≡ o
           → is_none (option_map (λ n. let i : Image = record { place = place_of_chain s.chains part.chain; index = n } in i) o) ≡ false
@@ -201,20 +202,20 @@ module _ (s : CoreState) (P : Chain → Type 0) (fits : (c : Chain) → P c → 
       found None is nz some = absurd (true≢false some)
       found (Some c) is nz some = released c is nz c.last refl some
 
-      live : (b : Bool) → is_live s.handles Swapchain part.chain ≡ b → is_none (last_image (if b then info_at s.chains part.chain else None)) ≡ false
+      live : (b : Bool) → is_below s.handles Swapchain session part.chain ≡ b → is_none (last_image (if b then info_at s.chains part.chain else None)) ≡ false
           → IsLast s.chains (unwrap_or (last_image (if b then info_at s.chains part.chain else None)) (record { place = 0; index = 0 }))
-      live true eb some = found (chain_at s.chains part.chain) refl (not_true (part.chain == 0) (both_of (not (part.chain == 0)) _ eb).0) some
+      live true eb some = found (chain_at s.chains part.chain) refl (not_true (part.chain == 0) (both_of (not (part.chain == 0)) _ (both_of (is_live s.handles Swapchain part.chain) _ eb).0).0) some
       live false eb some = absurd (true≢false some)
 
-  pub layers_are_last : (layers : List Layer) → first_of (flat_map (layer_checks (look_of s)) layers) ≡ None → EachOf (IsLast s.chains) (layers_of (look_of s) layers)
+  pub layers_are_last : (layers : List Layer) → first_of (flat_map (layer_checks (look_of s session)) layers) ≡ None → EachOf (IsLast s.chains) (layers_of (look_of s session) layers)
   layers_are_last [] none = tt
   layers_are_last (Projection space count views ∷ layers) none =
-      let two = none_of (layer_checks (look_of s) (Projection space count views)) (flat_map (layer_checks (look_of s)) layers) none in
-      let one = none_first (not ((look_of s).space space)) HandleInvalid (when (not (count == 2)) ValidationFailure ∷ part_checks (look_of s) (view_at views 0) ++ part_checks (look_of s) (view_at views 1)) two.0 in
-      let counts = none_first (not (count == 2)) ValidationFailure (part_checks (look_of s) (view_at views 0) ++ part_checks (look_of s) (view_at views 1)) one.1 in
-      let right = (none_of (part_checks (look_of s) (view_at views 0)) (part_checks (look_of s) (view_at views 1)) counts.1).1 in
-      ((part_is_last (view_at views 0) (part_checks (look_of s) (view_at views 1)) counts.1, (part_is_last (view_at views 1) [] right, tt)), layers_are_last layers two.1)
+      let two = none_of (layer_checks (look_of s session) (Projection space count views)) (flat_map (layer_checks (look_of s session)) layers) none in
+      let one = none_first (not ((look_of s session).space space)) HandleInvalid (when (not (count == 2)) ValidationFailure ∷ part_checks (look_of s session) (view_at views 0) ++ part_checks (look_of s session) (view_at views 1)) two.0 in
+      let counts = none_first (not (count == 2)) ValidationFailure (part_checks (look_of s session) (view_at views 0) ++ part_checks (look_of s session) (view_at views 1)) one.1 in
+      let right = (none_of (part_checks (look_of s session) (view_at views 0)) (part_checks (look_of s session) (view_at views 1)) counts.1).1 in
+      ((part_is_last (view_at views 0) (part_checks (look_of s session) (view_at views 1)) counts.1, (part_is_last (view_at views 1) [] right, tt)), layers_are_last layers two.1)
   layers_are_last (Quad space image pose ∷ layers) none =
-      let two = none_of (layer_checks (look_of s) (Quad space image pose)) (flat_map (layer_checks (look_of s)) layers) none in
-      let one = none_first (not ((look_of s).space space)) HandleInvalid (part_checks (look_of s) image ++ when (pose == 0) PoseInvalid ∷ []) two.0 in
+      let two = none_of (layer_checks (look_of s session) (Quad space image pose)) (flat_map (layer_checks (look_of s session)) layers) none in
+      let one = none_first (not ((look_of s session).space space)) HandleInvalid (part_checks (look_of s session) image ++ when (pose == 0) PoseInvalid ∷ []) two.0 in
       ((part_is_last image (when (pose == 0) PoseInvalid ∷ []) one.1, tt), layers_are_last layers two.1)

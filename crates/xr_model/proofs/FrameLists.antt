@@ -18,14 +18,14 @@ use Rattle.xr_model.specs.machine.SessionRule.{loss_of}
 use Rattle.xr_model.specs.machine.Refusals.{Refusal}
 use Rattle.xr_model.specs.machine.State.{CoreState, CellReads, State, opening}
 use Rattle.xr_model.specs.machine.Rule.{Rule, Effect, refusal, told_on, unless_refused}
-use Rattle.xr_model.specs.machine.Rules.Session.{life_of, loop_of, new_session, changed_in, told_of}
+use Rattle.xr_model.specs.machine.Rules.Session.{life_of, loop_of, new_session, changed_in, told_of, columns_of}
 use Rattle.xr_model.specs.machine.Rules.Device.{behind_event}
 use Rattle.xr_model.specs.machine.Rules.Frames.{look_of, new_frame, oldest_shown, next_time}
 use Rattle.xr_model.specs.machine.Machine.{core_step, core_ready, effect, rule, step, reads_of}
 use Rattle.xr_model.specs.machine.History.{after, opening_clocks, clocks_after, IsLegalFrom}
 use Rattle.xr_model.specs.machine.Handles.{is_live, without, destroyed_by}
-use Rattle.xr_model.specs.machine.LiveSessions.{Session, session_at, with_session_at, with_frame_loop, with_life, with_attached, without_sets, still_live, sessions_left, told_states, each_changed, told_changes}
-use Rattle.xr_model.specs.machine.SessionLife.{Life, Changed, unchanged, begun_session, started_session, ended_session, exiting_session, synced_session, losing_session, lost_session}
+use Rattle.xr_model.specs.machine.LiveSessions.{Session, session_at, with_session_at, with_frame_loop, with_life, with_attached, still_live, told_states, each_changed, told_changes, with_columns}
+use Rattle.xr_model.specs.machine.SessionLife.{Life, Changed, unchanged, begun_session, started_session, ended_session, exiting_session, synced_session, losing_session, lost_session, is_state}
 use Rattle.xr_model.specs.machine.Sets.{sets_named}
 use Rattle.xr_model.specs.machine.Target.{Standing, rounds, most_rounds}
 use Rattle.xr_model.specs.laws.FrameLaws.{submitted_if, submitted_from, AreNumbered, FramesAreNumbered, PendingAreFew}
@@ -41,6 +41,9 @@ use Rattle.xr_model.proofs.LoopSums.{sum_in, sum_map, sum_at, sum_rounds, sum_ch
 use Rattle.xr_model.proofs.LostSessions.{listed_after}
 use Rattle.xr_model.proofs.StatesTold.{apart_step}
 use Rattle.xr_model.proofs.ToldStates.{AreApart}
+use Rattle.xr_model.specs.machine.Destroyed.{left_session, sessions_left}
+use Rattle.xr_model.specs.machine.Rules.Sync.{columns_synced}
+use Rattle.xr_types.specs.declared.session.SessionState.TheVariants.{Focused}
 
 -- ---- what a call leaves of the frames that are pending
 
@@ -80,7 +83,7 @@ frames_stay s reads e aside = by e.call aside
 
 -- the frame that is pending behind a call where it succeeds, if it submits one
 abbrev pub frame_if : Bool → CoreState → Call → List PendingFrame
-frame_if true s (ask.EndFrame session time blend layers) = new_frame s time layers ∷ []
+frame_if true s (ask.EndFrame session time blend layers) = new_frame s session time layers ∷ []
 frame_if _ s _ = []
 
 -- the frames that a call takes where it shows one: the oldest of these
@@ -126,7 +129,7 @@ moves s reads e = by e.call
         none_next : (b : Bool) → frame_if b s ask.NextFrame ≡ []
         none_next true = refl
         none_next false = refl
-    by (ask.EndFrame session time blend layers) = by_rule (λ x. Moves s x (frame_if (is_success x.code) s (ask.EndFrame session time blend layers))) s f e.short (layers_fail (look_of s) layers) refused ended
+    by (ask.EndFrame session time blend layers) = by_rule (λ x. Moves s x (frame_if (is_success x.code) s (ask.EndFrame session time blend layers))) s f e.short (layers_fail (look_of s session) layers) refused ended
       where
         f : Rule
         f = rule s reads (record e { call = ask.EndFrame session time blend layers })
@@ -206,7 +209,7 @@ module _ (s : CoreState) (bound : IsBound s.frames s.sessions) where
 
   gone : (handle : ℕ) (t : Standing) → t.sessions ≡ sessions_left (without s.handles handle) (destroyed_by s.handles handle) s.sessions → IsBound s.frames (rounds most_rounds s.device.wish t).sessions
   gone handle t is =
-      let one = sum_rounds busy s.device.wish t ∙ ap (λ xs. sum_in busy xs) is ∙ sum_map busy (without_sets (destroyed_by s.handles handle)) (λ x. refl) (still_live (without s.handles handle) s.sessions) in
+      let one = sum_rounds busy s.device.wish t ∙ ap (λ xs. sum_in busy xs) is ∙ sum_map busy (left_session (without s.handles handle) (destroyed_by s.handles handle)) (λ x. refl) (still_live (without s.handles handle) s.sessions) in
       let two = sum_left busy (λ (x : Session). is_live (without s.handles handle) kind.Session x.handle) s.sessions in
       omega (arith, one, two, bound)
 
@@ -277,7 +280,7 @@ bound_step s reads e is_ready listed few bound = by e.call is_ready
         (λ none.
         let had = not_false (loop_of s session).has_begun (clear f e.short none).order in
         let one = ended _ (sum_in busy s.sessions) (one_if (loop_of s session).has_waited) (loop_of s session).has_begun had (period s bound session (synced_session wish.Ready) (ended_loop (loop_of s session))) in
-        let more = length_more s.frames.pending (new_frame s time layers) in
+        let more = length_more s.frames.pending (new_frame s session time layers) in
         omega (arith, one, more, bound))
       where
         ended : (n m w : ℕ) (b : Bool) → b ≡ true → n + (w + one_if b) ≤ m + (w + 0) → n + 1 ≤ m
@@ -287,6 +290,10 @@ bound_step s reads e is_ready listed few bound = by e.call is_ready
         let f = rule s reads (record e { call = ask.NextFrame }) in
         let taken = length_taken s.frames.pending in
         bound_refused s (refusal e.short f) (told_on f.on f.effect) bound (λ none. omega (arith, taken, bound))
+    by (ask.SyncActions session active) is_ready =
+        let f = rule s reads (record e { call = ask.SyncActions session active }) in
+        let one = sum_at busy (with_columns (columns_synced s (is_state (life_of s session).state Focused) active (columns_of s session))) (λ x. refl) session s.sessions in
+        bound_refused s (refusal e.short f) (told_on f.on f.effect) bound (λ none. omega (arith, one, bound))
     by (ask.AttachSets session handles) is_ready =
         let f = rule s reads (record e { call = ask.AttachSets session handles }) in
         let one = sum_at busy (with_attached (sets_named s.inputs handles)) (λ x. refl) session s.sessions in

@@ -374,7 +374,7 @@ module _ (s : CoreState) (reads : CellReads) (e : Entry) (is_ready : core_ready 
           subst (λ (n : ℕ). LoopFits n (begun_loop l) (record { call = ask.BeginFrame session; is_done = true; given = e.given; did = (rule s reads (record e { call = ask.BeginFrame session })).effect.did } ∷ past)) same
           (begins_frame session l past e.given _ some (subst (λ (n : ℕ). LoopFits n l past) (sym same) fits)))
       by (ask.EndFrame session time blend layers) ready_is =
-          by_call (ask.EndFrame session time blend layers) (rule s reads (record e { call = ask.EndFrame session time blend layers })) session ended_loop (layers_fail (look_of s) layers) refl refl refl (λ good l. refl) refl
+          by_call (ask.EndFrame session time blend layers) (rule s reads (record e { call = ask.EndFrame session time blend layers })) session ended_loop (layers_fail (look_of s session) layers) refl refl refl (λ good l. refl) refl
           (λ free l same here fits. subst (λ (n : ℕ). LoopFits n (ended_loop l) (record { call = ask.EndFrame session time blend layers; is_done = true; given = e.given; did = (rule s reads (record e { call = ask.EndFrame session time blend layers })).effect.did } ∷ past)) same
           (ends_frame session l past e.given _ time blend layers (subst (λ (n : ℕ). LoopFits n l past) (sym same) fits)))
       by r ready_is = uncounted r (effect s reads (record e { call = r })) refl (λ good l. refl)

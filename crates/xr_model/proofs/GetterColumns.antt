@@ -1,6 +1,8 @@
 -- What a getter tells: the column of the user path that it names, in the place of its action.
 use Rattle.std.proofs.Common.{◌≡◌, ◌<◌, ◌+◌, ◌-◌, ◌==◌, inl, inr, not, ℕ, ℤ, pos, zero, suc, Bool, true, false, List, [], ◌∷◌, length, map, Option, Some, None, option_map, slice_get, refl, sym, ap, subst, ◌∙◌, arith, true≢false}
 use Rattle.std.specs.Prelude.{◌↔◌, All, is_none, option_and_then, unwrap_or, if◌then◌else◌}
+use Rattle.std.proofs.lemmas.List.{length-map}
+use Rattle.std.proofs.lemmas.Option.{slice_get-map}
 use Rattle.std.specs.List.{find, list_any, position_from}
 use Rattle.std.specs.Ordering.{int_eq}
 use Rattle.xr_types.specs.Code.{is_success}
@@ -8,6 +10,8 @@ use Rattle.xr_types.specs.Printed.{all_users}
 use Rattle.xr_types.specs.Users.{user_place}
 use Rattle.xr_types.specs.declared.calls.Call.{Call}
 use Rattle.xr_types.specs.declared.calls.Call.TheVariants as ask
+use Rattle.xr_types.specs.declared.calls.Gives.{Gives}
+use Rattle.xr_types.specs.declared.calls.Gives.TheVariants as gives
 use Rattle.xr_types.specs.declared.code.Code.TheVariants.{HandleInvalid, ActionsetNotAttached, ActionTypeMismatch, PathUnsupported}
 use Rattle.xr_types.specs.declared.handles.Kind.TheVariants as kind
 use Rattle.xr_types.specs.declared.handles.Slot.{Slot}
@@ -19,25 +23,28 @@ use Rattle.xr_types.specs.declared.input.User.TheVariants as user
 use Rattle.xr_model.specs.machine.Handles.{is_live}
 use Rattle.xr_model.specs.machine.HandlePlaces.{place_in, place_among}
 use Rattle.xr_model.specs.machine.Profiles.{user_of}
-use Rattle.xr_model.specs.machine.Publication.{Publication, PublishedAction, shown_of, first_seen, columns_in, published_action, is_of_user, user_atom, atom_of_user, publication_of, is_session, published_at, column_from, column_by, is_attached_action, is_action_of, column_read, shown_by, getter_gives}
+use Rattle.xr_model.specs.machine.Publication.{Publication, PublishedSession, PublishedAction, ShownColumn, shown_of, columns_in, shown_row, published_session, published_action, is_of_user, user_atom, atom_of_user, publication_of, session_read, published_at, has_attached, column_from, column_by, is_action_of, column_read, shown_by, getter_gives}
 use Rattle.xr_model.specs.machine.Refusals.{when}
 use Rattle.xr_model.specs.machine.Rule.{carried_out}
 use Rattle.xr_model.specs.machine.Rules.Sets.{user_at}
 use Rattle.xr_model.specs.machine.Rules.Sync.{getter_rule}
 use Rattle.xr_model.specs.machine.Sets as sets
-use Rattle.xr_model.specs.machine.Sets.{is_declared}
+use Rattle.xr_model.specs.machine.LiveSessions.{Session}
+use Rattle.xr_model.specs.machine.Sets.{is_declared, action_at}
 use Rattle.xr_model.specs.machine.State.{CoreState, opening}
 use Rattle.xr_model.specs.machine.Machine.{step}
 use Rattle.xr_model.specs.machine.History.{after}
 use Rattle.xr_model.specs.laws.ColumnLaws.{IsNamedBy, asked_of, TellsOf, TellsItsColumn, GettersTellTheirColumns}
 use Rattle.xr_model.specs.laws.LocationLaws.{IsColumnOf}
-use Rattle.xr_model.specs.laws.WordLaws.{ActionFits, PublicationFits}
+use Rattle.xr_model.specs.laws.WordLaws.{RowFits, SessionFits, PublicationFits}
 use Rattle.xr_model.proofs.ChainPlaces.{same_some}
 use Rattle.xr_model.proofs.ColumnsGone.{getters_read_the_named_column}
 use Rattle.xr_model.proofs.FittingPublications.{publications_fit}
 use Rattle.xr_model.proofs.FrameCalls.{where_done}
 use Rattle.xr_model.proofs.FrameOrder.{clear, none_first}
 use Rattle.xr_model.proofs.Rows.{same_key}
+use Rattle.xr_model.proofs.Keyed.{key_of}
+use Rattle.xr_model.proofs.PublishedPlaces.{action_read, read_listed, row_is_read, Read}
 
 -- ---- lists
 
@@ -62,15 +69,6 @@ got_within [] k within = absurd (omega (arith, within))
 got_within (x ∷ xs) zero within = (x, refl)
 got_within (x ∷ xs) (suc k) within = got_within xs k (omega (arith, within))
 
-pub got_map : {S T : Type 0} (f : S → T) (xs : List S) (k : ℕ) → slice_get (map f xs) k ≡ option_map f (slice_get xs k)
-got_map f [] k = refl
-got_map f (x ∷ xs) zero = refl
-got_map f (x ∷ xs) (suc k) = got_map f xs k
-
-map_long : {S T : Type 0} (f : S → T) (xs : List S) → length (map f xs) ≡ length xs
-map_long f [] = refl
-map_long f (x ∷ xs) = ap suc (map_long f xs)
-
 -- what holds of all holds of one that is found
 found_all : {T : Type 0} (P : T → Type 0) (p : T → Bool) (xs : List T) (x : T) → find p xs ≡ Some x → All P xs → P x
 found_all P p [] x found all = cc
@@ -80,17 +78,11 @@ found_all {T = T} P p (y ∷ xs) x found all = by (p y) found (found_all P p xs 
     by true found more = subst P (same_some y x found) (all zero y (omega arith))
     by false found more = more found (λ k d within. all (suc k) d (omega (arith, within)))
 
--- what is found of some that were made of others was made of one of the same handle
-found_made : (f : sets.Action → PublishedAction) → ((x : sets.Action) → (f x).handle ≡ x.handle) → (xs : List sets.Action) (k : ℕ) (a : PublishedAction)
-    → find (λ (y : PublishedAction). y.handle == k) (map f xs) ≡ Some a → (x : sets.Action) × (x.handle ≡ k) × (f x ≡ a)
-found_made f same [] k a found = cc
-found_made f same (x ∷ xs) k a found = by ((f x).handle == k) refl found (found_made f same xs k a)
-  where
-    by : (b : Bool) → ((f x).handle == k) ≡ b → (if b then Some (f x) else find (λ (y : PublishedAction). y.handle == k) (map f xs)) ≡ Some a
-        → (find (λ (y : PublishedAction). y.handle == k) (map f xs) ≡ Some a → (y : sets.Action) × (y.handle ≡ k) × (f y ≡ a))
-        → (y : sets.Action) × (y.handle ≡ k) × (f y ≡ a)
-    by true eb found more = (x, sym (same x) ∙ same_key (f x).handle k eb, same_some (f x) a found)
-    by false eb found more = more found
+-- what holds of all that are made of some holds of each by what it is made of
+all_unmade : {S T : Type 0} (P : T → Type 0) (f : S → T) (xs : List S) → All P (map f xs) → All (λ x. P (f x)) xs
+all_unmade P f [] all k d within = absurd (omega (arith, within))
+all_unmade P f (x ∷ xs) all zero d within = all zero (f x) (omega arith)
+all_unmade P f (x ∷ xs) all (suc k) d within = all_unmade P f xs (λ j e m. all (suc j) e (omega (arith, m))) k d (omega (arith, within))
 
 -- ---- user paths
 
@@ -151,49 +143,47 @@ is_zero_is x = by (int_eq x (pos 0)) refl
     by true eb = (λ e. grind (arith, eb), λ e. refl)
     by false eb = (λ e. absurd (true≢false e), λ e. absurd (true≢false (sym (subst (λ (y : ℤ). int_eq y (pos 0) ≡ true) (sym e) refl) ∙ eb)))
 
-module _ (s : CoreState) (fits : PublicationFits (publication_of s)) (wanted : ActionType) (action sub : ℕ) where
+module _ (s : CoreState) (fits : PublicationFits (publication_of s)) (wanted : ActionType) (session action sub : ℕ) where
   abbrev p : Publication
   p = publication_of s
 
-  -- where the action stands, and the row of its place
-  record Stands (a : PublishedAction) : Type 0 where
+  -- where the action stands, and the row of its place in the session
+  record Stands (x : Session) (a : sets.Action) : Type 0 where
     place : ℕ
     slot : Slot
     stands : slice_get s.handles.actions place ≡ Some slot
     own : slot.handle ≡ action
     row : List Column
-    there : slice_get s.columns place ≡ Some row
-    columns : a.columns ≡ map shown_of row
+    there : slice_get x.columns place ≡ Some row
+    shown : shown_row s.handles x.columns a ≡ map shown_of row
 
-  stands_at : (a : PublishedAction) → published_at p action ≡ Some a → length a.columns ≡ 6 → Stands a
-  stands_at a found six =
-      let made = found_made (published_action (first_seen s.sessions) s.handles s.columns) (λ x. refl) s.inputs.actions action a found in
-      let columns : a.columns ≡ map shown_of (columns_in s.handles s.columns action) =
-      ap (λ (b : PublishedAction). b.columns) (sym made.2) ∙ ap (λ (k : ℕ). map shown_of (columns_in s.handles s.columns k)) made.1 in
+  stands_at : (x : Session) (a : sets.Action) → a.handle ≡ action → length (shown_row s.handles x.columns a) ≡ 6 → Stands x a
+  stands_at x a named six =
+      let columns : shown_row s.handles x.columns a ≡ map shown_of (columns_in s.handles x.columns action) = ap (λ (k : ℕ). map shown_of (columns_in s.handles x.columns k)) named in
       by (place_among s.handles kind.Action action) refl columns
     where
-      nothing : a.columns ≡ [] → Stands a
-      nothing none = absurd (no_six (length a.columns) six (ap length none))
+      nothing : shown_row s.handles x.columns a ≡ [] → Stands x a
+      nothing none = absurd (no_six (length (shown_row s.handles x.columns a)) six (ap length none))
         where
           no_six : (n : ℕ) → n ≡ 6 → n ≡ 0 → ⊥
           no_six n one two = omega (arith, one, two)
 
-      some_row : (place : ℕ) → place_among s.handles kind.Action action ≡ Some place → (o : Option (List Column)) → slice_get s.columns place ≡ o → a.columns ≡ map shown_of (unwrap_or o []) → Stands a
+      some_row : (place : ℕ) → place_among s.handles kind.Action action ≡ Some place → (o : Option (List Column)) → slice_get x.columns place ≡ o → shown_row s.handles x.columns a ≡ map shown_of (unwrap_or o []) → Stands x a
       some_row place at None eo columns = nothing columns
       some_row place at (Some row) eo columns =
           let got = position_got (λ (x : Slot). x.handle == action) s.handles.actions 0 place (in_row (is_live s.handles kind.Action action) at) in
           let i = got.0 in
           let counted = got.1 in
           let same : place ≡ i = omega (arith, counted) in
-          record { place = place; slot = got.2; stands = ap (λ (k : ℕ). slice_get s.handles.actions k) same ∙ got.3; own = same_key got.2.handle action got.4; row = row; there = eo; columns = columns }
+          record { place = place; slot = got.2; stands = ap (λ (k : ℕ). slice_get s.handles.actions k) same ∙ got.3; own = same_key got.2.handle action got.4; row = row; there = eo; shown = columns }
         where
           in_row : (b : Bool) → (if b then place_in s.handles.actions action else None) ≡ Some place → place_in s.handles.actions action ≡ Some place
           in_row true e = e
           in_row false e = cc
 
-      by : (o : Option ℕ) → place_among s.handles kind.Action action ≡ o → a.columns ≡ map shown_of (unwrap_or (option_and_then (λ place. slice_get s.columns place) o) []) → Stands a
+      by : (o : Option ℕ) → place_among s.handles kind.Action action ≡ o → shown_row s.handles x.columns a ≡ map shown_of (unwrap_or (option_and_then (λ place. slice_get x.columns place) o) []) → Stands x a
       by None eo columns = nothing columns
-      by (Some place) eo columns = some_row place eo (slice_get s.columns place) refl columns
+      by (Some place) eo columns = some_row place eo (slice_get x.columns place) refl columns
 
   -- the column that the number names
   column_asked : (a : PublishedAction) (k : ℕ) → column_by p a sub ≡ Some k → IsColumnOf s.atoms sub k × (k < 6)
@@ -214,20 +204,44 @@ module _ (s : CoreState) (fits : PublicationFits (publication_of s)) (wanted : A
           let column : k ≡ user_place own.0 + 1 = it.1 ∙ ap (λ (n : ℕ). n + 1) (sym (own.2 ∙ there.1)) in
           (inr (own.0, own.1, column), few (user_place own.0) k column (user_few own.0))
 
-  -- what is given where nothing refuses it
-  tells : (what : Call) → ((c : Column) → TellsOf c what (shown_by wanted (shown_of c))) → is_none (published_at p action) ≡ false → is_none (column_read p (published_at p action) sub) ≡ false
-      → TellsItsColumn s action sub what (getter_gives p wanted (published_at p action) sub)
-  tells what each some column = by (published_at p action) refl some column
+  -- what is given by the columns that are read, and by the action
+  abbrev given : Option (List ShownColumn) → Option PublishedAction → Gives
+  given row found = unwrap_or (option_map (shown_by wanted) (option_and_then (λ k. option_and_then (λ columns. slice_get columns k) row) (column_read p found sub))) gives.Nothing
+
+  -- the session that is read has room for the columns of an action that it has
+  row_fits : (it : Read s session) (a : sets.Action) → action_at s.inputs action ≡ Some a → RowFits (shown_row s.handles it.its.columns a)
+  row_fits it a found =
+      let own = found_all (SessionFits (length p.actions)) (λ x. x.handle == session) p.sessions (published_session s.handles s.inputs.actions it.its) (is_found (session == 0) it.is) fits.room.sessions in
+      found_all (λ b. RowFits (shown_row s.handles it.its.columns b)) (λ b. b.handle == action) s.inputs.actions a found (all_unmade RowFits (shown_row s.handles it.its.columns) s.inputs.actions own.each)
     where
-      shown : (a : PublishedAction) → published_at p action ≡ Some a → (k : ℕ) → column_by p a sub ≡ Some k → ActionFits a → TellsItsColumn s action sub what (getter_gives p wanted (Some a) sub)
-      shown a found k named fit =
-          let at = stands_at a found fit.columns in
-          let asked = column_asked a k named in
-          let long : length at.row ≡ 6 = sym (map_long shown_of at.row) ∙ ap length (sym at.columns) ∙ fit.columns in
-          let less : k < length at.row = rw long asked.1 in
+      is_found : (b : Bool) → (if b then None else find (λ (x : PublishedSession). x.handle == session) p.sessions) ≡ Some (published_session s.handles s.inputs.actions it.its)
+          → find (λ (x : PublishedSession). x.handle == session) p.sessions ≡ Some (published_session s.handles s.inputs.actions it.its)
+      is_found true e = cc
+      is_found false e = e
+
+  -- what is given where nothing refuses it
+  tells : (what : Call) → is_none (session_read p session) ≡ false → ((c : Column) → TellsOf c what (shown_by wanted (shown_of c))) → is_none (published_at p action) ≡ false → is_none (column_read p (published_at p action) sub) ≡ false
+      → TellsItsColumn s session action sub what (getter_gives p wanted session action sub)
+  tells what asked each some column =
+      let it = read_listed s session asked in
+      let read = action_read s action in
+      let row = row_is_read s session it action in
+      subst (λ (g : Gives). TellsItsColumn s session action sub what g) (sym (λ i. given (row i) (read i)))
+      (by it (action_at s.inputs action) refl (ap is_none (sym read) ∙ some) (ap (λ (o : Option PublishedAction). is_none (column_read p o sub)) (sym read) ∙ column))
+    where
+      shown : (it : Read s session) (a : sets.Action) → action_at s.inputs action ≡ Some a → (k : ℕ) → column_by p (published_action a) sub ≡ Some k
+          → TellsItsColumn s session action sub what (given (Some (shown_row s.handles it.its.columns a)) (Some (published_action a)))
+      shown it a found k named =
+          let six = (row_fits it a found).six in
+          let at = stands_at it.its a (key_of (λ (b : sets.Action). b.handle) s.inputs.actions action a found) six in
+          let named_so = column_asked (published_action a) k named in
+          let long : length at.row ≡ 6 = sym (length-map at.row shown_of) ∙ ap length (sym at.shown) ∙ six in
+          let less : k < length at.row = rw long named_so.1 in
           let c = got_within at.row k less in
-          let is : slice_get a.columns k ≡ Some (shown_of c.0) = ap (λ (l : List _). slice_get l k) at.columns ∙ got_map shown_of at.row k ∙ ap (option_map shown_of) c.1 in
+          let is : slice_get (shown_row s.handles it.its.columns a) k ≡ Some (shown_of c.0) = ap (λ (l : List _). slice_get l k) at.shown ∙ slice_get-map shown_of at.row k ∙ ap (option_map shown_of) c.1 in
           record {
+            its = it.its;
+            listed = it.listed;
             place = at.place;
             slot = at.slot;
             stands = at.stands;
@@ -235,63 +249,63 @@ module _ (s : CoreState) (fits : PublicationFits (publication_of s)) (wanted : A
             row = at.row;
             there = at.there;
             column = k;
-            asked = asked.0;
+            asked = named_so.0;
             shown = c.0;
             stood = c.1;
             tells = rw (named, is) (each c.0);
           }
 
-      of_action : (a : PublishedAction) → published_at p action ≡ Some a → (o : Option ℕ) → column_by p a sub ≡ o → is_none o ≡ false → TellsItsColumn s action sub what (getter_gives p wanted (Some a) sub)
-      of_action a found None eo column = absurd (true≢false column)
-      of_action a found (Some k) eo column = shown a found k eo (found_all ActionFits (λ x. x.handle == action) p.actions a found fits.each)
+      of_action : (it : Read s session) (a : sets.Action) → action_at s.inputs action ≡ Some a → (o : Option ℕ) → column_by p (published_action a) sub ≡ o → is_none o ≡ false
+          → TellsItsColumn s session action sub what (given (Some (shown_row s.handles it.its.columns a)) (Some (published_action a)))
+      of_action it a found None eo column = absurd (true≢false column)
+      of_action it a found (Some k) eo column = shown it a found k eo
 
-      by : (o : Option PublishedAction) → published_at p action ≡ o → is_none o ≡ false → is_none (column_read p o sub) ≡ false → TellsItsColumn s action sub what (getter_gives p wanted o sub)
-      by None eo some column = absurd (true≢false some)
-      by (Some a) eo some column = of_action a eo (column_by p a sub) refl column
+      by : (it : Read s session) (o : Option sets.Action) → action_at s.inputs action ≡ o → is_none (option_map published_action o) ≡ false → is_none (column_read p (option_map published_action o) sub) ≡ false
+          → TellsItsColumn s session action sub what (given (option_map (shown_row s.handles it.its.columns) o) (option_map published_action o))
+      by it None eo some column = absurd (true≢false some)
+      by it (Some a) eo some column = of_action it a eo (column_by p (published_action a) sub) refl column
 
   -- where it succeeds
-  told : (what : Call) → ((c : Column) → TellsOf c what (shown_by wanted (shown_of c))) → (session : ℕ) (short : Bool) → is_success (carried_out s short (getter_rule s wanted session action sub)).code ≡ true
-      → TellsItsColumn s action sub what (carried_out s short (getter_rule s wanted session action sub)).gives
-  told what each session short =
+  told : (what : Call) → ((c : Column) → TellsOf c what (shown_by wanted (shown_of c))) → (short : Bool) → is_success (carried_out s short (getter_rule s wanted session action sub)).code ≡ true
+      → TellsItsColumn s session action sub what (carried_out s short (getter_rule s wanted session action sub)).gives
+  told what each short =
       let f = getter_rule s wanted session action sub in
-      where_done (λ x. TellsItsColumn s action sub what x.gives) s f short refl
+      where_done (λ x. TellsItsColumn s session action sub what x.gives) s f short refl
       (λ none.
       let free = clear f short none in
       let found = published_at p action in
-      let handles = none_first (not (is_session p session)) HandleInvalid (when (is_none found) HandleInvalid ∷ []) free.handles in
+      let handles = none_first (is_none (session_read p session)) HandleInvalid (when (is_none found) HandleInvalid ∷ []) free.handles in
       let action_is = none_first (is_none found) HandleInvalid [] handles.1 in
-      let attached = none_first (not (is_attached_action found)) ActionsetNotAttached (when (not (is_action_of wanted found)) ActionTypeMismatch ∷ when (is_none (column_read p found sub)) PathUnsupported ∷ []) free.behind in
+      let attached = none_first (not (has_attached p session action)) ActionsetNotAttached (when (not (is_action_of wanted found)) ActionTypeMismatch ∷ when (is_none (column_read p found sub)) PathUnsupported ∷ []) free.behind in
       let typed = none_first (not (is_action_of wanted found)) ActionTypeMismatch (when (is_none (column_read p found sub)) PathUnsupported ∷ []) attached.1 in
       let column = none_first (is_none (column_read p found sub)) PathUnsupported [] typed.1 in
-      tells what each action_is.0 column.0)
+      tells what handles.0 each action_is.0 column.0)
 
 -- ---- each getter
 
 pub getters_tell_their_columns : GettersTellTheirColumns
-getters_tell_their_columns settings es e action sub legal checked asked = by e.call asked
+getters_tell_their_columns settings es e session action sub legal checked asked = by e.call asked
   where
-    asks : ℕ → ℕ → Option (ℕ × ℕ)
-    asks a n = Some (a, n)
-
-    same_pair : (x y : ℕ × ℕ) → Some x ≡ Some y → (x.0 ≡ y.0) × (x.1 ≡ y.1)
-    same_pair x y e = let both = same_some x y e in (ap (λ (z : ℕ × ℕ). z.0) both, ap (λ (z : ℕ × ℕ). z.1) both)
+    asks : ℕ → ℕ → ℕ → Option (ℕ × ℕ × ℕ)
+    asks i a n = Some (i, a, n)
 
     fits : PublicationFits (publication_of (after (opening settings) es).core)
     fits = publications_fit settings es legal checked
 
-    turned : (wanted : ActionType) (what : Call) (session a n : ℕ) → ((c : Column) → TellsOf c what (shown_by wanted (shown_of c))) → asks a n ≡ asks action sub
-        → is_success (carried_out (after (opening settings) es).core e.short (getter_rule (after (opening settings) es).core wanted session a n)).code ≡ true
-        → TellsItsColumn (after (opening settings) es).core action sub what (carried_out (after (opening settings) es).core e.short (getter_rule (after (opening settings) es).core wanted session a n)).gives
-    turned wanted what session a n each same good =
-        let both = same_pair (a, n) (action, sub) same in
-        subst (λ (m : ℕ). TellsItsColumn (after (opening settings) es).core action m what (carried_out (after (opening settings) es).core e.short (getter_rule (after (opening settings) es).core wanted session a n)).gives) both.1
-        (subst (λ (m : ℕ). TellsItsColumn (after (opening settings) es).core m n what (carried_out (after (opening settings) es).core e.short (getter_rule (after (opening settings) es).core wanted session a n)).gives) both.0
-        (told (after (opening settings) es).core fits wanted a n what each session e.short good))
+    Told : ActionType → Call → ℕ → ℕ → ℕ → ℕ × ℕ × ℕ → Type 0
+    Told wanted what i a n x =
+        TellsItsColumn (after (opening settings) es).core x.0 x.1 x.2 what (carried_out (after (opening settings) es).core e.short (getter_rule (after (opening settings) es).core wanted i a n)).gives
 
-    by : (r : Call) → asked_of r ≡ Some (action, sub) → is_success (step (after (opening settings) es) (record e { call = r })).1.reply.code ≡ true
-        → TellsItsColumn (after (opening settings) es).core action sub r (step (after (opening settings) es) (record e { call = r })).1.reply.gives
-    by (ask.GetBoolean session a n) same good = turned type.Boolean (ask.GetBoolean session a n) session a n (λ c. (is_zero_is c.x, refl, refl, refl)) same good
-    by (ask.GetFloat session a n) same good = turned type.Float (ask.GetFloat session a n) session a n (λ c. (refl, refl, refl, refl)) same good
-    by (ask.GetVector session a n) same good = turned type.Vector (ask.GetVector session a n) session a n (λ c. (refl, refl, refl, refl, refl)) same good
-    by (ask.GetPoseActive session a n) same good = turned type.Pose (ask.GetPoseActive session a n) session a n (λ c. refl) same good
+    turned : (wanted : ActionType) (what : Call) (i a n : ℕ) → ((c : Column) → TellsOf c what (shown_by wanted (shown_of c))) → asks i a n ≡ asks session action sub
+        → is_success (carried_out (after (opening settings) es).core e.short (getter_rule (after (opening settings) es).core wanted i a n)).code ≡ true
+        → Told wanted what i a n (session, action, sub)
+    turned wanted what i a n each same good =
+        subst (Told wanted what i a n) (same_some (i, a, n) (session, action, sub) same) (told (after (opening settings) es).core fits wanted i a n what each e.short good)
+
+    by : (r : Call) → asked_of r ≡ Some (session, action, sub) → is_success (step (after (opening settings) es) (record e { call = r })).1.reply.code ≡ true
+        → TellsItsColumn (after (opening settings) es).core session action sub r (step (after (opening settings) es) (record e { call = r })).1.reply.gives
+    by (ask.GetBoolean i a n) same good = turned type.Boolean (ask.GetBoolean i a n) i a n (λ c. (is_zero_is c.x, refl, refl, refl)) same good
+    by (ask.GetFloat i a n) same good = turned type.Float (ask.GetFloat i a n) i a n (λ c. (refl, refl, refl, refl)) same good
+    by (ask.GetVector i a n) same good = turned type.Vector (ask.GetVector i a n) i a n (λ c. (refl, refl, refl, refl, refl)) same good
+    by (ask.GetPoseActive i a n) same good = turned type.Pose (ask.GetPoseActive i a n) i a n (λ c. refl) same good
     by _ same good = cc

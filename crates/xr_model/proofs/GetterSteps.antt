@@ -2,7 +2,7 @@
 use Rattle.std.proofs.Common.{◌≡◌, ℕ, true, Option, Some, None, refl, sym, ap, true≢false}
 use Rattle.xr_types.specs.declared.input.ActionType.{ActionType}
 use Rattle.xr_types.specs.declared.input.ActionType.TheVariants as type
-use Rattle.xr_model.specs.machine.Publication.{Publication, publication_of, published_at, getter_gives}
+use Rattle.xr_model.specs.machine.Publication.{Publication, publication_of, loss_read, getter_gives}
 use Rattle.xr_model.specs.machine.Refusals.{Refusal, first_of}
 use Rattle.xr_types.specs.CallKinds.{is_getter}
 use Rattle.xr_model.specs.machine.Calls.{Entry}
@@ -11,6 +11,7 @@ use Rattle.xr_types.specs.declared.calls.Call.TheVariants as ask
 use Rattle.xr_model.specs.machine.Reads.{answered, reads}
 use Rattle.xr_model.specs.machine.Rule.{Rule, refusals, refusal, unless_refused, told_on, decided_call}
 use Rattle.xr_model.specs.machine.Rules.Sync.{getter_rule}
+use Rattle.xr_model.specs.machine.SessionRule.{Loss}
 use Rattle.xr_model.specs.machine.State.{CoreState, State}
 use Rattle.xr_model.specs.machine.Machine.{step, ready, cells_after}
 use Rattle.xr_model.specs.laws.PublicationLaws.{GettersChangeNothing, GettersAreReady, GettersRead}
@@ -63,12 +64,15 @@ module _ (s : CoreState) (wanted : ActionType) (session action sub : ℕ) where
   abbrev published : Publication
   published = publication_of s
 
+  abbrev loss : Loss
+  loss = loss_read published session
+
   -- by what refuses it
-  carried : (o : Option Refusal) → answered published o (getter_gives published wanted (published_at published action) sub) ≡ (decided_call s (ask.GetBoolean session action sub) (unless_refused s o (told_on asked.on asked.effect))).1
+  carried : (o : Option Refusal) → answered published loss o (getter_gives published wanted session action sub) ≡ (decided_call s (ask.GetBoolean session action sub) (unless_refused s o (told_on asked.on asked.effect))).1
   carried None = refl
   carried (Some r) = refl
 
-  all_carried : answered published (first_of (refusals asked)) (getter_gives published wanted (published_at published action) sub)
+  all_carried : answered published loss (first_of (refusals asked)) (getter_gives published wanted session action sub)
       ≡ (decided_call s (ask.GetBoolean session action sub) (unless_refused s (first_of (refusals asked)) (told_on asked.on asked.effect))).1
   all_carried = carried (first_of (refusals asked))
 

@@ -1,27 +1,14 @@
 -- Which actions a getter takes by their type.
-use Rattle.std.proofs.Common.{◌≡◌, ◌==◌, not, ℕ, Bool, true, false, List, [], ◌∷◌, map, Option, Some, None, option_map, refl, sym, ap, ◌∙◌, true≢false, if◌then◌else◌}
+use Rattle.std.proofs.Common.{◌≡◌, not, ℕ, Bool, true, false, Option, Some, None, option_map, refl, sym, ap, ◌∙◌, true≢false}
 use Rattle.std.specs.Prelude.{◌↔◌}
-use Rattle.std.specs.List.{find}
 use Rattle.xr_types.specs.declared.input.ActionType.{ActionType}
 use Rattle.xr_types.specs.declared.input.ActionType.TheVariants as type
-use Rattle.xr_model.specs.machine.Publication.{PublishedAction, published_action, published_at, publication_of, first_seen, is_same_type, is_action_of}
+use Rattle.xr_model.specs.machine.Publication.{published_action, published_at, publication_of, is_same_type, is_action_of}
 use Rattle.xr_model.specs.machine.Sets.{Action, action_at}
 use Rattle.xr_model.specs.machine.State.{CoreState}
 use Rattle.xr_model.specs.laws.AskedLaws.{IsOfType, GettersAreOfTheirTypes}
 use Rattle.xr_model.proofs.ActionSpaces.{same_action, no_action}
-
--- what is published of an action is found where the action is
-pub found_as : (f : Action → PublishedAction) → ((x : Action) → (f x).handle ≡ x.handle) → (xs : List Action) (k : ℕ)
-    → find (λ (a : PublishedAction). a.handle == k) (map f xs) ≡ option_map f (find (λ (x : Action). x.handle == k) xs)
-found_as f same [] k = refl
-found_as f same (x ∷ xs) k =
-    ap (λ (n : ℕ). if n == k then Some (f x) else find (λ (a : PublishedAction). a.handle == k) (map f xs)) (same x) ∙ by (x.handle == k) (found_as f same xs k)
-  where
-    by : (b : Bool) → find (λ (a : PublishedAction). a.handle == k) (map f xs) ≡ option_map f (find (λ (y : Action). y.handle == k) xs)
-        → (if b then Some (f x) else find (λ (a : PublishedAction). a.handle == k) (map f xs))
-        ≡ option_map f (if b then Some x else find (λ (y : Action). y.handle == k) xs)
-    by true more = refl
-    by false more = more
+use Rattle.xr_model.proofs.PublishedPlaces.{action_read}
 
 type_is : (a b : ActionType) → is_same_type a b ≡ true → a ≡ b
 type_is type.Boolean type.Boolean e = refl
@@ -42,13 +29,11 @@ met false e = absurd (true≢false e)
 takes_type : (s : CoreState) (action : ℕ) (wanted : ActionType)
     → (not (is_action_of wanted (published_at (publication_of s) action)) ≡ false) ↔ IsOfType s action wanted
 takes_type s action wanted =
-    let found = ap (λ o. not (is_action_of wanted o)) (found_as (published_action (first_seen s.sessions) s.handles s.columns)
-    (λ x. refl) s.inputs.actions action) in
+    let found = ap (λ o. not (is_action_of wanted o)) (action_read s action) in
     let all = by (action_at s.inputs action) refl in
     (λ e. all.0 (sym found ∙ e), λ it. found ∙ all.1 it)
   where
-    by : (o : Option Action) → action_at s.inputs action ≡ o
-        → (not (is_action_of wanted (option_map (published_action (first_seen s.sessions) s.handles s.columns) o)) ≡ false) ↔ IsOfType s action wanted
+    by : (o : Option Action) → action_at s.inputs action ≡ o → (not (is_action_of wanted (option_map published_action o)) ≡ false) ↔ IsOfType s action wanted
     by None eo = (λ e. absurd (true≢false e), λ it. absurd (no_action it.it (sym eo ∙ it.is)))
     by (Some x) eo = (
       λ e. record { it = x; is = eo; own = type_is x.type wanted (met (is_same_type x.type wanted) e) },

@@ -55,7 +55,7 @@ count_step s e k = by e.call
   where
     by : (r : Call) → CountsBy s k (step s (record e { call = r })).0.core (did_at s (record e { call = r }))
     by (ask.EndFrame session time blend layers) = effect_kept (CountsBy s k) s.core e.short (rule s.core (reads_of s (ask.EndFrame session time blend layers)) (record e { call = ask.EndFrame session time blend layers })) refl
-        (λ none. let more = uses_more s.core.frames.pending (new_frame s.core time layers) k in omega (arith, more))
+        (λ none. let more = uses_more s.core.frames.pending (new_frame s.core session time layers) k in omega (arith, more))
     by ask.NextFrame =
         let f = rule s.core (reads_of s ask.NextFrame) (record e { call = ask.NextFrame }) in
         effect_kept (CountsBy s k) s.core e.short f refl (λ none. taken_once s.core.frames.pending s.cells.held k (none_is_empty s.cells.held (not_false (is_empty s.cells.held) (clear f e.short none).order)))

@@ -14,6 +14,7 @@ use Rattle.xr_types.specs.declared.handles.Kind.TheVariants.{Swapchain}
 use Rattle.xr_model.specs.machine.Chains.{Chain, chain_at, place_of_chain, info_of, info_at, next_index, oldest_index, is_acquire_wrong, is_paint_wrong}
 use Rattle.xr_model.specs.machine.Frames.{is_empty}
 use Rattle.xr_model.specs.machine.Handles.{is_live}
+use Rattle.xr_model.specs.machine.HandlePlaces.{is_below}
 use Rattle.xr_model.specs.machine.Layers.{form_checks, last_image, is_part_of, part_checks, part_image, view_at, layer_checks, layer_of, layers_of}
 use Rattle.xr_model.specs.machine.Refusals.{when, first_of}
 use Rattle.xr_model.specs.machine.Rules.Frames.{look_of, new_frame}
@@ -26,7 +27,7 @@ use Rattle.xr_model.proofs.ChainOrder.{ChainFits, OptFits, LastIs, turn_of, olde
 use Rattle.xr_model.proofs.FrameCalls.{where_done}
 use Rattle.xr_model.proofs.FrameOrder.{clear, is_live_by, none_first, none_of, not_false}
 use Rattle.xr_model.proofs.LayerCodes.{layers_fail}
-use Rattle.xr_model.proofs.Rows.{same_key}
+use Rattle.xr_model.proofs.Rows.{same_key, both_of}
 
 -- ---- turns
 
@@ -107,13 +108,13 @@ releases_are_in_turn settings es e chain legal is = subst Frees (sym is) release
 
 -- ---- layers
 
-module _ (s : CoreState) (past : List Decided) (fits : (q : ℕ) → is_live s.handles Swapchain q ≡ true → OptFits q (chain_at s.chains q) past) where
+module _ (s : CoreState) (session : ℕ) (past : List Decided) (fits : (q : ℕ) → is_live s.handles Swapchain q ≡ true → OptFits q (chain_at s.chains q) past) where
   -- an image of a part that isn't refused
-  part_is : (part : SubImage) → first_of (part_checks (look_of s) part) ≡ None → part_image (look_of s) part ≡ released_last s past part.chain
+  part_is : (part : SubImage) → first_of (part_checks (look_of s session) part) ≡ None → part_image (look_of s session) part ≡ released_last s past part.chain
   part_is part none =
-      let one = none_first (is_none ((look_of s).chain part.chain)) HandleInvalid (when (not (is_part_of ((look_of s).chain part.chain) part)) SwapchainRectInvalid ∷ when (is_none (last_image ((look_of s).chain part.chain))) LayerInvalid ∷ []) none in
-      let two = none_first (not (is_part_of ((look_of s).chain part.chain) part)) SwapchainRectInvalid (when (is_none (last_image ((look_of s).chain part.chain))) LayerInvalid ∷ []) one.1 in
-      live (is_live s.handles Swapchain part.chain) refl (none_first (is_none (last_image ((look_of s).chain part.chain))) LayerInvalid [] two.1).0
+      let one = none_first (is_none ((look_of s session).chain part.chain)) HandleInvalid (when (not (is_part_of ((look_of s session).chain part.chain) part)) SwapchainRectInvalid ∷ when (is_none (last_image ((look_of s session).chain part.chain))) LayerInvalid ∷ []) none in
+      let two = none_first (not (is_part_of ((look_of s session).chain part.chain) part)) SwapchainRectInvalid (when (is_none (last_image ((look_of s session).chain part.chain))) LayerInvalid ∷ []) one.1 in
+      live (is_below s.handles Swapchain session part.chain) refl (none_first (is_none (last_image ((look_of s session).chain part.chain))) LayerInvalid [] two.1).0
     where
       its_image : ℕ → Image
       its_image n = record { place = place_of_chain s.chains part.chain; index = n }
@@ -128,25 +129,25 @@ module _ (s : CoreState) (past : List Decided) (fits : (q : ℕ) → is_live s.h
       found None fit some = absurd fit
       found (Some c) fit some = released c fit c.last refl some
 
-      live : (b : Bool) → is_live s.handles Swapchain part.chain ≡ b → is_none (last_image (if b then info_at s.chains part.chain else None)) ≡ false
+      live : (b : Bool) → is_below s.handles Swapchain session part.chain ≡ b → is_none (last_image (if b then info_at s.chains part.chain else None)) ≡ false
           → unwrap_or (last_image (if b then info_at s.chains part.chain else None)) (record { place = 0; index = 0 }) ≡ released_last s past part.chain
-      live true eb some = found (chain_at s.chains part.chain) (fits part.chain eb) some
+      live true eb some = found (chain_at s.chains part.chain) (fits part.chain (both_of (is_live s.handles Swapchain part.chain) _ eb).0) some
       live false eb some = absurd (true≢false some)
 
-  layer_is : (l : Layer) → first_of (layer_checks (look_of s) l) ≡ None → layer_of (look_of s) l ≡ layer_last s past l
+  layer_is : (l : Layer) → first_of (layer_checks (look_of s session) l) ≡ None → layer_of (look_of s session) l ≡ layer_last s past l
   layer_is (Projection space count views) none =
-      let one = none_first (not ((look_of s).space space)) HandleInvalid (when (not (count == 2)) ValidationFailure ∷ part_checks (look_of s) (view_at views 0) ++ part_checks (look_of s) (view_at views 1)) none in
-      let counts = none_first (not (count == 2)) ValidationFailure (part_checks (look_of s) (view_at views 0) ++ part_checks (look_of s) (view_at views 1)) one.1 in
-      let both = none_of (part_checks (look_of s) (view_at views 0)) (part_checks (look_of s) (view_at views 1)) counts.1 in
+      let one = none_first (not ((look_of s session).space space)) HandleInvalid (when (not (count == 2)) ValidationFailure ∷ part_checks (look_of s session) (view_at views 0) ++ part_checks (look_of s session) (view_at views 1)) none in
+      let counts = none_first (not (count == 2)) ValidationFailure (part_checks (look_of s session) (view_at views 0) ++ part_checks (look_of s session) (view_at views 1)) one.1 in
+      let both = none_of (part_checks (look_of s session) (view_at views 0)) (part_checks (look_of s session) (view_at views 1)) counts.1 in
       rw (part_is (view_at views 0) both.0, part_is (view_at views 1) both.1) refl
   layer_is (Quad space image pose) none =
-      let one = none_first (not ((look_of s).space space)) HandleInvalid (part_checks (look_of s) image ++ when (pose == 0) PoseInvalid ∷ []) none in
-      rw (part_is image (none_of (part_checks (look_of s) image) (when (pose == 0) PoseInvalid ∷ []) one.1).0) refl
+      let one = none_first (not ((look_of s session).space space)) HandleInvalid (part_checks (look_of s session) image ++ when (pose == 0) PoseInvalid ∷ []) none in
+      rw (part_is image (none_of (part_checks (look_of s session) image) (when (pose == 0) PoseInvalid ∷ []) one.1).0) refl
 
-  layers_are : (layers : List Layer) → first_of (flat_map (layer_checks (look_of s)) layers) ≡ None → layers_of (look_of s) layers ≡ map (layer_last s past) layers
+  layers_are : (layers : List Layer) → first_of (flat_map (layer_checks (look_of s session)) layers) ≡ None → layers_of (look_of s session) layers ≡ map (layer_last s past) layers
   layers_are [] none = refl
   layers_are (l ∷ layers) none =
-      let two = none_of (layer_checks (look_of s) l) (flat_map (layer_checks (look_of s)) layers) none in
+      let two = none_of (layer_checks (look_of s session) l) (flat_map (layer_checks (look_of s session)) layers) none in
       rw (layer_is l two.0, layers_are layers two.1) refl
 
 pub frames_show_the_last_released : FramesShowTheLastReleased
@@ -162,7 +163,7 @@ frames_show_the_last_released settings es e session time blend layers legal is =
     ended : Submits (ask.EndFrame session time blend layers)
     ended =
         let f = rule s.core (reads_of s (ask.EndFrame session time blend layers)) (record e { call = ask.EndFrame session time blend layers }) in
-        where_done (λ x. IsSubmitted s.core.frames.pending x.state.frames.pending time (map (layer_last s.core (past_of settings es)) layers)) s.core f e.short (layers_fail (look_of s.core) layers)
+        where_done (λ x. IsSubmitted s.core.frames.pending x.state.frames.pending time (map (layer_last s.core (past_of settings es)) layers)) s.core f e.short (layers_fail (look_of s.core session) layers)
         (λ none.
-        let checks = (none_of (form_checks time blend layers) (flat_map (layer_checks (look_of s.core)) layers) (clear f e.short none).behind).1 in
-        record { frame = new_frame s.core time layers; behind = refl; time = refl; layers = layers_are s.core (past_of settings es) (chains_history settings es legal).fits layers checks })
+        let checks = (none_of (form_checks time blend layers) (flat_map (layer_checks (look_of s.core session)) layers) (clear f e.short none).behind).1 in
+        record { frame = new_frame s.core session time layers; behind = refl; time = refl; layers = layers_are s.core session (past_of settings es) (chains_history settings es legal).fits layers checks })

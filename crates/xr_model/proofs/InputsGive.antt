@@ -1,6 +1,6 @@
 -- What an input gives from its event on, when a column has changed, what an unfocused sync leaves, and what an action declares.
 use Rattle.std.proofs.Common.{◌≡◌, ◌==◌, ◌&&◌, ◌||◌, ◌++◌, ℕ, ℤ, Bool, true, false, not, List, [], ◌∷◌, length, Option, Some, None, pos, slice_get, slice_set, unwrap_or, refl, sym, ap, subst, ◌∙◌, arith, true≢false}
-use Rattle.std.specs.Prelude.{◌↔◌, flat_map, int_le, int_lt, if◌then◌else◌}
+use Rattle.std.specs.Prelude.{◌↔◌, flat_map, int_le, int_lt, if◌then◌else◌, option_map}
 use Rattle.std.specs.List.{list_all, list_any}
 use Rattle.std.specs.Ordering.{int_eq}
 use Rattle.xr_types.specs.Code.{is_success}
@@ -22,14 +22,14 @@ use Rattle.xr_model.specs.machine.Calls.{Entry}
 use Rattle.xr_model.specs.machine.Inputs.{value_at, is_pressed_at}
 use Rattle.xr_types.specs.declared.users.TheConstants.{USERS}
 use Rattle.xr_model.specs.machine.Rule.{Effect}
-use Rattle.xr_model.specs.machine.Rules.Session.{life_of}
+use Rattle.xr_model.specs.machine.Rules.Session.{life_of, columns_of}
 use Rattle.xr_model.specs.machine.Rules.Sets.{declared_by, user_at, with_user}
-use Rattle.xr_model.specs.machine.Rules.Sync.{columns_synced, item_checks, synced_code}
+use Rattle.xr_model.specs.machine.Rules.Sync.{item_checks, synced_code, with_synced}
 use Rattle.xr_model.specs.machine.SessionLife.{is_state}
 use Rattle.xr_model.specs.machine.SessionRule.{Loss, code_on, loss_of}
 use Rattle.xr_model.specs.machine.Sets.{is_declared, no_users}
 use Rattle.xr_model.specs.machine.State.{CoreState, Settings, State, opening}
-use Rattle.xr_model.specs.machine.Sync.{is_zero, column_after, differs, time_of, value_before, is_same_user}
+use Rattle.xr_model.specs.machine.Sync.{is_zero, column_after, differs, time_of, value_before, is_same_user, no_columns}
 use Rattle.xr_model.specs.machine.Machine.{reads_of, rule, step}
 use Rattle.xr_model.specs.machine.History.{after}
 use Rattle.xr_model.specs.laws.DeviceStateLaws.{events_of, events_from, with_event, are_checked, pressed_from, released_below, value_told, press_told}
@@ -41,6 +41,8 @@ use Rattle.xr_model.proofs.FrameCalls.{where_done}
 use Rattle.xr_model.proofs.FrameOrder.{all_fail}
 use Rattle.xr_model.proofs.Histories.{after_is_in_turn}
 use Rattle.xr_model.proofs.Rows.{itself, not_true}
+use Rattle.xr_model.specs.machine.LiveSessions.{with_columns, shown_in, session_at, Session}
+use Rattle.xr_model.proofs.SessionLives.{found_at}
 
 -- ---- inputs
 
@@ -205,10 +207,18 @@ unfocused_syncs_are_inactive s e session active is = subst Syncs (sym is) synced
 
     Tells : Effect → Type 0
     Tells x = ((x.code ≡ SessionNotFocused) ↔ (is_in_focus (life_of s.core session).state ≡ false))
-        × (is_in_focus (life_of s.core session).state ≡ false → list_all (λ row. list_all (λ c. not c.active) row) x.state.columns ≡ true)
+        × (is_in_focus (life_of s.core session).state ≡ false → list_all (λ row. list_all (λ c. not c.active) row) (columns_of x.state session) ≡ true)
 
     loss : Loss
     loss = loss_of (life_of s.core session)
+
+    -- it shows nothing then
+    bare : list_all (λ row. list_all (λ c. not c.active) row) (columns_of (with_synced s.core session false active) session) ≡ true
+    bare = ap (λ o. list_all (λ (row : List Column). list_all (λ c. not c.active) row) (shown_in o)) (found_at session session (with_columns no_columns) (λ x. refl) s.core.sessions) ∙ rw (itself session) (shown (session_at s.core.sessions session))
+      where
+        shown : (o : Option Session) → list_all (λ row. list_all (λ c. not c.active) row) (shown_in (option_map (λ x. with_columns no_columns x) o)) ≡ true
+        shown None = refl
+        shown (Some x) = refl
 
     plain : (b : Bool) → (if b then SessionLossPending else Success) ≡ SessionNotFocused → ⊥
     plain true e = cc
@@ -216,9 +226,9 @@ unfocused_syncs_are_inactive s e session active is = subst Syncs (sym is) synced
 
     by : (b : Bool) → is_in_focus (life_of s.core session).state ≡ b
         → ((code_on loss (synced_code b) ≡ SessionNotFocused) ↔ (is_in_focus (life_of s.core session).state ≡ false))
-        × (is_in_focus (life_of s.core session).state ≡ false → list_all (λ row. list_all (λ c. not c.active) row) (columns_synced s.core b active) ≡ true)
+        × (is_in_focus (life_of s.core session).state ≡ false → list_all (λ row. list_all (λ c. not c.active) row) (columns_of (with_synced s.core session b active) session) ≡ true)
     by true eb = (((λ told. absurd (plain loss.pending told)), (λ none. absurd (true≢false (sym eb ∙ none)))), (λ none. absurd (true≢false (sym eb ∙ none))))
-    by false eb = (((λ told. eb), (λ none. refl)), (λ none. refl))
+    by false eb = (((λ told. eb), (λ none. refl)), (λ none. bare))
 
     synced : Syncs (ask.SyncActions session active)
     synced good =

@@ -160,8 +160,8 @@ kept_step s e kept = by e.call
         kept_changed s.core chain releasing some.0 (λ c. refl) some.1 kept)
     by (ask.EndFrame session time blend layers) =
         effect_kept (λ t did. StateKeeps t) s.core e.short (rule s.core (reads_of s (ask.EndFrame session time blend layers)) (record e { call = ask.EndFrame session time blend layers })) kept
-        (λ none p. kept_more s.core.handles.chains s.core.handles.chains (is_place_used s.core.frames.pending s.core.shown_images p) (is_place_used (s.core.frames.pending ++ new_frame s.core time layers ∷ []) s.core.shown_images p)
-        (λ q live. live) (used_more s.core.frames.pending (new_frame s.core time layers) s.core.shown_images p) (slice_get s.core.chains p) (kept p))
+        (λ none p. kept_more s.core.handles.chains s.core.handles.chains (is_place_used s.core.frames.pending s.core.shown_images p) (is_place_used (s.core.frames.pending ++ new_frame s.core session time layers ∷ []) s.core.shown_images p)
+        (λ q live. live) (used_more s.core.frames.pending (new_frame s.core session time layers) s.core.shown_images p) (slice_get s.core.chains p) (kept p))
     by ask.NextFrame =
         effect_kept (λ t did. StateKeeps t) s.core e.short (rule s.core (reads_of s ask.NextFrame) (record e { call = ask.NextFrame })) kept
         (λ none. kept_taken s.core.handles s.core.chains s.core.frames.pending s.core.shown_images kept)

@@ -51,6 +51,7 @@ pub mod ToldStates
 pub mod StatesTold
 pub mod HistoryEvents
 pub mod SessionLives
+pub mod SessionColumns
 pub mod Clock
 pub mod DeviceTold
 pub mod Settled
@@ -67,6 +68,7 @@ pub mod FrameOrder
 pub mod HeldFits
 pub mod ChainOrder
 pub mod CallOrders
+pub mod FewListed
 pub mod LoopSums
 pub mod FrameLists
 pub mod TakenFrames
@@ -86,6 +88,7 @@ pub mod FrameCalls
 pub mod EndOfFrames
 pub mod GivenTimes
 pub mod ImageTurns
+pub mod OwnItems
 pub mod Timeouts
 pub mod KeptPlaces
 pub mod CellsTold
@@ -118,11 +121,13 @@ pub mod GetterSteps
 pub mod UserAtoms
 pub mod NothingLeft
 pub mod SeenSessions
+pub mod PublishedPlaces
 pub mod PublishedContents
 pub mod PublishedLast
 pub mod MovedGetters
 pub mod WordsBack
 pub mod FittingColumns
+pub mod FewActions
 pub mod FittingPublications
 pub mod DistinctNames
 pub mod RowOrder

@@ -5,11 +5,12 @@ use Rattle.std.specs.List.{filter}
 use Rattle.xr_types.specs.declared.handles.Kind.TheVariants as kind
 use Rattle.xr_types.specs.declared.handles.TheConstants.{SESSIONS}
 use Rattle.xr_model.specs.machine.Handles.{Handles, no_handles, is_live, has, has_room, with_handle, without, destroyed_instances, destroyed_by}
-use Rattle.xr_model.specs.machine.LiveSessions.{Session, session_at, with_life, with_session_at, without_sets, still_live, sessions_left, each_changed}
+use Rattle.xr_model.specs.machine.LiveSessions.{Session, session_at, with_life, with_session_at, still_live, each_changed}
 use Rattle.xr_model.specs.machine.SessionLife.{Changed}
 use Rattle.xr_model.specs.laws.SessionLaws.{AreListed}
 use Rattle.xr_model.proofs.Rows.{or_true, same_key, has_put, has_new, hasnt_put, hasnt_free, hasnt_cleared}
 use Rattle.xr_model.proofs.Keyed.{found_map}
+use Rattle.xr_model.specs.machine.Destroyed.{left_session, sessions_left}
 
 pub listed_none : AreListed no_handles []
 listed_none handle = by (handle == 0) refl
@@ -125,5 +126,5 @@ live_before h handle k = by (k == 0) refl (has h.sessions k) refl
 
 pub listed_left : (h : Handles) (handle : ℕ) (xs : List Session) → AreListed h xs → AreListed (without h handle) (sessions_left (without h handle) (destroyed_by h handle) xs)
 listed_left h handle xs listed k =
-    found_map (λ (x : Session). x.handle) (without_sets (destroyed_by h handle)) (λ x. refl) (still_live (without h handle) xs) k
+    found_map (λ (x : Session). x.handle) (left_session (without h handle) (destroyed_by h handle)) (λ x. refl) (still_live (without h handle) xs) k
     ∙ found_left (λ n. is_live (without h handle) kind.Session n) xs k ∙ ap (λ (b : Bool). is_live (without h handle) kind.Session k && b) (listed k) ∙ live_before h handle k

@@ -29,7 +29,7 @@ use Rattle.xr_model.specs.machine.Spaces.{Space, space_at, origin_of_kind, facto
 use Rattle.xr_model.specs.machine.State.{CoreState, Settings, State, opening}
 use Rattle.xr_model.specs.machine.Machine.{IsAllowed, IsGiven, reads_of, rule, step}
 use Rattle.xr_model.specs.machine.History.{after, opening_clocks, IsLegal}
-use Rattle.xr_model.specs.laws.LocationLaws.{ReferenceSpacesAreAsAsked, IsColumnOf, MovesWithColumn, ActionSpacesFollowTheirColumns, ReferenceSpacesHaveTheirOrigins, PosesFollowColumns, IsLocated, LocationsAreFactors}
+use Rattle.xr_model.specs.laws.LocationLaws.{ReferenceSpacesAreAsAsked, IsColumnOf, MovesWithColumn, ActionSpacesFollowTheirColumns, ReferenceSpacesHaveTheirOrigins, PosesFollowColumns, IsLocated, LocationsAreFactors, shown_at}
 use Rattle.xr_model.proofs.ChainOrder.{chains_history, given_nonzero, new_given}
 use Rattle.xr_model.proofs.DestroyedForGood.{legal_behind}
 use Rattle.xr_model.proofs.FrameCalls.{where_done}
@@ -37,6 +37,7 @@ use Rattle.xr_model.proofs.FrameOrder.{clear, none_first}
 use Rattle.xr_model.proofs.Histories.{fronts_are_legal}
 use Rattle.xr_model.proofs.Lists.{all_kept}
 use Rattle.xr_model.proofs.Rows.{itself, same_key}
+use Rattle.xr_model.specs.machine.Rules.Spaces.{session_above}
 
 -- ---- new spaces
 
@@ -137,7 +138,7 @@ action_spaces_follow_their_columns settings es e session action sub offset legal
 -- ---- locations
 
 pub poses_follow_columns : PosesFollowColumns
-poses_follow_columns s time x place column c root at = rw (root, at) (by c.active)
+poses_follow_columns s session time x place column c root at = rw (root, at) (by c.active)
   where
     by : (b : Bool) → option_and_then (λ o. pose_at time (samples_of s.room.samples o)) (if b then c.origin else None)
         ≡ (if b then option_and_then (λ o. pose_at time (samples_of s.room.samples o)) c.origin else None)
@@ -186,7 +187,7 @@ kind_named what (origin.Grip who) e = absurd (no_path who (codes "/input/grip/po
 kind_named what (origin.Aim who) e = absurd (no_path who (codes "/input/aim/pose") what e)
 
 pub reference_spaces_have_their_origins : ReferenceSpacesHaveTheirOrigins
-reference_spaces_have_their_origins s time x what o root e = rw root (ap (λ (p : Origin). pose_at time (samples_of s.room.samples p)) (kind_named what o e))
+reference_spaces_have_their_origins s session time x what o root e = rw root (ap (λ (p : Origin). pose_at time (samples_of s.room.samples p)) (kind_named what o e))
 
 is_located : (x base : Space) (pose base_pose : Option ℕ) → IsLocated x base pose base_pose (factors x base pose base_pose)
 is_located x base (Some a) (Some b) = (refl, refl, refl, refl)
@@ -202,15 +203,15 @@ locations_are_factors s e space base time x b l is = subst Locates (sym is) loca
     Locates : Call → Type 0
     Locates r = is_success (step s (record e { call = r })).1.reply.code ≡ true → space_at s.core.room.spaces space ≡ Some x → space_at s.core.room.spaces base ≡ Some b
         → (step s (record e { call = r })).1.reply.gives ≡ gives.Location l
-        → IsLocated x b (pose_of s.core.room (record { columns = s.core.columns }) time x) (pose_of s.core.room (record { columns = s.core.columns }) time b) l
+        → IsLocated x b (pose_of s.core.room (shown_at s.core (session_above s.core.handles space)) time x) (pose_of s.core.room (shown_at s.core (session_above s.core.handles space)) time b) l
 
     located_so : Locates (ask.LocateSpace space base time)
     located_so good at base_at same =
         let f = rule s.core (reads_of s (ask.LocateSpace space base time)) (record e { call = ask.LocateSpace space base time }) in
-        where_done (λ y. y.gives ≡ gives.Location l → IsLocated x b (pose_of s.core.room (record { columns = s.core.columns }) time x) (pose_of s.core.room (record { columns = s.core.columns }) time b) l) s.core f e.short refl
+        where_done (λ y. y.gives ≡ gives.Location l → IsLocated x b (pose_of s.core.room (shown_at s.core (session_above s.core.handles space)) time x) (pose_of s.core.room (shown_at s.core (session_above s.core.handles space)) time b) l) s.core f e.short refl
         (λ none told.
         let early = (none_first (int_le time (pos 0)) TimeInvalid [] (clear f e.short none).behind).0 in
-        let is_it : located s.core.room (record { columns = s.core.columns }) space base time ≡ Some (location s.core.room (record { columns = s.core.columns }) time x b) = rw (early, at, base_at) refl in
+        let is_it : located s.core.room (shown_at s.core (session_above s.core.handles space)) space base time ≡ Some (location s.core.room (shown_at s.core (session_above s.core.handles space)) time x b) = rw (early, at, base_at) refl in
         let same_one = same_location _ l (ap (λ (o : Option Location). gives.Location (unwrap_or o Missing)) (sym is_it) ∙ told) in
-        subst (λ (m : Location). IsLocated x b (pose_of s.core.room (record { columns = s.core.columns }) time x) (pose_of s.core.room (record { columns = s.core.columns }) time b) m) same_one
-        (is_located x b (pose_of s.core.room (record { columns = s.core.columns }) time x) (pose_of s.core.room (record { columns = s.core.columns }) time b))) good same
+        subst (λ (m : Location). IsLocated x b (pose_of s.core.room (shown_at s.core (session_above s.core.handles space)) time x) (pose_of s.core.room (shown_at s.core (session_above s.core.handles space)) time b) m) same_one
+        (is_located x b (pose_of s.core.room (shown_at s.core (session_above s.core.handles space)) time x) (pose_of s.core.room (shown_at s.core (session_above s.core.handles space)) time b))) good same

@@ -1,9 +1,8 @@
 -- Sums over the loops of the listed sessions, and how many sessions are listed.
-use Rattle.std.proofs.Common.{◌≡◌, ◌==◌, ◌+◌, ◌*◌, ◌≤◌, ◌++◌, ◌∙◌, ℕ, suc, not, Bool, true, false, List, [], ◌∷◌, map, length, Option, Some, None, refl, sym, subst, arith, true≢false}
-use Rattle.std.specs.Prelude.{◌||◌, is_some, if◌then◌else◌}
+use Rattle.std.proofs.Common.{◌≡◌, ◌==◌, ◌+◌, ◌*◌, ◌≤◌, ◌++◌, ◌∙◌, ℕ, suc, not, Bool, true, false, List, [], ◌∷◌, map, length, Option, Some, None, refl, sym, arith, true≢false}
+use Rattle.std.specs.Prelude.{is_some, if◌then◌else◌}
 use Rattle.std.specs.List.{filter}
 use Rattle.xr_types.specs.declared.device.Wish.{Wish}
-use Rattle.xr_types.specs.declared.handles.Slot.{Slot}
 use Rattle.xr_model.specs.machine.Frames.{FrameLoop, new_loop}
 use Rattle.xr_model.specs.machine.Handles.{Handles, has}
 use Rattle.xr_model.specs.machine.LiveSessions.{Session, session_at, loop_in, with_session_at, with_frame_loop, with_life}
@@ -11,8 +10,8 @@ use Rattle.xr_model.specs.machine.SessionLife.{Life, Changed}
 use Rattle.xr_model.specs.machine.Rules.Session.{changed_in}
 use Rattle.xr_model.specs.machine.Target.{Standing, rounds, most_rounds}
 use Rattle.xr_model.specs.laws.SessionLaws.{AreListed}
-use Rattle.xr_model.specs.laws.EventLaws.{state_at}
-use Rattle.xr_model.proofs.Rows.{same_key, itself, both_of}
+use Rattle.xr_model.proofs.FewListed.{AreOwn, fit_in}
+use Rattle.xr_model.proofs.Rows.{both_of}
 use Rattle.xr_model.proofs.Targets.{rounds_keep}
 use Rattle.xr_model.proofs.ToldStates.{AreApart, listed_state}
 
@@ -79,51 +78,10 @@ module _ (weight : FrameLoop → ℕ) where
 
 -- ---- sessions stand in a row
 
--- a row without the first slot of a handle
-without_first : ℕ → List Slot → List Slot
-without_first handle [] = []
-without_first handle (s ∷ row) = if s.handle == handle then row else s ∷ without_first handle row
-
-length_first : (handle : ℕ) (row : List Slot) → has row handle ≡ true → length row ≡ length (without_first handle row) + 1
-unfolding without_first
-length_first handle [] there = absurd (true≢false (sym there))
-length_first handle (s ∷ row) there = by (s.handle == handle) there (length_first handle row)
-  where
-    by : (b : Bool) → b || has row handle ≡ true → (has row handle ≡ true → length row ≡ length (without_first handle row) + 1)
-        → suc (length row) ≡ length (if b then row else s ∷ without_first handle row) + 1
-    by true there more = omega arith
-    by false there more = let rest = more there in omega (arith, rest)
-
-still_there : (handle k : ℕ) (row : List Slot) → (handle == k) ≡ false → has row k ≡ true → has (without_first handle row) k ≡ true
-unfolding without_first
-still_there handle k [] apart there = there
-still_there handle k (s ∷ row) apart there = by (s.handle == handle) refl (s.handle == k) refl there (still_there handle k row apart)
-  where
-    by : (b : Bool) → (s.handle == handle) ≡ b → (c : Bool) → (s.handle == k) ≡ c → c || has row k ≡ true → (has row k ≡ true → has (without_first handle row) k ≡ true)
-        → has (if b then row else s ∷ without_first handle row) k ≡ true
-    by true eb true ec there more = absurd (true≢false (sym (subst (λ (n : ℕ). (n == k) ≡ true) (same_key s.handle handle eb) ec) ∙ apart))
-    by true eb false ec there more = there
-    by false eb true ec there more = rw ec refl
-    by false eb false ec there more = rw ec (more there)
-
--- apart, and all in the row: no more than the row has places
-pub fit_in : (row : List Slot) (xs : List Session) → AreApart xs → ((k : ℕ) → is_some (state_at xs k) ≡ true → has row k ≡ true) → length xs ≤ length row
-fit_in row [] apart there = omega arith
-fit_in row (x ∷ xs) apart there =
-    let here : has row x.handle ≡ true = there x.handle (rw (itself x.handle) refl) in
-    let one = length_first x.handle row here in
-    let more = fit_in (without_first x.handle row) xs apart.1 (λ k listed. still_there x.handle k row (other k listed) (there k (later k listed))) in
-    omega (arith, one, more)
-  where
-    other : (k : ℕ) → is_some (state_at xs k) ≡ true → (x.handle == k) ≡ false
-    other k listed = by (x.handle == k) refl
-      where
-        by : (b : Bool) → (x.handle == k) ≡ b → b ≡ false
-        by true eb = absurd (true≢false (sym (subst (λ (n : ℕ). is_some (state_at xs n) ≡ true) (sym (same_key x.handle k eb)) listed) ∙ apart.0))
-        by false eb = refl
-
-    later : (k : ℕ) → is_some (state_at xs k) ≡ true → is_some (state_at (x ∷ xs) k) ≡ true
-    later k listed = rw (other k listed) listed
+-- handles of their own
+pub own_handles : (xs : List Session) → AreApart xs → AreOwn (λ (x : Session). x.handle) xs
+own_handles [] apart = tt
+own_handles (x ∷ xs) apart = (sym (listed_state xs x.handle) ∙ apart.0, own_handles xs apart.1)
 
 pub listed_fit : (h : Handles) (xs : List Session) → AreListed h xs → AreApart xs → length xs ≤ length h.sessions
-listed_fit h xs listed apart = fit_in h.sessions xs apart (λ k there. (both_of (not (k == 0)) (has h.sessions k) (sym (listed k) ∙ sym (listed_state xs k) ∙ there)).1)
+listed_fit h xs listed apart = fit_in (λ (x : Session). x.handle) h.sessions xs (own_handles xs apart) (λ k there. (both_of (not (k == 0)) (has h.sessions k) (sym (listed k) ∙ there)).1)

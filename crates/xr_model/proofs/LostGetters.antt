@@ -1,95 +1,61 @@
 -- Getters of a lost session are refused as the other calls on a session are.
-use Rattle.std.proofs.Common.{◌≡◌, ◌==◌, ◌&&◌, ◌∙◌, ℕ, Bool, true, false, not, List, [], ◌∷◌, map, Option, Some, None, refl, sym, ap, subst, true≢false}
-use Rattle.std.specs.Prelude.{◌↔◌, is_some, is_none, option_map, unwrap_or, if◌then◌else◌}
-use Rattle.std.specs.List.{find}
+use Rattle.std.proofs.Common.{◌≡◌, ◌==◌, ◌&&◌, ◌∙◌, ℕ, Bool, true, false, not, List, [], ◌∷◌, Option, Some, None, refl, sym, ap, subst, true≢false}
+use Rattle.std.specs.Prelude.{◌↔◌, is_some, is_none, option_map}
 use Rattle.xr_types.specs.declared.code.Code.TheVariants.{HandleInvalid, SessionLost}
 use Rattle.xr_types.specs.declared.handles.Kind.TheVariants as kind
 use Rattle.xr_types.specs.declared.input.ActionType.{ActionType}
 use Rattle.xr_types.specs.declared.input.ActionType.TheVariants as type
 use Rattle.xr_types.specs.declared.calls.Call.{Call}
 use Rattle.xr_types.specs.declared.calls.Call.TheVariants as ask
-use Rattle.xr_model.specs.machine.Handles.{Handles, has, is_live}
+use Rattle.xr_model.specs.machine.Handles.{has, is_live}
 use Rattle.xr_model.specs.machine.LiveSessions.{Session, session_at, life_in}
-use Rattle.xr_model.specs.machine.Publication.{PublishedAction, publication_of, published_at, published_action, first_seen, is_session}
+use Rattle.xr_model.specs.machine.Publication.{publication_of, published_at, published_action, session_read, loss_read}
 use Rattle.xr_model.specs.machine.Refusals.{when, first_of}
 use Rattle.xr_model.specs.machine.Calls.{Entry}
 use Rattle.xr_model.specs.machine.Rule.{Rule, carried_out}
 use Rattle.xr_model.specs.machine.Rules.Sync.{getter_rule}
+use Rattle.xr_model.specs.machine.SessionRule.{Loss}
 use Rattle.xr_model.specs.machine.Sets as sets
+use Rattle.xr_model.specs.machine.Sets.{action_at}
 use Rattle.xr_model.specs.machine.State.{CoreState, Settings, opening}
 use Rattle.xr_model.specs.machine.Machine.{step}
 use Rattle.xr_model.specs.machine.History.{after, IsLegal}
 use Rattle.xr_model.specs.laws.SessionLaws.{is_getter_of, was_lost, LostGetters}
-use Rattle.xr_model.proofs.FrameOrder.{only_row}
-use Rattle.xr_model.proofs.Limits.{long_after, long_opening}
 use Rattle.xr_model.proofs.Lists.{all_kept}
 use Rattle.xr_model.proofs.LostSessions.{known_loss, sessions_are_listed}
-use Rattle.xr_model.proofs.Rows.{both_of, same_key, itself}
+use Rattle.xr_model.proofs.PublishedPlaces.{action_read, listed_read, read_listed, loss_is_read}
+use Rattle.xr_model.proofs.Rows.{both_of, not_true, same_key}
 use Rattle.xr_model.proofs.SessionAnswers.{Sessionless, answered_lost}
 
--- ---- the session that is seen
+-- ---- the session that is read
 
-abbrev handle_seen : List Session → ℕ
-handle_seen xs = unwrap_or (option_map (λ x. x.handle) (first_seen xs)) 0
+-- its being lost is what is read
+lost_read : (s : CoreState) (session : ℕ) → is_none (session_read (publication_of s) session) ≡ false → (is_some (session_at s.sessions session) ≡ true) × ((loss_read (publication_of s) session).lost ≡ (life_in (session_at s.sessions session)).lost)
+lost_read s session there =
+    let it = read_listed s session there in
+    (ap is_some it.listed, ap (λ (l : Loss). l.lost) (loss_is_read s session it) ∙ ap (λ (o : Option Session). (life_in o).lost) (sym it.listed))
 
-pub nobody : (session : ℕ) → not (session == 0) && (session == 0) ≡ true → ⊥
-nobody session is = by (session == 0) is
+live_number : (s : CoreState) (session : ℕ) → is_live s.handles kind.Session session ≡ true → (session == 0) ≡ false
+live_number s session live = not_true (session == 0) (both_of (not (session == 0)) (has s.handles.sessions session) live).0
+
+-- a live action is published
+published : (s : CoreState) (action : ℕ) → is_some (action_at s.inputs action) ≡ true → is_none (published_at (publication_of s) action) ≡ false
+published s action listed = ap is_none (action_read s action) ∙ by (action_at s.inputs action) listed
   where
-    by : (b : Bool) → not b && b ≡ true → ⊥
-    by true e = true≢false (sym e)
-    by false e = true≢false (sym e)
-
-pub other_way : (a b : ℕ) → (a == b) ≡ true → (b == a) ≡ true
-other_way a b e = subst (λ (n : ℕ). (n == a) ≡ true) (same_key a b e) (itself a)
-
--- a session that is seen is listed, and its being lost is what is seen
-listed_seen : (s : CoreState) (xs : List Session) (session : ℕ) → is_session (publication_of (record s { sessions = xs })) session ≡ true
-    → (is_some (session_at xs session) ≡ true) × ((publication_of (record s { sessions = xs })).loss.lost ≡ (life_in (session_at xs session)).lost)
-listed_seen s [] session is = absurd (nobody session is)
-listed_seen s (x ∷ xs) session is =
-    let here = other_way session x.handle (both_of (not (session == 0)) (session == x.handle) is).1 in
-    rw here (refl, refl)
-
--- one that is listed is seen, where no two are listed
-seen_listed : (xs : List Session) (session : ℕ) → not (session == 0) ≡ true → is_some (session_at xs session) ≡ true → ((p : ℕ) → is_some (session_at xs p) ≡ true → p ≡ session) → not (session == 0) && (session == handle_seen xs) ≡ true
-seen_listed [] session nz found only = absurd (true≢false (sym found))
-seen_listed (x ∷ xs) session nz found only =
-    let first : is_some (session_at (x ∷ xs) x.handle) ≡ true = rw (itself x.handle) refl in
-    let same = only x.handle first in
-    rw (nz, subst (λ (n : ℕ). (session == n) ≡ true) (sym same) (itself session)) refl
-
-live_has : (h : Handles) (q : ℕ) → is_live h kind.Session q ≡ true → has h.sessions q ≡ true
-live_has h q live = (both_of (not (q == 0)) (has h.sessions q) live).1
-
-live_number : (s : CoreState) (session : ℕ) → is_live s.handles kind.Session session ≡ true → not (session == 0) ≡ true
-live_number s session live = (both_of (not (session == 0)) _ live).0
-
--- an action is published where it is listed
-found_published : (f : sets.Action → PublishedAction) → ((x : sets.Action) → (f x).handle ≡ x.handle) → (xs : List sets.Action) (k : ℕ)
-    → is_some (find (λ (a : PublishedAction). a.handle == k) (map f xs)) ≡ is_some (find (λ (x : sets.Action). x.handle == k) xs)
-found_published f same [] k = refl
-found_published f same (x ∷ xs) k =
-    ap (λ (n : ℕ). is_some (if n == k then Some (f x) else find (λ (a : PublishedAction). a.handle == k) (map f xs))) (same x) ∙ by (x.handle == k) (found_published f same xs k)
-  where
-    by : (b : Bool) → is_some (find (λ (a : PublishedAction). a.handle == k) (map f xs)) ≡ is_some (find (λ (y : sets.Action). y.handle == k) xs)
-        → is_some (if b then Some (f x) else find (λ (a : PublishedAction). a.handle == k) (map f xs)) ≡ is_some (if b then Some x else find (λ (y : sets.Action). y.handle == k) xs)
-    by true more = refl
-    by false more = more
+    by : (o : Option sets.Action) → is_some o ≡ true → is_none (option_map published_action o) ≡ false
+    by None listed = absurd (true≢false (sym listed))
+    by (Some x) listed = refl
 
 -- ---- the handles of a getter
 
-live_two : (b c : Bool) → c ≡ false → ((first_of (when (not b) HandleInvalid ∷ when c HandleInvalid ∷ []) ≡ None) ↔ (b ≡ true))
-live_two true true e = absurd (true≢false e)
-live_two true false e = ((λ n. refl), (λ n. refl))
-live_two false c e = ((λ n. cc), (λ n. absurd (true≢false (sym n))))
+live_two : (b c : Bool) → c ≡ false → ((first_of (when b HandleInvalid ∷ when c HandleInvalid ∷ []) ≡ None) ↔ (b ≡ false))
+live_two b true e = absurd (true≢false e)
+live_two true false e = ((λ n. cc), (λ n. absurd (true≢false n)))
+live_two false false e = ((λ n. refl), (λ n. refl))
 
-pub only_first : (b c : Bool) → first_of (when (not b) HandleInvalid ∷ when c HandleInvalid ∷ []) ≡ None → b ≡ true
-only_first true c e = refl
-only_first false c e = cc
-
-not_none : {T : Type 0} (o : Option T) → is_some o ≡ true → is_none o ≡ false
-not_none None there = absurd (true≢false (sym there))
-not_none (Some x) there = refl
+pub only_first : (b c : Bool) → first_of (when b HandleInvalid ∷ when c HandleInvalid ∷ []) ≡ None → b ≡ false
+only_first false c e = refl
+only_first true c e = cc
 
 pub less : (s : CoreState) (wanted : ActionType) (session action sub : ℕ) → Sessionless (getter_rule s wanted session action sub)
 less s wanted session action sub = record { handles = refl; before = refl; behind = refl; code = refl }
@@ -106,28 +72,20 @@ module _ (settings : Settings) (es : List Entry) (e : Entry) (legal : IsLegal se
   listed : (p : ℕ) → is_some (session_at s.sessions p) ≡ is_live s.handles kind.Session p
   listed p = sessions_are_listed settings es legal p
 
-  one_only : is_live s.handles kind.Session session ≡ true → (p : ℕ) → is_some (session_at s.sessions p) ≡ true → p ≡ session
-  one_only live p found =
-      only_row s.handles.sessions p session (long_after (opening settings) es (long_opening settings) kind.Session) (live_has s.handles p (sym (listed p) ∙ found)) (live_has s.handles session live)
-
-  published : is_live s.handles kind.Action action ≡ true → is_none (published_at (publication_of s) action) ≡ false
-  published live =
-      not_none (published_at (publication_of s) action)
-      (found_published (published_action (first_seen s.sessions) s.handles s.columns) (λ x. refl) s.inputs.actions action ∙ (all_kept settings es legal).actions action ∙ live)
-
   lost_one : is_live s.handles kind.Action action ≡ true
       → ((carried_out s e.short asked).code ≡ SessionLost) ↔ ((is_live s.handles kind.Session session ≡ true) × (was_lost session false es ≡ true))
   lost_one live =
-      let answer = answered_lost s e.short asked (publication_of s).loss refl (less s wanted session action sub) in
-      let two = live_two (is_session (publication_of s) session) (is_none (published_at (publication_of s) action)) (published live) in (
+      let there = published s action ((all_kept settings es legal).actions action ∙ live) in
+      let answer = answered_lost s e.short asked (loss_read (publication_of s) session) refl (less s wanted session action sub) in
+      let two = live_two (is_none (session_read (publication_of s) session)) (is_none (published_at (publication_of s) action)) there in (
         (λ code.
             let both = answer.0 code in
-            let seen = listed_seen s s.sessions session (two.0 both.0) in
-            let there = sym (listed session) ∙ seen.0 in
-            (there, sym (known_loss settings es session legal there) ∙ sym seen.1 ∙ both.1)),
+            let seen = lost_read s session (two.0 both.0) in
+            let is = sym (listed session) ∙ seen.0 in
+            (is, sym (known_loss settings es session legal is) ∙ sym seen.1 ∙ both.1)),
         (λ both.
-            let is = seen_listed s.sessions session (live_number s session both.0) (listed session ∙ both.0) (one_only both.0) in
-            answer.1 (two.1 is, (listed_seen s s.sessions session is).1 ∙ known_loss settings es session legal both.0 ∙ both.1)),
+            let is = listed_read s session (live_number s session both.0) (listed session ∙ both.0) in
+            answer.1 (two.1 is, (lost_read s session is).1 ∙ known_loss settings es session legal both.0 ∙ both.1)),
       )
 
 pub lost_getters : LostGetters

@@ -10,7 +10,7 @@ use Rattle.xr_types.specs.declared.calls.Call.TheVariants as ask
 use Rattle.xr_model.specs.machine.Handles.{Handles, is_live, was_given, without, destroyed_by}
 use Rattle.xr_model.specs.machine.State.{CoreState, CellReads, Settings, State, opening}
 use Rattle.xr_model.specs.machine.SessionLife.{Life, Changed, unchanged, started_session, lost_session}
-use Rattle.xr_model.specs.machine.LiveSessions.{Session, session_at, life_in, with_life, with_attached, with_session_at, without_sets, still_live, each_changed}
+use Rattle.xr_model.specs.machine.LiveSessions.{Session, session_at, life_in, with_life, with_attached, with_session_at, still_live, each_changed}
 use Rattle.xr_model.specs.machine.Sets.{sets_named}
 use Rattle.xr_model.specs.machine.Rules.Session.{new_session, life_of}
 use Rattle.xr_model.specs.machine.Machine.{rule, step, reads_of, IsAllowed, IsGiven}
@@ -22,6 +22,7 @@ use Rattle.xr_model.proofs.Keyed.{which_map}
 use Rattle.xr_model.proofs.SessionSteps.{kept_by_step}
 use Rattle.xr_model.proofs.Destroying.{known_step, known_opening}
 use Rattle.xr_model.specs.laws.Soundness.{AreKnown}
+use Rattle.xr_model.specs.machine.Destroyed.{left_session}
 
 -- ---- a session's handle is new
 
@@ -218,7 +219,7 @@ module _ (s : State) (e : Entry) (allowed : IsAllowed s e) (known : AreKnown s.c
     chain = λ d c above session x found. lost_before session x found ∙ as_before session d (uncreated session c);
     space = λ d c above session x found. lost_before session x found ∙ as_before session d (uncreated session c);
     without = λ d c handle session x found.
-        let one = which_map (λ (y : Session). y.handle) (without_sets (destroyed_by s.core.handles handle)) (λ y. refl) (still_live (without s.core.handles handle) s.core.sessions) session x found in
+        let one = which_map (λ (y : Session). y.handle) (left_session (without s.core.handles handle) (destroyed_by s.core.handles handle)) (λ y. refl) (still_live (without s.core.handles handle) s.core.sessions) session x found in
         let there = found_left (λ n. is_live (without s.core.handles handle) kind.Session n) s.core.sessions session one.0 one.1 in
         ap (λ (y : Session). y.life.lost) one.2 ∙ lost_before session one.0 there ∙ as_before session d (uncreated session c);
     alone = λ d c space session x found. lost_before session x found ∙ as_before session d (uncreated session c);

@@ -1,46 +1,44 @@
 -- Getters tell a pending loss as the other calls on a session do.
-use Rattle.std.proofs.Common.{◌≡◌, ◌==◌, ◌&&◌, ◌∙◌, ℕ, Bool, true, not, List, [], ◌∷◌, None, refl, sym, subst, true≢false}
+use Rattle.std.proofs.Common.{◌≡◌, ◌==◌, ◌&&◌, ◌∙◌, ℕ, Bool, true, false, None, Option, refl, sym, ap, subst, true≢false}
 use Rattle.std.specs.Prelude.{◌↔◌, is_none}
 use Rattle.xr_types.specs.declared.code.Code.TheVariants.{SessionLossPending}
 use Rattle.xr_types.specs.declared.input.ActionType.{ActionType}
 use Rattle.xr_types.specs.declared.input.ActionType.TheVariants as type
 use Rattle.xr_types.specs.declared.session.SessionState.TheVariants.{LossPending}
-use Rattle.xr_model.specs.machine.LiveSessions.{Session, session_at, life_in}
-use Rattle.xr_model.specs.machine.Publication.{publication_of, published_at, is_session}
+use Rattle.xr_model.specs.machine.LiveSessions.{Session, life_in}
+use Rattle.xr_model.specs.machine.Publication.{publication_of, published_at, session_read, loss_read}
 use Rattle.xr_types.specs.declared.calls.Call.{Call}
 use Rattle.xr_types.specs.declared.calls.Call.TheVariants as ask
 use Rattle.xr_model.specs.machine.Rule.{Rule, refusal, carried_out}
 use Rattle.xr_model.specs.machine.Rules.Session.{life_of}
 use Rattle.xr_model.specs.machine.Rules.Sync.{getter_rule}
 use Rattle.xr_model.specs.machine.SessionLife.{is_state}
+use Rattle.xr_model.specs.machine.SessionRule.{Loss}
 use Rattle.xr_model.specs.machine.State.{CoreState}
 use Rattle.xr_model.specs.machine.Machine.{reads_of, rule, step}
 use Rattle.xr_model.specs.laws.SessionLaws.{is_getter_of, PendingGetters}
 use Rattle.xr_model.proofs.FrameOrder.{clear}
 use Rattle.xr_model.proofs.Rows.{both_of, same_key}
 use Rattle.xr_model.proofs.SessionAnswers.{answered_pending}
-use Rattle.xr_model.proofs.LostGetters.{nobody, other_way, only_first, less}
+use Rattle.xr_model.proofs.PublishedPlaces.{read_listed, loss_is_read}
+use Rattle.xr_model.proofs.LostGetters.{only_first, less}
 
--- of a session that is seen, the loss is pending where it is in that state
-loss_seen : (s : CoreState) (xs : List Session) (session : ℕ) → is_session (publication_of (record s { sessions = xs })) session ≡ true
-    → (publication_of (record s { sessions = xs })).loss.pending ≡ is_state (life_in (session_at xs session)).state LossPending
-loss_seen s [] session is = absurd (nobody session is)
-loss_seen s (x ∷ xs) session is =
-    let here = other_way session x.handle (both_of (not (session == 0)) (session == x.handle) is).1 in
-    rw here refl
+-- of a session that is read, the loss is pending where it is in that state
+loss_pending : (s : CoreState) (session : ℕ) → is_none (session_read (publication_of s) session) ≡ false → (loss_read (publication_of s) session).pending ≡ is_state (life_of s session).state LossPending
+loss_pending s session there =
+    let it = read_listed s session there in
+    ap (λ (l : Loss). l.pending) (loss_is_read s session it) ∙ ap (λ (o : Option Session). is_state (life_in o).state LossPending) (sym it.listed)
 
 module _ (s : CoreState) (short : Bool) (wanted : ActionType) (session action sub : ℕ) where
   abbrev wants : Rule
   wants = getter_rule s wanted session action sub
 
-  pending_seen : refusal short wants ≡ None → (publication_of s).loss.pending ≡ is_state (life_of s session).state LossPending
-  pending_seen none =
-      let is = only_first (is_session (publication_of s) session) (is_none (published_at (publication_of s) action)) (clear wants short none).handles in
-      loss_seen s s.sessions session is
+  pending_seen : refusal short wants ≡ None → (loss_read (publication_of s) session).pending ≡ is_state (life_of s session).state LossPending
+  pending_seen none = loss_pending s session (only_first (is_none (session_read (publication_of s) session)) (is_none (published_at (publication_of s) action)) (clear wants short none).handles)
 
   pending_one : ((carried_out s short wants).code ≡ SessionLossPending) ↔ ((refusal short wants ≡ None) × (is_state (life_of s session).state LossPending ≡ true))
   pending_one =
-      let answer = answered_pending s short wants (publication_of s).loss refl (less s wanted session action sub) in
+      let answer = answered_pending s short wants (loss_read (publication_of s) session) refl (less s wanted session action sub) in
       ((λ code. let three = answer.0 code in (three.0, sym (pending_seen three.0) ∙ three.2)), (λ two. answer.1 (two.0, refl, pending_seen two.0 ∙ two.1)))
 
 pub pending_getters : PendingGetters

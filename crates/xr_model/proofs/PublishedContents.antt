@@ -1,5 +1,5 @@
 -- What is published stays as long as nobody publishes.
-use Rattle.std.proofs.Common.{◌≡◌, ◌==◌, ℕ, not, Bool, true, false, List, [], ◌∷◌, Option, Some, None, refl, sym, ap, ◌∙◌, true≢false}
+use Rattle.std.proofs.Common.{◌≡◌, ◌==◌, ℕ, not, Bool, true, false, List, [], ◌∷◌, map, Option, Some, None, refl, sym, ap, ◌∙◌, true≢false}
 use Rattle.std.specs.List.{list_any}
 use Rattle.std.specs.Prelude.{if◌then◌else◌}
 use Rattle.xr_types.specs.declared.code.Code.{Code}
@@ -17,7 +17,7 @@ use Rattle.xr_types.specs.declared.calls.Call.TheVariants as ask
 use Rattle.xr_model.specs.machine.Handles.{no_handle}
 use Rattle.xr_model.specs.machine.LiveSessions.{Session, session_at, life_in}
 use Rattle.xr_model.specs.machine.Paths.{with_text}
-use Rattle.xr_model.specs.machine.Publication.{publication_of, first_seen, user_atom, atom_of_user}
+use Rattle.xr_model.specs.machine.Publication.{PublishedSession, published_session, publication_of, user_atom, atom_of_user}
 use Rattle.xr_model.specs.machine.Refusals.{Refusal, when}
 use Rattle.xr_model.specs.machine.Calls.{Entry}
 use Rattle.xr_model.specs.machine.Rule.{Effect, refusal, unless_refused, told_on}
@@ -66,9 +66,12 @@ module _ (s : CoreState) where
   silent None x good quiet = absurd (true≢false (sym good ∙ quiet))
   silent (Some r) x good quiet = refl
 
-  -- the sessions change, and nothing that is seen of the first
-  sessions_alike : (xs : List Session) → first_seen xs ≡ first_seen s.sessions → publication_of (record s { sessions = xs }) ≡ publication_of s
-  sessions_alike xs same = rw same refl
+  -- the sessions change, and nothing that is seen of them
+  abbrev all_seen : List Session → List PublishedSession
+  all_seen xs = map (published_session s.handles s.inputs.actions) xs
+
+  sessions_alike : (xs : List Session) → all_seen xs ≡ all_seen s.sessions → publication_of (record s { sessions = xs }) ≡ publication_of s
+  sessions_alike xs same = ap (λ (ys : List PublishedSession). record (publication_of s) { sessions = ys }) same
 
   -- one text more
   atom_alike : (text : List ℕ) → KnowsDeclared s.atoms s.inputs.actions → (who : User) → atom_of_user (with_text s.atoms text) s.inputs.actions who ≡ atom_of_user s.atoms s.inputs.actions who
@@ -83,17 +86,17 @@ module _ (s : CoreState) where
 
   changed : (session : ℕ) (f : Life → Changed) → ((x : Session) → session_at s.sessions session ≡ Some x → loss_of (f x.life).life ≡ loss_of x.life)
       → publication_of (record s { sessions = (with_change s (session_at s.sessions session) f).sessions }) ≡ publication_of s
-  changed session f same = sessions_alike (with_change s (session_at s.sessions session) f).sessions (rounds_seen s.device.wish _ ∙ change_seen s.sessions session f same)
+  changed session f same = sessions_alike (with_change s (session_at s.sessions session) f).sessions (rounds_seen s.handles s.inputs.actions s.device.wish _ ∙ change_seen s.handles s.inputs.actions s.sessions session f same)
 
   -- and its loop of frames
   with_period : (session : ℕ) (f : Life → Changed) (l : FrameLoop) → ((x : Session) → session_at s.sessions session ≡ Some x → loss_of (f x.life).life ≡ loss_of x.life)
       → publication_of (record s { sessions = (with_change (with_loop s session l) (session_at s.sessions session) f).sessions }) ≡ publication_of s
   with_period session f l same =
       sessions_alike (with_change (with_loop s session l) (session_at s.sessions session) f).sessions
-      (rounds_seen s.device.wish _ ∙ ap (λ xs. first_seen xs) (loop_last session f l s.sessions) ∙ loop_seen _ session l ∙ change_seen s.sessions session f same)
+      (rounds_seen s.handles s.inputs.actions s.device.wish _ ∙ ap (λ (xs : List Session). all_seen xs) (loop_last session f l s.sessions) ∙ loop_seen s.handles s.inputs.actions _ session l ∙ change_seen s.handles s.inputs.actions s.sessions session f same)
 
   events : (what : DeviceEvent) → publishes (ask.Device what) Success ≡ false → Alike (behind_event s what)
-  events (event.Wish wish) quiet = sessions_alike _ (rounds_seen wish (record { sessions = s.sessions; events = s.events }))
+  events (event.Wish wish) quiet = sessions_alike _ (rounds_seen s.handles s.inputs.actions wish (record { sessions = s.sessions; events = s.events }))
   events event.Loss quiet = absurd (true≢false quiet)
   events event.Lost quiet = absurd (true≢false quiet)
   events event.Fault quiet = absurd (true≢false quiet)
@@ -161,10 +164,10 @@ contents_stay s reads e known quiet = by e.call quiet
         kept s (refusal e.short f) (told_on f.on f.effect) (λ none. with_period s session (synced_session wish.Ready) (ended_loop (loop_of s session)) (λ x there. synced_loss wish.Ready x.life))
     by (ask.WaitFrame session) quiet =
         let f = rule s reads (record e { call = ask.WaitFrame session }) in
-        kept s (refusal e.short f) (told_on f.on f.effect) (λ none. sessions_alike s _ (loop_seen s.sessions session (waited_loop (loop_of s session) (next_time s session))))
+        kept s (refusal e.short f) (told_on f.on f.effect) (λ none. sessions_alike s _ (loop_seen s.handles s.inputs.actions s.sessions session (waited_loop (loop_of s session) (next_time s session))))
     by (ask.BeginFrame session) quiet =
         let f = rule s reads (record e { call = ask.BeginFrame session }) in
-        kept s (refusal e.short f) (told_on f.on f.effect) (λ none. sessions_alike s _ (loop_seen s.sessions session (begun_loop (loop_of s session))))
+        kept s (refusal e.short f) (told_on f.on f.effect) (λ none. sessions_alike s _ (loop_seen s.handles s.inputs.actions s.sessions session (begun_loop (loop_of s session))))
     by (ask.Device what) quiet = events s what (device_quiet what (effect s reads (record e { call = ask.Device what })).code quiet)
     by r quiet =
         let f = rule s reads (record e { call = r }) in

@@ -20,7 +20,7 @@ use Rattle.xr_model.specs.machine.Calls.{Entry}
 use Rattle.xr_types.specs.declared.calls.Call.{Call}
 use Rattle.xr_types.specs.declared.calls.Call.TheVariants as ask
 use Rattle.xr_model.specs.machine.Handles.{Handles, is_live, no_handle}
-use Rattle.xr_model.specs.machine.HandlePlaces.{parent_of}
+use Rattle.xr_model.specs.machine.HandlePlaces.{parent_of, is_below}
 use Rattle.xr_model.specs.machine.Refusals.{Refusal, when, first_of}
 use Rattle.xr_model.specs.machine.State.{CoreState, CellReads, Settings, opening}
 use Rattle.xr_model.specs.machine.Rule.{Rule, refusals, refusal, or_short, told_on, unless_refused, carried_out}
@@ -195,7 +195,7 @@ sessionless s reads e = by e.call
     by (ask.AttachSets session handles) = record { handles = refl; before = refl; behind = none_handles s.handles kind.ActionSet handles; code = refl }
     by (ask.SyncActions session active) = record { handles = refl; before = refl; behind = none_items s session active; code = synced_sessionless (is_state (life_of s session).state Focused) }
     by (ask.BeginFrame session) = record { handles = refl; before = refl; behind = refl; code = begun_sessionless (loop_of s session) }
-    by (ask.EndFrame session time blend layers) = record { handles = refl; before = refl; behind = none_layers (look_of s) layers; code = refl }
+    by (ask.EndFrame session time blend layers) = record { handles = refl; before = refl; behind = none_layers (look_of s session) layers; code = refl }
     by _ = record { handles = refl; before = refl; behind = refl; code = refl }
 
 -- ---- the code of a call on a session
@@ -314,7 +314,7 @@ module _ (s : CoreState) (session : ℕ) where
       by (ask.Paint chain stamp) named = life_is (session_above s.handles chain) (above_is (is_live s.handles kind.Swapchain chain) chain named)
       by (ask.ReleaseImage chain) named = life_is (session_above s.handles chain) (above_is (is_live s.handles kind.Swapchain chain) chain named)
       by (ask.CreateSwapchain other format width height fixed) named = life_is other (named_is other session named)
-      by (ask.LocateSpace space base time) named = life_is (session_above s.handles space) (above_is (is_live s.handles kind.Space space && is_live s.handles kind.Space base) space named)
+      by (ask.LocateSpace space base time) named = life_is (session_above s.handles space) (above_is (is_live s.handles kind.Space space && is_below s.handles kind.Space (session_above s.handles space) base) space named)
       by _ named = cc
 
 pub pending_losses : PendingLosses
@@ -376,13 +376,13 @@ lost_sessions settings es e session legal named =
     by_handles (ask.WaitImage chain timeout start) named = above chain (is_live (after (opening settings) es).core.handles kind.Swapchain chain) refl named
     by_handles (ask.Paint chain stamp) named = above chain (is_live (after (opening settings) es).core.handles kind.Swapchain chain) refl named
     by_handles (ask.ReleaseImage chain) named = above chain (is_live (after (opening settings) es).core.handles kind.Swapchain chain) refl named
-    by_handles (ask.LocateSpace space base time) named = cases (is_live (after (opening settings) es).core.handles kind.Space space) refl (is_live (after (opening settings) es).core.handles kind.Space base) refl named
+    by_handles (ask.LocateSpace space base time) named = cases (is_live (after (opening settings) es).core.handles kind.Space space) refl (is_below (after (opening settings) es).core.handles kind.Space (session_above (after (opening settings) es).core.handles space) base) refl named
       where
-        cases : (a : Bool) → is_live (after (opening settings) es).core.handles kind.Space space ≡ a → (b : Bool) → is_live (after (opening settings) es).core.handles kind.Space base ≡ b → (if a && b then parent_of (after (opening settings) es).core.handles space else None) ≡ Some session
-            → (first_of (no_handle (after (opening settings) es).core.handles kind.Space space ∷ no_handle (after (opening settings) es).core.handles kind.Space base ∷ []) ≡ None) ↔ (is_live (after (opening settings) es).core.handles kind.Session session ≡ true)
+        cases : (a : Bool) → is_live (after (opening settings) es).core.handles kind.Space space ≡ a → (b : Bool) → is_below (after (opening settings) es).core.handles kind.Space (session_above (after (opening settings) es).core.handles space) base ≡ b → (if a && b then parent_of (after (opening settings) es).core.handles space else None) ≡ Some session
+            → (first_of (no_handle (after (opening settings) es).core.handles kind.Space space ∷ when (not (is_below (after (opening settings) es).core.handles kind.Space (session_above (after (opening settings) es).core.handles space) base)) HandleInvalid ∷ []) ≡ None) ↔ (is_live (after (opening settings) es).core.handles kind.Session session ≡ true)
         cases false ea b eb found = cc
         cases true ea false eb found = cc
         cases true ea true eb found =
             let live = live_parent (after (opening settings) es).core.handles (handles_stand_once settings es legal) (no_orphans settings es) (roots_after (opening settings) es refl) space session ea found in
-            ((λ none. live), (λ there. rw (ea, eb) refl))
+            ((λ none. live), (λ there. rw (eb, ea) refl))
     by_handles _ named = cc

@@ -7,20 +7,20 @@ use Rattle.xr_types.specs.declared.device.DeviceEvent.{DeviceEvent}
 use Rattle.xr_types.specs.declared.device.DeviceEvent.TheVariants as event
 use Rattle.xr_types.specs.declared.device.Wish.{Wish}
 use Rattle.xr_types.specs.declared.device.Wish.TheVariants as wish
-use Rattle.xr_types.specs.declared.session.SessionState.TheVariants.{Ready, Synchronized, Exiting, LossPending}
+use Rattle.xr_types.specs.declared.session.SessionState.TheVariants.{Ready, Synchronized, Exiting, LossPending, Focused}
 use Rattle.xr_types.specs.declared.handles.Kind.TheVariants as kind
 use Rattle.xr_types.specs.declared.calls.Call.{Call}
 use Rattle.xr_types.specs.declared.calls.Call.TheVariants as ask
 use Rattle.xr_model.specs.machine.Calls.{Entry}
-use Rattle.xr_model.specs.machine.Handles.{is_live, destroyed_by, without}
+use Rattle.xr_model.specs.machine.Handles.{is_live, destroyed_by, without, Handles}
 use Rattle.xr_model.specs.machine.Refusals.{Refusal}
 use Rattle.xr_model.specs.machine.State.{CoreState, CellReads}
 use Rattle.xr_model.specs.machine.Rule.{Effect, refusal, refusals, told_on, unless_refused}
 use Rattle.xr_model.specs.machine.SessionRule.{loss_of}
 use Rattle.xr_model.specs.machine.Rules.Device.{behind_event}
-use Rattle.xr_model.specs.machine.Rules.Session.{new_session, changed_in, life_of, loop_of}
+use Rattle.xr_model.specs.machine.Rules.Session.{new_session, changed_in, life_of, loop_of, columns_of}
 use Rattle.xr_model.specs.machine.SessionLife.{Life, Changed, unchanged, is_state, entered, started_session, begun_session, ended_session, exiting_session, losing_session, lost_session, synced_session}
-use Rattle.xr_model.specs.machine.LiveSessions.{Session, session_at, with_session_at, with_life, with_attached, without_sets, still_live, sessions_left, each_changed, loop_in, with_frame_loop}
+use Rattle.xr_model.specs.machine.LiveSessions.{Session, session_at, with_session_at, with_life, with_attached, still_live, each_changed, loop_in, with_frame_loop, with_columns}
 use Rattle.xr_model.specs.machine.Sets.{sets_named}
 use Rattle.xr_model.specs.machine.Machine.{core_step, rule}
 use Rattle.xr_model.specs.machine.Target.{Standing, rounds, most_rounds}
@@ -33,6 +33,9 @@ use Rattle.xr_model.proofs.Listed.{handle_of}
 use Rattle.xr_model.proofs.Successes.{success_succeeds, success_still, begun_succeeds}
 use Rattle.xr_model.proofs.SessionAnswers.{none_in, first_none}
 use Rattle.xr_model.proofs.LayerCodes.{layers_fail}
+use Rattle.xr_model.specs.machine.Destroyed.{left_session, sessions_left}
+use Rattle.xr_model.specs.machine.Rules.Sync.{columns_synced}
+use Rattle.xr_types.specs.declared.input.Column.{Column}
 
 -- ---- what is found by a handle, once the list has changed
 
@@ -79,15 +82,15 @@ found_each f k (z ∷ xs) = by (z.handle == k) (found_each f k xs)
     by true more = refl
     by false more = more
 
--- sets have gone from what each has attached
-pub found_without : (gone : List ℕ) (k : ℕ) (xs : List Session)
-    → session_at (map (without_sets gone) xs) k ≡ option_map (without_sets gone) (session_at xs k)
-found_without gone k [] = refl
-found_without gone k (z ∷ xs) = by (z.handle == k) (found_without gone k xs)
+-- of each that is left some has gone
+pub found_without : (h : Handles) (gone : List ℕ) (k : ℕ) (xs : List Session)
+    → session_at (map (left_session h gone) xs) k ≡ option_map (left_session h gone) (session_at xs k)
+found_without h gone k [] = refl
+found_without h gone k (z ∷ xs) = by (z.handle == k) (found_without h gone k xs)
   where
-    by : (b : Bool) → session_at (map (without_sets gone) xs) k ≡ option_map (without_sets gone) (session_at xs k)
-        → (if b then Some (without_sets gone z) else session_at (map (without_sets gone) xs) k)
-        ≡ option_map (without_sets gone) (if b then Some z else session_at xs k)
+    by : (b : Bool) → session_at (map (left_session h gone) xs) k ≡ option_map (left_session h gone) (session_at xs k)
+        → (if b then Some (left_session h gone z) else session_at (map (left_session h gone) xs) k)
+        ≡ option_map (left_session h gone) (if b then Some z else session_at xs k)
     by true more = refl
     by false more = more
 
@@ -179,18 +182,24 @@ follows_on f k created new g steady o None follows = tt
 follows_on f k created new g steady None (Some y) follows = (follows.0, steadily new y.life (g y).life follows.1 (steady y), follows.2)
 follows_on f k created new g steady (Some x) (Some y) follows = (steadily (f x.life) y.life (g y).life follows.0 (steady y), follows.1)
 
-follows_left : (created : Bool) (new : Life) → (gone : List ℕ) (left : Bool) (o : Option Session)
-    → Follows alike same_loop created new o (option_map (without_sets gone) (where_left left o))
-follows_left created new gone true None = tt
-follows_left created new gone true (Some x) = (refl, refl)
-follows_left created new gone false None = tt
-follows_left created new gone false (Some x) = tt
+follows_left : (created : Bool) (new : Life) (h : Handles) (gone : List ℕ) (left : Bool) (o : Option Session)
+    → Follows alike same_loop created new o (option_map (left_session h gone) (where_left left o))
+follows_left created new h gone true None = tt
+follows_left created new h gone true (Some x) = (refl, refl)
+follows_left created new h gone false None = tt
+follows_left created new h gone false (Some x) = tt
 
 follows_attached : (created : Bool) (new : Life) (sets : List ℕ) (b : Bool) (o : Option Session)
     → Follows alike same_loop created new o (option_map (λ x. if b then with_attached sets x else x) o)
 follows_attached created new sets b None = tt
 follows_attached created new sets true (Some x) = (refl, refl)
 follows_attached created new sets false (Some x) = (refl, refl)
+
+follows_synced : (created : Bool) (new : Life) (columns : List (List Column)) (b : Bool) (o : Option Session)
+    → Follows alike same_loop created new o (option_map (λ x. if b then with_columns columns x else x) o)
+follows_synced created new columns b None = tt
+follows_synced created new columns true (Some x) = (refl, refl)
+follows_synced created new columns false (Some x) = (refl, refl)
 
 some_is : (x y : Session) → Some x ≡ Some y → x ≡ y
 some_is x y e = cc
@@ -318,8 +327,8 @@ module _ (s : CoreState) (reads : CellReads) (e : Entry) (handle : ℕ) where
   gone created top =
       let left = without s.handles top in
       let sets = destroyed_by s.handles top in
-      rw (found_without sets handle (still_live left s.sessions), found_left (λ n. is_live left kind.Session n) handle s.sessions)
-      (follows_left created fresh sets (is_live left kind.Session handle) (session_at s.sessions handle))
+      rw (found_without left sets handle (still_live left s.sessions), found_left (λ n. is_live left kind.Session n) handle s.sessions)
+      (follows_left created fresh left sets (is_live left kind.Session handle) (session_at s.sessions handle))
 
   all_same : Follows alike same_loop false fresh (session_at s.sessions handle) (session_at s.sessions handle)
   all_same = follows_same alike same_loop false fresh (λ life. refl) (λ l. refl) (session_at s.sessions handle)
@@ -417,9 +426,14 @@ module _ (s : CoreState) (reads : CellReads) (e : Entry) (handle : ℕ) where
           (follows_loop begun_loop false fresh s.sessions session handle)
       by (ask.EndFrame session time blend layers) =
           let f = rule s reads (record e { call = ask.EndFrame session time blend layers }) in
-          carried (Lives (ask.EndFrame session time blend layers)) s (refusal e.short f) (told_on f.on f.effect) (first_none is_success (refusals f) (layers_fail (look_of s) layers))
+          carried (Lives (ask.EndFrame session time blend layers)) s (refusal e.short f) (told_on f.on f.effect) (first_none is_success (refusals f) (layers_fail (look_of s session) layers))
           (success_succeeds (loss_of (life_of s session))) all_same
           (no_life (session == handle) (where_loop (session == handle) ended_loop) _ (both session (synced_session wish.Ready) alike (synced_steady wish.Ready) ended_loop _ refl))
+      by (ask.SyncActions session active) =
+          let f = rule s reads (record e { call = ask.SyncActions session active }) in
+          kept (λ xs. Lives (ask.SyncActions session active) xs true) s (refusal e.short f) (told_on f.on f.effect) all_same
+          (rw (found_at session handle (with_columns (columns_synced s (is_state (life_of s session).state Focused) active (columns_of s session))) (λ x. refl) s.sessions)
+          (follows_synced false fresh _ (session == handle) (session_at s.sessions handle)))
       by (ask.AttachSets session sets) =
           let f = rule s reads (record e { call = ask.AttachSets session sets }) in
           kept (λ xs. Lives (ask.AttachSets session sets) xs true) s (refusal e.short f) (told_on f.on f.effect) all_same

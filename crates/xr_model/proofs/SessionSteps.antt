@@ -20,13 +20,14 @@ use Rattle.xr_model.specs.machine.Rules.Instance.{the_system}
 use Rattle.xr_model.specs.machine.Rules.Device.{behind_event}
 use Rattle.xr_model.specs.machine.Rules.Session.{new_session, with_change, changed_in, with_loop}
 use Rattle.xr_model.specs.machine.SessionLife.{Life, Changed, unchanged, started_session, begun_session, ended_session, exiting_session, losing_session, lost_session, synced_session, entered, is_state}
-use Rattle.xr_model.specs.machine.LiveSessions.{Session, session_at, with_session_at, with_life, with_attached, sessions_left, each_changed, with_frame_loop}
+use Rattle.xr_model.specs.machine.LiveSessions.{Session, session_at, with_session_at, with_life, with_attached, each_changed, with_frame_loop, with_columns}
 use Rattle.xr_model.specs.machine.Machine.{core_step, rule}
 use Rattle.xr_model.specs.machine.Target.{Standing, rounds, most_rounds}
 use Rattle.xr_model.specs.machine.Frames.{FrameLoop}
 use Rattle.xr_model.specs.laws.SessionLaws.{is_device_lost, is_session_creation}
 use Rattle.xr_model.proofs.Listed.{found_once, handle_of}
 use Rattle.xr_model.proofs.Targets.{rounds_keep}
+use Rattle.xr_model.specs.machine.Destroyed.{sessions_left}
 
 -- changes of all sessions that leave whether they are lost keep a property
 abbrev pub Closed : (Handles → List Session → Type 0) → Type 0
@@ -199,6 +200,9 @@ kept_by_step P s reads e = by e.call
     by (ask.RequestExitSession session) k =
         let f = rule s reads (record e { call = ask.RequestExitSession session }) in
         kept P s (refusal e.short f) (told_on f.on f.effect) (k.same refl refl) (λ none. changed P s reads e k.each session (exiting_session s.device.wish) (session_at s.sessions session) refl (k.same refl refl) (λ x found. k.lives refl refl x.handle (with_life _) (λ y. refl) (λ y there. ap (λ (z : Session). z.life.lost) (found_once s.sessions session x y found there)) (λ y. refl)))
+    by (ask.SyncActions session active) k =
+        let f = rule s reads (record e { call = ask.SyncActions session active }) in
+        kept P s (refusal e.short f) (told_on f.on f.effect) (k.same refl refl) (λ none. k.lives refl refl session (with_columns _) (λ y. refl) (λ y there. refl) (λ y. refl))
     by (ask.AttachSets session handles) k =
         let f = rule s reads (record e { call = ask.AttachSets session handles }) in
         kept P s (refusal e.short f) (told_on f.on f.effect) (k.same refl refl) (λ none. k.attach refl refl session handles)

@@ -15,7 +15,7 @@ use Rattle.xr_model.specs.machine.Handles.{without, is_live, destroyed_by}
 use Rattle.xr_model.specs.machine.Calls.{Entry}
 use Rattle.xr_model.specs.machine.Refusals.{Refusal}
 use Rattle.xr_model.specs.machine.SessionLife.{Life, Changed, unchanged, is_state, next_state, started_session, lost_session, losing_session, begun_session, ended_session, exiting_session, synced_session}
-use Rattle.xr_model.specs.machine.LiveSessions.{Session, session_at, with_session_at, with_life, with_attached, without_sets, still_live, sessions_left, each_changed, with_frame_loop}
+use Rattle.xr_model.specs.machine.LiveSessions.{Session, session_at, with_session_at, with_life, with_attached, still_live, each_changed, with_frame_loop, with_columns}
 use Rattle.xr_model.specs.machine.Sets.{sets_named}
 use Rattle.xr_model.specs.machine.State.{CoreState, State, opening}
 use Rattle.xr_model.specs.machine.Target.{is_candidate, target_of, is_target, without_focus, Standing, rounds, most_rounds}
@@ -29,6 +29,8 @@ use Rattle.xr_model.specs.machine.Frames.{FrameLoop, reset_loop, waited_loop, be
 use Rattle.xr_model.specs.laws.SessionLifeLaws.{SessionsHaveSettled, AreRising, SessionsAreInOrder, is_focused, AtMostOneIsFocused, FocusedIsTheTarget}
 use Rattle.xr_model.proofs.Rows.{same_key}
 use Rattle.xr_model.proofs.Targets.{Each, Settles, AreSettled, are_settled, rounds_keep}
+use Rattle.xr_model.specs.machine.Destroyed.{left_session, sessions_left}
+use Rattle.xr_types.specs.declared.input.Column.{Column}
 
 -- ---- ordinals
 
@@ -160,6 +162,12 @@ module _ (s : CoreState) (sound : AreSound s.created s.device.wish s.sessions) w
       let there = all_stay s.device.wish g (λ x. (refl, refl, refl)) (target_of s.sessions) s.sessions sound.1 in
       (order_map g (λ x. refl) s.created s.sessions sound.0, rw (target_map s.device.wish g (λ x. (refl, refl, refl)) s.sessions) there)
 
+  pub synced_sound : (session : ℕ) (columns : List (List Column)) → AreSound s.created s.device.wish (with_session_at session (with_columns columns) s.sessions)
+  synced_sound session columns =
+      let g = with_columns columns in
+      let there = at_stays s.device.wish g (λ x. (refl, refl, refl)) (target_of s.sessions) session s.sessions sound.1 in
+      (order_at g (λ x. refl) session s.created s.sessions sound.0, rw (target_at s.device.wish g (λ x. (refl, refl, refl)) session s.sessions) there)
+
   pub attached_sound : (session : ℕ) (sets : List ℕ) → AreSound s.created s.device.wish (with_session_at session (with_attached sets) s.sessions)
   attached_sound session sets =
       let g = with_attached sets in
@@ -187,7 +195,7 @@ module _ (s : CoreState) (sound : AreSound s.created s.device.wish s.sessions) w
   gone_sound handle t is =
       let p = λ (x : Session). is_live (without s.handles handle) kind.Session x.handle in
       let left : InOrder s.created (still_live (without s.handles handle) s.sessions) = (rising_left p 0 s.sessions sound.0.0, few_left p s.created s.sessions sound.0.1) in
-      sound_rounds s.created s.device.wish t (subst (λ xs. InOrder s.created xs) (sym is) (order_map (without_sets (destroyed_by s.handles handle)) (λ x. refl) s.created (still_live (without s.handles handle) s.sessions) left))
+      sound_rounds s.created s.device.wish t (subst (λ xs. InOrder s.created xs) (sym is) (order_map (left_session (without s.handles handle) (destroyed_by s.handles handle)) (λ x. refl) s.created (still_live (without s.handles handle) s.sessions) left))
 
   events : (what : DeviceEvent) → AreSound (behind_event s what).created (behind_event s what).device.wish (behind_event s what).sessions
   events (event.Wish wish) = sound_rounds s.created wish (record { sessions = s.sessions; events = s.events }) sound.0
@@ -226,6 +234,9 @@ sound_step s e sound = by e.call
     by (ask.BeginFrame session) =
         let f = rule s.core (reads_of s (ask.BeginFrame session)) (record e { call = ask.BeginFrame session }) in
         kept s.core (refusal e.short f) (told_on f.on f.effect) sound (loop_sound s.core sound session (begun_loop (loop_of s.core session)))
+    by (ask.SyncActions session active) =
+        let f = rule s.core (reads_of s (ask.SyncActions session active)) (record e { call = ask.SyncActions session active }) in
+        kept s.core (refusal e.short f) (told_on f.on f.effect) sound (synced_sound s.core sound session _)
     by (ask.AttachSets session handles) =
         let f = rule s.core (reads_of s (ask.AttachSets session handles)) (record e { call = ask.AttachSets session handles }) in
         kept s.core (refusal e.short f) (told_on f.on f.effect) sound (attached_sound s.core sound session (sets_named s.core.inputs handles))

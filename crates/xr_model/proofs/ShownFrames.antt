@@ -177,13 +177,13 @@ taken_alike s e among = by e.call
     by r = none (effect s.core (reads_of s r) (record e { call = r })) (frames_stay s.core (reads_of s r) (record e { call = r }) refl).shown
 
 -- the frame that an entry adds, as it would be shown now, is the one that was asked for
-layers_as_asked : (s : State) (layers : List Layer) → map (asked_layer s) layers ≡ map (shown_layer (stamp_in s.cells.stamps)) (layers_of (look_of s.core) layers)
-layers_as_asked s [] = refl
-layers_as_asked s (l ∷ layers) = ap (λ (ls : List ShownLayer). asked_layer s l ∷ ls) (layers_as_asked s layers)
+layers_as_asked : (s : State) (session : ℕ) (layers : List Layer) → map (asked_layer s session) layers ≡ map (shown_layer (stamp_in s.cells.stamps)) (layers_of (look_of s.core session) layers)
+layers_as_asked s session [] = refl
+layers_as_asked s session (l ∷ layers) = ap (λ (ls : List ShownLayer). asked_layer s session l ∷ ls) (layers_as_asked s session layers)
 
 as_asked : (s : State) (b : Bool) (r : Call) → submitted_if b s r ≡ shown_now s (frame_if b s.core r)
 as_asked s false r = refl
-as_asked s true (ask.EndFrame session time blend layers) = ap (λ (ls : List ShownLayer). record { number = s.core.ended + 1; time = time; layers = ls } ∷ []) (layers_as_asked s layers)
+as_asked s true (ask.EndFrame session time blend layers) = ap (λ (ls : List ShownLayer). record { number = s.core.ended + 1; time = time; layers = ls } ∷ []) (layers_as_asked s session layers)
 as_asked s true _ = refl
 
 abbrev frames_by : State → Entry → List PendingFrame

@@ -195,12 +195,12 @@ sound_ended row chains pending shown held f new each sound = record {
         omega (arith, none, zero_before, more)
 
 -- the images of a frame that nothing refuses were released last, and are in it once
-pub submitted_images : (s : CoreState) (held : List Image) → IsSound s.handles.chains s.chains s.frames.pending s.shown_images held → (time : ℤ) (blend : Blend) (layers : List Layer)
-    → first_of (frame_checks (look_of s) time blend layers) ≡ None → AreOnce (IsLast s.chains) (new_frame s time layers).images
-submitted_images s held sound time blend layers none =
-    let checks = (none_of (form_checks time blend layers) (flat_map (layer_checks (look_of s)) layers) none).1 in
-    let each = layers_are_last s (PlaceIsSound s.handles.chains) (λ c good. good.last) sound.places layers checks in
-    once_of (IsLast s.chains) (λ i last. last.below) [] (layers_of (look_of s) layers) (record { each = tt; once = λ k. omega arith }) each
+pub submitted_images : (s : CoreState) (held : List Image) → IsSound s.handles.chains s.chains s.frames.pending s.shown_images held → (session : ℕ) (time : ℤ) (blend : Blend) (layers : List Layer)
+    → first_of (frame_checks (look_of s session) time blend layers) ≡ None → AreOnce (IsLast s.chains) (new_frame s session time layers).images
+submitted_images s held sound session time blend layers none =
+    let checks = (none_of (form_checks time blend layers) (flat_map (layer_checks (look_of s session)) layers) none).1 in
+    let each = layers_are_last s session (PlaceIsSound s.handles.chains) (λ c good. good.last) sound.places layers checks in
+    once_of (IsLast s.chains) (λ i last. last.below) [] (layers_of (look_of s session) layers) (record { each = tt; once = λ k. omega arith }) each
 
 -- ---- an entry
 
@@ -382,9 +382,9 @@ sound_step s e allowed is_ready sound = by e.call allowed is_ready
     by (ask.EndFrame session time blend layers) allowed is_ready =
         let f = rule s.core (reads_of s (ask.EndFrame session time blend layers)) (record e { call = ask.EndFrame session time blend layers }) in
         effect_kept (KeptBy s.core s.cells.held) s.core e.short f sound (λ none.
-        let once = submitted_images s.core s.cells.held sound time blend layers (clear f e.short none).behind in
-        sound_ended s.core.handles.chains s.core.chains s.core.frames.pending s.core.shown_images s.cells.held (new_frame s.core time layers)
-        (record { images = record { each = each_so (IsLast s.core.chains) IsBelow (λ i last. last.below) (new_frame s.core time layers).images once.each; once = once.once }; among = are_among [] (layers_of (look_of s.core) layers) }) once.each sound)
+        let once = submitted_images s.core s.cells.held sound session time blend layers (clear f e.short none).behind in
+        sound_ended s.core.handles.chains s.core.chains s.core.frames.pending s.core.shown_images s.cells.held (new_frame s.core session time layers)
+        (record { images = record { each = each_so (IsLast s.core.chains) IsBelow (λ i last. last.below) (new_frame s.core session time layers).images once.each; once = once.once }; among = are_among [] (layers_of (look_of s.core session) layers) }) once.each sound)
     by ask.NextFrame allowed is_ready =
         let f = rule s.core (reads_of s ask.NextFrame) (record e { call = ask.NextFrame }) in
         effect_kept (KeptBy s.core s.cells.held) s.core e.short f sound (λ none. taken (none_is_empty s.cells.held (not_false (is_empty s.cells.held) (clear f e.short none).order)))

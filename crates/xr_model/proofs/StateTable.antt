@@ -12,10 +12,10 @@ use Rattle.xr_types.specs.declared.session.SessionState.{SessionState}
 use Rattle.xr_types.specs.declared.session.SessionState.TheVariants.{Idle, Ready, Synchronized, Visible, Focused, Stopping, LossPending, Exiting}
 use Rattle.xr_types.specs.declared.handles.Kind.TheVariants as kind
 use Rattle.xr_model.specs.machine.Calls.{Entry}
-use Rattle.xr_model.specs.machine.Destroyed.{without_handle}
+use Rattle.xr_model.specs.machine.Destroyed.{without_handle, left_session, sessions_left}
 use Rattle.xr_model.specs.machine.Frames.{FrameLoop, reset_loop, waited_loop, begun_loop, ended_loop}
-use Rattle.xr_model.specs.machine.Handles.{is_live, without, destroyed_by}
-use Rattle.xr_model.specs.machine.LiveSessions.{Session, session_at, with_session_at, with_frame_loop, with_life, with_attached, without_sets, still_live, sessions_left, each_changed}
+use Rattle.xr_model.specs.machine.Handles.{is_live, without, destroyed_by, Handles}
+use Rattle.xr_model.specs.machine.LiveSessions.{Session, session_at, with_session_at, with_frame_loop, with_life, with_attached, still_live, each_changed, with_columns}
 use Rattle.xr_model.specs.machine.Refusals.{Refusal}
 use Rattle.xr_model.specs.machine.Rule.{Effect, refusal, refusals, told_on, unless_refused}
 use Rattle.xr_model.specs.machine.Rules.Device.{behind_event}
@@ -35,9 +35,10 @@ use Rattle.xr_model.proofs.Listed.{handle_of}
 use Rattle.xr_model.proofs.SessionAnswers.{none_in, first_none}
 use Rattle.xr_model.proofs.SessionLives.{found_at, found_each, found_without, where_left, found_left, found_more}
 use Rattle.xr_model.proofs.SessionSteps.{loop_last}
-use Rattle.xr_model.proofs.Settled.{IsSound, lost_sound, attached_sound, loop_sound, sound_after, each_found}
+use Rattle.xr_model.proofs.Settled.{IsSound, lost_sound, attached_sound, loop_sound, sound_after, each_found, synced_sound}
 use Rattle.xr_model.proofs.Successes.{success_succeeds}
 use Rattle.xr_model.proofs.Targets.{Settles, AreSettled, in_round, one_in_round, own_stays, once_is_enough}
+use Rattle.xr_types.specs.declared.input.Column.{Column}
 
 pub next_states : NextStates
 next_states wish.Rest true Idle = refl
@@ -393,14 +394,14 @@ module _ (s : State) (e : Entry) (handle : ℕ) (sound : IsSound s) where
   left top =
       let h = without s.core.handles top in
       let sets = destroyed_by s.core.handles top in
-      rw (found_without sets handle (still_live h s.core.sessions), found_left (λ n. is_live h kind.Session n) handle s.core.sessions)
-      (by sets (is_live h kind.Session handle) (session_at s.core.sessions handle))
+      rw (found_without h sets handle (still_live h s.core.sessions), found_left (λ n. is_live h kind.Session n) handle s.core.sessions)
+      (by h sets (is_live h kind.Session handle) (session_at s.core.sessions handle))
     where
-      by : (gone : List ℕ) (b : Bool) (o : Option Session) → Comes s.core.device.wish (state_before o) (option_map (without_sets gone) (where_left b o))
-      by gone true None = tt
-      by gone true (Some x) = λ it. refl
-      by gone false None = tt
-      by gone false (Some x) = tt
+      by : (h : Handles) (gone : List ℕ) (b : Bool) (o : Option Session) → Comes s.core.device.wish (state_before o) (option_map (left_session h gone) (where_left b o))
+      by h gone true None = tt
+      by h gone true (Some x) = λ it. refl
+      by h gone false None = tt
+      by h gone false (Some x) = tt
 
   gone : (top : ℕ) → RestsIn before (without_handle s.core top)
   gone top = rounds_rest s.core.device.wish _ before handle (left top)
@@ -419,6 +420,10 @@ module _ (s : State) (e : Entry) (handle : ℕ) (sound : IsSound s) where
       same b None = refl
       same true (Some x) = ap (λ (life : Life). life.state) (lives x)
       same false (Some x) = refl
+
+  -- one is synced
+  synced : (session : ℕ) (columns : List (List Column)) → RestsAmong s.core.device.wish before (with_session_at session (with_columns columns) s.core.sessions)
+  synced session columns = beside session (with_columns columns) (λ x. refl) (λ x. refl) (synced_sound s.core sound session columns).1
 
   -- one attaches its sets
   attached : (session : ℕ) (sets : List ℕ) → RestsAmong s.core.device.wish before (with_session_at session (with_attached sets) s.core.sessions)
@@ -506,7 +511,7 @@ module _ (s : State) (e : Entry) (handle : ℕ) (sound : IsSound s) where
       by (ask.EndFrame session time blend layers) =
           let f = rule s.core (reads_of s (ask.EndFrame session time blend layers)) (record e { call = ask.EndFrame session time blend layers }) in
           carried (λ t good. RestsIn (brought_to (ask.EndFrame session time blend layers) handle good before) t) s.core (refusal e.short f) (told_on f.on f.effect)
-          (first_none is_success (refusals f) (layers_fail (look_of s.core) layers))
+          (first_none is_success (refusals f) (layers_fail (look_of s.core session) layers))
           (success_succeeds (loss_of (life_of s.core session))) still
           (rounds_rest s.core.device.wish _ (if session == handle then first_frame before else before) handle
           (period (synced_session wish.Ready) first_frame (λ life it. synced_again (part s.core.device.wish it) life) session (ended_loop (loop_of s.core session))))
@@ -516,6 +521,9 @@ module _ (s : State) (e : Entry) (handle : ℕ) (sound : IsSound s) where
       by (ask.BeginFrame session) =
           let f = rule s.core (reads_of s (ask.BeginFrame session)) (record e { call = ask.BeginFrame session }) in
           kept (RestsIn before) s.core (refusal e.short f) (told_on f.on f.effect) still (looped session (begun_loop (loop_of s.core session)))
+      by (ask.SyncActions session active) =
+          let f = rule s.core (reads_of s (ask.SyncActions session active)) (record e { call = ask.SyncActions session active }) in
+          kept (RestsIn before) s.core (refusal e.short f) (told_on f.on f.effect) still (synced session _)
       by (ask.AttachSets session sets) =
           let f = rule s.core (reads_of s (ask.AttachSets session sets)) (record e { call = ask.AttachSets session sets }) in
           kept (RestsIn before) s.core (refusal e.short f) (told_on f.on f.effect) still (attached session (sets_named s.core.inputs sets))

@@ -4,7 +4,7 @@ use Rattle.std.specs.Prelude.{is_some, if◌then◌else◌}
 use Rattle.xr_types.specs.declared.device.DeviceEvent.{DeviceEvent}
 use Rattle.xr_types.specs.declared.device.DeviceEvent.TheVariants as event
 use Rattle.xr_types.specs.declared.handles.Kind.TheVariants as kind
-use Rattle.xr_types.specs.declared.session.SessionState.TheVariants.{Ready, Synchronized, Exiting, LossPending, Idle}
+use Rattle.xr_types.specs.declared.session.SessionState.TheVariants.{Ready, Synchronized, Exiting, LossPending, Idle, Focused}
 use Rattle.xr_types.specs.declared.calls.Call.{Call}
 use Rattle.xr_types.specs.declared.calls.Call.TheVariants as ask
 use Rattle.xr_types.specs.declared.session.Event.{Event}
@@ -18,12 +18,12 @@ use Rattle.xr_model.specs.machine.Sets.{sets_named}
 use Rattle.xr_model.specs.machine.Refusals.{Refusal}
 use Rattle.xr_model.specs.machine.SessionLife.{Life, Changed, unchanged, started_session, begun_session, settled_session, ended_session, exiting_session, losing_session, lost_session, synced_session, entered, last_of, is_state}
 use Rattle.xr_model.specs.machine.Target.{target_of, is_target, own_wish, Standing, other_settled, target_settled, rounds, most_rounds}
-use Rattle.xr_model.specs.machine.Destroyed.{without_handle}
-use Rattle.xr_model.specs.machine.LiveSessions.{Session, session_at, with_life, with_session_at, with_attached, without_sets, still_live, sessions_left, told_states, each_changed, told_changes, with_frame_loop}
+use Rattle.xr_model.specs.machine.Destroyed.{without_handle, left_session, sessions_left}
+use Rattle.xr_model.specs.machine.LiveSessions.{Session, session_at, with_life, with_session_at, with_attached, still_live, told_states, each_changed, told_changes, with_frame_loop, with_columns}
 use Rattle.xr_model.specs.machine.State.{CoreState, Settings, State, opening}
 use Rattle.xr_model.specs.machine.Rule.{Effect, refusal, told_on, unless_refused}
 use Rattle.xr_model.specs.machine.Rules.Device.{behind_event}
-use Rattle.xr_model.specs.machine.Rules.Session.{new_session, changed_in, told_of, loop_of}
+use Rattle.xr_model.specs.machine.Rules.Session.{new_session, changed_in, told_of, loop_of, columns_of, life_of}
 use Rattle.xr_model.specs.machine.Machine.{rule, reads_of, step, IsAllowed}
 use Rattle.xr_model.specs.machine.History.{after, opening_clocks, clocks_after, IsLegalFrom, IsLegal}
 use Rattle.xr_model.specs.machine.Rules.Frames.{next_time}
@@ -40,7 +40,8 @@ use Rattle.xr_model.proofs.Listed.{handle_of, listed_none}
 use Rattle.xr_model.proofs.LostSessions.{new_session_given, listed_after, sessions_are_listed}
 use Rattle.xr_model.proofs.SessionSteps.{kept_by_step, loop_last}
 use Rattle.xr_model.proofs.Targets.{once_is_enough}
-use Rattle.xr_model.proofs.ToldStates.{pushed_more, all_more, last_more, all_still_own, states_of, one_told, last_here, last_else, last_new, own_states, AreApart, listed_state, state_before, state_new, ordinal_new, apart_more, apart_lives, state_else, state_here, ordinal_here, state_found, state_attached, left_state, apart_left, state_map, apart_map, changes_of, each_told, listed_each, apart_each, own_each, last_each, state_loop, all_own_loop}
+use Rattle.xr_model.proofs.ToldStates.{pushed_more, all_more, last_more, all_still_own, states_of, one_told, last_here, last_else, last_new, own_states, AreApart, listed_state, state_before, state_new, ordinal_new, apart_more, apart_lives, state_else, state_here, ordinal_here, state_found, state_beside, left_state, apart_left, state_map, apart_map, changes_of, each_told, listed_each, apart_each, own_each, last_each, state_loop, all_own_loop}
+use Rattle.xr_model.specs.machine.Rules.Sync.{columns_synced}
 
 -- ---- listed sessions have handles of their own
 
@@ -58,7 +59,7 @@ apart_step s e allowed known listed apart = kept_by_step (λ h xs. AreApart xs) 
   action = λ d c set. apart;
   space = λ d c session. apart;
   chain = λ d c session. apart;
-  without = λ d c handle. apart_map (without_sets (destroyed_by s.core.handles handle)) (λ x. refl) (λ x. refl) (still_live (without s.core.handles handle) s.core.sessions) (apart_left (λ n. is_live (without s.core.handles handle) kind.Session n) s.core.sessions apart);
+  without = λ d c handle. apart_map (left_session (without s.core.handles handle) (destroyed_by s.core.handles handle)) (λ x. refl) (λ x. refl) (still_live (without s.core.handles handle) s.core.sessions) (apart_left (λ n. is_live (without s.core.handles handle) kind.Session n) s.core.sessions apart);
   alone = λ d c space. apart;
   chain_alone = λ d c chain. apart;
   lives = λ d c session f named same keeps. apart_lives session f named s.core.sessions apart;
@@ -243,14 +244,14 @@ module _ (s : State) (apart : AreApart s.core.sessions) where
   went handle =
       nothing s.core.events s.core.sessions (sessions_left (without s.core.handles handle) (destroyed_by s.core.handles handle) s.core.sessions)
       (λ k there.
-      let same = state_map (without_sets (destroyed_by s.core.handles handle)) (λ x. refl) (λ x. refl) (still_live (without s.core.handles handle) s.core.sessions) k in
+      let same = state_map (left_session (without s.core.handles handle) (destroyed_by s.core.handles handle)) (λ x. refl) (λ x. refl) (still_live (without s.core.handles handle) s.core.sessions) k in
       left_state (λ n. is_live (without s.core.handles handle) kind.Session n) s.core.sessions k (ap (λ (o : Option SessionState). is_some o) (sym same) ∙ there) ∙ sym same)
 
   -- and those that are left settle
   gone : (handle : ℕ) → Tells s.core.events (without_handle s.core handle).events s.core.sessions (without_handle s.core handle).sessions
   gone handle =
       let left = sessions_left (without s.core.handles handle) (destroyed_by s.core.handles handle) s.core.sessions in
-      let still = apart_map (without_sets (destroyed_by s.core.handles handle)) (λ x. refl) (λ x. refl) (still_live (without s.core.handles handle) s.core.sessions)
+      let still = apart_map (left_session (without s.core.handles handle) (destroyed_by s.core.handles handle)) (λ x. refl) (λ x. refl) (still_live (without s.core.handles handle) s.core.sessions)
       (apart_left (λ n. is_live (without s.core.handles handle) kind.Session n) s.core.sessions apart) in
       then_all s.core.device.wish s.core.events s.core.events s.core.sessions left still (went handle)
 
@@ -308,10 +309,15 @@ told_step s e allowed known listed apart = by e.call allowed
         let f = rule s.core (reads_of s (ask.BeginFrame session)) (record e { call = ask.BeginFrame session }) in
         unless (λ q ys. Tells s.core.events q s.core.sessions ys) s.core (refusal e.short f) (told_on f.on f.effect) (as_before s apart)
         (λ none. then_loop s.core.events s.core.events s.core.sessions s.core.sessions session (begun_loop (loop_of s.core session)) (as_before s apart))
+    by (ask.SyncActions session active) allowed no_poll no_end =
+        let f = rule s.core (reads_of s (ask.SyncActions session active)) (record e { call = ask.SyncActions session active }) in
+        let columns = columns_synced s.core (is_state (life_of s.core session).state Focused) active (columns_of s.core session) in
+        unless (λ q ys. Tells s.core.events q s.core.sessions ys) s.core (refusal e.short f) (told_on f.on f.effect) (as_before s apart)
+        (λ none. nothing s.core.events s.core.sessions (with_session_at session (with_columns columns) s.core.sessions) (λ k there. sym (state_beside session (with_columns columns) (λ x. refl) (λ x. refl) s.core.sessions k)))
     by (ask.AttachSets session handles) allowed no_poll no_end =
         let f = rule s.core (reads_of s (ask.AttachSets session handles)) (record e { call = ask.AttachSets session handles }) in
         unless (λ q ys. Tells s.core.events q s.core.sessions ys) s.core (refusal e.short f) (told_on f.on f.effect) (as_before s apart)
-        (λ none. nothing s.core.events s.core.sessions (with_session_at session (with_attached (sets_named s.core.inputs handles)) s.core.sessions) (λ k there. sym (state_attached session (sets_named s.core.inputs handles) s.core.sessions k)))
+        (λ none. nothing s.core.events s.core.sessions (with_session_at session (with_attached (sets_named s.core.inputs handles)) s.core.sessions) (λ k there. sym (state_beside session (with_attached (sets_named s.core.inputs handles)) (λ x. refl) (λ x. refl) s.core.sessions k)))
     by (ask.DestroySession handle) allowed no_poll no_end =
         let f = rule s.core (reads_of s (ask.DestroySession handle)) (record e { call = ask.DestroySession handle }) in
         unless (λ q ys. Tells s.core.events q s.core.sessions ys) s.core (refusal e.short f) (told_on f.on f.effect) (as_before s apart) (λ none. gone s apart handle)

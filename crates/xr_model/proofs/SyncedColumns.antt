@@ -1,5 +1,6 @@
 -- What a sync hears, which bindings a column has, and what it shows behind the sync.
 use Rattle.std.proofs.Common.{◌≡◌, ◌+◌, ◌==◌, ◌&&◌, ◌||◌, ◌⊎◌, inl, inr, ℕ, ℤ, zero, suc, not, Bool, true, false, List, [], ◌∷◌, map, Option, Some, None, option_map, slice_get, refl, sym, ap, subst, ◌∙◌, arith, true≢false}
+use Rattle.std.proofs.lemmas.Option.{slice_get-map}
 use Rattle.std.specs.Prelude.{◌↔◌, flat_map, is_none, length, nat_le, unwrap_or, if◌then◌else◌}
 use Rattle.std.specs.List.{filter}
 use Rattle.xr_types.specs.Code.{is_success}
@@ -18,13 +19,13 @@ use Rattle.xr_types.specs.declared.limits.TheConstants.{MOST_SYNCED}
 use Rattle.xr_types.specs.declared.session.SessionState.{SessionState}
 use Rattle.xr_types.specs.declared.session.SessionState.TheVariants.{Focused}
 use Rattle.xr_model.specs.machine.Handles.{no_handle}
-use Rattle.xr_model.specs.machine.LiveSessions.{session_at, attached_in}
+use Rattle.xr_model.specs.machine.LiveSessions.{session_at, attached_in, with_columns, shown_in}
 use Rattle.xr_model.specs.machine.Paths.{text_at}
 use Rattle.xr_model.specs.machine.Publication.{is_attached}
 use Rattle.xr_model.specs.machine.Refusals.{when, first_of}
-use Rattle.xr_model.specs.machine.Rules.Session.{life_of}
+use Rattle.xr_model.specs.machine.Rules.Session.{life_of, columns_of}
 use Rattle.xr_model.specs.machine.Rules.Sets.{user_at}
-use Rattle.xr_model.specs.machine.Rules.Sync.{bindings_of, columns_synced, heard_by, is_named, item_checks}
+use Rattle.xr_model.specs.machine.Rules.Sync.{bindings_of, columns_synced, heard_by, is_named, item_checks, with_synced}
 use Rattle.xr_model.specs.machine.SessionLife.{is_state}
 use Rattle.xr_model.specs.machine.Sets.{is_declared, set_declares}
 use Rattle.xr_model.specs.machine.State.{CoreState}
@@ -37,10 +38,10 @@ use Rattle.xr_model.proofs.ChainPlaces.{same_some}
 use Rattle.xr_model.proofs.ColumnsGone.{got_from}
 use Rattle.xr_model.proofs.FrameCalls.{where_done}
 use Rattle.xr_model.proofs.FrameOrder.{clear, none_first}
-use Rattle.xr_model.proofs.GetterColumns.{got_map}
 use Rattle.xr_model.proofs.HeardBindings.{heard_are_listed}
 use Rattle.xr_model.proofs.InputsGive.{changes_are_told, items_fail}
 use Rattle.xr_model.proofs.ListSteps.{none_behind, none_front}
+use Rattle.xr_model.proofs.SessionLives as lives
 use Rattle.xr_model.proofs.Rows.{both_of, itself, same_key}
 use Rattle.xr_model.proofs.SyncColumns.{active_from}
 use Rattle.xr_model.proofs.UserAtoms.{same_user}
@@ -108,14 +109,14 @@ module _ (s : CoreState) (active : List ActiveSet) (b : Ranked) (all : (k : ℕ)
       there : is_heard (map (heard_by s) active) b ≡ true → IsAskedFor s.atoms active b
       there heard =
           let is = (heard_are_listed (map (heard_by s) active) b).0 heard in
-          of_item is.place is.item (slice_get active is.place) refl (sym (got_map (heard_by s) active is.place) ∙ is.there) is.set is.user
+          of_item is.place is.item (slice_get active is.place) refl (sym (slice_get-map (heard_by s) active is.place) ∙ is.there) is.set is.user
 
       back : IsAskedFor s.atoms active b → is_heard (map (heard_by s) active) b ≡ true
       back is =
           (heard_are_listed (map (heard_by s) active) b).1 (record {
             place = is.place;
             item = heard_by s is.item;
-            there = got_map (heard_by s) active is.place ∙ ap (option_map (heard_by s)) is.there;
+            there = slice_get-map (heard_by s) active is.place ∙ ap (option_map (heard_by s)) is.there;
             set = is.set;
             user = user_asked is.item is.user;
           })
@@ -214,20 +215,24 @@ in_focus Focused is = refl
 in_focus _ is = absurd (true≢false (sym is))
 
 pub syncs_show_what_is_found : SyncsShowWhatIsFound
-syncs_show_what_is_found s e session active place column row old is good focus at stood = subst Shows (sym is) shown good
+syncs_show_what_is_found s e session active place column x row old is good focus listed at stood = subst Shows (sym is) shown good
   where
     Shows : Call → Type 0
-    Shows r = is_success (step s (record e { call = r })).1.reply.code ≡ true → IsSynced s active place column old (step s (record e { call = r })).0.core.columns
+    Shows r = is_success (step s (record e { call = r })).1.reply.code ≡ true → IsSynced s session active place column old (step s (record e { call = r })).0.core.sessions
 
-    synced : IsSynced s active place column old (columns_synced s.core true active)
+    synced : IsSynced s session active place column old (with_synced s.core session true active).sessions
     synced =
         let heard = map (heard_by s.core) active in
         let all = bindings_of s.core in
         let each = λ (p : ℕ) (r : List Column). each_from (λ k c. synced_column heard all s.core.device.inputs s.core.device.clock p k c) 0 r in
         record {
+          its = with_columns (columns_synced s.core true active (columns_of s.core session)) x;
+          listed =
+              lives.found_at session session (with_columns (columns_synced s.core true active (columns_of s.core session))) (λ y. refl) s.core.sessions
+              ∙ rw (itself session) (ap (option_map (with_columns (columns_synced s.core true active (columns_of s.core session)))) listed);
           row = each place row;
-          there = got_from (λ p r. each_from (λ k c. synced_column (map (heard_by s.core) active) (bindings_of s.core) s.core.device.inputs s.core.device.clock p k c) 0 r) 0 s.core.columns place place (omega arith)
-              ∙ ap (option_map (λ r. each_from (λ k c. synced_column (map (heard_by s.core) active) (bindings_of s.core) s.core.device.inputs s.core.device.clock place k c) 0 r)) at;
+          there = got_from (λ p r. each_from (λ k c. synced_column (map (heard_by s.core) active) (bindings_of s.core) s.core.device.inputs s.core.device.clock p k c) 0 r) 0 (columns_of s.core session) place place (omega arith)
+              ∙ ap (option_map (λ r. each_from (λ k c. synced_column (map (heard_by s.core) active) (bindings_of s.core) s.core.device.inputs s.core.device.clock place k c) 0 r)) (ap (λ o. slice_get (shown_in o) place) listed ∙ at);
           new = column_after s.core.device.clock old (found_at heard all s.core.device.inputs place column);
           stands = got_from (λ k c. synced_column (map (heard_by s.core) active) (bindings_of s.core) s.core.device.inputs s.core.device.clock place k c) 0 row column column (omega arith)
               ∙ ap (option_map (λ c. synced_column (map (heard_by s.core) active) (bindings_of s.core) s.core.device.inputs s.core.device.clock place column c)) stood;
@@ -237,5 +242,5 @@ syncs_show_what_is_found s e session active place column row old is good focus a
     shown : Shows (ask.SyncActions session active)
     shown =
         let f = rule s.core (reads_of s (ask.SyncActions session active)) (record e { call = ask.SyncActions session active }) in
-        where_done (λ x. IsSynced s active place column old x.state.columns) s.core f e.short (items_fail s.core session active)
-        (λ none. subst (λ (b : Bool). IsSynced s active place column old (columns_synced s.core b active)) (sym (in_focus (life_of s.core session).state focus)) synced)
+        where_done (λ y. IsSynced s session active place column old y.state.sessions) s.core f e.short (items_fail s.core session active)
+        (λ none. subst (λ (b : Bool). IsSynced s session active place column old (with_synced s.core session b active).sessions) (sym (in_focus (life_of s.core session).state focus)) synced)

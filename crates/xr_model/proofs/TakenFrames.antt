@@ -17,17 +17,20 @@ use Rattle.xr_model.specs.machine.Rules.Frames.{look_of, oldest_shown, next_time
 use Rattle.xr_model.specs.machine.Machine.{effect, rule, step, reads_of}
 use Rattle.xr_model.specs.machine.History.{shown_if}
 use Rattle.xr_model.specs.machine.Handles.{is_live, without, destroyed_by}
-use Rattle.xr_model.specs.machine.LiveSessions.{Session, session_at, with_session_at, with_frame_loop, with_life, with_attached, without_sets, still_live, sessions_left, told_states, each_changed, told_changes}
-use Rattle.xr_model.specs.machine.SessionLife.{Life, Changed, unchanged, begun_session, started_session, ended_session, exiting_session, synced_session, losing_session, lost_session}
+use Rattle.xr_model.specs.machine.LiveSessions.{Session, session_at, with_session_at, with_frame_loop, with_life, with_attached, still_live, told_states, each_changed, told_changes, with_columns}
+use Rattle.xr_model.specs.machine.SessionLife.{Life, Changed, unchanged, begun_session, started_session, ended_session, exiting_session, synced_session, losing_session, lost_session, is_state}
 use Rattle.xr_model.specs.machine.Sets.{sets_named}
 use Rattle.xr_model.specs.machine.Target.{Standing, rounds, most_rounds}
-use Rattle.xr_model.specs.machine.Rules.Session.{new_session, changed_in, told_of, loop_of}
+use Rattle.xr_model.specs.machine.Rules.Session.{new_session, changed_in, told_of, loop_of, columns_of, life_of}
 use Rattle.xr_model.specs.machine.Rules.Device.{behind_event}
 use Rattle.xr_model.specs.laws.FrameLaws.{shown_from, frame_call, frame_calls, TakenAreHalf}
 use Rattle.xr_model.proofs.LayerCodes.{layers_fail}
 use Rattle.xr_model.proofs.FrameOrder.{by_rule, clear, not_false}
 use Rattle.xr_model.proofs.LoopSums.{sum_in, sum_map, sum_at, sum_rounds, sum_changed, sum_left, sum_more, sum_loop}
 use Rattle.xr_model.proofs.FrameLists.{Moves, frame_if, taken_if, moves, frames_stay}
+use Rattle.xr_model.specs.machine.Destroyed.{left_session, sessions_left}
+use Rattle.xr_model.specs.machine.Rules.Sync.{columns_synced}
+use Rattle.xr_types.specs.declared.session.SessionState.TheVariants.{Focused}
 
 -- ---- how many frames are begun
 
@@ -73,7 +76,7 @@ module _ (s : CoreState) where
 
   gone : (handle : ℕ) (t : Standing) → t.sessions ≡ sessions_left (without s.handles handle) (destroyed_by s.handles handle) s.sessions → begun_in (rounds most_rounds s.device.wish t).sessions ≤ begun s + 0
   gone handle t is =
-      let one = sum_rounds weight s.device.wish t ∙ ap (λ xs. begun_in xs) is ∙ sum_map weight (without_sets (destroyed_by s.handles handle)) (λ x. refl) (still_live (without s.handles handle) s.sessions) in
+      let one = sum_rounds weight s.device.wish t ∙ ap (λ xs. begun_in xs) is ∙ sum_map weight (left_session (without s.handles handle) (destroyed_by s.handles handle)) (λ x. refl) (still_live (without s.handles handle) s.sessions) in
       let two = sum_left weight (λ (x : Session). is_live (without s.handles handle) kind.Session x.handle) s.sessions in
       omega (arith, one, two)
 
@@ -130,7 +133,7 @@ weighs s reads e = by e.call
         submits_none s (ask.BeginFrame session) (unless_refused s (refusal e.short f) (told_on f.on f.effect)) refl
         (begun_kept s (refusal e.short f) (told_on f.on f.effect) (begun s + 1) (omega arith) (omega (arith, one)))
     by (ask.EndFrame session time blend layers) =
-        by_rule (Weighs s (ask.EndFrame session time blend layers)) s f e.short (layers_fail (look_of s) layers) refused ended
+        by_rule (Weighs s (ask.EndFrame session time blend layers)) s f e.short (layers_fail (look_of s session) layers) refused ended
       where
         f : Rule
         f = rule s reads (record e { call = ask.EndFrame session time blend layers })
@@ -147,6 +150,11 @@ weighs s reads e = by e.call
         ended none =
             let had = not_false (loop_of s session).has_begun (clear f e.short none).order in
             few (is_success (told_on f.on f.effect).code) (loop_of s session).has_begun _ had (period s session (synced_session wish.Ready) (ended_loop (loop_of s session)))
+    by (ask.SyncActions session active) =
+        let f = rule s reads (record e { call = ask.SyncActions session active }) in
+        let one = sum_at weight (with_columns (columns_synced s (is_state (life_of s session).state Focused) active (columns_of s session))) (λ x. refl) session s.sessions in
+        submits_none s (ask.SyncActions session active) (unless_refused s (refusal e.short f) (told_on f.on f.effect)) refl
+        (begun_kept s (refusal e.short f) (told_on f.on f.effect) (begun s + 0) (same s) (omega (arith, one)))
     by (ask.AttachSets session handles) =
         let f = rule s reads (record e { call = ask.AttachSets session handles }) in
         let one = sum_at weight (with_attached (sets_named s.inputs handles)) (λ x. refl) session s.sessions in

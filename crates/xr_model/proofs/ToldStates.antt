@@ -7,7 +7,7 @@ use Rattle.xr_types.specs.declared.session.Event.TheVariants.{Lost, State}
 use Rattle.xr_types.specs.declared.session.SessionState.{SessionState}
 use Rattle.xr_model.specs.machine.Events.{Queue, pushed}
 use Rattle.xr_model.specs.machine.SessionLife.{Life, Changed, last_of}
-use Rattle.xr_model.specs.machine.LiveSessions.{Session, session_at, with_life, with_attached, with_session_at, with_life_at, told_states, each_changed, told_changes, with_frame_loop}
+use Rattle.xr_model.specs.machine.LiveSessions.{Session, session_at, with_life, with_session_at, with_life_at, told_states, each_changed, told_changes, with_frame_loop}
 use Rattle.xr_model.specs.laws.EventLaws.{pushed_all, state_at, has_ordinal, is_of_session, last_told}
 use Rattle.xr_model.proofs.Rows.{itself, same_key, both_of}
 use Rattle.xr_model.specs.machine.Frames.{FrameLoop}
@@ -183,17 +183,17 @@ state_found (y ∷ ys) k x found = by (y.handle == k) found (state_found ys k x)
     by true found more = cc
     by false found more = more found
 
--- attaching changes no state
-pub state_attached : (handle : ℕ) (sets : List ℕ) (xs : List Session) (k : ℕ) → state_at (with_session_at handle (with_attached sets) xs) k ≡ state_at xs k
-state_attached handle sets [] k = refl
-state_attached handle sets (x ∷ xs) k = by (x.handle == handle) (state_attached handle sets xs k)
+-- a change that isn't of a life changes no state
+pub state_beside : (handle : ℕ) (f : Session → Session) → ((x : Session) → (f x).handle ≡ x.handle) → ((x : Session) → (f x).life ≡ x.life) → (xs : List Session) (k : ℕ) → state_at (with_session_at handle f xs) k ≡ state_at xs k
+state_beside handle f named lives [] k = refl
+state_beside handle f named lives (x ∷ xs) k = by (x.handle == handle) (state_beside handle f named lives xs k)
   where
-    later : (c : Bool) → state_at (with_session_at handle (with_attached sets) xs) k ≡ state_at xs k → (if c then Some x.life.state else state_at (with_session_at handle (with_attached sets) xs) k) ≡ (if c then Some x.life.state else state_at xs k)
+    later : (c : Bool) → state_at (with_session_at handle f xs) k ≡ state_at xs k → (if c then Some x.life.state else state_at (with_session_at handle f xs) k) ≡ (if c then Some x.life.state else state_at xs k)
     later true more = refl
     later false more = more
 
-    by : (b : Bool) → state_at (with_session_at handle (with_attached sets) xs) k ≡ state_at xs k → state_at (if b then with_attached sets x ∷ xs else x ∷ with_session_at handle (with_attached sets) xs) k ≡ (if x.handle == k then Some x.life.state else state_at xs k)
-    by true more = refl
+    by : (b : Bool) → state_at (with_session_at handle f xs) k ≡ state_at xs k → state_at (if b then f x ∷ xs else x ∷ with_session_at handle f xs) k ≡ (if x.handle == k then Some x.life.state else state_at xs k)
+    by true more = rw (named x, lives x) refl
     by false more = later (x.handle == k) more
 
 -- a loop of frames changes no state and no ordinal

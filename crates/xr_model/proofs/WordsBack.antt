@@ -1,15 +1,15 @@
 -- The words of a publication read back.
-use Rattle.std.proofs.Common.{◌≡◌, ◌==◌, ◌+◌, ◌*◌, ◌/◌, ◌^◌, ◌<◌, ◌≤ℤ◌, ℕ, ℤ, pos, negsuc, zero, suc, Bool, true, false, List, [], ◌∷◌, refl, ap, ◌∙◌, arith, length, ◌++◌, to_z-of_z}
-use Rattle.std.specs.Prelude.{unsigned_abs, flat_map, All, FitsSigned}
+use Rattle.std.proofs.Common.{◌≡◌, ◌==◌, ◌+◌, ◌*◌, ◌/◌, ◌^◌, ◌<◌, ◌≤ℤ◌, ℕ, ℤ, pos, negsuc, zero, suc, Bool, true, false, List, [], ◌∷◌, refl, ap, sym, ◌∙◌, arith, length, ◌++◌, to_z-of_z, length-append}
+use Rattle.std.specs.Prelude.{unsigned_abs, flat_map, take, drop, All, FitsSigned}
 use Rattle.std.specs.Int.{w32, cast_unsigned}
 use Rattle.std.proofs.lemmas.Nat.{div-mul-add, mod-mul-add}
-use Rattle.std.proofs.lemmas.List.{take_at, drop_at}
+use Rattle.std.proofs.lemmas.List.{take_at, drop_at, append_assoc}
 use Rattle.xr_types.specs.declared.input.ActionType.{ActionType}
 use Rattle.xr_types.specs.declared.input.ActionType.TheVariants as type
-use Rattle.xr_model.specs.machine.Publication.{ShownColumn, PublishedAction, Publication}
-use Rattle.xr_model.specs.machine.PublicationWords.{bit, with_bit, bits, type_number, column_words, action_words, row_words, low_bit, bits_in, type_in, column_in, columns_in, action_in, actions_in, actions_of}
+use Rattle.xr_model.specs.machine.Publication.{ShownColumn, PublishedSession, PublishedAction, Publication}
+use Rattle.xr_model.specs.machine.PublicationWords.{bit, with_bit, bits, type_number, column_words, action_words, row_words, session_words, low_bit, bits_in, type_in, column_in, columns_in, action_in, actions_in, rows_in, session_in, sessions_in}
 use Rattle.xr_model.specs.machine.Reads.{reads}
-use Rattle.xr_model.specs.laws.WordLaws.{ColumnFits, ActionFits, WordsGiveBack, WordsAreRead}
+use Rattle.xr_model.specs.laws.WordLaws.{ColumnFits, RowFits, ActionFits, SessionFits, WordsGiveBack, WordsAreRead}
 
 first_fits : {T : Type 0} (P : T → Type 0) (x : T) (xs : List T) → All P (x ∷ xs) → P x
 first_fits P x xs each = each 0 x (omega arith)
@@ -82,15 +82,14 @@ columns_size : (cs : List ShownColumn) → length (flat_map column_words cs) ≡
 columns_size [] = refl
 columns_size (c ∷ cs) = rw (columns_size cs) (omega arith)
 
-action_back : (a : PublishedAction) → ActionFits a → action_in a.handle (with_bit (bits a.declared) a.attached * 8 + type_number a.type) (flat_map column_words a.columns) ≡ a
+-- ---- actions
+
+action_back : (a : PublishedAction) → ActionFits a → action_in a.handle (bits a.declared * 8 + type_number a.type) ≡ a
 action_back a fits = rw (
-  mod-mul-add (with_bit (bits a.declared) a.attached) 8 (type_number a.type) (type_is_small a.type),
-  div-mul-add (with_bit (bits a.declared) a.attached) 8 (type_number a.type) (type_is_small a.type),
-  low (bits a.declared) a.attached,
-  high (bits a.declared) a.attached,
+  mod-mul-add (bits a.declared) 8 (type_number a.type) (type_is_small a.type),
+  div-mul-add (bits a.declared) 8 (type_number a.type) (type_is_small a.type),
   bits_back 5 a.declared fits.declared,
   type_back a.type,
-  columns_back 6 a.columns fits.columns fits.each,
 ) refl
 
 actions_size : (xs : List PublishedAction) → length (flat_map action_words xs) ≡ 2 * length xs
@@ -98,25 +97,68 @@ actions_size [] = refl
 actions_size (a ∷ xs) = rw (actions_size xs) (omega arith)
 
 -- whatever stands behind the words of the actions
-rows_back : (xs : List PublishedAction) (behind : List ℕ) → All ActionFits xs → actions_in (length xs) (flat_map action_words xs ++ behind) (flat_map row_words xs) ≡ xs
-rows_back [] behind each = refl
-rows_back (a ∷ xs) behind each =
-    let size : length (row_words a) ≡ 12 = columns_size a.columns ∙ rw ((first_fits ActionFits a xs each).columns) refl in
-    rw (take_at (row_words a) (flat_map row_words xs) 12 size, drop_at (row_words a) (flat_map row_words xs) 12 size, action_back a (first_fits ActionFits a xs each), rows_back xs behind (rest_fits ActionFits a xs each)) refl
+actions_back : (xs : List PublishedAction) (behind : List ℕ) → All ActionFits xs → actions_in (length xs) (flat_map action_words xs ++ behind) ≡ xs
+actions_back [] behind each = refl
+actions_back (a ∷ xs) behind each = rw (action_back a (first_fits ActionFits a xs each), actions_back xs behind (rest_fits ActionFits a xs each)) refl
 
-actions_back : (xs : List PublishedAction) → All ActionFits xs → actions_of (length xs) (flat_map action_words xs ++ flat_map row_words xs) ≡ xs
-actions_back xs each = rw (drop_at (flat_map action_words xs) (flat_map row_words xs) (2 * length xs) (actions_size xs)) (rows_back xs (flat_map row_words xs) each)
+-- ---- sessions
+
+row_size : (row : List ShownColumn) → RowFits row → length (row_words row) ≡ 12
+row_size row fits = columns_size row ∙ rw (fits.six) refl
+
+rows_size : (rows : List (List ShownColumn)) → All RowFits rows → length (flat_map row_words rows) ≡ 12 * length rows
+rows_size [] each = refl
+rows_size (row ∷ rows) each =
+    let one = row_size row (first_fits RowFits row rows each) in
+    let more = rows_size rows (rest_fits RowFits row rows each) in
+    let both = length-append (row_words row) (flat_map row_words rows) in
+    omega (arith, one, more, both)
+
+rows_back : (rows : List (List ShownColumn)) (behind : List ℕ) → All RowFits rows → rows_in (length rows) (flat_map row_words rows ++ behind) ≡ rows
+rows_back [] behind each = refl
+rows_back (row ∷ rows) behind each =
+    let fits = first_fits RowFits row rows each in
+    let rest : List ℕ = flat_map row_words rows ++ behind in
+    let size = row_size row fits in
+    ap (λ (ws : List ℕ). columns_in 6 (take 12 ws) ∷ rows_in (length rows) (drop 12 ws)) (append_assoc (row_words row) (flat_map row_words rows) behind)
+    ∙ ap (λ (ws : List ℕ). columns_in 6 ws ∷ rows_in (length rows) (drop 12 (row_words row ++ rest))) (take_at (row_words row) rest 12 size)
+    ∙ ap (λ (ws : List ℕ). columns_in 6 (row_words row) ∷ rows_in (length rows) ws) (drop_at (row_words row) rest 12 size)
+    ∙ rw (columns_back 6 row fits.six fits.each, rows_back rows behind (rest_fits RowFits row rows each)) refl
+
+-- whatever stands behind the words of its columns
+session_back : (k : ℕ) (x : PublishedSession) (behind : List ℕ) → SessionFits k x → session_in k x.handle (bits (x.loss.lost ∷ x.loss.pending ∷ [])) (bits x.attached) (flat_map row_words x.columns ++ behind) ≡ x
+session_back k x behind fits =
+    rw (
+      low (bits (x.loss.pending ∷ [])) x.loss.lost,
+      high (bits (x.loss.pending ∷ [])) x.loss.lost,
+      low (bits []) x.loss.pending,
+      bits_back k x.attached fits.attached,
+    ) (ap (λ (rows : List (List ShownColumn)). record x { columns = rows }) (ap (λ (n : ℕ). rows_in n (flat_map row_words x.columns ++ behind)) (sym fits.columns) ∙ rows_back x.columns behind fits.each))
+
+sessions_back : (k : ℕ) (xs : List PublishedSession) → All (SessionFits k) xs → sessions_in (length xs) k (flat_map session_words xs) ≡ xs
+sessions_back k [] each = refl
+sessions_back k (x ∷ xs) each =
+    let fits = first_fits (SessionFits k) x xs each in
+    let rest : List ℕ = flat_map session_words xs in
+    let size : length (flat_map row_words x.columns) ≡ 12 * k = rows_size x.columns fits.each ∙ ap (λ (n : ℕ). 12 * n) fits.columns in
+    ap (λ (y : PublishedSession). y ∷ sessions_in (length xs) k (drop (12 * k) (flat_map row_words x.columns ++ rest))) (session_back k x rest fits)
+    ∙ ap (λ (ws : List ℕ). x ∷ sessions_in (length xs) k ws) (drop_at (flat_map row_words x.columns) rest (12 * k) size)
+    ∙ ap (λ (ys : List PublishedSession). x ∷ ys) (sessions_back k xs (rest_fits (SessionFits k) x xs each))
+
+-- ---- all of them
 
 pub words_give_back : WordsGiveBack
 words_give_back p fits =
+    let acts : List ℕ = flat_map action_words p.actions in
+    let rest : List ℕ = flat_map session_words p.sessions in
     rw (
-      low (with_bit (length p.actions) p.loss.pending) p.loss.lost,
-      high (with_bit (length p.actions) p.loss.pending) p.loss.lost,
-      low (length p.actions) p.loss.pending,
-      high (length p.actions) p.loss.pending,
-      take_at p.atoms (flat_map action_words p.actions ++ flat_map row_words p.actions) 5 fits.atoms,
-      drop_at p.atoms (flat_map action_words p.actions ++ flat_map row_words p.actions) 5 fits.atoms,
-      actions_back p.actions fits.each,
+      mod-mul-add (length p.actions) (2 ^ 32) (length p.sessions) fits.few,
+      div-mul-add (length p.actions) (2 ^ 32) (length p.sessions) fits.few,
+      take_at p.atoms (acts ++ rest) 5 fits.atoms,
+      drop_at p.atoms (acts ++ rest) 5 fits.atoms,
+      actions_back p.actions rest fits.actions,
+      drop_at acts rest (2 * length p.actions) (actions_size p.actions),
+      sessions_back (length p.actions) p.sessions fits.sessions,
     ) refl
 
 pub words_are_read : WordsAreRead

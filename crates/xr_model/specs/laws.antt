@@ -25,6 +25,7 @@ pub mod FrameLaws
 pub mod FrameCallLaws
 pub mod DecidedEntries
 pub mod OrderLaws
+pub mod OwnLaws
 pub mod Owners
 pub mod ImageLaws
 pub mod TurnLaws

@@ -1,5 +1,5 @@
 //! The laws of what a sync hears, what inputs give, and what columns show.
-ghost use Rattle.xr_model.specs.laws.ColumnLaws.{GettersReadTheNamedColumn, GettersTellTheirColumns, ColumnsStay, ColumnsGoWithTheSession, ColumnsGoWithTheAction, OthersKeepWhatTheyShow};
+ghost use Rattle.xr_model.specs.laws.ColumnLaws.{GettersReadTheNamedColumn, GettersTellTheirColumns, ColumnsStay, ColumnsGoWithTheSession, NewSessionsShowNothing, ColumnsGoWithTheAction, OthersKeepWhatTheyShow};
 ghost use Rattle.xr_model.specs.laws.InputLaws.{BindingsAreOfTheConnected, HeardAreListed, LiveHaveTheLargestPriority, InputsGiveFromTheirEvents, VectorsAreTheirAxes, ChangesAreTold, UnfocusedSyncsAreInactive, ActionsDeclareTheirAtoms};
 ghost use Rattle.xr_model.specs.laws.SyncLaws.{PicksAreNamed, PicksHaveTheirSources};
 ghost use Rattle.xr_model.specs.laws.SyncedLaws.{BindingsAreTheSuggestions, BindingsAreRanked, SyncsHearTheirItems, ColumnsHaveTheirBindings, SyncsShowWhatIsFound};
@@ -87,7 +87,7 @@ pub fn changes_are_told()
     ensures { ChangesAreTold }
 {}
 
-/// A sync that succeeds says that its session isn't focused exactly where it isn't, and leaves all columns inactive then.
+/// A sync that succeeds says that its session isn't focused exactly where it isn't, and leaves all its columns inactive then.
 #[tactic(auto, using(crate::proofs::InputsGive::unfocused_syncs_are_inactive))]
 pub fn unfocused_syncs_are_inactive()
     ensures { UnfocusedSyncsAreInactive }
@@ -106,22 +106,30 @@ pub fn getters_read_the_named_column()
 {}
 
 /// After a legal history whose events have their numbers in range, a getter that succeeds tells the column of the user path that it names,
-/// or of all by 0, in the place of its action: its numbers, whether it has changed and since when, and whether it is active.
+/// or of all by 0, in the place of its action and in its own session: its numbers, whether it has changed and since when, and whether it is
+/// active.
 #[tactic(auto, using(crate::proofs::GetterColumns::getters_tell_their_columns))]
 pub fn getters_tell_their_columns()
     ensures { GettersTellTheirColumns }
 {}
 
-/// No column changes but by a sync, and by the end of a session, of an action, or of what is above these.
+/// What actions show in a session changes only by a sync of that session, and by the end of a session, of an action, or of what is above
+/// these.
 #[tactic(auto, using(crate::proofs::ColumnsKept::columns_stay))]
 pub fn columns_stay()
     ensures { ColumnsStay }
 {}
 
-/// Behind a `destroy_session` that succeeds no column is active.
+/// Behind a `destroy_session` that succeeds its session is listed no more, and what actions showed in it is gone.
 #[tactic(auto, using(crate::proofs::ColumnsGone::columns_go_with_the_session))]
 pub fn columns_go_with_the_session()
     ensures { ColumnsGoWithTheSession }
+{}
+
+/// A session that is created in a legal history has no active column.
+#[tactic(auto, using(crate::proofs::ColumnsKept::new_sessions_show_nothing))]
+pub fn new_sessions_show_nothing()
+    ensures { NewSessionsShowNothing }
 {}
 
 /// Where an action or a set is destroyed, no column is active of a place in which no action stands any more, and no space moves with it.
@@ -130,8 +138,8 @@ pub fn columns_go_with_the_action()
     ensures { ColumnsGoWithTheAction }
 {}
 
-/// Where an action or a set is destroyed in a legal history, the actions that are left show what they showed, and a space that is left is as
-/// it was, but where it moved with an action that went.
+/// Where an action, a set or a session is destroyed, the actions that are left show what they showed in each session that is left, and a
+/// space that is left is as it was, but where it moved with an action that went.
 #[tactic(auto, using(crate::proofs::ColumnsKept::others_keep_what_they_show))]
 pub fn others_keep_what_they_show()
     ensures { OthersKeepWhatTheyShow }

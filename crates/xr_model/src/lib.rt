@@ -621,7 +621,8 @@ pub fn words_give_back()
     ensures { WordsGiveBack }
 {}
 
-/// What a legal history publishes has room in words, where the device tells numbers in range.
+/// What a legal history publishes has room in words, with no more sessions and actions than may be live, where the device tells numbers in
+/// range.
 #[tactic(auto, using(crate::proofs::FittingPublications::publications_fit))]
 pub fn publications_fit()
     ensures { PublicationsFit }

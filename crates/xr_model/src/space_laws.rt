@@ -1,4 +1,5 @@
-//! The laws of where spaces are: what a new space is, and what a location tells.
+//! The laws of spaces: what a new space is, what a location tells, and of which session spaces and swapchains are that calls name.
+ghost use Rattle.xr_model.specs.laws.OwnLaws.{LayersAreOfTheirSession, BasesAreOfTheSameSession};
 ghost use Rattle.xr_model.specs.laws.LocationLaws.{ReferenceSpacesAreAsAsked, ActionSpacesFollowTheirColumns, ReferenceSpacesHaveTheirOrigins, PosesFollowColumns, LocationsAreFactors};
 
 /// In a legal history a reference space that is created is listed with the kind and the offset that were asked for.
@@ -26,9 +27,20 @@ pub fn poses_follow_columns()
     ensures { PosesFollowColumns }
 {}
 
-/// A location is the base's offset, the base's pose, the space's pose and the space's offset, of the two spaces as they are named, and
-/// is missing where one of them has no pose.
-#[tactic(auto, using(crate::proofs::Locations::locations_are_factors))]
+/// A location is the base's offset, the base's pose, the space's pose and the space's offset, of the two spaces as they are named, by
+/// what actions show in the session of the space, and is missing where one of them has no pose.
 pub fn locations_are_factors()
     ensures { LocationsAreFactors }
+{}
+
+/// Where a session ends a frame, the spaces of its layers and the swapchains that they show are live ones of that session.
+#[tactic(auto, using(crate::proofs::OwnItems::layers_are_of_their_session))]
+pub fn layers_are_of_their_session()
+    ensures { LayersAreOfTheirSession }
+{}
+
+/// Where a space is located in a base, both are live, and the base is of the session that the space is of.
+#[tactic(auto, using(crate::proofs::OwnItems::bases_are_of_the_same_session))]
+pub fn bases_are_of_the_same_session()
+    ensures { BasesAreOfTheSameSession }
 {}

@@ -21,7 +21,7 @@ no_counts_else : (b : ℕ) → b ≢ 0 → get_or no_counts b 0 ≡ 0
 no_counts_else zero ne = absurd (ne refl)
 no_counts_else (suc b) ne = none_set 9 b
 
-none_published : (key : ℕ) → published_words key [] ≡ replicate 8 0
+none_published : (key : ℕ) → published_words key [] ≡ replicate 7 0
 unfolding published_words
 none_published key = refl
 
@@ -31,7 +31,7 @@ shows_first key ws zero_all =
     record {
       front = omega (arith, front_is);
       entries = subst (λ (f : ℕ). get_or ws front_word 0 / 16 ≡ (get_or ws (exit_word front_word f) 0 + total (inside f) (Out ∷ [])) % 2 ^ 60) (sym front_is) (omega (arith, zero_all front_word, zero_all (exit_word front_word 0)));
-      shown = subst (λ (p : List ℕ). IsInside front_word ws (front_of front_word ws) p) (sym (none_published key)) record { near = omega (arith, front_is); short = omega arith; stored = λ i l. zero_all (state_word front_word (front_of front_word ws) i) ∙ sym (none_set 8 i) };
+      shown = subst (λ (p : List ℕ). IsInside front_word ws (front_of front_word ws) p) (sym (none_published key)) record { near = omega (arith, front_is); short = omega arith; stored = λ i l. zero_all (state_word front_word (front_of front_word ws) i) ∙ sym (none_set 7 i) };
       ten = refl;
       marked = subst (λ (f : ℕ). get_or no_counts f 0 ≡ no_count) (sym front_is) refl;
       counted = λ b l ne. no_counts_else b (λ e. ne (e ∙ sym front_is)) ∙ omega (arith, zero_all (exit_word front_word b));

@@ -24,7 +24,7 @@ use Rattle.xr_types.specs.declared.input.ActiveSet.{ActiveSet}
 use Rattle.xr_types.specs.declared.input.Binding.{Binding}
 use Rattle.xr_types.specs.declared.input.Profile.{Profile}
 use Rattle.xr_model.specs.machine.Rules.Bindings.{bindings_checks, profile_at}
-use Rattle.xr_model.specs.machine.Publication.{ShownColumn, publication_of, published_at, column_by, shown_by}
+use Rattle.xr_model.specs.machine.Publication.{ShownColumn, publication_of, published_at, row_read, column_read, shown_by}
 use Rattle.xr_model.specs.machine.Rules.Sync.{getter_rule, item_checks}
 use Rattle.xr_model.specs.machine.Rules.Sets.{sub_checks, with_user, user_at}
 use Rattle.xr_model.specs.machine.Refusals.{Refusal, first_of}
@@ -137,9 +137,8 @@ text_fits s e = by e.call
     getter : (r : Call) (wanted : ActionType) (session action sub : ℕ) → rule_for r ≡ getter_rule s.core wanted session action sub → lent_size r ≡ 0 → WritesAsSaid (lent_size r) (carried_out s.core e.short (rule_for r))
     getter r wanted session action sub is none =
         let p = publication_of s.core in
-        let found = published_at p action in
         rw (is, none)
-        (carried_writes s.core 0 e.short (getter_rule s.core wanted session action sub) ((λ h. refl), ((λ h. refl), ((λ h. refl), ((λ h. refl), ((λ h. refl), ((λ h. refl), ((λ h. refl), tt))))))) (getter_writes_none wanted (option_and_then (λ a. option_and_then (λ k. slice_get a.columns k) (column_by p a sub)) found)))
+        (carried_writes s.core 0 e.short (getter_rule s.core wanted session action sub) ((λ h. refl), ((λ h. refl), ((λ h. refl), ((λ h. refl), ((λ h. refl), ((λ h. refl), ((λ h. refl), tt))))))) (getter_writes_none wanted (option_and_then (λ k. option_and_then (λ row. slice_get row k) (row_read p session action)) (column_read p (published_at p action) sub))))
 
     by : (r : Call) → WritesAsSaid (lent_size r) (carried_out s.core e.short (rule_for r))
     by (ask.CreateInstance major minor) = carried_writes s.core 0 e.short (rule_for (ask.CreateInstance major minor)) ((λ h. refl), ((λ h. refl), ((λ h. refl), tt))) refl
@@ -174,7 +173,7 @@ text_fits s e = by e.call
     by (ask.BeginFrame session) = carried_writes s.core 0 e.short (rule_for (ask.BeginFrame session)) ((λ h. refl), ((λ h. refl), ((λ h. refl), ((λ h. refl), tt)))) refl
     by (ask.EndFrame session time blend layers) =
         carried_writes s.core 0 e.short (rule_for (ask.EndFrame session time blend layers))
-        ((λ h. refl), ((λ h. refl), ((λ h. refl), ((λ h. refl), ((λ h. refl), ((λ h. refl), ((λ h. refl), layers_give_none (look_of s.core) layers))))))) refl
+        ((λ h. refl), ((λ h. refl), ((λ h. refl), ((λ h. refl), ((λ h. refl), ((λ h. refl), ((λ h. refl), layers_give_none (look_of s.core session) layers))))))) refl
     by (ask.CreateSwapchain session format width height fixed) =
         carried_writes s.core 0 e.short (rule_for (ask.CreateSwapchain session format width height fixed)) ((λ h. refl), ((λ h. refl), ((λ h. refl), ((λ h. refl), ((λ h. refl), ((λ h. refl), ((λ h. refl), tt))))))) refl
     by (ask.DestroySwapchain chain) = carried_writes s.core 0 e.short (rule_for (ask.DestroySwapchain chain)) ((λ h. refl), ((λ h. refl), tt)) refl

@@ -18,7 +18,7 @@ use Rattle.xr_types.specs.declared.input.ActionType.TheVariants as type
 use Rattle.xr_model.specs.machine.Calls.{Entry, Outcome}
 use Rattle.xr_model.specs.machine.CoreCalls.{Lent, entry_of, given_by, left_in}
 use Rattle.xr_model.specs.machine.Machine.{IsPresent, step}
-use Rattle.xr_model.specs.machine.Publication.{ShownColumn, PublishedAction, Publication, published_at, column_by, getter_gives, shown_by}
+use Rattle.xr_model.specs.machine.Publication.{ShownColumn, Publication, published_at, loss_read, row_read, column_read, getter_gives, shown_by}
 use Rattle.xr_model.specs.machine.Reads.{getter_refusals, answered, read, reads}
 use Rattle.xr_model.specs.machine.Refusals.{Refusal, first_of}
 use Rattle.xr_model.specs.machine.SessionRule.{Loss, code_on}
@@ -45,8 +45,8 @@ plain_first (x ∷ xs) r all is = by x.holds is (plain_first xs r (both_of (is_p
     by true is rest = let same : x ≡ r = cc in subst (λ (q : Refusal). is_plain q ≡ true) same (both_of (is_plain x) (list_all is_plain xs) all).0
     by false is rest = rest is
 
-all_plain : (p : Publication) (wanted : ActionType) (session : ℕ) (found : Option PublishedAction) (sub : ℕ) → list_all is_plain (getter_refusals p wanted session found sub) ≡ true
-all_plain p wanted session found sub = refl
+all_plain : (p : Publication) (wanted : ActionType) (session action sub : ℕ) → list_all is_plain (getter_refusals p wanted session action sub) ≡ true
+all_plain p wanted session action sub = refl
 
 given_none : (wanted : ActionType) (o : Option ShownColumn) → given_by (unwrap_or (option_map (shown_by wanted) o) Nothing) ≡ 0
 given_none wanted None = refl
@@ -67,18 +67,18 @@ record IsPlain (reply : Reply) : Type 0 where
   gives_none : given_by reply.gives ≡ 0
   not_short : is_out_of_memory reply.code ≡ false
 
-plain_answer : (p : Publication) (o : Option Refusal) (value : Gives) → ((r : Refusal) → o ≡ Some r → is_plain r ≡ true) → given_by value ≡ 0 → IsPlain (answered p o value).reply
-plain_answer p None value plain none = record { gives_none = none; not_short = code_plain p.loss }
-plain_answer p (Some r) value plain none =
+plain_answer : (p : Publication) (loss : Loss) (o : Option Refusal) (value : Gives) → ((r : Refusal) → o ≡ Some r → is_plain r ≡ true) → given_by value ≡ 0 → IsPlain (answered p loss o value).reply
+plain_answer p loss None value plain none = record { gives_none = none; not_short = code_plain loss }
+plain_answer p loss (Some r) value plain none =
     let two = both_of (not (is_out_of_memory r.code)) (given_by r.gives == 0) (plain r refl) in
     record { gives_none = eqb-true (given_by r.gives) 0 two.1; not_short = not_true (is_out_of_memory r.code) two.0 }
 
 plain_read : (p : Publication) (wanted : ActionType) (session action sub : ℕ) → IsPlain (read p wanted session action sub).reply
 plain_read p wanted session action sub =
-    let found = published_at p action in
-    plain_answer p (first_of (getter_refusals p wanted session found sub)) (getter_gives p wanted found sub)
-    (λ r is. plain_first (getter_refusals p wanted session found sub) r (all_plain p wanted session found sub) is)
-    (given_none wanted (option_and_then (λ a. option_and_then (λ k. slice_get a.columns k) (column_by p a sub)) found))
+    let refusals = getter_refusals p wanted session action sub in
+    plain_answer p (loss_read p session) (first_of refusals) (getter_gives p wanted session action sub)
+    (λ r is. plain_first refusals r (all_plain p wanted session action sub) is)
+    (given_none wanted (option_and_then (λ k. option_and_then (λ row. slice_get row k) (row_read p session action)) (column_read p (published_at p action) sub)))
 
 same_reply : (o : Outcome) (reply : Reply) → Some o ≡ Some (outcome_of reply) → IsPlain o.reply → IsPlain reply
 same_reply o reply is plain = let same : o ≡ outcome_of reply = cc in subst (λ (x : Outcome). IsPlain x.reply) same plain

@@ -86,11 +86,11 @@ frame_more : (fs : List PendingFrame) (f : PendingFrame) → frames_work (fs ++ 
 frame_more [] f = omega arith
 frame_more (x ∷ fs) f = let more = frame_more fs f in omega (arith, more)
 
-one_brought : (s : CoreState) (time : ℤ) (layers : List Layer) → frames_work (s.frames.pending ++ new_frame s time layers ∷ []) ≤ frames_work s.frames.pending + (1 + 2 * length layers)
-one_brought s time layers =
-    let all = frame_more s.frames.pending (new_frame s time layers) in
-    let few = layers_more [] (layers_of (look_of s) layers) in
-    let many = as_many_layers (look_of s) layers in
+one_brought : (s : CoreState) (session : ℕ) (time : ℤ) (layers : List Layer) → frames_work (s.frames.pending ++ new_frame s session time layers ∷ []) ≤ frames_work s.frames.pending + (1 + 2 * length layers)
+one_brought s session time layers =
+    let all = frame_more s.frames.pending (new_frame s session time layers) in
+    let few = layers_more [] (layers_of (look_of s session) layers) in
+    let many = as_many_layers (look_of s session) layers in
     omega (arith, all, few, many)
 
 -- ---- calls
@@ -109,7 +109,7 @@ brings s e is = refused_brings s.core (most_brought e.call) (refusal e.short (ru
     by : (r : Call) → IsBringing r → Brings s.core (most_brought r) (rule_for r).effect
     by ask.NextFrame is = absurd is
     by (ask.Device what) is = events_bring s.core what
-    by (ask.EndFrame session time blend layers) is = one_brought s.core time layers
+    by (ask.EndFrame session time blend layers) is = one_brought s.core session time layers
     by _ is = as_many (frames_work s.core.frames.pending) 0
 
 -- ---- the call of an op

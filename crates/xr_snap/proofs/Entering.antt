@@ -35,7 +35,7 @@ module _ {S : Type 0} where
 
   -- the buffer has all words of what is published there, and of nothing else
   pub seen_is : (m n : Me (Option S) View) (e : Entry) (b : ℕ) (x : HasEnteredAs m e b n) → publication_seen n.0.eyes ≡ published_by m.0.know x.look
-  seen_is m n e b x = ap (λ (z : Me (Option S) View). publication_seen z.0.eyes) x.is ∙ words_give_back (published_by m.0.know x.look) x.fits
+  seen_is m n e b x = ap (λ (z : Me (Option S) View). publication_seen z.0.eyes) x.is ∙ words_give_back (published_by m.0.know x.look) x.fits.room
 
   pub has_fit : (m n : Me (Option S) View) (e : Entry) (b : ℕ) → HasEnteredAs m e b n → HasFit n.0.eyes
   has_fit m n e b x = record {

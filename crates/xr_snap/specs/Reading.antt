@@ -1,5 +1,6 @@
 -- What reading asks of an application's seat, and what it tells.
-use Rattle.std.specs.Prelude.{◌≡◌, ◌<◌, ◌≤◌, ℕ, false, List, [], length, slice_get, Option, Some, None, option_and_then, Result}
+use Rattle.std.specs.Prelude.{◌≡◌, ◌≢◌, ◌<◌, ◌≤◌, ◌+◌, ◌*◌, ◌==◌, ℕ, false, List, [], length, slice_get, slice_index, Option, Some, None, option_and_then, unwrap_or, Result, if◌then◌else◌}
+use Rattle.std.specs.List.{position_from}
 use Rattle.atomic_table.specs.Table.{Me}
 use Rattle.xr_types.specs.declared.calls.Call.{Call}
 use Rattle.xr_types.specs.declared.calls.Gives.{Gives}
@@ -9,7 +10,7 @@ use Rattle.xr_types.specs.declared.code.Code.TheVariants.{Success}
 use Rattle.xr_types.specs.declared.input.ActionType.{ActionType}
 use Rattle.xr_model.specs.machine.Calls.{Entry, Outcome}
 use Rattle.xr_model.specs.machine.PartAnswers.{or_refused}
-use Rattle.xr_model.specs.machine.Publication.{ShownColumn, PublishedAction, Publication, published_at, getter_gives}
+use Rattle.xr_model.specs.machine.Publication.{ShownColumn, PublishedSession, PublishedAction, Publication, loss_read, getter_gives}
 use Rattle.xr_model.specs.machine.PublicationWords.{words, publication_in}
 use Rattle.xr_model.specs.machine.Reads.{getter_refusals, reads}
 use Rattle.xr_model.specs.machine.Refusals.{first_of}
@@ -18,7 +19,9 @@ use Rattle.xr_model.specs.laws.Moments.{actor_at}
 use Rattle.xr_model.specs.laws.WordLaws.{PublicationFits}
 use Rattle.xr_snap.specs.declared.decoding.Asked.{Asked}
 use Rattle.xr_snap.specs.declared.decoding.Cells.{Cells}
+use Rattle.xr_snap.specs.declared.finding.Handles.{Handles}
 use Rattle.xr_snap.specs.declared.looking.Heading.{Heading}
+use Rattle.xr_snap.specs.declared.looking.Standing.{Standing}
 use Rattle.xr_rule.specs.Plays.{Decides, published_by}
 use Rattle.xr_rule.specs.Rule.{MayRead}
 use Rattle.xr_rule.specs.Seats.{IsBetween}
@@ -57,25 +60,65 @@ pub record HasFit (y : Eyes) : Type 0 where
   pub are : words_in y ≡ words (publication_seen y)
   pub fits : PublicationFits (publication_seen y)
 
--- how it begins, what it tells of an action, and what two of its words tell of a column
+-- ---- where what stands among the words
+
+-- where the words of the action at a place begin
+abbrev pub action_word : ℕ → ℕ
+action_word place = 7 + 2 * place
+
+-- where those of the session at a place begin, where there are so many actions
+abbrev pub session_word : ℕ → ℕ → ℕ
+session_word actions place = 7 + 2 * actions + (3 + 12 * actions) * place
+
+-- where those of a column of the action at a place begin, in that session
+abbrev pub column_word : ℕ → ℕ → ℕ → ℕ → ℕ
+column_word actions session action column = session_word actions session + 3 + 12 * action + 2 * column
+
+-- the handle at a place, of those that stand so far apart
+abbrev pub handle_in : List ℕ → Handles → ℕ → ℕ
+handle_in ws h place = slice_index ws (h.first + h.apart * place)
+
+-- all of them are there
+abbrev pub AreThere : List ℕ → Handles → Type 0
+AreThere ws h = (i : ℕ) → i < h.count → h.first + h.apart * i < length ws
+
+-- none of them is this one
+abbrev pub IsNone : List ℕ → Handles → ℕ → Type 0
+IsNone ws h handle = (i : ℕ) → i < h.count → handle_in ws h i ≢ handle
+
+-- the one at this place is, and none before it
+pub record IsFirst (ws : List ℕ) (h : Handles) (handle place : ℕ) : Type 0 where
+  pub near : place < h.count
+  pub is : handle_in ws h place ≡ handle
+  pub before : (i : ℕ) → i < place → handle_in ws h i ≢ handle
+
+-- ---- what they tell
+
+-- how a publication begins, what it tells of an action, and what two of its words tell of a column
 abbrev pub heading_of : Publication → Heading
-heading_of p = record { number = p.number; session = p.session; lost = p.loss.lost; pending = p.loss.pending; count = length p.actions }
+heading_of p = record { number = p.number; sessions = length p.sessions; actions = length p.actions }
 
 abbrev pub asked_of : PublishedAction → Asked
-asked_of a = record { attached = a.attached; kind = a.type; declared = a.declared }
+asked_of a = record { kind = a.type; declared = a.declared }
 
 abbrev pub shown_cells : Cells → ShownColumn
 shown_cells c = record { x = c.x; y = c.y; changed = c.changed; time = c.time; active = c.active }
 
--- the column of the action at a place
-abbrev pub column_seen : Publication → ℕ → ℕ → Option ShownColumn
-column_seen p place column = option_and_then (λ a. slice_get a.columns column) (slice_get p.actions place)
+-- a session's loss, and whether it has attached the set of the action at a place
+abbrev pub standing_of : ℕ → PublishedSession → Standing
+standing_of action x = record { lost = x.loss.lost; pending = x.loss.pending; attached = unwrap_or (slice_get x.attached action) false }
+
+-- the place of the session with this handle; 0 is nobody's
+abbrev pub session_place : Publication → ℕ → Option ℕ
+session_place p session = if session == 0 then None else position_from (λ x. x.handle == session) 0 p.sessions
+
+-- a column of the action at a place, in the session at a place
+abbrev pub column_seen : Publication → ℕ → ℕ → ℕ → Option ShownColumn
+column_seen p session action column = option_and_then (λ row. slice_get row column) (option_and_then (λ x. slice_get x.columns action) (slice_get p.sessions session))
 
 -- what a getter of this type gives beside its code, and what refuses it
 abbrev pub getter_answer : Publication → ActionType → ℕ → ℕ → ℕ → Result (Code × Gives) Code
-getter_answer p wanted session action sub =
-    let found = published_at p action in
-    or_refused (first_of (getter_refusals p wanted session found sub)) (code_on p.loss Success, getter_gives p wanted found sub)
+getter_answer p wanted session action sub = or_refused (first_of (getter_refusals p wanted session action sub)) (code_on (loss_read p session) Success, getter_gives p wanted session action sub)
 
 -- ---- entering, and the whole
 

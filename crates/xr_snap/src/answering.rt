@@ -7,8 +7,8 @@ ghost use Rattle.xr_snap.specs.Answering.{IsAsked, reply_at};
 ghost use Rattle.xr_snap.specs.Reading.{IsIn, HasFit, MayEnter, HasRead, getter_answer, heading_of, publication_seen};
 
 use crate::decoding::{column_by, is_same_type, shown};
-use crate::finding::find_action;
-use crate::looking::{Heading, asked_at, atoms, column_at, heading_in};
+use crate::finding::{find_action, find_session};
+use crate::looking::{Heading, asked_at, atoms, column_at, heading_in, standing_at};
 use crate::reading::{enter, leave};
 use xr_model::Machine;
 use xr_rule::{XrSeat, XrTable};
@@ -34,8 +34,8 @@ fn success(pending: bool) -> Code
     }
 }
 
-/// What a getter is answered as and what it gives, by the buffer that the seat is in. Refused are, in this order, what isn't the
-/// live session and what is no live action (`HandleInvalid`), a lost session (`SessionLost`), an action of a set that the session
+/// What a getter is answered as and what it gives, by the buffer that the seat is in. Refused are, in this order, what is no live
+/// session and what is no live action (`HandleInvalid`), a lost session (`SessionLost`), an action of a set that the session
 /// hasn't attached (`ActionsetNotAttached`), an action of another type (`ActionTypeMismatch`), and a number that is neither 0 nor
 /// the atom of a user path which the action declares (`PathUnsupported`).
 fn look<M: Machine + Drop>(
@@ -58,19 +58,20 @@ fn look<M: Machine + Drop>(
         action,
         sub,
     } = *wanted;
-    if session == 0 || session != heading.session {
-        return Err(Code::HandleInvalid);
-    }
-    let Some(place) = find_action(table, seat, buffer, heading.count, action) else {
+    let Some(here) = find_session(table, seat, buffer, heading, session) else {
         return Err(Code::HandleInvalid);
     };
-    if heading.lost {
+    let Some(place) = find_action(table, seat, buffer, heading, action) else {
+        return Err(Code::HandleInvalid);
+    };
+    let standing = standing_at(table, seat, buffer, heading, here, place);
+    if standing.lost {
         return Err(Code::SessionLost);
     }
-    let asked = asked_at(table, seat, buffer, place);
-    if !asked.attached {
+    if !standing.attached {
         return Err(Code::ActionsetNotAttached);
     }
+    let asked = asked_at(table, seat, buffer, place);
     if !is_same_type(asked.kind, kind) {
         return Err(Code::ActionTypeMismatch);
     }
@@ -78,8 +79,8 @@ fn look<M: Machine + Drop>(
     let Some(column) = column_by(&users, &asked.declared, sub) else {
         return Err(Code::PathUnsupported);
     };
-    let cells = column_at(table, seat, buffer, heading.count, place, column);
-    Ok((success(heading.pending), shown(kind, &cells)))
+    let cells = column_at(table, seat, buffer, heading, here, place, column);
+    Ok((success(standing.pending), shown(kind, &cells)))
 }
 
 /// What a call wants where it is a getter.

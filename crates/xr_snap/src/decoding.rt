@@ -1,15 +1,14 @@
 // What the words of a publication tell of an action and of a column, and which column a user path has.
-ghost use Rattle.std.specs.Prelude.{◌≡◌, ◌==◌, ◌/◌, ◌%◌, Some, if◌then◌else◌};
+ghost use Rattle.std.specs.Prelude.{◌≡◌, ◌==◌, ◌/◌, ◌%◌, ◌^◌, ◌<◌, Some, if◌then◌else◌};
 ghost use Rattle.xr_model.specs.machine.Publication.{column_from, is_same_type, shown_by};
 ghost use Rattle.xr_model.specs.machine.PublicationWords.{bits_in, column_in, low_bit, type_in};
 ghost use Rattle.xr_snap.specs.Reading.{shown_cells};
 
 use xr_types::{ActionType, BoolState, FloatState, Gives, USERS, VectorState};
 
-/// What stands beside an action's handle: whether its set is attached, its type, and which user paths it declares.
+/// What stands beside an action's handle: its type, and which user paths it declares.
 #[derive(Drop)]
 pub(crate) struct Asked {
-    pub(crate) attached: bool,
     pub(crate) kind: ActionType,
     pub(crate) declared: [bool; USERS],
 }
@@ -19,6 +18,14 @@ pub(crate) fn low_bit(word: u64) -> bool
     ensures { result ≡ low_bit word }
 {
     word % 2 == 1
+}
+
+/// The bit of a word at a place, counted from the lowest.
+pub(crate) fn bit_at(word: u64, place: usize) -> bool
+    requires { place < 64 }
+    ensures { result ≡ low_bit (word / 2 ^ place) }
+{
+    low_bit(word >> place)
 }
 
 /// The type of this number.
@@ -53,13 +60,11 @@ fn bits_in(word: u64) -> [bool; USERS]
 
 /// What the word behind an action's handle tells.
 pub(crate) fn asked_in(word: u64) -> Asked
-    ensures { result ≡ record { attached = low_bit (word / 8); kind = type_in (word % 8); declared = bits_in 5 (word / 8 / 2) } }
+    ensures { result ≡ record { kind = type_in (word % 8); declared = bits_in 5 (word / 8) } }
 {
-    let flags = word / 8;
     Asked {
-        attached: low_bit(flags),
         kind: type_in(word % 8),
-        declared: bits_in(flags / 2),
+        declared: bits_in(word / 8),
     }
 }
 

@@ -6,6 +6,7 @@ mod answering;
 mod decoding;
 mod finding;
 mod looking;
+mod places;
 mod publishing;
 mod reading;
 

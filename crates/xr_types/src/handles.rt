@@ -17,7 +17,7 @@ pub enum Kind {
 pub const INSTANCES: usize = 1;
 
 /// How many sessions are live at most.
-pub const SESSIONS: usize = 1;
+pub const SESSIONS: usize = 4;
 
 /// How many action sets are live at most.
 pub const ACTION_SETS: usize = 16;

@@ -1,11 +1,13 @@
 // The words of what getters of input answer from.
 ghost use Rattle.std.specs.Prelude.{◌≡◌, []};
 
+use crate::SESSIONS;
 use arrayvec::ArrayVec;
 use std::marker::Model;
 
-/// How many words there are at most: eight, two for each of 64 actions, and twelve for the columns of each.
-pub const MOST_WORDS: usize = 904;
+/// How many words there are at most: seven and two for each of 64 actions, and in each session three and twelve for each action; both
+/// are rounded up to lines of eight words.
+pub const MOST_WORDS: usize = 136 + 776 * SESSIONS;
 
 /// What getters of input answer from, as words that threads can share. Contracts see the list of the words.
 #[derive(Drop)]

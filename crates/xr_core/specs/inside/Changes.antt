@@ -1,12 +1,13 @@
 -- What changes sessions before they settle, and what is left of inputs and spaces where actions are gone.
-use Rattle.std.specs.Prelude.{is_none, ◌==◌, ◌+◌, ◌++◌, ℕ, Bool, ◌∷◌, List, [], Option, Some, None, if◌then◌else◌}
+use Rattle.std.specs.Prelude.{is_none, ◌==◌, ◌+◌, ◌++◌, ℕ, Bool, ◌∷◌, List, [], map, Option, Some, None}
 use Rattle.std.specs.List.{position_from}
 use Rattle.xr_types.specs.declared.code.Code.{Code}
 use Rattle.xr_types.specs.declared.device.Wish.{Wish}
 use Rattle.xr_types.specs.declared.session.SessionState.{SessionState}
 use Rattle.xr_types.specs.declared.handles.Kind.TheVariants as kind
+use Rattle.xr_types.specs.declared.input.Column.{Column}
 use Rattle.xr_model.specs.machine.Bindings.{without_suggestions}
-use Rattle.xr_model.specs.machine.Destroyed.{has_action, columns_left, spaces_left}
+use Rattle.xr_model.specs.machine.Destroyed.{has_action, sessions_left, spaces_left}
 use Rattle.xr_model.specs.machine.Frames.{reset_loop}
 use Rattle.xr_model.specs.machine.Handles.{with_handle, without, destroyed_by}
 use Rattle.xr_model.specs.machine.Refusals.{Refusal, first_of, unless}
@@ -14,11 +15,11 @@ use Rattle.xr_types.specs.declared.calls.Call.{Call}
 use Rattle.xr_types.specs.declared.calls.Call.TheVariants as ask
 use Rattle.xr_model.specs.machine.SessionLife.{Life, Changed, unchanged, next_state, losing_session, lost_session, is_lost, begin_checks, begun_session, end_checks, ended_session, exit_checks, exiting_session}
 use Rattle.xr_model.specs.machine.PartAnswers.{code_by}
-use Rattle.xr_model.specs.machine.LiveSessions.{Session, session_at, sessions_left, told_states}
+use Rattle.xr_model.specs.machine.LiveSessions.{Session, session_at, with_columns, with_session_at, told_states}
 use Rattle.xr_model.specs.machine.Sets.{without_inputs}
 use Rattle.xr_model.specs.machine.Spaces.{left_spaces}
 use Rattle.xr_model.specs.machine.State.{CoreState}
-use Rattle.xr_model.specs.machine.Sync.{no_columns, left_columns}
+use Rattle.xr_model.specs.machine.Sync.{left_columns}
 use Rattle.xr_model.specs.machine.Target.{own_wish, other_settled, target_settled}
 use Rattle.xr_model.specs.machine.Rules.Session.{life_of, loop_of, new_session, changed_in, told_of, with_loop}
 use Rattle.xr_core.specs.declared.sessions.Change.{Change}
@@ -98,10 +99,14 @@ abbrev pub ordinal_in : Option Session → ℕ
 ordinal_in None = 0
 ordinal_in (Some x) = x.ordinal
 
--- what actions show, and what spaces move with, is gone where no action stands; what they show is gone altogether where that is so
-abbrev pub with_places_left : Bool → CoreState → CoreState
-with_places_left all s = record s {
-  columns = if all then no_columns else left_columns (has_action s.handles.actions) s.columns;
+-- actions show this in the session from now on
+abbrev pub with_shown : CoreState → ℕ → List (List Column) → CoreState
+with_shown s session columns = record s { sessions = with_session_at session (with_columns columns) s.sessions }
+
+-- what actions show in any session, and what spaces move with, is gone where no action stands
+abbrev pub with_places_left : CoreState → CoreState
+with_places_left s = record s {
+  sessions = map (λ x. with_columns (left_columns (has_action s.handles.actions) x.columns) x) s.sessions;
   room = left_spaces (has_action s.handles.actions) s.room;
 }
 
@@ -116,6 +121,5 @@ taken_out s handle = record s {
   sessions = sessions_left (without s.handles handle) (destroyed_by s.handles handle) s.sessions;
   inputs = without_inputs s.inputs (destroyed_by s.handles handle);
   suggestions = without_suggestions s.suggestions (destroyed_by s.handles handle);
-  columns = columns_left s.handles handle s.columns;
   room = spaces_left s.handles handle s.room;
 }

@@ -5,7 +5,8 @@ use Rattle.xr_types.specs.declared.frames.Image.{Image}
 use Rattle.xr_types.specs.declared.handles.Kind.TheVariants.{Swapchain}
 use Rattle.xr_types.specs.declared.handles.TheConstants.{SWAPCHAINS}
 use Rattle.xr_model.specs.machine.Chains.{Chain, is_chain, chain_at, place_of_chain, info_of, info_at}
-use Rattle.xr_model.specs.machine.Handles.{Handles, is_live}
+use Rattle.xr_model.specs.machine.Handles.{Handles}
+use Rattle.xr_model.specs.machine.HandlePlaces.{is_below}
 use Rattle.xr_model.specs.machine.Layers.{last_image}
 use Rattle.xr_model.proofs.ChainPlaces.{same_some, found_at}
 use Rattle.xr_model.proofs.CellCounts.{within}
@@ -40,11 +41,11 @@ module _ (chains : List Chain) where
       let one : Some i ≡ Some j = sym t.info ∙ rw (place, chain) u.info in
       same_some i j one
 
-pub sight_is_sound : (h : Handles) (chains : List Chain) → length chains ≡ SWAPCHAINS → AreSound (λ chain. if is_live h Swapchain chain then info_at chains chain else None)
-sight_is_sound h chains few = record {
-  within = λ handle i last. let less = tells_within chains handle i (tells_of chains handle i (live (is_live h Swapchain handle) handle i last)) in omega (arith, few, less);
+pub sight_is_sound : (session : ℕ) (h : Handles) (chains : List Chain) → length chains ≡ SWAPCHAINS → AreSound (λ chain. if is_below h Swapchain session chain then info_at chains chain else None)
+sight_is_sound session h chains few = record {
+  within = λ handle i last. let less = tells_within chains handle i (tells_of chains handle i (live (is_below h Swapchain session handle) handle i last)) in omega (arith, few, less);
   same = λ handle other i j last last_other places.
-      same_image chains handle other i j (tells_of chains handle i (live (is_live h Swapchain handle) handle i last)) (tells_of chains other j (live (is_live h Swapchain other) other j last_other)) places;
+      same_image chains handle other i j (tells_of chains handle i (live (is_below h Swapchain session handle) handle i last)) (tells_of chains other j (live (is_below h Swapchain session other) other j last_other)) places;
 }
   where
     live : (b : Bool) (handle : ℕ) (i : Image) → last_image (if b then info_at chains handle else None) ≡ Some i → last_image (info_at chains handle) ≡ Some i

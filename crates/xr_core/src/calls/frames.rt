@@ -173,19 +173,21 @@ impl Parts {
         }
     }
 
-    /// What refuses the end of a frame by its time, in ns of device time, its blend mode and its layers. Where nothing does the
+    /// What refuses the end of a frame of a session by its time, in ns of device time, its blend mode and its layers. Where nothing does the
     /// frame has that time, these layers and their images.
     fn check_frame(
         &self,
+        session: u64,
         time: &i64,
         blend: Blend,
         layers: &[Layer],
         frame: &mut Frame,
     ) -> Result<(), Code>
-        ensures checks { result ≡ or_refused (first_of (frame_checks (look_of self.now) time.now blend layers.now)) tt }
-        ensures frame { result ≡ Ok tt → frame.new ≡ record (new_frame self.now time.now layers.now) { number = frame.old.number } }
+        ensures checks { result ≡ or_refused (first_of (frame_checks (look_of self.now session) time.now blend layers.now)) tt }
+        ensures frame { result ≡ Ok tt → frame.new ≡ record (new_frame self.now session time.now layers.now) { number = frame.old.number } }
     {
         let sight = Sight {
+            session,
             handles: &self.handles,
             chains: &self.chains,
         };
@@ -207,11 +209,11 @@ impl Parts {
     ) -> Result<Code, Code>
         requires number { frame.old.number ≡ self.now.ended + 1 }
         ensures checks { result ≡ unless_refused (end_frame_rule self.now session time.now blend layers.now) (success_on self.now session) }
-        ensures frame { first_of (refusals (end_frame_rule self.now session time.now blend layers.now)) ≡ None → frame.new ≡ new_frame self.now time.now layers.now }
+        ensures frame { first_of (refusals (end_frame_rule self.now session time.now blend layers.now)) ≡ None → frame.new ≡ new_frame self.now session time.now layers.now }
     {
         let success = self.may_frame(session)?;
         self.has_begun(session)?;
-        self.check_frame(time, blend, layers, frame)?;
+        self.check_frame(session, time, blend, layers, frame)?;
         Ok(success)
     }
 

@@ -1,15 +1,17 @@
 // The getters of input (OpenXR 1.0 chapter 11, xrGetActionStateBoolean, xrGetActionStateFloat, xrGetActionStateVector2f and
 // xrGetActionStatePose). They change nothing.
-ghost use Rattle.std.specs.Prelude.{◌≡◌, option_map};
+ghost use Rattle.std.specs.Prelude.{◌≡◌, true, option_map};
 ghost use Rattle.std.specs.Option.{option_copied};
-ghost use Rattle.xr_model.specs.machine.Publication.{first_seen, is_same_type, seen, shown_by, shown_of};
+ghost use Rattle.xr_types.specs.declared.handles.Kind.TheVariants as kind;
+ghost use Rattle.xr_model.specs.machine.Handles.{is_live};
+ghost use Rattle.xr_model.specs.machine.Publication.{is_same_type, shown_by, shown_of};
 ghost use Rattle.xr_core.specs.inside.Deciding.{Decides};
-ghost use Rattle.xr_core.specs.inside.Getters.{named_first, shown_at, getter_reads, DecidesGetter};
+ghost use Rattle.xr_core.specs.inside.Getters.{look, named_look, shown_at, getter_reads, DecidesGetter};
 ghost use Rattle.xr_core.specs.inside.Groups.{IsGetter};
 
 use crate::halt::{Halt, giving};
 use crate::parts::Parts;
-use crate::sessions::Session;
+use crate::sessions::{Session, session_at};
 use crate::users::column_by;
 use xr_types::{
     ActionType, BoolState, Call, Code, Column, FloatState, Gives, Kind, Reply, VectorState,
@@ -105,30 +107,32 @@ impl Parts {
         giving(success, gives)
     }
 
-    /// The live session, where this is its handle. No other is published.
-    fn published_session(&self, session: u64) -> Option<&Session>
-        ensures { option_map seen (option_copied result) ≡ named_first (first_seen self.now.sessions) session }
+    /// The live session with this handle. 0 is nobody's.
+    #[tactic(auto, using(crate::proofs::Seated::look_seated))]
+    fn named_session(&self, session: u64) -> Option<&Session>
+        ensures { option_map look (option_copied result) ≡ named_look self.now.sessions session }
     {
-        match self.sessions.as_slice().first() {
-            Some(first) if session != 0 && session == first.handle() => Some(first),
-            _ => None,
+        if session == 0 {
+            return None;
         }
+        session_at(self.sessions.as_slice(), session)
     }
 
-    /// What a column of an action shows to a getter of this type, and nothing where the action has no such column.
-    fn shown(&self, wanted: ActionType, action: u64, column: usize) -> Gives
-        ensures { result ≡ shown_at self.now wanted action column }
+    /// What a column of an action shows in a live session to a getter of this type, and nothing where the action has no such column.
+    fn shown(&self, session: u64, wanted: ActionType, action: u64, column: usize) -> Gives
+        requires live { is_live self.now.handles kind.Session session ≡ true }
+        ensures { result ≡ shown_at self.now session wanted action column }
     {
         let Some(place) = self.handles.place_among(Kind::Action, action) else {
             return Gives::Nothing;
         };
-        match self.columns.column(place, column) {
+        match self.own_columns(session).column(place, column) {
             Some(it) => shown_by(wanted, it),
             None => Gives::Nothing,
         }
     }
 
-    /// What a getter is answered as and what it gives. Refused are, in this order, what isn't the live session and what is no
+    /// What a getter is answered as and what it gives. Refused are, in this order, what is no live session and what is no
     /// live action (`HandleInvalid`), a lost session (`SessionLost`), an action of a set that the session hasn't attached
     /// (`ActionsetNotAttached`), an action of another type (`ActionTypeMismatch`), and a number that is neither 0 nor the
     /// atom of a user path which the action declares (`PathUnsupported`).
@@ -141,7 +145,7 @@ impl Parts {
     ) -> Result<(Code, Gives), Code>
         ensures { result ≡ getter_reads self.now wanted session action sub }
     {
-        let Some(live) = self.published_session(session) else {
+        let Some(live) = self.named_session(session) else {
             return Err(Code::HandleInvalid);
         };
         let Some(entry) = self.inputs.action_at(action) else {
@@ -157,6 +161,6 @@ impl Parts {
         let Some(column) = column_by(&self.users, &entry.declared(), sub) else {
             return Err(Code::PathUnsupported);
         };
-        Ok((success, self.shown(wanted, action, column)))
+        Ok((success, self.shown(session, wanted, action, column)))
     }
 }

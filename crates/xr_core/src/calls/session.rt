@@ -1,33 +1,40 @@
 // The calls on sessions (OpenXR 1.0 chapter 9).
 ghost use Rattle.std.specs.Prelude.{◌≡◌, ◌≢◌, ◌<◌, ◌^◌, length, true, false, Some};
 ghost use Rattle.xr_types.specs.declared.handles.Kind.TheVariants as kind;
+ghost use Rattle.xr_types.specs.declared.handles.TheConstants.{SESSIONS};
 ghost use Rattle.xr_model.specs.machine.Frames.{new_loop, reset_loop};
 ghost use Rattle.xr_model.specs.machine.Handles.{is_live, has_room, was_given};
 ghost use Rattle.xr_types.specs.declared.calls.Call.TheVariants as ask;
 ghost use Rattle.xr_model.specs.machine.SessionLife.{started_session};
+ghost use Rattle.xr_model.specs.machine.Sync.{no_columns};
 ghost use Rattle.xr_model.specs.machine.Rules.Session.{life_of, loop_of, with_loop, with_session, create_session_rule};
 ghost use Rattle.xr_core.specs.inside.Changes.{place_at, life_request, session_added, changed_life, with_period, answer_to};
 ghost use Rattle.xr_core.specs.inside.Deciding.{Decides, DecidesCells, MayTouch};
 ghost use Rattle.xr_core.specs.inside.Groups.{IsSessionCall};
 ghost use Rattle.xr_core.specs.inside.Refusing.{unless_refused};
-ghost use Rattle.xr_core.specs.inside.Seats.{with_own_loop};
+ghost use Rattle.xr_core.specs.inside.Seats.{with_own_loop, with_own_columns};
 
 use crate::calls::instance::SYSTEM;
 use crate::halt::{Halt, done, giving, refused};
 use crate::parts::{Parts, give, slot_of};
 use crate::sessions::{LifeCall, Session, change_life, place_of, success_of};
+use crate::slots::clear_at;
 use xr_frames::Frames;
 use xr_handles::Handles;
 use xr_model::Cells;
+use xr_sync::Columns;
 use xr_types::{Call, Code, Gives, Kind, Reply};
 
-/// The frame loop of a live session is a new one from now on.
-fn renew_loop(handles: &Handles, frames: &mut Frames, session: u64)
+/// The frame loop of a live session is a new one from now on, and actions show nothing in it.
+fn renew_slot(handles: &Handles, frames: &mut Frames, columns: &mut Vec<Columns>, session: u64)
     requires live { is_live handles.now kind.Session session ≡ true }
-    ensures { frames.new ≡ with_own_loop frames.old handles.now.sessions session new_loop }
+    requires stand { length columns.old.items ≡ SESSIONS }
+    ensures frames { frames.new ≡ with_own_loop frames.old handles.now.sessions session new_loop }
+    ensures columns { columns.new.items ≡ with_own_columns columns.old.items handles.now.sessions session no_columns }
 {
     let slot = slot_of(handles, session);
     frames.renew(slot);
+    clear_at(columns, slot);
 }
 
 impl Parts {
@@ -86,7 +93,7 @@ impl Parts {
         self.created += 1;
         let session = Session::create(handle, self.created, self.device.wish(), &mut self.events);
         self.sessions.push(session);
-        renew_loop(&self.handles, &mut self.frames, handle);
+        renew_slot(&self.handles, &mut self.frames, &mut self.columns, handle);
         handle
     }
 

@@ -3,7 +3,9 @@ ghost use Rattle.std.specs.Prelude.{◌≡◌, ◌≢◌, ◌<◌, ◌^◌, [], 
 ghost use Rattle.xr_model.specs.machine.Handles.{has_room, was_given};
 ghost use Rattle.xr_model.specs.machine.Refusals.{first_of};
 ghost use Rattle.xr_types.specs.declared.calls.Call.TheVariants as ask;
-ghost use Rattle.xr_model.specs.machine.Spaces.{reference_checks};
+ghost use Rattle.xr_model.specs.machine.Spaces.{reference_checks, located};
+ghost use Rattle.xr_model.specs.machine.Sync.{no_columns};
+ghost use Rattle.xr_model.specs.machine.Rules.Session.{columns_of};
 ghost use Rattle.xr_model.specs.machine.Rules.Spaces.{with_new_space, with_space_gone, session_above, create_reference_space_rule, locate_space_rule};
 ghost use Rattle.xr_model.specs.machine.Rules.Sync.{column_named, action_space_checks, action_root, create_action_space_rule};
 ghost use Rattle.xr_core.specs.inside.Deciding.{Decides};
@@ -13,6 +15,7 @@ ghost use Rattle.xr_core.specs.inside.Refusing.{success_on, unless_refused};
 
 use crate::halt::{Halt, done, giving};
 use crate::parts::{Parts, give};
+use crate::slots::NOTHING_SHOWN;
 use xr_profiles::user_of;
 use xr_spaces::check_reference;
 use xr_types::{ActionType, Call, Code, Gives, Kind, Location, RefKind, Reply, Root, user_place};
@@ -191,7 +194,7 @@ impl Parts {
         ensures { result ≡ unless_refused (locate_space_rule self.now space base time.now) (success_on self.now (session_above self.now.handles space)) }
     {
         let session = self.session_of(Kind::Space, space)?;
-        self.live(Kind::Space, base)?;
+        self.below(Kind::Space, session, base)?;
         let success = self.on_session(session)?;
         if *time <= 0 {
             return Err(Code::TimeInvalid);
@@ -199,11 +202,33 @@ impl Parts {
         Ok(success)
     }
 
+    /// Where a space is in a base, at a time, where no action shows anything. It stays a function of its own: what all actions show
+    /// takes kilobytes on the stack.
+    #[inline(never)]
+    fn find_unshown(&self, space: u64, base: u64, time: i64) -> Option<Location>
+        ensures { result ≡ located self.now.room (record { columns = no_columns }) space base time }
+    {
+        let states = NOTHING_SHOWN;
+        self.room.locate(space, base, time, &states)
+    }
+
+    /// Where a space is in a base, at a time. The space of an action moves with what the action shows in the space's session.
+    fn find(&self, space: u64, base: u64, time: i64) -> Option<Location>
+        ensures { result ≡ located self.now.room (record { columns = columns_of self.now (session_above self.now.handles space) }) space base time }
+    {
+        let session = self.handles.parent_of(space).unwrap_or(0);
+        if !self.handles.is_live(Kind::Session, session) {
+            return self.find_unshown(space, base, time);
+        }
+        self.room
+            .locate(space, base, time, self.own_columns(session).states())
+    }
+
     fn locate_space(&mut self, space: u64, base: u64, time: &i64) -> Result<Reply, Halt>
         ensures { Decides self.old (ask.LocateSpace space base time.now) self.new result }
     {
         let success = self.may_locate_space(space, base, time)?;
-        let found = self.room.locate(space, base, *time, self.columns.states());
+        let found = self.find(space, base, *time);
         giving(success, Gives::Location(found.unwrap_or(Location::Missing)))
     }
 }

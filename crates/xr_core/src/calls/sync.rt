@@ -1,23 +1,26 @@
 // The call that syncs actions (OpenXR 1.0 chapter 11, xrSyncActions).
-ghost use Rattle.std.specs.Prelude.{◌≡◌, ◌≤◌, [], map, length, flat_map};
+ghost use Rattle.std.specs.Prelude.{◌≡◌, ◌≤◌, [], true, map, length, flat_map};
 ghost use Rattle.std.specs.Result.{result_map_both};
 ghost use Rattle.xr_types.specs.declared.limits.TheConstants.{MOST_SYNCED};
+ghost use Rattle.xr_model.specs.machine.Handles.{is_live};
 ghost use Rattle.xr_model.specs.machine.LiveSessions.{session_at, attached_in};
 ghost use Rattle.xr_model.specs.machine.PartAnswers.{or_refused};
 ghost use Rattle.xr_model.specs.machine.Publication.{is_attached};
 ghost use Rattle.xr_model.specs.machine.Refusals.{first_of};
 ghost use Rattle.xr_types.specs.declared.calls.Call.TheVariants as ask;
-ghost use Rattle.xr_model.specs.machine.Rules.Session.{life_of};
+ghost use Rattle.xr_model.specs.machine.Rules.Session.{life_of, columns_of};
 ghost use Rattle.xr_model.specs.machine.Rules.Sync.{item_checks, heard_by, bindings_of, sync_actions_rule};
 ghost use Rattle.xr_model.specs.machine.SessionLife.{is_state};
 ghost use Rattle.xr_model.specs.machine.Sync.{no_columns, columns_after};
+ghost use Rattle.xr_core.specs.inside.Changes.{with_shown};
 ghost use Rattle.xr_core.specs.inside.Deciding.{Decides};
 ghost use Rattle.xr_core.specs.inside.Refusing.{unless_refused};
 
 use crate::halt::{Halt, done};
-use crate::parts::Parts;
+use crate::parts::{Parts, slot_of};
 use crate::ranking::rank_all;
 use crate::sessions::session_at;
+use crate::slots::{clear_at, sync_slot};
 use arrayvec::ArrayVec;
 use xr_profiles::user_of;
 use xr_types::{ActiveSet, Code, Heard, Kind, MOST_SYNCED, Reply, SessionState};
@@ -109,17 +112,21 @@ impl Parts {
         self.hear_all(session, active, heard)
     }
 
-    /// Every column is inactive from now on.
-    fn clear_columns(&mut self)
-        ensures { self.new ≡ record self.old { columns = no_columns } }
+    /// Actions show nothing in a live session from now on.
+    fn clear_columns(&mut self, session: u64)
+        requires live { is_live self.old.handles Kind.Session session ≡ true }
+        ensures { self.new ≡ with_shown self.old session no_columns }
     {
-        self.columns.clear();
+        let slot = slot_of(&self.handles, session);
+        clear_at(&mut self.columns, slot);
     }
 
-    /// The columns are those after a sync that hears these sets.
-    fn sync_columns(&mut self, heard: &[Heard])
-        ensures { self.new ≡ record self.old { columns = columns_after heard.now (bindings_of self.old) self.old.device.inputs self.old.device.clock self.old.columns } }
+    /// What actions show in a live session is what they show after a sync of it that hears these sets.
+    fn sync_columns(&mut self, session: u64, heard: &[Heard])
+        requires live { is_live self.old.handles Kind.Session session ≡ true }
+        ensures { self.new ≡ with_shown self.old session (columns_after heard.now (bindings_of self.old) self.old.device.inputs self.old.device.clock (columns_of self.old session)) }
     {
+        let slot = slot_of(&self.handles, session);
         rank_all(
             &mut self.ranking,
             &self.inputs,
@@ -127,7 +134,9 @@ impl Parts {
             &self.bindings,
             self.device.profiles(),
         );
-        self.columns.sync(
+        sync_slot(
+            &mut self.columns,
+            slot,
             heard,
             self.ranking.as_slice(),
             self.device.inputs(),
@@ -143,10 +152,10 @@ impl Parts {
         let mut heard = ArrayVec::new();
         self.may_sync_actions(session, active, &mut heard)?;
         if !self.is_focused(session) {
-            self.clear_columns();
+            self.clear_columns(session);
             return done(Code::SessionNotFocused);
         }
-        self.sync_columns(heard.as_slice());
+        self.sync_columns(session, heard.as_slice());
         done(Code::Success)
     }
 }

@@ -27,13 +27,13 @@ PendingAreFew = (settings : Settings) (es : List Entry) → IsLegal settings es 
 
 -- ---- frames are shown as they were submitted
 
--- a layer that is asked for, with the stamps that the images released last have now
-abbrev pub asked_layer : State → Layer → ShownLayer
-asked_layer s l = shown_layer (stamp_in s.cells.stamps) (layer_of (look_of s.core) l)
+-- a layer that a session asks for, with the stamps that the images released last have now
+abbrev pub asked_layer : State → ℕ → Layer → ShownLayer
+asked_layer s session l = shown_layer (stamp_in s.cells.stamps) (layer_of (look_of s.core session) l)
 
 -- the frame that a call submits where it succeeds, if it does
 abbrev pub submitted_if : Bool → State → Call → List Shown
-submitted_if true s (ask.EndFrame session time blend layers) = record { number = s.core.ended + 1; time = time; layers = map (asked_layer s) layers } ∷ []
+submitted_if true s (ask.EndFrame session time blend layers) = record { number = s.core.ended + 1; time = time; layers = map (asked_layer s session) layers } ∷ []
 submitted_if _ s _ = []
 
 -- all frames that a history submits, in order, each with the stamps that its images have then

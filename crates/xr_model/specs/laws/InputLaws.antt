@@ -20,7 +20,7 @@ use Rattle.xr_types.specs.declared.session.SessionState.{SessionState}
 use Rattle.xr_types.specs.declared.session.SessionState.TheVariants.{Focused}
 use Rattle.xr_model.specs.machine.Bindings.{suggestions_of}
 use Rattle.xr_model.specs.machine.Calls.{Entry}
-use Rattle.xr_model.specs.machine.Rules.Session.{life_of}
+use Rattle.xr_model.specs.machine.Rules.Session.{life_of, columns_of}
 use Rattle.xr_model.specs.machine.Rules.Sets.{user_at, declared_by}
 use Rattle.xr_model.specs.machine.Rules.Sync.{bindings_of}
 use Rattle.xr_model.specs.machine.Sets as sets
@@ -130,10 +130,10 @@ abbrev pub is_in_focus : SessionState → Bool
 is_in_focus Focused = true
 is_in_focus _ = false
 
--- A sync that succeeds says that the session isn't focused exactly where it isn't, and leaves no column active then.
+-- A sync that succeeds says that the session isn't focused exactly where it isn't, and leaves none of its columns active then.
 pub record SyncsInFocus (s : State) (e : Entry) (session : ℕ) : Type 0 where
   pub told : ((step s e).1.reply.code ≡ SessionNotFocused) ↔ (is_in_focus (life_of s.core session).state ≡ false)
-  pub inactive : is_in_focus (life_of s.core session).state ≡ false → list_all (λ row. list_all (λ c. not c.active) row) (step s e).0.core.columns ≡ true
+  pub inactive : is_in_focus (life_of s.core session).state ≡ false → list_all (λ row. list_all (λ c. not c.active) row) (columns_of (step s e).0.core session) ≡ true
 
 abbrev pub UnfocusedSyncsAreInactive : Type 0
 UnfocusedSyncsAreInactive =

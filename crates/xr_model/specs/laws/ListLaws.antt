@@ -46,17 +46,18 @@ ListedWhereLive = (settings : Settings) (es : List Entry) → IsLegal settings e
 abbrev pub without_attached : (ℕ → Bool) → Session → Session
 without_attached gone x = record x { attached = option_map (filter (λ set. not (gone set))) x.attached }
 
--- what a session keeps where others go: all but its state, since the target may go
-abbrev pub but_state : Session → Session
-but_state x = record x { life = record x.life { state = Idle } }
+-- what a session keeps where others go: all but its state, since the target may go, and what actions show in it, since some may go
+abbrev pub staying : Session → Session
+staying x = record x { life = record x.life { state = Idle }; columns = [] }
 
 -- what a space keeps also where its action goes: its handle and its offset
 abbrev pub standing : spaces.Space → ℕ × ℕ
 standing x = (x.handle, x.offset)
 
--- each list without what is below a handle, in its order, and nothing else is gone; of a session that is left the state may change
+-- each list without what is below a handle, in its order, and nothing else is gone; of a session that is left the state may
+-- change, and what actions show in it
 pub record AreFiltered (s new : CoreState) (gone : ℕ → Bool) : Type 0 where
-  pub sessions : map but_state new.sessions ≡ map but_state (map (without_attached gone) (filter (λ x. not (gone x.handle)) s.sessions))
+  pub sessions : map staying new.sessions ≡ map staying (map (without_attached gone) (filter (λ x. not (gone x.handle)) s.sessions))
   pub sets : new.inputs.sets ≡ filter (λ x. not (gone x.handle)) s.inputs.sets
   pub actions : new.inputs.actions ≡ filter (λ x. not (gone x.handle)) s.inputs.actions
   pub spaces : map standing new.room.spaces ≡ map standing (filter (λ x. not (gone x.handle)) s.room.spaces)

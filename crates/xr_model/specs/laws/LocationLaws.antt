@@ -21,6 +21,9 @@ use Rattle.xr_model.specs.machine.Spaces.{Space, space_at, column_at, pose_at, p
 use Rattle.xr_model.specs.machine.State.{CoreState, Settings, State, opening}
 use Rattle.xr_model.specs.machine.Machine.{step}
 use Rattle.xr_model.specs.machine.History.{after, IsLegal}
+use Rattle.xr_model.specs.machine.Rules.Session.{columns_of}
+use Rattle.xr_model.specs.machine.Rules.Spaces.{session_above}
+use Rattle.xr_types.specs.declared.input.States.{States}
 
 -- ---- new spaces
 
@@ -50,29 +53,34 @@ ActionSpacesFollowTheirColumns =
 
 -- ---- locations
 
+-- what actions show in a session
+abbrev pub shown_at : CoreState → ℕ → States
+shown_at s session = record { columns = columns_of s session }
+
 -- the pose of a space that moves with a column: that of the origin which the column has, where it is active
 abbrev pub pose_by_column : CoreState → ℤ → Column → Option ℕ
 pose_by_column s time c = if c.active then option_and_then (λ o. pose_at time (samples_of s.room.samples o)) c.origin else None
 
 abbrev pub PosesFollowColumns : Type 0
 PosesFollowColumns =
-    (s : CoreState) (time : ℤ) (x : Space) (place column : ℕ) (c : Column) → x.root ≡ Some (Action place column) → column_at (record { columns = s.columns }) place column ≡ Some c
-    → pose_of s.room (record { columns = s.columns }) time x ≡ pose_by_column s time c
+    (s : CoreState) (session : ℕ) (time : ℤ) (x : Space) (place column : ℕ) (c : Column) → x.root ≡ Some (Action place column) → column_at (shown_at s session) place column ≡ Some c
+    → pose_of s.room (shown_at s session) time x ≡ pose_by_column s time c
 
 -- The space of a kind has the pose of the origin that is named as the kind is: the view, what is local, or the stage.
 abbrev pub ReferenceSpacesHaveTheirOrigins : Type 0
 ReferenceSpacesHaveTheirOrigins =
-    (s : CoreState) (time : ℤ) (x : Space) (what : RefKind) (origin : Origin) → x.root ≡ Some (Fixed what) → origin_name origin ≡ kind_name what
-    → pose_of s.room (record { columns = s.columns }) time x ≡ pose_at time (samples_of s.room.samples origin)
+    (s : CoreState) (session : ℕ) (time : ℤ) (x : Space) (what : RefKind) (origin : Origin) → x.root ≡ Some (Fixed what) → origin_name origin ≡ kind_name what
+    → pose_of s.room (shown_at s session) time x ≡ pose_at time (samples_of s.room.samples origin)
 
 -- the factors: the base's offset, the base's pose, the space's pose, the space's offset; it is missing where one of the poses is
 abbrev pub IsLocated : Space → Space → Option ℕ → Option ℕ → Location → Type 0
 IsLocated x base pose base_pose Missing = (pose ≡ None) ⊎ (base_pose ≡ None)
 IsLocated x base pose base_pose (Factors first second third fourth) = (first ≡ base.offset) × (Some second ≡ base_pose) × (Some third ≡ pose) × (fourth ≡ x.offset)
 
--- A location that is given is that of the space in the base, as they are named, by the poses at that time.
+-- A location that is given is that of the space in the base, as they are named, by the poses at that time, and by what actions show in the
+-- session of the space.
 abbrev pub LocationsAreFactors : Type 0
 LocationsAreFactors =
     (s : State) (e : Entry) (space base : ℕ) (time : ℤ) (x b : Space) (l : Location) → e.call ≡ ask.LocateSpace space base time → is_success (step s e).1.reply.code ≡ true
     → space_at s.core.room.spaces space ≡ Some x → space_at s.core.room.spaces base ≡ Some b → (step s e).1.reply.gives ≡ gives.Location l
-    → IsLocated x b (pose_of s.core.room (record { columns = s.core.columns }) time x) (pose_of s.core.room (record { columns = s.core.columns }) time b) l
+    → IsLocated x b (pose_of s.core.room (shown_at s.core (session_above s.core.handles space)) time x) (pose_of s.core.room (shown_at s.core (session_above s.core.handles space)) time b) l

@@ -8,10 +8,11 @@ use Rattle.xr_model.specs.machine.Calls.{Entry}
 use Rattle.xr_types.specs.declared.calls.Call.{Call}
 use Rattle.xr_types.specs.declared.calls.Call.TheVariants as ask
 use Rattle.xr_model.specs.machine.Handles.{Handles, is_live}
-use Rattle.xr_model.specs.machine.HandlePlaces.{parent_of}
+use Rattle.xr_model.specs.machine.HandlePlaces.{parent_of, is_below}
 use Rattle.xr_model.specs.machine.SessionLife.{is_state}
 use Rattle.xr_model.specs.machine.LiveSessions.{Session, session_at}
 use Rattle.xr_model.specs.machine.Rules.Session.{life_of}
+use Rattle.xr_model.specs.machine.Rules.Spaces.{session_above}
 use Rattle.xr_model.specs.machine.State.{Settings, State, opening}
 use Rattle.xr_model.specs.machine.Rule.{refusal}
 use Rattle.xr_model.specs.machine.Machine.{reads_of, rule, step}
@@ -28,7 +29,7 @@ SessionsAreListed = (settings : Settings) (es : List Entry) → IsLegal settings
 
 -- ---- lost sessions
 
--- the session that a call is made on; one on spaces is made where both live, and one on a swapchain where that lives
+-- the session that a call is made on; one on spaces is made where both live in one session, and one on a swapchain where that lives
 abbrev pub session_of : Handles → Call → Option ℕ
 session_of h (ask.CreateInstance major minor) = None
 session_of h (ask.DestroyInstance instance) = None
@@ -44,7 +45,7 @@ session_of h (ask.RequestExitSession session) = Some session
 session_of h (ask.CreateReferenceSpace session kind offset) = Some session
 session_of h (ask.CreateActionSpace session action sub offset) = if is_live h kind.Action action then Some session else None
 session_of h (ask.DestroySpace space) = None
-session_of h (ask.LocateSpace space base time) = if is_live h kind.Space space && is_live h kind.Space base then parent_of h space else None
+session_of h (ask.LocateSpace space base time) = if is_live h kind.Space space && is_below h kind.Space (session_above h space) base then parent_of h space else None
 session_of h (ask.CreateActionSet instance name localized priority) = None
 session_of h (ask.DestroyActionSet set) = None
 session_of h (ask.CreateAction set name kind subs localized) = None

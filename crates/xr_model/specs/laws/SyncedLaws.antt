@@ -26,6 +26,7 @@ use Rattle.xr_model.specs.machine.Machine.{step}
 use Rattle.xr_model.specs.machine.History.{after, IsLegal}
 use Rattle.xr_model.specs.laws.InputLaws.{TellsTheChange, is_in_focus}
 use Rattle.xr_model.specs.laws.SyncLaws.{has_some}
+use Rattle.xr_model.specs.machine.LiveSessions.{session_at, Session}
 
 -- ---- which bindings a sync has
 
@@ -100,10 +101,13 @@ pub record ShowsWhatIsFound (clock : ℤ) (live : List Ranked) (found : Found) (
   pub change : has_some live ≡ true → TellsTheChange clock old new
   pub nothing : has_some live ≡ false → new ≡ inactive
 
--- in place of each column stands one that shows what its live bindings come to, by the inputs and the clock of the device at the sync
-pub record IsSynced (s : State) (active : List ActiveSet) (place column : ℕ) (old : Column) (columns : List (List Column)) : Type 0 where
+-- in place of each column of the session stands one that shows what its live bindings come to, by the inputs and the clock of the device
+-- at the sync
+pub record IsSynced (s : State) (session : ℕ) (active : List ActiveSet) (place column : ℕ) (old : Column) (sessions : List Session) : Type 0 where
+  pub its : Session
+  pub listed : session_at sessions session ≡ Some its
   pub row : List Column
-  pub there : slice_get columns place ≡ Some row
+  pub there : slice_get its.columns place ≡ Some row
   pub new : Column
   pub stands : slice_get row column ≡ Some new
   pub shows : ShowsWhatIsFound s.core.device.clock (live_in (map (heard_by s.core) active) (bindings_of s.core) place column)
@@ -112,6 +116,6 @@ pub record IsSynced (s : State) (active : List ActiveSet) (place column : ℕ) (
 -- So it is behind a sync that succeeds of a session that is focused.
 abbrev pub SyncsShowWhatIsFound : Type 0
 SyncsShowWhatIsFound =
-    (s : State) (e : Entry) (session : ℕ) (active : List ActiveSet) (place column : ℕ) (row : List Column) (old : Column) → e.call ≡ ask.SyncActions session active
-    → is_success (step s e).1.reply.code ≡ true → is_in_focus (life_of s.core session).state ≡ true → slice_get s.core.columns place ≡ Some row → slice_get row column ≡ Some old
-    → IsSynced s active place column old (step s e).0.core.columns
+    (s : State) (e : Entry) (session : ℕ) (active : List ActiveSet) (place column : ℕ) (x : Session) (row : List Column) (old : Column) → e.call ≡ ask.SyncActions session active
+    → is_success (step s e).1.reply.code ≡ true → is_in_focus (life_of s.core session).state ≡ true → session_at s.core.sessions session ≡ Some x → slice_get x.columns place ≡ Some row
+    → slice_get row column ≡ Some old → IsSynced s session active place column old (step s e).0.core.sessions

@@ -1,5 +1,5 @@
 -- Where a live handle stands, and below which parent, for the contracts of parts.
-use Rattle.std.specs.Prelude.{ℕ, ◌==◌, List, slice_index_or, Option, Some, None, option_map, if◌then◌else◌}
+use Rattle.std.specs.Prelude.{ℕ, ◌==◌, ◌&&◌, Bool, false, List, slice_index_or, Option, Some, None, option_map, if◌then◌else◌}
 use Rattle.std.specs.List.{position_from, find}
 use Rattle.xr_types.specs.declared.handles.Kind.{Kind}
 use Rattle.xr_types.specs.declared.handles.Kind.TheVariants.{Instance, Session, ActionSet, Action, Space, Swapchain}
@@ -40,6 +40,15 @@ place_of h handle = place_of_kind h (kind_of h handle) handle
 -- the parent of a live handle, 0 for an instance
 abbrev pub parent_of : Handles → ℕ → Option ℕ
 parent_of h handle = parent_of_kind h (kind_of h handle) handle
+
+-- this is the parent
+abbrev pub is_parent : ℕ → Option ℕ → Bool
+is_parent parent None = false
+is_parent parent (Some above) = above == parent
+
+-- a live handle of this kind whose parent this is
+abbrev pub is_below : Handles → Kind → ℕ → ℕ → Bool
+is_below h kind parent handle = is_live h kind handle && is_parent parent (parent_of h handle)
 
 -- the place of a handle of this kind, where it is live
 abbrev pub place_among : Handles → Kind → ℕ → Option ℕ

@@ -14,7 +14,7 @@ use Rattle.xr_types.specs.declared.frames.SubImage.{SubImage}
 use Rattle.xr_types.specs.declared.frames.TheConstants.{MOST_LAYERS}
 use Rattle.xr_model.specs.machine.Refusals.{Refusal, when}
 
--- What a frame is checked against: which handles are live spaces, and what is told of a live swapchain.
+-- What a frame is checked against: which handles are live spaces of its session, and what is told of a live swapchain of it.
 pub record Look : Type 0 where
   pub space : ℕ → Bool
   pub chain : ℕ → Option ChainInfo

@@ -1,23 +1,27 @@
 -- The live sessions (OpenXR 1.0 chapter 9, "Session"), in the order of their creation, and what their changes tell.
-use Rattle.std.specs.Prelude.{ℕ, ◌==◌, not, false, List, [], ◌∷◌, map, Option, Some, None, option_map, if◌then◌else◌}
+use Rattle.std.specs.Prelude.{ℕ, ◌==◌, not, false, List, [], ◌∷◌, map, Option, Some, None, option_map, unwrap_or, if◌then◌else◌}
 use Rattle.std.specs.List.{find, filter}
 use Rattle.xr_types.specs.declared.handles.Kind.TheVariants as kind
 use Rattle.xr_types.specs.declared.session.Event.TheVariants as event
 use Rattle.xr_types.specs.declared.session.SessionState.{SessionState}
 use Rattle.xr_types.specs.declared.session.SessionState.TheVariants.{Idle}
+use Rattle.xr_types.specs.declared.input.Column.{Column}
 use Rattle.xr_model.specs.machine.Handles.{Handles, is_live, is_among}
 use Rattle.xr_model.specs.machine.Events.{Queue, pushed}
 use Rattle.xr_model.specs.machine.Frames.{FrameLoop, new_loop}
 use Rattle.xr_model.specs.machine.SessionLife.{Life, Changed}
+use Rattle.xr_model.specs.machine.Sync.{no_columns}
 
 -- Its handle; its ordinal, which is the count of sessions that were created in the run, itself included; its life; its loop of
--- frames; and the action sets that it has attached, each once, where it has attached any.
+-- frames; the action sets that it has attached, each once, where it has attached any; and what each action shows in it since its
+-- last sync, by the action's place.
 pub record Session : Type 0 where
   pub handle : ℕ
   pub ordinal : ℕ
   pub life : Life
   pub frame_loop : FrameLoop
   pub attached : Option (List ℕ)
+  pub columns : List (List Column)
 
 -- the session with this handle
 abbrev pub session_at : List Session → ℕ → Option Session
@@ -45,6 +49,9 @@ with_life life x = record x { life = life }
 abbrev pub with_attached : List ℕ → Session → Session
 with_attached sets x = record x { attached = Some sets }
 
+abbrev pub with_columns : List (List Column) → Session → Session
+with_columns columns x = record x { columns = columns }
+
 -- a destroyed set is attached no more
 abbrev pub without_sets : List ℕ → Session → Session
 without_sets gone x = record x { attached = option_map (filter (λ set. not (is_among gone set))) x.attached }
@@ -53,6 +60,10 @@ without_sets gone x = record x { attached = option_map (filter (λ set. not (is_
 abbrev pub attached_in : Option Session → Option (List ℕ)
 attached_in None = None
 attached_in (Some x) = x.attached
+
+-- what actions show in it; where there is none, what they show in a new one: nothing
+abbrev pub shown_in : Option Session → List (List Column)
+shown_in o = unwrap_or (option_map (λ x. x.columns) o) no_columns
 
 -- the sessions once that with this handle has changed so
 abbrev pub with_session_at : ℕ → (Session → Session) → List Session → List Session
@@ -66,10 +77,6 @@ with_life_at handle life xs = with_session_at handle (with_life life) xs
 -- the sessions whose handles are live
 abbrev pub still_live : Handles → List Session → List Session
 still_live h xs = filter (λ x. is_live h kind.Session x.handle) xs
-
--- the sessions that are left once these handles went, of which only these are live
-abbrev pub sessions_left : Handles → List ℕ → List Session → List Session
-sessions_left h gone xs = map (without_sets gone) (still_live h xs)
 
 -- ---- what is told of a session
 

@@ -31,21 +31,25 @@ pub record ShownColumn : Type 0 where
   pub time : ℤ
   pub active : Bool
 
--- a live action: its handle, whether its set is attached to the session, its type, for each user path whether it declares it, and
--- what its six columns show
+-- A live session: its handle and its loss; and of each live action, in their order, whether the session has attached its set, and
+-- what its six columns show in the session.
+pub record PublishedSession : Type 0 where
+  pub handle : ℕ
+  pub loss : Loss
+  pub attached : List Bool
+  pub columns : List (List ShownColumn)
+
+-- a live action: its handle, its type, and for each user path whether it declares it
 pub record PublishedAction : Type 0 where
   pub handle : ℕ
-  pub attached : Bool
   pub type : ActionType
   pub declared : List Bool
-  pub columns : List ShownColumn
 
--- The place of the call that published it; the live session (0: none), and its loss; the atoms of the five user paths (0 for one
--- that no live action declares); and the live actions in the order of their creation.
+-- The place of the call that published it; the live sessions; the atoms of the five user paths (0 for one that no live action
+-- declares); and the live actions. Sessions and actions stand in the order of their creation.
 pub record Publication : Type 0 where
   pub number : ℕ
-  pub session : ℕ
-  pub loss : Loss
+  pub sessions : List PublishedSession
   pub atoms : List ℕ
   pub actions : List PublishedAction
 
@@ -54,19 +58,6 @@ pub record Publication : Type 0 where
 abbrev pub shown_of : Column → ShownColumn
 shown_of c = record { x = c.x; y = c.y; changed = c.changed; time = c.time; active = c.active }
 
--- what is seen of a session, and of the first one, beside which there is no other
-pub record SeenSession : Type 0 where
-  pub handle : ℕ
-  pub loss : Loss
-  pub attached : Option (List ℕ)
-
-abbrev pub seen : Session → SeenSession
-seen x = record { handle = x.handle; loss = loss_of x.life; attached = x.attached }
-
-abbrev pub first_seen : List Session → Option SeenSession
-first_seen [] = None
-first_seen (x ∷ xs) = Some (seen x)
-
 abbrev pub is_attached : Option (List ℕ) → ℕ → Bool
 is_attached attached set = unwrap_or (option_map (λ sets. is_among sets set) attached) false
 
@@ -74,14 +65,24 @@ is_attached attached set = unwrap_or (option_map (λ sets. is_among sets set) at
 abbrev pub columns_in : Handles → List (List Column) → ℕ → List Column
 columns_in h columns action = unwrap_or (option_and_then (λ place. slice_get columns place) (place_among h kind.Action action)) []
 
-abbrev pub published_action : Option SeenSession → Handles → List (List Column) → sets.Action → PublishedAction
-published_action session h columns x = record {
+-- whether a session that has attached these has attached the action's set
+abbrev pub has_set_of : Option (List ℕ) → sets.Action → Bool
+has_set_of attached a = is_attached attached a.set
+
+-- what the action's columns show in a session that has these
+abbrev pub shown_row : Handles → List (List Column) → sets.Action → List ShownColumn
+shown_row h columns a = map shown_of (columns_in h columns a.handle)
+
+abbrev pub published_session : Handles → List sets.Action → Session → PublishedSession
+published_session h actions x = record {
   handle = x.handle;
-  attached = is_attached (option_and_then (λ it. it.attached) session) x.set;
-  type = x.type;
-  declared = x.declared;
-  columns = map shown_of (columns_in h columns x.handle);
+  loss = loss_of x.life;
+  attached = map (has_set_of x.attached) actions;
+  columns = map (shown_row h x.columns) actions;
 }
+
+abbrev pub published_action : sets.Action → PublishedAction
+published_action a = record { handle = a.handle; type = a.type; declared = a.declared }
 
 -- the atom of a user path, 0 where it has none; atoms are the places of texts, from 1
 abbrev pub is_of_user : User → List ℕ → Bool
@@ -97,19 +98,38 @@ atom_of_user atoms actions who = if list_any (λ x. is_declared x.declared who) 
 abbrev pub publication_of : CoreState → Publication
 publication_of s = record {
   number = s.published;
-  session = unwrap_or (option_map (λ x. x.handle) (first_seen s.sessions)) 0;
-  loss = unwrap_or (option_map (λ x. x.loss) (first_seen s.sessions)) (record { lost = false; pending = false });
+  sessions = map (published_session s.handles s.inputs.actions) s.sessions;
   atoms = map (atom_of_user s.atoms s.inputs.actions) all_users;
-  actions = map (published_action (first_seen s.sessions) s.handles s.columns) s.inputs.actions;
+  actions = map published_action s.inputs.actions;
 }
 
 -- ---- what a getter reads
 
-abbrev pub is_session : Publication → ℕ → Bool
-is_session p session = not (session == 0) && (session == p.session)
+-- the session with this handle; 0 is nobody's
+abbrev pub session_read : Publication → ℕ → Option PublishedSession
+session_read p session = if session == 0 then None else find (λ x. x.handle == session) p.sessions
 
+-- its loss; where there is none, that of no session, whose refusal comes first
+abbrev pub no_loss : Loss
+no_loss = record { lost = false; pending = false }
+
+abbrev pub loss_read : Publication → ℕ → Loss
+loss_read p session = unwrap_or (option_map (λ x. x.loss) (session_read p session)) no_loss
+
+-- the action with this handle, and its place among the actions
 abbrev pub published_at : Publication → ℕ → Option PublishedAction
 published_at p action = find (λ a. a.handle == action) p.actions
+
+abbrev pub place_at : Publication → ℕ → Option ℕ
+place_at p action = position_from (λ a. a.handle == action) 0 p.actions
+
+-- whether the session has attached the action's set, and what the action's columns show in it, each by the action's place
+abbrev pub has_attached : Publication → ℕ → ℕ → Bool
+has_attached p session action =
+    unwrap_or (option_and_then (λ x. option_and_then (λ place. slice_get x.attached place) (place_at p action)) (session_read p session)) false
+
+abbrev pub row_read : Publication → ℕ → ℕ → Option (List ShownColumn)
+row_read p session action = option_and_then (λ x. option_and_then (λ place. slice_get x.columns place) (place_at p action)) (session_read p session)
 
 -- the column of a declared user path by its atom, counted from this one
 abbrev pub column_from : ℕ → List ℕ → List Bool → ℕ → Option ℕ
@@ -129,11 +149,8 @@ is_same_type type.Vibration type.Vibration = true
 is_same_type _ _ = false
 
 -- what refuses a getter by its handles
-abbrev pub getter_handles : Publication → ℕ → Option PublishedAction → List Refusal
-getter_handles p session found = when (not (is_session p session)) HandleInvalid ∷ when (is_none found) HandleInvalid ∷ []
-
-abbrev pub is_attached_action : Option PublishedAction → Bool
-is_attached_action found = unwrap_or (option_map (λ a. a.attached) found) false
+abbrev pub getter_handles : Publication → ℕ → ℕ → List Refusal
+getter_handles p session action = when (is_none (session_read p session)) HandleInvalid ∷ when (is_none (published_at p action)) HandleInvalid ∷ []
 
 abbrev pub is_action_of : ActionType → Option PublishedAction → Bool
 is_action_of wanted found = unwrap_or (option_map (λ a. is_same_type a.type wanted) found) false
@@ -142,9 +159,12 @@ abbrev pub column_read : Publication → Option PublishedAction → ℕ → Opti
 column_read p found sub = option_and_then (λ a. column_by p a sub) found
 
 -- and behind the session's loss: a set that isn't attached, another type, a user path that isn't declared
-abbrev pub getter_checks : Publication → ActionType → Option PublishedAction → ℕ → List Refusal
-getter_checks p wanted found sub =
-    when (not (is_attached_action found)) ActionsetNotAttached ∷ when (not (is_action_of wanted found)) ActionTypeMismatch ∷ when (is_none (column_read p found sub)) PathUnsupported ∷ []
+abbrev pub getter_checks : Publication → ActionType → ℕ → ℕ → ℕ → List Refusal
+getter_checks p wanted session action sub =
+    when (not (has_attached p session action)) ActionsetNotAttached
+    ∷ when (not (is_action_of wanted (published_at p action))) ActionTypeMismatch
+    ∷ when (is_none (column_read p (published_at p action) sub)) PathUnsupported
+    ∷ []
 
 abbrev pub shown_by : ActionType → ShownColumn → Gives
 shown_by type.Boolean c = gives.Boolean (record { value = not (int_eq c.x (pos 0)); changed = c.changed; time = c.time; active = c.active })
@@ -153,6 +173,7 @@ shown_by type.Vector c = gives.Vector (record { x = c.x; y = c.y; changed = c.ch
 shown_by type.Pose c = gives.Active c.active
 shown_by type.Vibration c = gives.Nothing
 
-abbrev pub getter_gives : Publication → ActionType → Option PublishedAction → ℕ → Gives
-getter_gives p wanted found sub =
-    unwrap_or (option_map (shown_by wanted) (option_and_then (λ a. option_and_then (λ k. slice_get a.columns k) (column_by p a sub)) found)) gives.Nothing
+abbrev pub getter_gives : Publication → ActionType → ℕ → ℕ → ℕ → Gives
+getter_gives p wanted session action sub =
+    let shown = option_and_then (λ k. option_and_then (λ row. slice_get row k) (row_read p session action)) (column_read p (published_at p action) sub) in
+    unwrap_or (option_map (shown_by wanted) shown) gives.Nothing

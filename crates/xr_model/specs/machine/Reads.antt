@@ -7,10 +7,10 @@ use Rattle.xr_types.specs.declared.input.ActionType.TheVariants as type
 use Rattle.xr_model.specs.machine.Calls.{Entry, Outcome}
 use Rattle.xr_types.specs.declared.calls.Call.{Call}
 use Rattle.xr_types.specs.declared.calls.Call.TheVariants as ask
-use Rattle.xr_model.specs.machine.Publication.{Publication, PublishedAction, publication_of, published_at, getter_handles, getter_checks, getter_gives}
+use Rattle.xr_model.specs.machine.Publication.{Publication, publication_of, loss_read, getter_handles, getter_checks, getter_gives}
 use Rattle.xr_types.specs.CallKinds.{publishes}
 use Rattle.xr_model.specs.machine.Refusals.{Refusal, first_of}
-use Rattle.xr_model.specs.machine.SessionRule.{code_on, losses}
+use Rattle.xr_model.specs.machine.SessionRule.{Loss, code_on, losses}
 use Rattle.xr_model.specs.machine.State.{Settings, State, opening}
 use Rattle.xr_model.specs.machine.Machine.{step}
 
@@ -32,18 +32,17 @@ published_last settings history = published_from (publication_of (opening settin
 -- ---- what a getter reads
 
 -- what refuses a getter, in its order
-abbrev pub getter_refusals : Publication → ActionType → ℕ → Option PublishedAction → ℕ → List Refusal
-getter_refusals p wanted session found sub = getter_handles p session found ++ (losses (Some p.loss) ++ getter_checks p wanted found sub)
+abbrev pub getter_refusals : Publication → ActionType → ℕ → ℕ → ℕ → List Refusal
+getter_refusals p wanted session action sub = getter_handles p session action ++ (losses (Some (loss_read p session)) ++ getter_checks p wanted session action sub)
 
--- its place is that of the call which published
-abbrev pub answered : Publication → Option Refusal → Gives → Outcome
-answered p None value = record { reply = record { code = code_on p.loss Success; gives = value; place = p.number }; text = []; shown = None }
-answered p (Some r) value = record { reply = record { code = r.code; gives = r.gives; place = p.number }; text = []; shown = None }
+-- what is answered on a session with this loss; its place is that of the call which published
+abbrev pub answered : Publication → Loss → Option Refusal → Gives → Outcome
+answered p loss None value = record { reply = record { code = code_on loss Success; gives = value; place = p.number }; text = []; shown = None }
+answered p loss (Some r) value = record { reply = record { code = r.code; gives = r.gives; place = p.number }; text = []; shown = None }
 
 abbrev pub read : Publication → ActionType → ℕ → ℕ → ℕ → Outcome
 read p wanted session action sub =
-    let found = published_at p action in
-    answered p (first_of (getter_refusals p wanted session found sub)) (getter_gives p wanted found sub)
+    answered p (loss_read p session) (first_of (getter_refusals p wanted session action sub)) (getter_gives p wanted session action sub)
 
 -- what is read of a publication, by a call that is a getter
 abbrev pub reads : Publication → Call → Option Outcome

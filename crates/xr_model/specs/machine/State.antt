@@ -2,7 +2,6 @@
 use Rattle.std.specs.Prelude.{ℕ, Option, Bool, false, replicate, List, []}
 use Rattle.xr_types.specs.declared.frames.Image.{Image}
 use Rattle.xr_types.specs.declared.input.Bound.{Bound}
-use Rattle.xr_types.specs.declared.input.Column.{Column}
 use Rattle.xr_model.specs.machine.Handles.{Handles, no_handles}
 use Rattle.xr_model.specs.machine.Bindings.{no_suggestions}
 use Rattle.xr_model.specs.machine.Chains.{Chain, no_chains}
@@ -14,14 +13,13 @@ use Rattle.xr_model.specs.machine.Marks.{no_marks}
 use Rattle.xr_model.specs.machine.Sets.{Sets, no_sets}
 use Rattle.xr_model.specs.machine.Spaces.{Spaces, no_spaces}
 use Rattle.xr_model.specs.machine.Device.{Device, first_device}
-use Rattle.xr_model.specs.machine.Sync.{no_columns}
 
 -- What a core keeps: the handles, the atoms' texts, the events that wait, the live sessions in the order of their creation,
--- each with its loop of frames, how many were created in the run, the action sets with their actions, what is suggested for
--- each profile, what each action shows since the last sync, by its place, the spaces with the samples of their origins, the
--- frames that are pending, how many were ended in the run, the swapchains in their places, the images of the frame taken last,
--- what the device has told of itself, the marks, how many applications there are, which of them have left, how many locked
--- calls were decided, and the place of the call that published last.
+-- each with its loop of frames and what actions show in it, how many were created in the run, the action sets with their
+-- actions, what is suggested for each profile, the spaces with the samples of their origins, the frames that are pending, how
+-- many were ended in the run, the swapchains in their places, the images of the frame taken last, what the device has told of
+-- itself, the marks, how many applications there are, which of them have left, how many locked calls were decided, and the
+-- place of the call that published last.
 pub record CoreState : Type 0 where
   pub handles : Handles
   pub atoms : List (List ℕ)
@@ -30,7 +28,6 @@ pub record CoreState : Type 0 where
   pub created : ℕ
   pub inputs : Sets
   pub suggestions : List (List Bound)
-  pub columns : List (List Column)
   pub room : Spaces
   pub frames : Frames
   pub ended : ℕ
@@ -84,7 +81,6 @@ opening_core settings = record {
   created = 0;
   inputs = no_sets;
   suggestions = no_suggestions;
-  columns = no_columns;
   room = no_spaces;
   frames = no_frames;
   ended = 0;

@@ -326,7 +326,7 @@ fn a_core_shows_nothing_at_first(rt: HostRuntime) -> Result<(), Fail> {
     let mut view = View::start();
     core.view(&mut view);
     core.view(&mut view);
-    assert!(rt; view.words.as_slice() == [0; 8].as_slice());
+    assert!(rt; view.words.as_slice() == [0; 7].as_slice());
     Ok(())
 }
 
@@ -379,9 +379,8 @@ fn a_core_shows_an_action_that_is_attached(rt: HostRuntime) -> Result<(), Fail> 
     let mut view = View::start();
     apart.core.view(&mut view);
     let words = view.words.as_slice();
-    assert!(rt; words.get(..8) == Some([6, session, 4, left, 0, 0, 0, 0].as_slice()));
-    assert!(rt;
-        words.get(8..) == Some([action, 26, 0, 0, 0, 0, 0, 0, 0, 0, 0, 0, 0, 0].as_slice())
-    );
+    assert!(rt; words.get(..7) == Some([6, 4_294_967_297, left, 0, 0, 0, 0].as_slice()));
+    assert!(rt; words.get(7..12) == Some([action, 10, session, 0, 1].as_slice()));
+    assert!(rt; words.get(12..) == Some([0; 12].as_slice()));
     Ok(())
 }

@@ -173,7 +173,7 @@ thread 1
 3 create_session XR_SUCCESS
 4 poll_event XR_SUCCESS state 1 IDLE
 5 poll_event XR_EVENT_UNAVAILABLE
-6 create_session XR_ERROR_LIMIT_REACHED
+6 create_session XR_SUCCESS
 7 string_to_path XR_SUCCESS 1
 8 destroy_instance XR_SUCCESS
 9 path_to_string XR_ERROR_HANDLE_INVALID
@@ -219,10 +219,10 @@ thread 1
 5 await XR_SUCCESS
 6 begin_session XR_ERROR_SESSION_NOT_READY
 7 request_exit_session XR_ERROR_SESSION_NOT_RUNNING
-8 create_session XR_ERROR_LIMIT_REACHED
+8 create_session XR_SUCCESS
 9 poll_event XR_SUCCESS state 1 IDLE
 10 poll_event XR_SUCCESS state 1 LOSS_PENDING
-11 poll_event XR_EVENT_UNAVAILABLE
+11 poll_event XR_SUCCESS state 2 IDLE
 12 leave XR_SUCCESS
 compositor
 ended

@@ -15,7 +15,8 @@ use Rattle.xr_types.specs.Frames.{PendingFrame}
 use Rattle.xr_types.specs.declared.frames.Shown.{Shown}
 use Rattle.xr_model.specs.machine.Chains.{Chain, info_at, is_place_used, left_in_places}
 use Rattle.xr_model.specs.machine.Frames.{waited_loop, begun_loop, begun_code, ended_loop, predicted_time, is_frame_held_back, is_empty}
-use Rattle.xr_model.specs.machine.Handles.{Handles, is_live, no_handle}
+use Rattle.xr_model.specs.machine.Handles.{Handles, no_handle}
+use Rattle.xr_model.specs.machine.HandlePlaces.{is_below}
 use Rattle.xr_model.specs.machine.Images.{first_images, with_images_of, shown_of}
 use Rattle.xr_model.specs.machine.Layers.{Look, frame_checks, layers_of}
 use Rattle.xr_model.specs.machine.LiveSessions.{session_at}
@@ -65,17 +66,17 @@ begin_frame_rule s session = record (ordinary s) {
 
 -- ---- frames that are submitted
 
--- what a frame is checked against: the live spaces and swapchains
-abbrev pub look_of : CoreState → Look
-look_of s = record {
-  space = λ space. is_live s.handles Space space;
-  chain = λ chain. if is_live s.handles Swapchain chain then info_at s.chains chain else None;
+-- what a frame of a session is checked against: the live spaces and swapchains of that session
+abbrev pub look_of : CoreState → ℕ → Look
+look_of s session = record {
+  space = λ space. is_below s.handles Space session space;
+  chain = λ chain. if is_below s.handles Swapchain session chain then info_at s.chains chain else None;
 }
 
--- the next frame: its layers by the images that were released last, and these images, each once
-abbrev pub new_frame : CoreState → ℤ → List Layer → PendingFrame
-new_frame s time layers =
-    record { number = s.ended + 1; time = time; layers = layers_of (look_of s) layers; images = with_images_of [] (layers_of (look_of s) layers) }
+-- the next frame, of this session: its layers by the images that were released last, and these images, each once
+abbrev pub new_frame : CoreState → ℕ → ℤ → List Layer → PendingFrame
+new_frame s session time layers =
+    record { number = s.ended + 1; time = time; layers = layers_of (look_of s session) layers; images = with_images_of [] (layers_of (look_of s session) layers) }
 
 -- a frame is pending from now on; the first one of a period synchronizes its session
 abbrev pub with_frame : CoreState → ℕ → PendingFrame → CoreState
@@ -91,8 +92,8 @@ end_frame_rule s session time mode layers = record (ordinary s) {
   handles = no_handle s.handles Session session ∷ [];
   before = not_running (life_of s session) ∷ [];
   disorder = not (loop_of s session).has_begun;
-  behind = frame_checks (look_of s) time mode layers;
-  effect = done_doing (with_frame s session (new_frame s time layers)) gives.Nothing (record nothing_done { used = (new_frame s time layers).images });
+  behind = frame_checks (look_of s session) time mode layers;
+  effect = done_doing (with_frame s session (new_frame s session time layers)) gives.Nothing (record nothing_done { used = (new_frame s session time layers).images });
 }
 
 -- ---- frames that are shown

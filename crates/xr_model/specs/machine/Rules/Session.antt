@@ -3,6 +3,7 @@ use Rattle.std.specs.Prelude.{ℕ, ◌+◌, ◌==◌, not, List, [], ◌∷◌, 
 use Rattle.xr_types.specs.declared.code.Code.TheVariants.{SystemInvalid}
 use Rattle.xr_types.specs.declared.calls.Gives.TheVariants.{Nothing, Handle}
 use Rattle.xr_types.specs.declared.handles.Kind.TheVariants.{Instance, Session}
+use Rattle.xr_types.specs.declared.input.Column.{Column}
 use Rattle.xr_types.specs.declared.session.ViewConfig.{ViewConfig}
 use Rattle.xr_model.specs.machine.Events.{Queue}
 use Rattle.xr_model.specs.machine.Frames.{FrameLoop, new_loop, reset_loop}
@@ -10,8 +11,9 @@ use Rattle.xr_model.specs.machine.Handles.{no_handle, no_room, with_handle, dest
 use Rattle.xr_model.specs.machine.Refusals.{Refusal, when}
 use Rattle.xr_model.specs.machine.SessionLife.{Life, Changed, unchanged, started_session, begin_checks, begun_session, end_checks, ended_session, exit_checks, exiting_session}
 use Rattle.xr_model.specs.machine.LiveSessions as sessions
-use Rattle.xr_model.specs.machine.LiveSessions.{session_at, life_in, loop_in, with_session_at, with_frame_loop, with_life_at, told_states}
+use Rattle.xr_model.specs.machine.LiveSessions.{session_at, life_in, loop_in, shown_in, with_session_at, with_frame_loop, with_life_at, told_states}
 use Rattle.xr_model.specs.machine.State.{CoreState}
+use Rattle.xr_model.specs.machine.Sync.{no_columns}
 use Rattle.xr_model.specs.machine.Target.{settled}
 use Rattle.xr_model.specs.machine.Destroyed.{without_handle, freed_by}
 use Rattle.xr_model.specs.machine.SessionRule.{loss_of}
@@ -21,9 +23,10 @@ use Rattle.xr_model.specs.machine.Rules.Instance.{the_system}
 -- ---- coming and going
 
 abbrev pub new_session : CoreState → ℕ → Life → sessions.Session
-new_session s given life = record { handle = given; ordinal = s.created + 1; life = life; frame_loop = new_loop; attached = None }
+new_session s given life = record { handle = given; ordinal = s.created + 1; life = life; frame_loop = new_loop; attached = None; columns = no_columns }
 
--- a new session stands behind the others with no sets attached and a new loop of frames, and its first states are told
+-- a new session stands behind the others with no sets attached, a new loop of frames and all columns inactive, and its first states
+-- are told
 abbrev pub with_session : CoreState → ℕ → ℕ → Changed → CoreState
 with_session s instance given c = settled (record s {
   handles = with_handle s.handles Session instance given;
@@ -41,8 +44,8 @@ create_session_rule s given instance system = record (ordinary s) {
   effect = done (with_session s instance given (started_session s.device.wish)) (Handle given);
 }
 
--- xrDestroySession: all below the session goes with it, and what its last sync showed; events that wait stay. It is refused for its handle alone, also
--- where the session is lost.
+-- xrDestroySession: all below the session goes with it, and what actions showed in it; events that wait stay. It is refused for its
+-- handle alone, also where the session is lost.
 abbrev pub destroy_session_rule : CoreState → ℕ → Rule
 destroy_session_rule s session = record (ordinary s) {
   handles = no_handle s.handles Session session ∷ [];
@@ -73,6 +76,10 @@ loop_of s session = loop_in (session_at s.sessions session)
 
 abbrev pub life_of : CoreState → ℕ → Life
 life_of s session = life_in (session_at s.sessions session)
+
+-- what actions show in it
+abbrev pub columns_of : CoreState → ℕ → List (List Column)
+columns_of s session = shown_in (session_at s.sessions session)
 
 -- a call that changes a session: what refuses it, and how the session changes
 abbrev pub changing_rule : CoreState → ℕ → List Refusal → (Life → Changed) → Rule

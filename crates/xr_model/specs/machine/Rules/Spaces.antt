@@ -1,6 +1,6 @@
 -- The rules of the calls on spaces (OpenXR 1.0 chapter 7, "Spaces").
-use Rattle.std.specs.Prelude.{ℕ, ℤ, pos, int_le, [], ◌∷◌, ◌++◌, Some, unwrap_or}
-use Rattle.xr_types.specs.declared.code.Code.TheVariants.{TimeInvalid}
+use Rattle.std.specs.Prelude.{ℕ, ℤ, pos, int_le, not, [], ◌∷◌, ◌++◌, Some, unwrap_or}
+use Rattle.xr_types.specs.declared.code.Code.TheVariants.{HandleInvalid, TimeInvalid}
 use Rattle.xr_types.specs.declared.calls.Gives.TheVariants as gives
 use Rattle.xr_types.specs.declared.handles.Kind.TheVariants as kind
 use Rattle.xr_types.specs.declared.spaces.Location.TheVariants.{Missing}
@@ -8,13 +8,13 @@ use Rattle.xr_types.specs.declared.spaces.RefKind.{RefKind}
 use Rattle.xr_types.specs.declared.spaces.Root.{Root}
 use Rattle.xr_types.specs.declared.spaces.Root.TheVariants.{Fixed}
 use Rattle.xr_model.specs.machine.Handles.{Handles, no_handle, no_room, with_handle, without_alone}
-use Rattle.xr_model.specs.machine.HandlePlaces.{parent_of}
+use Rattle.xr_model.specs.machine.HandlePlaces.{parent_of, is_below}
 use Rattle.xr_model.specs.machine.Refusals.{when}
 use Rattle.xr_model.specs.machine.Spaces.{without_space, reference_checks, with_space, located}
 use Rattle.xr_model.specs.machine.State.{CoreState}
 use Rattle.xr_model.specs.machine.SessionRule.{loss_of}
 use Rattle.xr_model.specs.machine.Rule.{Rule, ordinary, done, destroying}
-use Rattle.xr_model.specs.machine.Rules.Session.{life_of}
+use Rattle.xr_model.specs.machine.Rules.Session.{life_of, columns_of}
 
 -- a new space of a session, which moves with this
 abbrev pub with_new_space : CoreState → ℕ → ℕ → Root → ℕ → CoreState
@@ -48,11 +48,12 @@ destroy_space_rule s space = record (ordinary s) {
 abbrev pub session_above : Handles → ℕ → ℕ
 session_above h space = unwrap_or (parent_of h space) 0
 
--- xrLocateSpace: a time is above 0; the space of an action moves with what the last sync chose for it
+-- xrLocateSpace: the base is a space of the same session, and a time is above 0. The space of an action moves with what the last sync
+-- of the session chose for it.
 abbrev pub locate_space_rule : CoreState → ℕ → ℕ → ℤ → Rule
 locate_space_rule s space base time = record (ordinary s) {
   on = Some (loss_of (life_of s (session_above s.handles space)));
-  handles = no_handle s.handles kind.Space space ∷ no_handle s.handles kind.Space base ∷ [];
+  handles = no_handle s.handles kind.Space space ∷ when (not (is_below s.handles kind.Space (session_above s.handles space) base)) HandleInvalid ∷ [];
   behind = when (int_le time (pos 0)) TimeInvalid ∷ [];
-  effect = done s (gives.Location (unwrap_or (located s.room (record { columns = s.columns }) space base time) Missing));
+  effect = done s (gives.Location (unwrap_or (located s.room (record { columns = columns_of s (session_above s.handles space) }) space base time) Missing));
 }

@@ -24,12 +24,12 @@ use Rattle.xr_types.specs.Users.{user_place}
 use Rattle.xr_model.specs.machine.Bindings.{suggestions_of}
 use Rattle.xr_model.specs.machine.Handles.{Handles, no_handle, no_room}
 use Rattle.xr_model.specs.machine.HandlePlaces.{place_among}
-use Rattle.xr_model.specs.machine.LiveSessions.{session_at, attached_in}
+use Rattle.xr_model.specs.machine.LiveSessions.{session_at, attached_in, with_session_at, with_columns}
 use Rattle.xr_model.specs.machine.Paths.{text_at}
-use Rattle.xr_model.specs.machine.Publication.{publication_of, published_at, getter_handles, getter_checks, getter_gives, is_attached, is_same_type}
+use Rattle.xr_model.specs.machine.Publication.{publication_of, loss_read, getter_handles, getter_checks, getter_gives, is_attached, is_same_type}
 use Rattle.xr_model.specs.machine.Refusals.{Refusal, when}
 use Rattle.xr_model.specs.machine.Rule.{Rule, ordinary, done}
-use Rattle.xr_model.specs.machine.Rules.Session.{life_of}
+use Rattle.xr_model.specs.machine.Rules.Session.{life_of, columns_of}
 use Rattle.xr_model.specs.machine.Rules.Sets.{user_at}
 use Rattle.xr_model.specs.machine.SessionLife.{is_state}
 use Rattle.xr_model.specs.machine.SessionRule.{loss_of}
@@ -86,10 +86,15 @@ item_checks s session item =
     ∷ when (not (is_named s item)) PathUnsupported
     ∷ []
 
--- the columns of a session that is focused are synced; those of another are inactive, and the call says so
-abbrev pub columns_synced : CoreState → Bool → List ActiveSet → List (List Column)
-columns_synced s is_focused active =
-    if is_focused then columns_after (map (heard_by s) active) (bindings_of s) s.device.inputs s.device.clock s.columns else no_columns
+-- the columns of a session that is focused are synced, from those before; those of another are inactive, and the call says so
+abbrev pub columns_synced : CoreState → Bool → List ActiveSet → List (List Column) → List (List Column)
+columns_synced s is_focused active before =
+    if is_focused then columns_after (map (heard_by s) active) (bindings_of s) s.device.inputs s.device.clock before else no_columns
+
+-- what actions show in the session has changed so, and in no other session
+abbrev pub with_synced : CoreState → ℕ → Bool → List ActiveSet → CoreState
+with_synced s session is_focused active =
+    record s { sessions = with_session_at session (with_columns (columns_synced s is_focused active (columns_of s session))) s.sessions }
 
 abbrev pub synced_code : Bool → Code
 synced_code is_focused = if is_focused then Success else SessionNotFocused
@@ -99,7 +104,7 @@ sync_actions_rule s session active = record (ordinary s) {
   on = Some (loss_of (life_of s session));
   handles = no_handle s.handles kind.Session session ∷ [];
   behind = when (not (nat_le (length active) MOST_SYNCED)) LimitReached ∷ flat_map (item_checks s session) active;
-  effect = record (done (record s { columns = columns_synced s (is_state (life_of s session).state Focused) active }) Nothing) { code = synced_code (is_state (life_of s session).state Focused) };
+  effect = record (done (with_synced s session (is_state (life_of s session).state Focused) active) Nothing) { code = synced_code (is_state (life_of s session).state Focused) };
 }
 
 -- ---- the getters, which answer from what was published last
@@ -107,12 +112,11 @@ sync_actions_rule s session active = record (ordinary s) {
 abbrev pub getter_rule : CoreState → ActionType → ℕ → ℕ → ℕ → Rule
 getter_rule s wanted session action sub =
     let p = publication_of s in
-    let found = published_at p action in
     record (ordinary s) {
-      on = Some p.loss;
-      handles = getter_handles p session found;
-      behind = getter_checks p wanted found sub;
-      effect = done s (getter_gives p wanted found sub);
+      on = Some (loss_read p session);
+      handles = getter_handles p session action;
+      behind = getter_checks p wanted session action sub;
+      effect = done s (getter_gives p wanted session action sub);
     }
 
 -- ---- xrCreateActionSpace

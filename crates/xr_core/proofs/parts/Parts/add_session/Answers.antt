@@ -5,6 +5,7 @@ use Rattle.xr_model.specs.machine.Frames.{new_loop}
 use Rattle.xr_model.specs.machine.Handles.{has_room, with_handle}
 use Rattle.xr_model.specs.machine.LiveSessions.{Session}
 use Rattle.xr_model.specs.machine.State.{CoreState}
+use Rattle.xr_model.specs.machine.Sync.{no_columns}
 use Rattle.xr_core.proofs.Housed.{room_for_one}
 use Rattle.xr_core.proofs.KeptLive.{names_count, kept_same}
 use Rattle.xr_core.proofs.KeptSeats.{kept_session, kept_own, live_given}
@@ -19,18 +20,18 @@ push-requires c =
     let same = names_count (λ (x : Session). x.handle) c.self.inside.sessions.items in
     (omega arith, omega (arith, few, same, rows))
 
-pub renew_loop-requires : goal.renew_loop-requires
-renew_loop-requires c =
+pub renew_slot-requires : goal.renew_slot-requires
+renew_slot-requires c =
     let room : has_room c.self.inside.handles kind.Session ≡ true = ap (λ (s : CoreState). has_room s.handles kind.Session) c.self.view_is ∙ c.requires.room in
     let nonzero : (c.give-handle.result == 0) ≡ false = search rules in
-    record { live = live_given c.self.inside.handles c.give-handle.new.handles c.args.instance c.give-handle.result room c.give-handle.ensures.state nonzero }
+    record { live = live_given c.self.inside.handles c.give-handle.new.handles c.args.instance c.give-handle.result room c.give-handle.ensures.state nonzero; stand = c.self.invariant.0.columns_stand }
 
 pub invariant_of-self : goal.invariant_of-self
 invariant_of-self c =
     let room : has_room c.self.inside.handles kind.Session ≡ true = ap (λ (s : CoreState). has_room s.handles kind.Session) c.self.view_is ∙ c.requires.room in
     let nonzero : (c.give-handle.result == 0) ≡ false = search rules in
-    let kept = kept_session c.self.inside.frames.loops c.self.inside.handles c.give-handle.new.handles c.self.inside.sessions.items c.push.new.self.items c.create-session.result c.args.instance c.give-handle.result room c.give-handle.ensures.state (rw c.create-session.ensures.session refl) nonzero c.give-handle.ensures.fresh c.push.ensures.items c.self.invariant.0 in (
-      rw c.renew_loop.ensures (kept_own c.self.inside.frames c.give-handle.new.handles c.push.new.self.items c.give-handle.new.handles.sessions c.give-handle.result new_loop kept),
+    let kept = kept_session c.self.inside.frames.loops c.self.inside.columns.items c.self.inside.handles c.give-handle.new.handles c.self.inside.sessions.items c.push.new.self.items c.create-session.result c.args.instance c.give-handle.result room c.give-handle.ensures.state (rw c.create-session.ensures.session refl) nonzero c.give-handle.ensures.fresh c.push.ensures.items c.self.invariant.0 in (
+      rw (c.renew_slot.ensures.frames, c.renew_slot.ensures.columns) (kept_own c.self.inside.frames c.self.inside.columns.items c.give-handle.new.handles c.push.new.self.items c.give-handle.new.handles.sessions c.give-handle.result new_loop no_columns kept),
       c.self.invariant.1,
       kept_same c.self.inside.room c.self.inside.inputs c.self.inside.handles c.give-handle.new.handles (with_handle c.self.inside.handles kind.Session c.args.instance c.give-handle.result) c.give-handle.ensures.state refl refl refl c.self.invariant.2,
       c.self.invariant.3,
@@ -40,5 +41,5 @@ invariant_of-self c =
 pub returns-clause-state : goal.returns-clause-state
 returns-clause-state c =
     let nonzero : (c.give-handle.result == 0) ≡ false = search rules in
-    session_more c.args.self.now _ c.self.inside.frames c.self.inside.sessions.items c.self.view_is refl refl c.self.invariant.0 c.args.instance c.give-handle.result nonzero c.give-handle.ensures.fresh.1 c.wish.result c.give-handle.new.handles
-    c.push.new.self.items c.create-session.result c.renew_loop.new.frames c.create-session.new.events c.wish.ensures c.give-handle.ensures.state c.create-session.ensures.session c.push.ensures.items c.renew_loop.ensures c.create-session.ensures.events
+    session_more c.args.self.now _ c.self.inside.frames c.self.inside.columns.items c.self.inside.sessions.items c.self.view_is refl refl c.self.invariant.0 c.args.instance c.give-handle.result nonzero c.give-handle.ensures.fresh.1 c.wish.result c.give-handle.new.handles
+    c.push.new.self.items c.create-session.result c.renew_slot.new.frames c.renew_slot.new.columns.items c.create-session.new.events c.wish.ensures c.give-handle.ensures.state c.create-session.ensures.session c.push.ensures.items c.renew_slot.ensures.frames c.renew_slot.ensures.columns c.create-session.ensures.events

@@ -38,7 +38,7 @@ unreachable-requires c =
 pub attach-requires : goal.attach-requires
 attach-requires c =
     let found : place_at c.self.inside.sessions.items c.args.session ≡ Some c.in-Some.place = search rules in
-    let there = found_outside c.args.self.now _ c.self.inside.frames.loops c.self.inside.sessions.items c.self.view_is refl c.args.session c.in-Some.place found in
+    let there = found_outside c.args.self.now _ c.self.inside.frames.loops c.self.inside.columns.items c.self.inside.sessions.items c.self.view_is refl c.args.session c.in-Some.place found in
     record { found = there; within = stands_within c.args.self.now.sessions c.args.session c.in-Some.place there }
 
 pub returns : goal.returns

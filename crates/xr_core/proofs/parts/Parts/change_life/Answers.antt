@@ -28,7 +28,7 @@ success_of-success-requires-clause-within c =
 pub change_life_at-code-requires : goal.change_life_at-code-requires
 change_life_at-code-requires c =
     let found : place_at c.self.inside.sessions.items c.args.session ≡ Some c.in-Some.place = search rules in
-    let there = found_outside c.args.self.now _ c.self.inside.frames.loops c.self.inside.sessions.items c.self.view_is refl c.args.session c.in-Some.place found in
+    let there = found_outside c.args.self.now _ c.self.inside.frames.loops c.self.inside.columns.items c.self.inside.sessions.items c.self.view_is refl c.args.session c.in-Some.place found in
     record { found = there; within = stands_within c.args.self.now.sessions c.args.session c.in-Some.place there }
 
 pub end_frames-requires : goal.end_frames-requires
@@ -54,5 +54,5 @@ returns c =
     let good : c.change_life_at-code.result ≡ Success = search rules in
     let code : c.success_of-success.result ≡ code_on (loss_of (life_of c.args.self.now c.args.session)) Success =
     c.success_of-success.ensures ∙ ap (λ (xs : List Session). code_on (loss_of (life_in (session_at xs c.args.session))) Success) c.as_slice-2.ensures.value
-    ∙ ap (λ (life : Life). code_on (loss_of life) Success) (life_inside c.args.self.now _ c.self.inside.frames.loops c.self.inside.sessions.items c.self.view_is refl c.args.session) in
+    ∙ ap (λ (life : Life). code_on (loss_of life) Success) (life_inside c.args.self.now _ c.self.inside.frames.loops c.self.inside.columns.items c.self.inside.sessions.items c.self.view_is refl c.args.session) in
     rw (c.done.ensures, code, c.settle.ensures, c.end_frames.ensures) (life_done c.args.self.now c.args.session c.args.call here c.change_life_at-code.new.self c.change_life_at-code.result c.change_life_at-code.ensures.state c.change_life_at-code.ensures.code good)

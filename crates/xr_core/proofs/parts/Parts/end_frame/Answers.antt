@@ -34,7 +34,7 @@ returns g c =
     let frame = c.in_ok-success.ensures.frame both.0 in
     let images = c.as_slice.ensures.value ∙ ap (λ (f : PendingFrame). f.images) (c.frame.view_is ∙ frame) in
     let pinned = subst (λ (is : List Image). Leads g.C.Cells.does c.args.cells.now (pin_calls is) c.pin_all.new.cells) images c.pin_all.ensures in
-    let new = new_frame s c.args.time.now c.args.layers.now in
+    let new = new_frame s c.args.session c.args.time.now c.args.layers.now in
     rw (c.done.ensures, c.sync.ensures, c.submit.ensures, both.1, frame, frame_ended s c.args.session new)
     (end_done g.C.Cells.does s c.args.session c.args.time.now c.args.blend c.args.layers.now c.args.cells.now c.pin_all.new.cells both.0 pinned)
 

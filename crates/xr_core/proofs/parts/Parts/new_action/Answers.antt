@@ -21,7 +21,7 @@ pub invariant_of-self : goal.invariant_of-self
 invariant_of-self c =
     let room : has_room c.self.inside.handles kind.Action ≡ true = ap (λ (s : CoreState). has_room s.handles kind.Action) c.self.view_is ∙ c.requires.room in
     let nonzero : (c.give-handle.result == 0) ≡ false = search rules in (
-      kept_given c.self.inside.frames.loops c.self.inside.handles c.give-handle.new.handles c.self.inside.sessions.items kind.Action c.args.action.set c.give-handle.result c.give-handle.ensures.state refl c.give-handle.ensures.fresh c.self.invariant.0,
+      kept_given c.self.inside.frames.loops c.self.inside.columns.items c.self.inside.handles c.give-handle.new.handles c.self.inside.sessions.items kind.Action c.args.action.set c.give-handle.result c.give-handle.ensures.state refl c.give-handle.ensures.fresh c.self.invariant.0,
       c.self.invariant.1,
       rw c.add_action.ensures (kept_action c.self.inside.room c.self.inside.inputs c.self.inside.handles c.give-handle.new.handles _ c.args.action.set c.give-handle.result c.self.invariant.2 refl nonzero room c.give-handle.ensures.state),
       c.self.invariant.3,

@@ -7,7 +7,7 @@ use Rattle.xr_core.proofs.parts.Parts.new_instance.Goals as goal
 
 pub invariant_of-self : goal.invariant_of-self
 invariant_of-self c = (
-  kept_given c.self.inside.frames.loops c.self.inside.handles c.give.new.handles c.self.inside.sessions.items kind.Instance 0 c.give.result c.give.ensures.state refl c.give.ensures.fresh c.self.invariant.0,
+  kept_given c.self.inside.frames.loops c.self.inside.columns.items c.self.inside.handles c.give.new.handles c.self.inside.sessions.items kind.Instance 0 c.give.result c.give.ensures.state refl c.give.ensures.fresh c.self.invariant.0,
   c.self.invariant.1,
   kept_same c.self.inside.room c.self.inside.inputs c.self.inside.handles c.give.new.handles (with_handle c.self.inside.handles kind.Instance 0 c.give.result) c.give.ensures.state refl refl refl c.self.invariant.2,
   c.self.invariant.3,

@@ -6,7 +6,7 @@ use Rattle.xr_core.proofs.parts.Parts.remove_space.Goals as goal
 
 pub invariant_of-self : goal.invariant_of-self
 invariant_of-self c = (
-  seats.kept_alone c.self.inside.frames.loops c.self.inside.handles c.remove.new.self c.self.inside.sessions.items kind.Space c.args.space c.remove.ensures refl c.self.invariant.0,
+  seats.kept_alone c.self.inside.frames.loops c.self.inside.columns.items c.self.inside.handles c.remove.new.self c.self.inside.sessions.items kind.Space c.args.space c.remove.ensures refl c.self.invariant.0,
   c.self.invariant.1,
   rw (c.remove.ensures, c.remove-2.ensures) (kept_alone c.self.inside.room c.self.inside.inputs c.self.inside.handles c.args.space c.self.invariant.2),
   c.self.invariant.3,

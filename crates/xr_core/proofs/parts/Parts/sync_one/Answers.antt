@@ -12,7 +12,7 @@ pub returns-in_default : goal.returns-in_default
 returns-in_default c =
     let none : place_at c.self.inside.sessions.items c.args.session ≡ None = search rules in
     changes_none c.args.self.now c.args.session (synced_session wish.Ready)
-    (sym (listed_inside c.args.self.now _ c.self.inside.frames.loops c.self.inside.sessions.items c.self.view_is refl c.args.session) ∙ stands_nowhere c.self.inside.sessions.items c.args.session none)
+    (sym (listed_inside c.args.self.now _ c.self.inside.frames.loops c.self.inside.columns.items c.self.inside.sessions.items c.self.view_is refl c.args.session) ∙ stands_nowhere c.self.inside.sessions.items c.args.session none)
 
 pub sync_at-requires-clause-within : goal.sync_at-requires-clause-within
 sync_at-requires-clause-within c =
@@ -21,7 +21,7 @@ sync_at-requires-clause-within c =
 
 pub invariant_of-self : goal.invariant_of-self
 invariant_of-self c = (
-  rw c.sync_at.ensures.sessions (kept_changed c.self.inside.frames.loops c.self.inside.handles c.self.inside.sessions.items c.args.session _ (λ x. refl) c.self.invariant.0),
+  rw c.sync_at.ensures.sessions (kept_changed c.self.inside.frames.loops c.self.inside.columns.items c.self.inside.handles c.self.inside.sessions.items c.args.session _ (λ x. refl) c.self.invariant.0),
   c.self.invariant.1,
   c.self.invariant.2,
   c.self.invariant.3,
@@ -32,4 +32,4 @@ pub returns : goal.returns
 returns c =
     let found : place_at c.self.inside.sessions.items c.args.session ≡ Some c.in-Some.place = search rules in
     let x = (found_at c.self.inside.sessions.items c.args.session c.in-Some.place found).0 in
-    rw (c.sync_at.ensures.events, c.sync_at.ensures.sessions) (life_synced c.args.self.now _ c.self.inside.frames.loops c.self.inside.sessions.items c.self.view_is refl c.args.session c.in-Some.place found x)
+    rw (c.sync_at.ensures.events, c.sync_at.ensures.sessions) (life_synced c.args.self.now _ c.self.inside.frames.loops c.self.inside.columns.items c.self.inside.sessions.items c.self.view_is refl c.args.session c.in-Some.place found x)
